@@ -1,0 +1,74 @@
+-- "The walk": a program reads a sheet and takes step 0 up to 8 times. Its text, byte for byte.
+use mathlib.Core.List.{List, [], _∷_, _++_}
+use mathlib.Core.Bool.{Bool, true, false}
+use Prim.Native.Nat.{ℕ, zero, suc, _+_, _-_, _/_, _%_}
+use Prim.Native.String.{String}
+use lib.Dec.{ltb}
+use Rattle.pcrl.specs.Text.{bytes, byte}
+use Rattle.pcrl.specs.Limits.{frame-width, stack-limit}
+use Rattle.pcrl.specs.Result.{Result, refused, accepted}
+use Rattle.pcrl.specs.Label.{Label, silent, named}
+use Rattle.pcrl.specs.Table.{Table}
+use Rattle.pcrl.specs.Stack.{Stack}
+use Rattle.pcrl.specs.Ask.{Answer, Asked, ask}
+use Rattle.pcrl.specs.Answers.{table-made, start-stack}
+
+-- "takes step 0 up to 8 times"
+abbrev pub walk-steps : ℕ
+walk-steps = 8
+
+-- a number in decimal; f bounds how many digits it has
+unfoldable pub digits : ℕ → ℕ → List ℕ
+digits zero n = []
+digits (suc f) n = elim (ltb n 10) [ true ↦ (byte "0" + n) ∷ [] | false ↦ digits f (n / 10) ++ ((byte "0" + n % 10) ∷ []) ]
+
+unfoldable pub decimal : ℕ → List ℕ
+decimal n = digits (suc n) n
+
+-- "values by commas, no blanks"
+unfoldable pub values-text : List ℕ → List ℕ
+values-text [] = []
+values-text (v ∷ []) = decimal v
+values-text (v ∷ (w ∷ vs)) = decimal v ++ (bytes "," ++ values-text (w ∷ vs))
+
+-- "label (name, bracketed values by commas, no blanks; tau as `tau`)"
+unfoldable pub label-text : Label → List ℕ
+label-text silent = bytes "tau"
+label-text (named n []) = n
+label-text (named n (v ∷ vs)) = n ++ (bytes "(" ++ (values-text (v ∷ vs) ++ bytes ")"))
+
+-- "a line feed ends each line"
+unfoldable pub line : List ℕ → List ℕ
+line text = text ++ bytes "\n"
+
+-- "Each line is step number (from 1), label, depth after." "One blank stands between fields."
+unfoldable pub step-line : ℕ → Label → ℕ → List ℕ
+step-line i l depth = line (decimal i ++ (bytes " " ++ (label-text l ++ (bytes " " ++ decimal depth))))
+
+-- after 8 steps: "`ended`, else `more`"
+unfoldable pub closing : Stack → List ℕ
+closing [] = line (bytes "ended")
+closing (f ∷ s) = line (bytes "more")
+
+-- what is printed for an answer, where `next` are the lines from its stack on
+unfoldable pub answer-lines : ℕ → (Stack → List ℕ) → Asked → List ℕ
+answer-lines i next a = elim (a .answer) [
+  | Answer.ended ↦ line (bytes "ended")
+  | Answer.nothing ↦ line (bytes "stuck")
+  | Answer.stepped l depth ↦ step-line i l depth ++ next (a .stack)
+  -- a walk of 8 steps does not come to 64 frames
+  | Answer.refused n ↦ line (bytes "stuck")
+]
+
+-- The lines of a walk from its i-th step on, where n steps may be taken: "It closes with `ended`, else `more` after 8, else `stuck`."
+unfoldable pub walk-lines : Table → ℕ → ℕ → Stack → List ℕ
+walk-lines T zero i s = closing s
+walk-lines T (suc n) i s = answer-lines i (walk-lines T n (suc i)) (ask frame-width stack-limit T 0 s)
+
+unfoldable pub walk-made : Result Table → List ℕ
+walk-made (refused n) = line (bytes "refused " ++ decimal n)
+walk-made (accepted T) = walk-lines T walk-steps 1 (start-stack frame-width T)
+
+-- Walk a sheet.
+unfoldable pub walk-text : List ℕ → List ℕ
+walk-text s = walk-made (table-made s)
