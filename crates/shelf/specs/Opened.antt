@@ -1,0 +1,58 @@
+-- To unfold `definitions` is to unfold every definition of pcrl that computes: what a theorem by computation names.
+use Prim.Native.Nat.{ℕ}
+use Rattle.pcrl.specs.Tests
+use Rattle.pcrl.specs.Result
+use Rattle.pcrl.specs.Bytes
+use Rattle.pcrl.specs.Reader
+use Rattle.pcrl.specs.Maybe
+use Rattle.pcrl.specs.Tokens
+use Rattle.pcrl.specs.Grammar
+use Rattle.pcrl.specs.Counts
+use Rattle.pcrl.specs.Names
+use Rattle.pcrl.specs.Sorts
+use Rattle.pcrl.specs.Circles
+use Rattle.pcrl.specs.Sheet
+use Rattle.pcrl.specs.Values
+use Rattle.pcrl.specs.Parts
+use Rattle.pcrl.specs.Table
+use Rattle.pcrl.specs.Heads
+use Rattle.pcrl.specs.Stream
+use Rattle.pcrl.specs.Right
+use Rattle.pcrl.specs.Decode
+use Rattle.pcrl.specs.Blocks
+use Rattle.pcrl.specs.Stack
+use Rattle.pcrl.specs.Label
+use Rattle.pcrl.specs.Steps
+use Rattle.pcrl.specs.Ask
+use Rattle.pcrl.specs.Terms
+use Rattle.pcrl.specs.States
+use Rattle.pcrl.specs.Answers
+use Rattle.pcrl.specs.Walk
+
+unfoldable pub in-tests : ℕ
+unfolding Tests.both? Tests.between? Tests.at-most? Tests.below? Tests.T? Tests.same? Tests.among Tests.distinct Tests.some? Tests.Every Tests.every? Tests.Each Tests.each? Result.question Result.question-of Result.after Bytes.short? Bytes.Printable Bytes.printable? Reader.bind Reader.keep Reader.one Reader.test Reader.pair Reader.view Reader.times Reader.each Reader.all Reader.counted Maybe.for-each native.Mathlib.Decide.ℕ-discrete native.Mathlib.Decide.decLe native.Mathlib.Decide.decLt
+in-tests = 0
+
+unfoldable pub in-reading : ℕ
+unfolding Tokens.words Tokens.marks Tokens.run Tokens.name-of Tokens.value-of Tokens.numeral-of Tokens.mark-of Tokens.first-token Tokens.before Tokens.followed Tokens.tokens-behind Tokens.tokens Tokens.is? Tokens.open-behind Tokens.most-open Tokens.Shallow Tokens.shallow? Grammar.on Grammar.fail Grammar.expect Grammar.a-name Grammar.a-numeral Grammar.on-numeral Grammar.data-term Grammar.data-given Grammar.choice Grammar.sort-line Grammar.numerals Grammar.one-or-two Grammar.func-line Grammar.act-line Grammar.parameters Grammar.proc-line Grammar.no-variable Grammar.none-in Grammar.init-line Grammar.lines Grammar.sheet Grammar.whole Grammar.parse Counts.Counted Counts.counted? Names.names-of Names.number-of Names.declared Names.new-variable Names.resolve-data Names.resolve-given Names.named Names.resolve-choice Names.sorts-of Names.resolve-func Names.resolve-act Names.resolve-params Names.resolve-proc Names.resolve-init Names.resolve Sorts.binding Sorts.HasSort Sorts.has-sort? Sorts.arguments? Sorts.IsAct Sorts.is-act? Sorts.Sorted Sorts.sorted? Sorts.volume Sorts.Complete Sorts.complete? Sorts.RightlySorted Sorts.rightly-sorted? Circles.at-head Circles.NoCircle Circles.all-pass Circles.all-true Circles.passed-after Circles.guarded
+in-reading = 0
+
+unfoldable pub in-tables : ℕ
+unfolding Sheet.list-of Sheet.size Sheet.func Sheet.takes-of Sheet.params Sheet.right Values.place Values.apply Values.eval Values.put-data Values.except Values.put Values.or-var Values.these Values.only Parts.in-data Parts.in-list Parts.in-proc Parts.tabulate Parts.marks Parts.count Parts.marked Parts.as-params Parts.if-after Parts.new-parts Parts.new-count Parts.all-new-parts Parts.first-new Parts.kind-new Parts.kind-in Parts.kind Table.equation Table.params-of Table.summands-of Table.summand-count Table.nodes Heads.with-var Heads.with-cond Heads.with-calls Heads.look Heads.new-call Heads.calls-of Heads.heads-by Heads.heads Heads.fuel Heads.equation-of Heads.table-of Stream.encode-data Stream.encode-numbers Stream.encode-list Stream.encode-sorts Stream.encode-func Stream.encode-action Stream.encode-sig Stream.encode-act Stream.encode-cond Stream.encode-call Stream.encode-summand Stream.encode-equations Stream.encode-start Stream.encode Right.SummandWithin Right.EquationWithin Right.Within Right.summand-within? Right.equation-within? Right.within? Right.RightSizes Right.RightFunc Right.free-name Right.RightName Right.RightAction Right.action-names Right.RightSig Right.RightSorts Right.RightCond Right.RightCall Right.RightSummand Right.RightSummands Right.RightEquations Right.RightStart Right.RightTable Decode.node-of Decode.arguments-of Decode.guard Decode.Fits Decode.fits? Decode.wants Decode.build Decode.read-terms Decode.first Decode.read-term Decode.read-sorts Decode.read-sizes Decode.to-func Decode.read-func Decode.to-action Decode.read-name Decode.read-action Decode.to-sig Decode.read-sig Decode.to-summand Decode.zip Decode.to-equations Decode.read-act Decode.read-cond Decode.read-call Decode.read-summand Decode.read-summands Decode.read-equations Decode.read-start Decode.to-table Decode.decode
+in-tables = 0
+
+unfoldable pub in-files : ℕ
+unfolding Blocks.crc-bit Blocks.crc-byte Blocks.crc-from Blocks.crc Blocks.block-body Blocks.block Blocks.blocks-for Blocks.joined Blocks.file-of-stream Blocks.file-of Blocks.Room Blocks.room? Blocks.RightLength Blocks.right-length? Blocks.block-count Blocks.block-at Blocks.stream-at Blocks.RightBlock Blocks.RightBlocks Blocks.right-blocks? Blocks.stream-of Blocks.Filled Blocks.filled? Blocks.table-in Blocks.table-read
+in-files = 0
+
+unfoldable pub in-stacks : ℕ
+unfolding Stack.InSorts Stack.in-sorts? Stack.used Stack.padded Stack.zero-frame Stack.RightFrame Stack.right-frame? Stack.RightStack Stack.IsZero Stack.is-zero? Stack.RightFrames Stack.right-frames? Stack.frames-of Stack.stack-of Label.label Steps.Meets Steps.meets? Steps.values-of Steps.if-met Steps.call-frame Steps.outcome Steps.StackStep Steps.fired Steps.steps Ask.step-to Ask.chosen Ask.ask Ask.ask-all Ask.labels Terms.ClosedTerm States.Ended States.StateStep States.RightState States.frame-term States.term-of-frame States.term-of-stack States.stands-for
+in-stacks = 0
+
+unfoldable pub in-answers : ℕ
+unfolding Answers.sheet-read Answers.table-made Answers.file-made Answers.output-after Answers.table-checked Answers.start-stack Answers.lent Answers.reply Answers.started-in Answers.stack-read Answers.one-answer Answers.asked-in Answers.asked-all-in Walk.digits Walk.decimal Walk.values-text Walk.label-text Walk.line Walk.step-line Walk.closing Walk.answer-lines Walk.walk-lines Walk.walk-made Walk.walk-text
+in-answers = 0
+
+unfoldable pub definitions : ℕ
+unfolding in-tests in-reading in-tables in-files in-stacks in-answers
+definitions = 0

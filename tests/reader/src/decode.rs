@@ -1,0 +1,233 @@
+//! Reading the stream of a table (question 14): within all limits, rightly sorted. `None` is a
+//! stream of no table.
+
+use crate::limits;
+use crate::signature::{Action, Data, Function, Signature, BOOL, BOOL_NAME, BOOL_SIZE};
+use crate::stream::{FUNCTION, TAU, VARIABLE};
+use crate::table::{Call, Condition, Equation, Summand, Table};
+use crate::token::is_name;
+
+/// The table at the start of the bytes, and how many bytes it takes.
+pub fn decode(bytes: &[u8]) -> Option<(Table, usize)> {
+    let mut reader = Reader { bytes };
+    let signature = reader.signature()?;
+    let parameters = reader.parameter_lists(&signature)?;
+    let rows = Rows {
+        signature: &signature,
+        parameters: &parameters,
+    };
+    let equations = rows.equations(&mut reader)?;
+    let start = reader.index(equations.len())?;
+    let mut start_values = Vec::new();
+    for &sort in &parameters[start] {
+        start_values.push(reader.value_below(signature.sorts[sort])?);
+    }
+    let length = bytes.len() - reader.bytes.len();
+    let table = Table {
+        signature,
+        equations,
+        start,
+        start_values,
+    };
+    Some((table, length))
+}
+
+/// The bytes not read yet.
+struct Reader<'b> {
+    bytes: &'b [u8],
+}
+
+impl Reader<'_> {
+    fn byte(&mut self) -> Option<u8> {
+        let (&first, rest) = self.bytes.split_first()?;
+        self.bytes = rest;
+        Some(first)
+    }
+
+    fn value_below(&mut self, size: u8) -> Option<u8> {
+        self.byte().filter(|&value| value < size)
+    }
+
+    fn index(&mut self, count: usize) -> Option<usize> {
+        let index = usize::from(self.byte()?);
+        (index < count).then_some(index)
+    }
+
+    fn count(&mut self, least: usize, most: usize) -> Option<usize> {
+        let count = usize::from(self.byte()?);
+        (least..=most).contains(&count).then_some(count)
+    }
+
+    fn sort_list(&mut self, least: usize, most: usize, sorts: usize) -> Option<Vec<usize>> {
+        let count = self.count(least, most)?;
+        (0..count).map(|_| self.index(sorts)).collect()
+    }
+
+    fn signature(&mut self) -> Option<Signature> {
+        let mut signature = Signature {
+            sorts: self.sorts()?,
+            functions: Vec::new(),
+            actions: Vec::new(),
+        };
+        for _ in 0..self.count(0, limits::FUNCTIONS)? {
+            let function = self.function(&signature)?;
+            signature.functions.push(function);
+        }
+        for _ in 0..self.count(0, limits::ACTIONS)? {
+            let action = self.action(&signature)?;
+            signature.actions.push(action);
+        }
+        Some(signature)
+    }
+
+    fn sorts(&mut self) -> Option<Vec<u8>> {
+        let count = self.count(1, limits::SORTS)?;
+        let sizes: Vec<u8> = (0..count).map(|_| self.byte()).collect::<Option<_>>()?;
+        let right = sizes.iter().all(|s| (1..=limits::SORT_SIZE).contains(s));
+        (right && sizes[BOOL] == BOOL_SIZE).then_some(sizes)
+    }
+
+    fn function(&mut self, signature: &Signature) -> Option<Function> {
+        let arguments = self.sort_list(1, limits::ARITY, signature.sorts.len())?;
+        let result = self.index(signature.sorts.len())?;
+        let size = signature.sorts[result];
+        let values = (0..signature.combinations(&arguments))
+            .map(|_| self.value_below(size))
+            .collect::<Option<_>>()?;
+        Some(Function {
+            arguments,
+            result,
+            values,
+        })
+    }
+
+    /// Action names are distinct, valid by the token rule, and none is Bool.
+    fn action(&mut self, signature: &Signature) -> Option<Action> {
+        let length = self.count(1, limits::NAME_LENGTH)?;
+        let bytes = (0..length).map(|_| self.byte()).collect::<Option<_>>()?;
+        let name = String::from_utf8(bytes).ok()?;
+        let known = signature.actions.iter().any(|action| action.name == name);
+        if known || !is_name(&name) || name == BOOL_NAME {
+            return None;
+        }
+        let arguments = self.sort_list(0, limits::ARITY, signature.sorts.len())?;
+        Some(Action { name, arguments })
+    }
+
+    fn parameter_lists(&mut self, signature: &Signature) -> Option<Vec<Vec<usize>>> {
+        let count = self.count(1, limits::EQUATIONS)?;
+        (0..count)
+            .map(|_| self.sort_list(0, limits::PARAMETERS, signature.sorts.len()))
+            .collect()
+    }
+}
+
+/// What is known when the summands are read.
+struct Rows<'t> {
+    signature: &'t Signature,
+    parameters: &'t [Vec<usize>],
+}
+
+impl Rows<'_> {
+    fn equations(&self, reader: &mut Reader) -> Option<Vec<Equation>> {
+        let mut equations = Vec::new();
+        let mut summands_left = limits::SUMMANDS;
+        for parameters in self.parameters {
+            let count = reader.count(0, summands_left)?;
+            summands_left -= count;
+            let summands = (0..count)
+                .map(|_| self.summand(reader, parameters))
+                .collect::<Option<_>>()?;
+            let parameters = parameters.clone();
+            equations.push(Equation {
+                parameters,
+                summands,
+            });
+        }
+        Some(equations)
+    }
+
+    fn summand(&self, reader: &mut Reader, parameters: &[usize]) -> Option<Summand> {
+        let sorts = self.signature.sorts.len();
+        let variables = reader.sort_list(0, limits::SUM_VARIABLES, sorts)?;
+        let scope = [parameters, &variables].concat();
+        let conditions = (0..reader.count(0, limits::CONDITIONS)?)
+            .map(|_| self.condition(reader, &scope))
+            .collect::<Option<_>>()?;
+        let (action, arguments) = self.action(reader, &scope)?;
+        let calls = (0..reader.count(0, limits::CALLS)?)
+            .map(|_| self.call(reader, &scope))
+            .collect::<Option<_>>()?;
+        Some(Summand {
+            variables,
+            conditions,
+            action,
+            arguments,
+            calls,
+        })
+    }
+
+    fn condition(&self, reader: &mut Reader, scope: &[usize]) -> Option<Condition> {
+        let wanted = reader.value_below(BOOL_SIZE)?;
+        let data = self.term(reader, scope, BOOL)?;
+        Some(Condition { wanted, data })
+    }
+
+    fn action(&self, reader: &mut Reader, scope: &[usize]) -> Option<(Option<usize>, Vec<Data>)> {
+        let byte = reader.byte()?;
+        if byte == TAU {
+            return Some((None, Vec::new()));
+        }
+        let action = self.signature.actions.get(usize::from(byte))?;
+        let arguments = self.terms(reader, scope, &action.arguments)?;
+        Some((Some(usize::from(byte)), arguments))
+    }
+
+    fn call(&self, reader: &mut Reader, scope: &[usize]) -> Option<Call> {
+        let equation = reader.index(self.parameters.len())?;
+        let arguments = self.terms(reader, scope, &self.parameters[equation])?;
+        Some(Call {
+            equation,
+            arguments,
+        })
+    }
+
+    fn terms(&self, reader: &mut Reader, scope: &[usize], sorts: &[usize]) -> Option<Vec<Data>> {
+        sorts
+            .iter()
+            .map(|&sort| self.term(reader, scope, sort))
+            .collect()
+    }
+
+    fn term(&self, reader: &mut Reader, scope: &[usize], sort: usize) -> Option<Data> {
+        let mut nodes_left = limits::TERM_NODES;
+        self.node(reader, scope, sort, &mut nodes_left)
+    }
+
+    fn node(
+        &self,
+        reader: &mut Reader,
+        scope: &[usize],
+        sort: usize,
+        nodes_left: &mut usize,
+    ) -> Option<Data> {
+        *nodes_left = nodes_left.checked_sub(1)?;
+        let byte = reader.byte()?;
+        if byte < VARIABLE {
+            return (byte < self.signature.sorts[sort]).then_some(Data::Value(byte));
+        }
+        if byte < FUNCTION {
+            let index = usize::from(byte - VARIABLE);
+            return (*scope.get(index)? == sort).then_some(Data::Variable(index));
+        }
+        let index = usize::from(byte - FUNCTION);
+        let function = self.signature.functions.get(index)?;
+        if function.result != sort {
+            return None;
+        }
+        let arguments = (function.arguments.iter())
+            .map(|&sort| self.node(reader, scope, sort, nodes_left))
+            .collect::<Option<_>>()?;
+        Some(Data::Apply(index, arguments))
+    }
+}

@@ -1,0 +1,50 @@
+//! A reader of the rules of document 01, written apart from the proved library: sheets, linear
+//! tables, table files, stacks, closed terms and equality to n steps.
+
+#![forbid(unsafe_code)]
+#![warn(missing_docs)]
+
+mod blocks;
+mod check;
+mod circles;
+mod count;
+mod decode;
+mod equations;
+mod file;
+mod heads;
+mod hex;
+pub mod limits;
+mod linear;
+mod names;
+mod parse;
+mod parse_process;
+mod put;
+pub mod question;
+mod search;
+pub mod sheet;
+pub mod signature;
+mod sorts;
+mod stack;
+mod steps;
+mod stream;
+mod syntax;
+pub mod table;
+mod term;
+mod token;
+mod transitions;
+mod walk;
+
+pub use blocks::{crc16, from_blocks, to_blocks};
+pub use check::check_sheet;
+pub use file::{encode_file, make_table, make_table_within, read_table};
+pub use hex::{from_hex, to_hex};
+pub use linear::linear_table;
+pub use question::Refusal;
+pub use sheet::Sheet;
+pub use stack::{ask, ask_list, ask_table, frame_right, Answer, Frame};
+pub use steps::{all_steps, step};
+pub use stream::encode;
+pub use table::Table;
+pub use term::{Term, Terms};
+pub use transitions::{equal_to, Label, Transitions};
+pub use walk::walk;

@@ -1,0 +1,103 @@
+//! Sorts (question 8): argument counts and sorts, conditions, numerals, function values.
+
+use crate::sheet::{Choice, Conditional, Part, PartKind, Sequence, Sheet};
+use crate::signature::{Data, Function, Signature, BOOL};
+
+/// Whether the whole sheet passes question 8.
+pub fn well_sorted(sheet: &Sheet) -> bool {
+    let signature = &sheet.signature;
+    let functions = &signature.functions;
+    let start = &sheet.processes[sheet.start].parameters;
+    functions.iter().all(|f| values_right(signature, f))
+        && (sheet.processes.iter()).all(|p| Scope::new(sheet, &p.parameters).choice(&p.body))
+        && Scope::new(sheet, &[]).arguments(&sheet.start_data, start)
+}
+
+/// Whether a choice without free variables passes question 8.
+pub fn closed_choice_well_sorted(sheet: &Sheet, choice: &Choice) -> bool {
+    Scope::new(sheet, &[]).choice(choice)
+}
+
+/// Function values complete and in range.
+fn values_right(signature: &Signature, function: &Function) -> bool {
+    let size = signature.sorts[function.result];
+    function.values.len() == signature.combinations(&function.arguments)
+        && function.values.iter().all(|&value| value < size)
+}
+
+/// Whether data has this sort when its variables have the sorts given.
+fn data_has_sort(signature: &Signature, variables: &[usize], data: &Data, sort: usize) -> bool {
+    match data {
+        Data::Value(value) => *value < signature.sorts[sort],
+        Data::Variable(index) => variables[*index] == sort,
+        Data::Apply(function, arguments) => {
+            let function = &signature.functions[*function];
+            function.result == sort
+                && list_has_sorts(signature, variables, arguments, &function.arguments)
+        }
+    }
+}
+
+fn list_has_sorts(
+    signature: &Signature,
+    variables: &[usize],
+    data: &[Data],
+    sorts: &[usize],
+) -> bool {
+    data.len() == sorts.len()
+        && (data.iter().zip(sorts)).all(|(d, &s)| data_has_sort(signature, variables, d, s))
+}
+
+/// The sorts of the variables in scope, outermost first.
+struct Scope<'s> {
+    sheet: &'s Sheet,
+    variables: Vec<usize>,
+}
+
+impl<'s> Scope<'s> {
+    fn new(sheet: &'s Sheet, parameters: &[usize]) -> Self {
+        let variables = parameters.to_vec();
+        Scope { sheet, variables }
+    }
+
+    fn choice(&mut self, choice: &Choice) -> bool {
+        choice.iter().all(|conditional| match conditional {
+            Conditional::Sequence(parts) => self.sequence(parts),
+            Conditional::Test { yes, test, no } => {
+                self.sequence(yes) && self.condition(test) && self.sequence(no)
+            }
+        })
+    }
+
+    fn sequence(&mut self, parts: &Sequence) -> bool {
+        parts.iter().all(|part| self.part(part))
+    }
+
+    fn part(&mut self, part: &Part) -> bool {
+        let sheet = self.sheet;
+        match &part.kind {
+            PartKind::Delta | PartKind::Tau => true,
+            PartKind::Action(action, data) => {
+                self.arguments(data, &sheet.signature.actions[*action].arguments)
+            }
+            PartKind::Call(process, data) => {
+                self.arguments(data, &sheet.processes[*process].parameters)
+            }
+            PartKind::Sum { sort, body, .. } => {
+                self.variables.push(*sort);
+                let right = self.choice(body);
+                self.variables.pop();
+                right
+            }
+            PartKind::Brackets(choice) => self.choice(choice),
+        }
+    }
+
+    fn condition(&self, test: &Data) -> bool {
+        data_has_sort(&self.sheet.signature, &self.variables, test, BOOL)
+    }
+
+    fn arguments(&self, data: &[Data], sorts: &[usize]) -> bool {
+        list_has_sorts(&self.sheet.signature, &self.variables, data, sorts)
+    }
+}

@@ -1,0 +1,97 @@
+//! The stream of a table, one byte a number. All parameter lists stand before all summands, so
+//! that a call's data can be read without a count.
+
+use crate::signature::{Data, Signature};
+use crate::table::{Equation, Summand, Table};
+
+/// The action byte of tau.
+pub const TAU: u8 = 0xff;
+/// Variable i is this plus i.
+pub const VARIABLE: u8 = 0x20;
+/// Function i is this plus i.
+pub const FUNCTION: u8 = 0x40;
+
+/// The stream of a table.
+pub fn encode(table: &Table) -> Vec<u8> {
+    let mut stream = Vec::new();
+    signature(&table.signature, &mut stream);
+    number(table.equations.len(), &mut stream);
+    for equation in &table.equations {
+        list(&equation.parameters, &mut stream);
+    }
+    for equation in &table.equations {
+        summands(equation, &mut stream);
+    }
+    number(table.start, &mut stream);
+    stream.extend_from_slice(&table.start_values);
+    stream
+}
+
+fn number(value: usize, stream: &mut Vec<u8>) {
+    stream.push(u8::try_from(value).expect("a table's numbers are bytes"));
+}
+
+/// A count, then the numbers.
+fn list(numbers: &[usize], stream: &mut Vec<u8>) {
+    number(numbers.len(), stream);
+    numbers.iter().for_each(|&n| number(n, stream));
+}
+
+fn signature(signature: &Signature, stream: &mut Vec<u8>) {
+    number(signature.sorts.len(), stream);
+    stream.extend_from_slice(&signature.sorts);
+    number(signature.functions.len(), stream);
+    for function in &signature.functions {
+        list(&function.arguments, stream);
+        number(function.result, stream);
+        stream.extend_from_slice(&function.values);
+    }
+    number(signature.actions.len(), stream);
+    for action in &signature.actions {
+        number(action.name.len(), stream);
+        stream.extend_from_slice(action.name.as_bytes());
+        list(&action.arguments, stream);
+    }
+}
+
+fn summands(equation: &Equation, stream: &mut Vec<u8>) {
+    number(equation.summands.len(), stream);
+    for each in &equation.summands {
+        summand(each, stream);
+    }
+}
+
+fn summand(summand: &Summand, stream: &mut Vec<u8>) {
+    list(&summand.variables, stream);
+    number(summand.conditions.len(), stream);
+    for condition in &summand.conditions {
+        stream.push(condition.wanted);
+        term(&condition.data, stream);
+    }
+    match summand.action {
+        Some(action) => number(action, stream),
+        None => stream.push(TAU),
+    }
+    terms(&summand.arguments, stream);
+    number(summand.calls.len(), stream);
+    for call in &summand.calls {
+        number(call.equation, stream);
+        terms(&call.arguments, stream);
+    }
+}
+
+fn terms(data: &[Data], stream: &mut Vec<u8>) {
+    data.iter().for_each(|d| term(d, stream));
+}
+
+/// Terms in prefix order.
+fn term(data: &Data, stream: &mut Vec<u8>) {
+    match data {
+        Data::Value(value) => stream.push(*value),
+        Data::Variable(index) => number(usize::from(VARIABLE) + index, stream),
+        Data::Apply(function, arguments) => {
+            number(usize::from(FUNCTION) + function, stream);
+            terms(arguments, stream);
+        }
+    }
+}

@@ -1,0 +1,213 @@
+//! Small sheets by a seed: right in form, names and sorts, and without circles at the head.
+
+use super::random::Random;
+
+struct Function {
+    name: String,
+    arguments: Vec<usize>,
+    result: usize,
+}
+
+/// A sheet being written, with what is declared and the variables in scope.
+struct Writer {
+    random: Random,
+    sizes: Vec<usize>,
+    functions: Vec<Function>,
+    actions: Vec<(String, Vec<usize>)>,
+    processes: Vec<(String, Vec<usize>)>,
+    scope: Vec<(String, usize)>,
+    sums: usize,
+    text: String,
+}
+
+const SORT_NAMES: [&str; 3] = ["Bool", "D", "E"];
+const DEPTH: usize = 3;
+
+/// The sheet of a seed.
+pub fn sheet(seed: u64) -> String {
+    let mut writer = Writer {
+        random: Random::new(seed),
+        sizes: vec![2],
+        functions: Vec::new(),
+        actions: Vec::new(),
+        processes: Vec::new(),
+        scope: Vec::new(),
+        sums: 0,
+        text: String::new(),
+    };
+    writer.declarations();
+    for number in 0..writer.processes.len() {
+        writer.process(number);
+    }
+    let (name, sorts) = writer.processes[0].clone();
+    let data = writer.bracketed(&sorts);
+    writer.text + &format!("init {name}{data};")
+}
+
+impl Writer {
+    fn declarations(&mut self) {
+        for name in &SORT_NAMES[1..=self.random.below(3)] {
+            let size = 1 + self.random.below(3);
+            self.sizes.push(size);
+            self.text += &format!("sort {name} {size};");
+        }
+        for number in 0..self.random.below(3) {
+            self.function(number);
+        }
+        for number in 0..1 + self.random.below(3) {
+            let count = self.random.below(3);
+            let sorts = self.some_sorts(count);
+            let name = format!("a{number}");
+            let listed = sort_names(&sorts, "#");
+            let colon = if sorts.is_empty() { "" } else { ":" };
+            self.text += &format!("act {name}{colon}{listed};");
+            self.actions.push((name, sorts));
+        }
+        for number in 0..1 + self.random.below(3) {
+            let count = self.random.below(3);
+            let sorts = self.some_sorts(count);
+            self.processes.push((format!("X{number}"), sorts));
+        }
+    }
+
+    fn some_sorts(&mut self, count: usize) -> Vec<usize> {
+        let sorts = self.sizes.len();
+        (0..count).map(|_| self.random.below(sorts)).collect()
+    }
+
+    fn function(&mut self, number: usize) {
+        let count = 1 + self.random.below(2);
+        let arguments = self.some_sorts(count);
+        let result = self.random.below(self.sizes.len());
+        let name = format!("f{number}");
+        let places: usize = arguments.iter().map(|&sort| self.sizes[sort]).product();
+        let size = self.sizes[result];
+        let values: Vec<String> = (0..places)
+            .map(|_| self.random.below(size).to_string())
+            .collect();
+        let (listed, result_name) = (sort_names(&arguments, "#"), SORT_NAMES[result]);
+        self.text += &format!("func {name}:{listed}->{result_name}={};", values.join(","));
+        self.functions.push(Function {
+            name,
+            arguments,
+            result,
+        });
+    }
+
+    fn process(&mut self, number: usize) {
+        let (name, sorts) = self.processes[number].clone();
+        self.scope = (sorts.iter().enumerate())
+            .map(|(index, &sort)| (format!("p{index}"), sort))
+            .collect();
+        let parameters: Vec<String> = (self.scope.iter())
+            .map(|(name, sort)| format!("{name}:{}", SORT_NAMES[*sort]))
+            .collect();
+        let parameters = in_brackets(&parameters);
+        let body = self.choice(DEPTH, Some(number));
+        self.scope.clear();
+        self.text += &format!("proc {name}{parameters}={body};");
+    }
+
+    /// A choice at the head of a process, or further back.
+    fn choice(&mut self, depth: usize, head_of: Option<usize>) -> String {
+        let count = 1 + self.random.below(2);
+        let items: Vec<String> = (0..count)
+            .map(|_| self.conditional(depth, head_of))
+            .collect();
+        items.join("+")
+    }
+
+    fn conditional(&mut self, depth: usize, head_of: Option<usize>) -> String {
+        let yes = self.sequence(depth, head_of);
+        if !self.random.one_in(4) {
+            return yes;
+        }
+        let test = self.data(0, 2);
+        let no = self.sequence(depth, head_of);
+        format!("{yes}<|{test}|>{no}")
+    }
+
+    fn sequence(&mut self, depth: usize, head_of: Option<usize>) -> String {
+        let mut parts = vec![self.part(depth, head_of)];
+        for _ in 0..self.random.below(3) {
+            parts.push(self.part(depth, None));
+        }
+        parts.join(".")
+    }
+
+    fn part(&mut self, depth: usize, head_of: Option<usize>) -> String {
+        match self.random.below(if depth == 0 { 7 } else { 10 }) {
+            0 if self.random.one_in(2) => "delta".to_string(),
+            1 => "tau".to_string(),
+            2 | 3 => self.call(head_of),
+            7 => format!("({})", self.choice(depth - 1, head_of)),
+            8 | 9 if self.scope.len() < 4 => self.sum(depth - 1, head_of),
+            _ => self.action(),
+        }
+    }
+
+    fn action(&mut self) -> String {
+        let (name, sorts) = self.random.pick(&self.actions).clone();
+        name + &self.bracketed(&sorts)
+    }
+
+    /// At the head only later processes are called, so that there is no circle.
+    fn call(&mut self, head_of: Option<usize>) -> String {
+        let from = head_of.map_or(0, |number| number + 1);
+        if from == self.processes.len() {
+            return self.action();
+        }
+        let (name, sorts) = self.random.pick(&self.processes[from..]).clone();
+        name + &self.bracketed(&sorts)
+    }
+
+    fn sum(&mut self, depth: usize, head_of: Option<usize>) -> String {
+        let sort = self.random.below(self.sizes.len());
+        let name = format!("v{}", self.sums);
+        self.sums += 1;
+        self.scope.push((name.clone(), sort));
+        let body = self.choice(depth, head_of);
+        self.scope.pop();
+        format!("sum({name}:{},{body})", SORT_NAMES[sort])
+    }
+
+    fn bracketed(&mut self, sorts: &[usize]) -> String {
+        let data: Vec<String> = sorts.iter().map(|&sort| self.data(sort, 2)).collect();
+        in_brackets(&data)
+    }
+
+    fn data(&mut self, sort: usize, depth: usize) -> String {
+        let variables: Vec<&String> = (self.scope.iter())
+            .filter(|(_, of)| *of == sort)
+            .map(|(name, _)| name)
+            .collect();
+        if !variables.is_empty() && !self.random.one_in(4) {
+            return self.random.pick(&variables).to_string();
+        }
+        let functions: Vec<(String, Vec<usize>)> = (self.functions.iter())
+            .filter(|function| function.result == sort)
+            .map(|function| (function.name.clone(), function.arguments.clone()))
+            .collect();
+        if depth == 0 || functions.is_empty() || self.random.one_in(3) {
+            return self.random.below(self.sizes[sort]).to_string();
+        }
+        let (name, arguments) = self.random.pick(&functions).clone();
+        let data: Vec<String> = (arguments.iter())
+            .map(|&sort| self.data(sort, depth - 1))
+            .collect();
+        name + &in_brackets(&data)
+    }
+}
+
+fn sort_names(sorts: &[usize], joint: &str) -> String {
+    let names: Vec<&str> = sorts.iter().map(|&sort| SORT_NAMES[sort]).collect();
+    names.join(joint)
+}
+
+fn in_brackets(items: &[String]) -> String {
+    if items.is_empty() {
+        String::new()
+    } else {
+        format!("({})", items.join(","))
+    }
+}

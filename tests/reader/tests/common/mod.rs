@@ -1,0 +1,59 @@
+//! What the tests share: vectors, generated sheets, and small helpers.
+
+#![allow(dead_code)]
+
+pub mod generate;
+pub mod json;
+pub mod random;
+
+use std::time::{Duration, Instant};
+
+use reader::{Frame, Table};
+
+/// All vectors of a file in `tests/vectors`.
+pub fn vectors(file: &str) -> Vec<json::Json> {
+    let path = format!("{}/../vectors/{file}", env!("CARGO_MANIFEST_DIR"));
+    let text = std::fs::read_to_string(&path).expect(&path);
+    text.lines().map(json::parse).collect()
+}
+
+/// The number of the question that a sheet fails, or 0 if it is accepted.
+pub fn verdict(sheet: &str) -> u8 {
+    reader::make_table(sheet.as_bytes()).err().unwrap_or(0)
+}
+
+/// The stream of an accepted sheet's table.
+pub fn stream(sheet: &str) -> Vec<u8> {
+    reader::encode(&table(sheet))
+}
+
+/// An accepted sheet's table.
+pub fn table(sheet: &str) -> Table {
+    let file = reader::make_table(sheet.as_bytes()).expect(sheet);
+    reader::read_table(&file).expect(sheet)
+}
+
+/// 64 frames that begin with these.
+pub fn lent(used: &[Frame]) -> Vec<Frame> {
+    let mut frames = used.to_vec();
+    frames.resize(reader::limits::FRAMES, Frame::default());
+    frames
+}
+
+/// The text as often as given, with the joint between.
+pub fn repeated(text: &str, times: usize, joint: &str) -> String {
+    vec![text; times].join(joint)
+}
+
+/// Runs the work on a stack of 1 MiB, and asserts that it ends within the time.
+pub fn within<T: Send + 'static>(limit: Duration, work: impl FnOnce() -> T + Send + 'static) -> T {
+    let thread = std::thread::Builder::new().stack_size(1 << 20);
+    let timed = move || {
+        let start = Instant::now();
+        let answer = work();
+        (answer, start.elapsed())
+    };
+    let (answer, taken) = thread.spawn(timed).unwrap().join().unwrap();
+    assert!(taken < limit, "took {taken:?}");
+    answer
+}
