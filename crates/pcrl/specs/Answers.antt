@@ -7,7 +7,8 @@ use Rattle.pcrl.specs.Limits.{frame-width, stack-limit}
 use Rattle.pcrl.specs.Result.{Result, refused, accepted, question, question-of, after}
 use Rattle.pcrl.specs.Tests.{T?}
 use Rattle.pcrl.specs.Bytes.{short?, printable?}
-use Rattle.pcrl.specs.Tokens.{tokens, shallow?}
+use Rattle.pcrl.specs.Tokens.{Token, tokens, shallow?}
+use Rattle.pcrl.specs.Tree.{RawSheet}
 use Rattle.pcrl.specs.Grammar.{parse}
 use Rattle.pcrl.specs.Counts.{counted?}
 use Rattle.pcrl.specs.Names.{resolve}
@@ -21,18 +22,26 @@ use Rattle.pcrl.specs.Blocks.{file-of, room?, right-length?, right-block
 use Rattle.pcrl.specs.Stack.{Frame, Stack, padded, right-frames?, frames-of, stack-of}
 use Rattle.pcrl.specs.Ask.{Answer, Asked, ask, ask-all}
 
--- Check a sheet: the resolved sheet of its bytes, questions 1 to 9.
-unfoldable pub sheet-read : List ℕ → Result Sheet
-sheet-read s =
+-- the tokens of a sheet's bytes, questions 1 to 4
+unfoldable pub tokens-read : List ℕ → Result (List Token)
+tokens-read s =
     question 1 (short? s) (λ _.
     question 2 (printable? s) (λ _.
     question-of 3 (tokens s) (λ ts.
-    question 4 (shallow? ts) (λ _.
-    question-of 5 (parse ts) (λ R.
+    question 4 (shallow? ts) (λ _. accepted ts))))
+
+-- its tree, questions 1 to 5
+unfoldable pub tree-read : List ℕ → Result RawSheet
+tree-read s = after (tokens-read s) (λ ts. question-of 5 (parse ts) (λ R. accepted R))
+
+-- Check a sheet: the resolved sheet of its bytes, questions 1 to 9.
+unfoldable pub sheet-read : List ℕ → Result Sheet
+sheet-read s =
+    after (tree-read s) (λ R.
     question 6 (counted? R) (λ _.
     question-of 7 (resolve R) (λ H.
     question 8 (rightly-sorted? H) (λ _.
-    question 9 (T? (guarded H)) (λ _. accepted H)))))))))
+    question 9 (T? (guarded H)) (λ _. accepted H)))))
 
 -- the table of a sheet's bytes, questions 1 to 10
 unfoldable pub table-made : List ℕ → Result Table

@@ -50,7 +50,7 @@ unfolding Stack.InSorts Stack.in-sorts? Stack.used Stack.padded Stack.zero-frame
 in-stacks = 0
 
 unfoldable pub in-answers : ℕ
-unfolding Answers.sheet-read Answers.table-made Answers.file-made Answers.output-after Answers.table-checked Answers.start-stack Answers.lent Answers.reply Answers.started-in Answers.stack-read Answers.one-answer Answers.asked-in Answers.asked-all-in Walk.digits Walk.decimal Walk.values-text Walk.label-text Walk.line Walk.step-line Walk.closing Walk.answer-lines Walk.walk-lines Walk.walk-made Walk.walk-text
+unfolding Answers.tokens-read Answers.tree-read Answers.sheet-read Answers.table-made Answers.file-made Answers.output-after Answers.table-checked Answers.start-stack Answers.lent Answers.reply Answers.started-in Answers.stack-read Answers.one-answer Answers.asked-in Answers.asked-all-in Walk.digits Walk.decimal Walk.values-text Walk.label-text Walk.line Walk.step-line Walk.closing Walk.answer-lines Walk.walk-lines Walk.walk-made Walk.walk-text
 in-answers = 0
 
 unfoldable pub definitions : ℕ
