@@ -1,6 +1,6 @@
 -- The answer of each public operation for all input: the questions of document 01 in their order.
 use mathlib.Core.List.{List, [], _∷_, _++_}
-use Prim.Native.Nat.{ℕ, _+_}
+use Prim.Native.Nat.{ℕ}
 use native.Mathlib.Decide.{ℕ-discrete}
 use lib.ListN.{length, drop}
 use Rattle.pcrl.specs.Limits.{frame-width, stack-limit}
@@ -17,8 +17,9 @@ use Rattle.pcrl.specs.Sorts.{rightly-sorted?}
 use Rattle.pcrl.specs.Circles.{guarded}
 use Rattle.pcrl.specs.Table.{Table}
 use Rattle.pcrl.specs.Heads.{table-of}
+use Rattle.pcrl.specs.Stream.{encode}
 use Rattle.pcrl.specs.Right.{within?}
-use Rattle.pcrl.specs.Blocks.{file-of, room?, right-length?, right-blocks?, table-read}
+use Rattle.pcrl.specs.Blocks.{file-of-stream, room?, right-length?, right-blocks?, stream-of, table-read}
 use Rattle.pcrl.specs.Stack.{Frame, Stack, padded, right-frames?, frames-of, stack-of}
 use Rattle.pcrl.specs.Ask.{Answer, Asked, ask, ask-all}
 
@@ -47,21 +48,28 @@ sheet-read s =
 unfoldable pub table-made : List ℕ → Result Table
 table-made s = after (sheet-read s) (λ H. question 10 (within? (table-of H)) (λ _. accepted (table-of H)))
 
--- Make a table: the file of a sheet's bytes, where so many bytes are lent for it, questions 1 to 11.
+-- the blocks of a stream, where so many bytes are lent for them, question 11
+unfoldable pub stream-filed : List ℕ → ℕ → Result (List ℕ)
+stream-filed s room = question 11 (room? (file-of-stream s) room) (λ _. accepted (file-of-stream s))
+
+-- Make a table: the file of a sheet's bytes, questions 1 to 11.
 unfoldable pub file-made : List ℕ → ℕ → Result (List ℕ)
-file-made s room = after (table-made s) (λ T. question 11 (room? (file-of T) room) (λ _. accepted (file-of T)))
+file-made s room = after (table-made s) (λ T. stream-filed (encode T) room)
 
 -- "A refusal .. changes no lent byte or frame. Output beyond the blocks written is untouched."
 unfoldable pub output-after : Result (List ℕ) → List ℕ → List ℕ
 output-after (refused n) out = out
 output-after (accepted file) out = file ++ drop (length file) out
 
+-- the stream of a file, questions 12 and 13
+unfoldable pub stream-read : List ℕ → Result (List ℕ)
+stream-read file =
+    question 12 (right-length? file) (λ _.
+    question 13 (right-blocks? file) (λ _. accepted (stream-of file)))
+
 -- Check a table: the table of a file, questions 12 to 14.
 unfoldable pub table-checked : List ℕ → Result Table
-table-checked file =
-    question 12 (right-length? file) (λ _.
-    question 13 (right-blocks? file) (λ _.
-    question-of 14 (table-read file) (λ T. accepted T)))
+table-checked file = after (stream-read file) (λ s. question-of 14 (table-read s) (λ T. accepted T))
 
 -- what an operation on lent frames answers, and the frames and depth that it leaves
 pub record Reply (A : Type 0) : Type 0 where
@@ -74,9 +82,6 @@ unfoldable pub start-stack : ℕ → Table → Stack
 start-stack width T = record { number = T .start .0; values = padded width (T .start .1) } ∷ []
 
 module _ (width limit : ℕ) where
-  unfoldable pub lent : Stack → List Frame × ℕ
-  lent s = (frames-of width limit s, length s)
-
   -- what is left of the lent frames and the depth: as they were after a refusal, and else the stack
   unfoldable pub reply : {A : Type 0} → List Frame → ℕ → Result (A × Stack) → Reply A
   reply fs depth (refused n) = record { answer = refused n; frames = fs; depth = depth }

@@ -10,13 +10,14 @@ use Rattle.pcrl.specs.Table.{Table}
 use Rattle.pcrl.specs.Stack.{Frame, Stack, stack-of, frames-of}
 use Rattle.pcrl.specs.Steps.{steps}
 
--- "the answer is ended (depth 0) or none (k too large) .. or the label and the new depth"
+-- "the answer is ended (depth 0) or none (k too large), both with the lent frames unchanged, or the label and the new depth,
+-- with the new stack in the lent frames and zeros in all frames past it"
 pub data Answer : Type 0 where
   ended nothing : Answer
   stepped : Label → ℕ → Answer
   refused : ℕ → Answer
 
--- an answer, and the stack or the lent frames and depth that it leaves
+-- an answer, and the stack that it leaves
 pub record Asked : Type 0 where
   pub answer : Answer
   pub stack : Stack

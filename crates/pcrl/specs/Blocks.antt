@@ -115,18 +115,18 @@ right-blocks? file = every? (λ i. same? (block-at file i) (block i (block-count
 unfoldable pub stream-of : List ℕ → List ℕ
 stream-of file = joined (block-count file) (stream-at file)
 
--- "fewest blocks, zeros after it": rest is what stands behind the table's stream
+-- "fewest blocks, zeros after it": s are the stream bytes of all blocks, rest those behind the table's
 unfoldable pub Filled : List ℕ → Table → List ℕ → Type 0
-Filled file T rest = (block-count file ≡ blocks-for (length (encode T))) × Every (λ b. b ≡ 0) rest
+Filled s T rest = (length s ≡ blocks-for (length (encode T)) * block-stream) × Every (λ b. b ≡ 0) rest
 
-unfoldable pub filled? : (file : List ℕ) (T : Table) (rest : List ℕ) → Dec (Filled file T rest)
+unfoldable pub filled? : (s : List ℕ) (T : Table) (rest : List ℕ) → Dec (Filled s T rest)
 unfolding Filled
-filled? file T rest = both? (ℕ-discrete (block-count file) (blocks-for (length (encode T)))) (every? (λ b. ℕ-discrete b 0) rest)
+filled? s T rest = both? (ℕ-discrete (length s) (blocks-for (length (encode T)) * block-stream)) (every? (λ b. ℕ-discrete b 0) rest)
 
 unfoldable pub table-in : List ℕ → Got ℕ Table → Option Table
-table-in file missing = none
-table-in file (found T rest) = elim (filled? file T rest) [ yes h ↦ some T | no h ↦ none ]
+table-in s missing = none
+table-in s (found T rest) = elim (filled? s T rest) [ yes h ↦ some T | no h ↦ none ]
 
 -- 14: "the stream of the layout below, within all limits, rightly sorted, fewest blocks, zeros after it?"
 unfoldable pub table-read : List ℕ → Option Table
-table-read file = table-in file (decode (stream-of file))
+table-read s = table-in s (decode s)

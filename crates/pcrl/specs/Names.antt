@@ -148,6 +148,10 @@ module _ (N : Names) where
     ds ← resolve-given [] (l .data-given)
     some (k, ds)
 
+-- "values 0 to size − 1. Bool, size 2, is always there first (0 false, 1 true)"
+unfoldable pub sizes-of : RawSheet → List ℕ
+sizes-of R = 2 ∷ map (λ (l : SortLine). l .size) (R .sorts)
+
 -- 7: "Every declared name new (Bool is taken), each variable unlike all declared names and all variables in scope,
 -- each used name of the kind its place needs? Processes may be used before their line."
 unfoldable pub resolve : RawSheet → Option Sheet
@@ -157,4 +161,4 @@ resolve R = do
   as′ ← for-each (resolve-act (names-of R)) (R .acts)
   ps ← for-each (resolve-proc (names-of R)) (R .procs)
   s ← resolve-init (names-of R) (R .start)
-  some (record { sig = record { sorts = 2 ∷ map (λ (l : SortLine). l .size) (R .sorts); funcs = fs; acts = as′ }; procs = ps; start = s })
+  some (record { sig = record { sorts = sizes-of R; funcs = fs; acts = as′ }; procs = ps; start = s })

@@ -53,7 +53,7 @@ module _ (width : ℕ) where
     pub gives : (l, fs) ≡ outcome S (vs ++ values) h
 
   -- "A step takes a summand of the top frame's equation and values for its sum variables that meet its conditions.
-  -- It replaces the top frame by the calls, first call on top."
+  -- It replaces the top frame by the calls, first call on top; the depth becomes the old depth − 1 + the number of calls."
   unfoldable pub StackStep : Table → Stack → Label → Stack → Type 0
   StackStep T [] l t = ⊥
   StackStep T (f ∷ s) l t = (fs : List Frame) × Any (Fires (T .sig) (used T f) l fs) (equation T (f .number) .summands) × (t ≡ fs ++ s)
