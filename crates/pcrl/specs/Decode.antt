@@ -1,4 +1,4 @@
--- The reader of a stream, with every check of question 14. The crate theory shows that it finds a table
+-- The reader of a stream, with every check of question 14. The crate codec shows that it finds a table
 -- exactly where the stream begins with that table's bytes and the table is right.
 use mathlib.Core.Path.{_≡_}
 use mathlib.Core.List.{List, [], _∷_, _++_}

@@ -1,6 +1,6 @@
 -- "Stream, one byte a number, indices from 0": the bytes of a table.
 -- The lists of parameters of all equations stand first and their summands behind them: written equation by equation
--- a stream does not say which table it is of (a theorem of the crate theory).
+-- a stream does not say which table it is of (a theorem of the crate codec).
 use mathlib.Core.List.{List, [], _∷_, _++_}
 use Prim.Native.Nat.{ℕ, _+_}
 use lib.ListN.{length}

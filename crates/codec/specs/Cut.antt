@@ -1,0 +1,77 @@
+-- A list cut into parts of one length, and parts joined to a list: each undoes the other.
+use mathlib.Core.Path.{_≡_, refl, sym, ap, _∙_}
+use mathlib.Core.List.{List, [], _++_}
+use Prim.Native.Nat.{ℕ, zero, suc, _*_, _<_}
+use native.Mathlib.Nat.{zero-mul, suc-mul, add-comm}
+use native.Mathlib.Omega.{arith}
+use lib.ListN.{length, take, drop, length-append}
+use lib.Seq.{take-all, take-at, drop-at, drop-drop, take-add}
+use Rattle.pcrl.specs.Tests.{Every}
+use Rattle.pcrl.specs.Reader.{all}
+use Rattle.pcrl.specs.Parts.{tabulate}
+use Rattle.pcrl.specs.Blocks.{joined}
+
+-- TABULATED
+
+pub every-tabulate : {A : Type 0} (P : A → Type 0) (n : ℕ) (f : ℕ → A) → ((i : ℕ) → i < n → P (f i)) → Every P (tabulate n f)
+unfolding Every tabulate
+every-tabulate P zero f h = tt
+every-tabulate P (suc n) f h = (h zero (omega arith), every-tabulate P n (λ i. f (suc i)) (λ i k. h (suc i) (omega arith)))
+
+pub every-tabulated : {A : Type 0} (P : A → Type 0) (n : ℕ) (f : ℕ → A) → Every P (tabulate n f) → (i : ℕ) → i < n → P (f i)
+unfolding Every tabulate
+every-tabulated P zero f h i k = absurd (omega arith)
+every-tabulated P (suc n) f h zero k = h .0
+every-tabulated P (suc n) f h (suc i) k = every-tabulated P n (λ i. f (suc i)) (h .1) i (omega arith)
+
+all-tabulate : (n : ℕ) (f : ℕ → List ℕ) (g : ℕ → ℕ) → all f (tabulate n g) ≡ all (λ i. f (g i)) (tabulate n (λ i. i))
+unfolding all tabulate
+all-tabulate zero f g = refl
+all-tabulate (suc n) f g = ap (λ (l : List ℕ). f (g zero) ++ l) (all-tabulate n f (λ i. g (suc i)) ∙ sym (all-tabulate n (λ i. f (g i)) suc))
+
+-- JOINED
+
+joined-zero : (f : ℕ → List ℕ) → joined zero f ≡ []
+unfolding joined all tabulate
+joined-zero f = refl
+
+pub joined-suc : (n : ℕ) (f : ℕ → List ℕ) → joined (suc n) f ≡ f zero ++ joined n (λ i. f (suc i))
+unfolding joined all tabulate
+joined-suc n f = ap (λ (l : List ℕ). f zero ++ l) (all-tabulate n f suc)
+
+pub joined-alike : (n : ℕ) (f g : ℕ → List ℕ) → ((i : ℕ) → i < n → f i ≡ g i) → joined n f ≡ joined n g
+joined-alike zero f g h = joined-zero f ∙ sym (joined-zero g)
+joined-alike (suc n) f g h =
+    let e = h zero (omega arith) in
+    let e′ = joined-alike n (λ i. f (suc i)) (λ i. g (suc i)) (λ i k. h (suc i) (omega arith)) in
+    joined-suc n f ∙ ap (λ (l : List ℕ). l ++ joined n (λ i. f (suc i))) e ∙ ap (λ (l : List ℕ). g zero ++ l) e′ ∙ sym (joined-suc n g)
+
+pub length-joined : (n k : ℕ) (f : ℕ → List ℕ) → ((i : ℕ) → i < n → length (f i) ≡ k) → length (joined n f) ≡ n * k
+length-joined zero k f h = rw (joined-zero f, zero-mul k)
+length-joined (suc n) k f h =
+    rw (joined-suc n f, length-append (f zero) (joined n (λ i. f (suc i))), suc-mul n k)
+    (omega (arith, h zero (omega arith), length-joined n k (λ i. f (suc i)) (λ i l. h (suc i) (omega arith))))
+
+drop-suc-mul : (i k : ℕ) (l : List ℕ) → drop (suc i * k) l ≡ drop (i * k) (drop k l)
+drop-suc-mul i k l = rw (suc-mul i k, add-comm (i * k) k) (sym (drop-drop (i * k) k l))
+
+-- part i of joined parts
+pub part-of-joined : (n k : ℕ) (f : ℕ → List ℕ) → ((i : ℕ) → i < n → length (f i) ≡ k) → (i : ℕ) → i < n → take k (drop (i * k) (joined n f)) ≡ f i
+part-of-joined zero k f h i l = absurd (omega arith)
+part-of-joined (suc n) k f h zero l = rw (zero-mul k, joined-suc n f) (take-at (f zero) (joined n (λ i. f (suc i))) k (h zero (omega arith)))
+part-of-joined (suc n) k f h (suc i) l =
+    rw (drop-suc-mul i k (joined (suc n) f), joined-suc n f, drop-at (f zero) (joined n (λ i. f (suc i))) k (h zero (omega arith)))
+    (part-of-joined n k (λ i. f (suc i)) (λ i m. h (suc i) (omega arith)) i (omega arith))
+
+joined-parts-take : (n k : ℕ) (l : List ℕ) → joined n (λ i. take k (drop (i * k) l)) ≡ take (n * k) l
+joined-parts-take zero k l = rw (joined-zero (λ i. take k (drop (i * k) l)), zero-mul k)
+joined-parts-take (suc n) k l =
+    joined-suc n (λ i. take k (drop (i * k) l))
+    ∙ ap (λ (j : ℕ). take k (drop j l) ++ joined n (λ i. take k (drop (suc i * k) l))) (zero-mul k)
+    ∙ ap (λ (m : List ℕ). take k l ++ m) (joined-alike n (λ i. take k (drop (suc i * k) l)) (λ i. take k (drop (i * k) (drop k l))) (λ i h. ap (take k) (drop-suc-mul i k l)) ∙ joined-parts-take n k (drop k l))
+    ∙ sym (take-add k (n * k) l)
+    ∙ ap (λ (j : ℕ). take j l) (add-comm k (n * k) ∙ sym (suc-mul n k))
+
+-- the parts of a list joined again
+pub joined-parts : (n k : ℕ) (l : List ℕ) → length l ≡ n * k → joined n (λ i. take k (drop (i * k) l)) ≡ l
+joined-parts n k l h = joined-parts-take n k l ∙ take-all (n * k) l (omega arith)

@@ -1,0 +1,17 @@
+pub mod Every
+pub mod Lawful
+pub mod Arguments
+pub mod TermLaws
+pub mod StreamLaws
+pub mod StreamBytes
+pub mod Computing
+pub mod Ambiguous
+pub mod Cut
+pub mod Padding
+pub mod Crc
+pub mod BlockLaws
+pub mod FileOfStream
+pub mod Questions
+pub mod FileLaws
+pub mod FileBytes
+pub mod Examples

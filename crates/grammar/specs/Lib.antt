@@ -1,0 +1,16 @@
+pub mod Print
+pub mod PrintLaws
+pub mod Outcome
+pub mod ParsedTerms
+pub mod Parsed
+pub mod TokenLaws
+pub mod ValidNames
+pub mod Ahead
+pub mod Weight
+pub mod PrintedTerms
+pub mod PrintedLines
+pub mod Printed
+pub mod Render
+pub mod Spelled
+pub mod Taken
+pub mod Rendered

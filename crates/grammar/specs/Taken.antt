@@ -1,0 +1,165 @@
+-- A valid token is taken whole from its bytes, where a blank or nothing stands behind them.
+use mathlib.Core.Path.{_≡_, refl, sym, ap, subst, _∙_}
+use mathlib.Core.List.{List, [], _∷_, _++_}
+use mathlib.Core.Bool.{Bool, true, false}
+use mathlib.Core.Option.{Option, none, some}
+use Prim.Native.Nat.{ℕ, _≤_}
+use native.Mathlib.Omega.{arith}
+use native.Mathlib.Decide.{ℕ-discrete}
+use lib.Dec.{T, leb, leb→le, le→leb, eqb, eqb→eq, ltb}
+use lib.ListN.{length, getD}
+use Rattle.pcrl.specs.Text.{byte}
+use Rattle.pcrl.specs.Limits.{max-name, max-numeral}
+use Rattle.pcrl.specs.Tests.{and, or, negated, same?, among, Every}
+use Rattle.pcrl.specs.Bytes.{separator, letter, digit, name-byte}
+use Rattle.pcrl.specs.Tokens.{Token, name, numeral, sign, words, marks, run, front, Lexeme, name-of, value-of, numeral-of, mark-of, first-token}
+use Rattle.pcrl.specs.Walk.{decimal}
+use Rattle.grammar.specs.TokenLaws.{ValidName, ValidToken, front-cons}
+use Rattle.grammar.specs.Render.{blank-byte, write}
+use Rattle.grammar.specs.Spelled.{spelled}
+
+-- behind a token: nothing, or a blank
+pub data Behind : List ℕ → Type 0 where
+  nothing : Behind []
+  blank : (s : List ℕ) → Behind (blank-byte ∷ s)
+
+-- the token that bytes begin with
+unfoldable pub lexeme : List ℕ → Option Lexeme
+lexeme [] = none
+lexeme (b ∷ s) = first-token b s
+
+-- no separator stands next
+unfoldable pub begins : List ℕ → Bool
+begins [] = false
+begins (b ∷ s) = negated (separator b)
+
+-- the token is taken from its bytes, whatever stands behind them
+pub record Taken (t : Token) : Type 0 where
+  pub here : T (begins (write t))
+  pub whole : (r : List ℕ) → Behind r → lexeme (write t ++ r) ≡ some (t, length (write t))
+
+pub is-true : (b : Bool) → T b → b ≡ true
+is-true true t = refl
+is-true false t = absurd t
+
+-- the bytes that pass a test, before a blank that does not
+pub front-append : (p : ℕ → Bool) → p blank-byte ≡ false → (w r : List ℕ) → Every (λ b. T (p b)) w → Behind r → front p (w ++ r) ≡ w
+unfolding Every run
+front-append p e [] r h nothing = refl
+front-append p e [] r h (blank s) = rw (e, run)
+front-append p e (b ∷ w) r h k = front-cons p b (w ++ r) (is-true (p b) (h .0)) ∙ ap (λ l. b ∷ l) (front-append p e w r (h .1) k)
+
+-- no separator passes the test
+pub no-separator : (p : ℕ → Bool) → p 0x20 ≡ false → p 0x0A ≡ false → (b : ℕ) → T (p b) → T (negated (separator b))
+no-separator p e f b h = by (eqb b 0x20) (eqb b 0x0A) (λ t. rw e at (subst (λ c. T (p c)) (eqb→eq b 0x20 t) h)) (λ t. rw f at (subst (λ c. T (p c)) (eqb→eq b 0x0A t) h))
+  where
+    by : (c d : Bool) → (T c → ⊥) → (T d → ⊥) → T (negated (or c d))
+    by true d g k = g tt
+    by false true g k = k tt
+    by false false g k = tt
+
+pub first-name : (b : ℕ) (s : List ℕ) → letter b ≡ true → first-token b s ≡ name-of (front name-byte (b ∷ s))
+unfolding first-token
+first-name b s e = rw (e, first-token)
+
+pub first-numeral : (b : ℕ) (s : List ℕ) → letter b ≡ false → digit b ≡ true → first-token b s ≡ numeral-of (front digit (b ∷ s))
+unfolding first-token
+first-numeral b s e f = rw (e, f, first-token)
+
+pub name-of-valid : (n : List ℕ) → ValidName n → name-of n ≡ some (name n, length n)
+unfolding ValidName name-of
+name-of-valid n v = rw (is-true (leb (length n) max-name) (le→leb (length n) max-name (v .0 .0 .1)), v .1 .1, name-of)
+
+-- "names"
+pub name-taken : (n : List ℕ) → ValidName n → Taken (name n)
+unfolding ValidName write begins lexeme
+name-taken [] v = absurd (omega arith)
+name-taken (b ∷ w) v = record {
+  here = no-separator letter refl refl b (v .1 .0);
+  whole = λ r k. first-name b (w ++ r) (is-true (letter b) (v .1 .0)) ∙ (ap name-of (front-append name-byte refl (b ∷ w) r (v .0 .1) k) ∙ name-of-valid (b ∷ w) v);
+}
+
+-- one of the words, or one of the marks
+pub among-every : (P : List ℕ → Type 0) (ms : List (List ℕ)) → Every P ms → (w : List ℕ) → T (among w ms) → P w
+unfolding Every among
+among-every P [] h w k = absurd k
+among-every P (m ∷ ms) h w k = by (same? w m) k (among-every P ms (h .1) w)
+  where
+    by : (d : Dec (w ≡ m)) → T (elim d [ yes e ↦ true | no g ↦ among w ms ]) → (T (among w ms) → P w) → P w
+    by (yes e) t next = subst P (sym e) (h .0)
+    by (no g) t next = next t
+
+-- by running the rule on it, with nothing behind and with a blank
+pub by-running : (w : List ℕ) → T (begins w) → lexeme (w ++ []) ≡ some (sign w, length w) → ((s : List ℕ) → lexeme (w ++ (blank-byte ∷ s)) ≡ some (sign w, length w)) → Taken (sign w)
+unfolding write
+by-running w h e f = record { here = h; whole = either }
+  where
+    either : (r : List ℕ) → Behind r → lexeme (w ++ r) ≡ some (sign w, length w)
+    either r nothing = e
+    either r (blank s) = f s
+
+-- "The words sort, func, act, proc, init, sum, delta and tau", each by computation
+pub words-taken : Every (λ w. Taken (sign w)) words
+unfolding Every words begins lexeme first-token run name-of among same? ℕ-discrete
+words-taken = (by-running _ tt refl (λ s. refl), (by-running _ tt refl (λ s. refl), (by-running _ tt refl (λ s. refl), (by-running _ tt refl (λ s. refl), (by-running _ tt refl (λ s. refl), (by-running _ tt refl (λ s. refl), (by-running _ tt refl (λ s. refl), (by-running _ tt refl (λ s. refl), tt))))))))
+
+-- "`( ) , ; : # = + . -> <| |>`", likewise
+pub marks-taken : Every (λ w. Taken (sign w)) marks
+unfolding Every marks begins lexeme first-token mark-of same? ℕ-discrete
+marks-taken = (by-running _ tt refl (λ s. refl), (by-running _ tt refl (λ s. refl), (by-running _ tt refl (λ s. refl), (by-running _ tt refl (λ s. refl), (by-running _ tt refl (λ s. refl), (by-running _ tt refl (λ s. refl), (by-running _ tt refl (λ s. refl), (by-running _ tt refl (λ s. refl), (by-running _ tt refl (λ s. refl), (by-running _ tt refl (λ s. refl), (by-running _ tt refl (λ s. refl), (by-running _ tt refl (λ s. refl), tt))))))))))))
+
+-- no digit is a letter
+pub digit-no-letter : (b : ℕ) → T (digit b) → letter b ≡ false
+digit-no-letter b h = by (leb (byte "A") b) (leb b (byte "Z")) (leb (byte "a") b) (leb b (byte "z")) (λ t. omega (arith, leb→le (byte "A") b t, low)) (λ t. omega (arith, leb→le (byte "a") b t, low))
+  where
+    right : (x y : Bool) → T (and x y) → T y
+    right true y t = t
+    right false y t = absurd t
+
+    low : b ≤ byte "9"
+    low = leb→le b (byte "9") (right (leb (byte "0") b) (leb b (byte "9")) h)
+
+    by : (a c d e : Bool) → (T a → ⊥) → (T d → ⊥) → or (and a c) (and d e) ≡ false
+    by true c d e f g = absurd (f tt)
+    by false c true e f g = absurd (g tt)
+    by false c false e f g = refl
+
+pub digits-begin : (w : List ℕ) → Every (λ b. T (digit b)) w → 1 ≤ length w → T (begins w)
+unfolding Every begins
+digits-begin [] d g = absurd (omega arith)
+digits-begin (b ∷ w) d g = no-separator digit refl refl b (d .0)
+
+pub digits-whole : (w : List ℕ) → Every (λ b. T (digit b)) w → 1 ≤ length w → (r : List ℕ) → Behind r → lexeme (w ++ r) ≡ numeral-of w
+unfolding Every lexeme
+digits-whole [] d g r k = absurd (omega arith)
+digits-whole (b ∷ w) d g r k = first-numeral b (w ++ r) (digit-no-letter b (d .0)) (is-true (digit b) (d .0)) ∙ ap numeral-of (front-append digit refl (b ∷ w) r d k)
+
+pub numeral-of-spelled : (v : ℕ) → v ≤ max-numeral → numeral-of (decimal v) ≡ some (numeral v, length (decimal v))
+unfolding numeral-of
+numeral-of-spelled v h =
+    let k = spelled v h in
+    let e : value-of 0 (decimal v) ≡ v = k .1 .1 .1 in
+    rw (
+      is-true (or (eqb (length (decimal v)) 1) (ltb (byte "0") (getD (decimal v) 0 0))) (k .1 .1 .0),
+      is-true (leb (value-of 0 (decimal v)) max-numeral) (le→leb (value-of 0 (decimal v)) max-numeral (omega arith)),
+      numeral-of,
+    )
+    (rw e)
+
+-- "numerals"
+pub numeral-taken : (v : ℕ) → v ≤ max-numeral → Taken (numeral v)
+unfolding write
+numeral-taken v h =
+    let k = spelled v h in
+    record { here = digits-begin (decimal v) (k .0) (k .1 .0); whole = λ r e. digits-whole (decimal v) (k .0) (k .1 .0) r e ∙ numeral-of-spelled v h }
+
+pub token-taken : (t : Token) → ValidToken t → Taken t
+unfolding ValidToken
+token-taken (name n) v = name-taken n v
+token-taken (numeral v) h = numeral-taken v h
+token-taken (sign w) v = by (among w words) refl (among w marks) refl v
+  where
+    by : (a : Bool) → among w words ≡ a → (b : Bool) → among w marks ≡ b → T (or a b) → Taken (sign w)
+    by true e b f t = among-every (λ w. Taken (sign w)) words words-taken w (rw e tt)
+    by false e true f t = among-every (λ w. Taken (sign w)) marks marks-taken w (rw f tt)
+    by false e false f t = absurd t
