@@ -1,5 +1,5 @@
 -- Equality to n steps is reflexive, symmetric and transitive, over any systems with the same labels; fewer steps ask less.
--- Pairs of a bisimulation are equal to every number of steps. Runs may be put one after another.
+-- Pairs of a bisimulation are equal to every number of steps, and runs go along with it. Runs may be put one after another.
 use mathlib.Core.List.{List, _++_}
 use mathlib.Core.Logic.{_↔_}
 use Prim.Native.Nat.{ℕ, zero, suc}
@@ -58,3 +58,12 @@ module _ {L : Type 0} where
   pub run-append : (A : System L) {s t u : A .State} {ls ms : List L} → Run A s ls t → Run A t ms u → Run A s (ls ++ ms) u
   run-append A stay r = r
   run-append A (go h q) r = go h (run-append A q r)
+
+  -- a run goes along with a bisimulation
+  pub run-along : (A B : System L) (R : A .State → B .State → Type 0) → Bisimulation A B R → {s s′ : A .State} {ls : List L} (t : B .State) → R s t → Run A s ls s′
+      → (t′ : B .State) × Run B t ls t′ × R s′ t′
+  run-along A B R b t r stay = (t, stay, r)
+  run-along A B R b {s} t r (go {l} {s′ = u} h q) =
+      let (v, k, r′) = b .forth s t r l u h in
+      let (t′, q′, r″) = run-along A B R b v r′ q in
+      (t′, go k q′, r″)

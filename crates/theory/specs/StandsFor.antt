@@ -16,10 +16,10 @@ use Rattle.pcrl.specs.Heads.{table-of}
 use Rattle.pcrl.specs.Stack.{Frame, Stack, InSorts, used, RightFrame, RightStack}
 use Rattle.pcrl.specs.Steps.{StackStep}
 use Rattle.pcrl.specs.Terms.{Rest, done, still}
-use Rattle.pcrl.specs.Equality.{Equal}
+use Rattle.pcrl.specs.Equality.{Equal, Run}
 use Rattle.pcrl.specs.States.{State, of-term, of-stack, Ended, StateStep, system, RightState, frame-term, term-of-frame, term-of-stack, stands-for}
 use Rattle.theory.specs.Standing.{Standing}
-use Rattle.theory.specs.EqualityLaws.{equal-refl, Bisimulation, bisimilar}
+use Rattle.theory.specs.EqualityLaws.{equal-refl, equal-sym, Bisimulation, bisimilar, run-along}
 use Rattle.theory.specs.Lists.{each-length}
 use Rattle.theory.specs.Segments.{written-kind, kind-present}
 use Rattle.theory.specs.Equations.{equation-count, params-written, params-part}
@@ -109,3 +109,11 @@ module _ (width : ℕ) (H : Sheet) where
     unfolding RightState stands-for
     equal-stands-for (of-term r) h n = equal-refl (system width H (table-of H)) n (of-term r)
     equal-stands-for (of-stack s) h n = bisimilar (system width H (table-of H)) (system width H (table-of H)) Goes goes n (of-stack s) (stands-for H (of-stack s)) (stands-like s h)
+
+    -- Each run of a right stack is one of the term that it stands for, to a state that is equal to the stack that the run comes to.
+    pub run-stands-for : (s : Stack) → RightStack width (table-of H) s → {ls : List Label} {u : State} → Run (system width H (table-of H)) (of-stack s) ls u
+        → (v : State) × Run (system width H (table-of H)) (stands-for H (of-stack s)) ls v × ((n : ℕ) → Equal (system width H (table-of H)) (system width H (table-of H)) n v u)
+    run-stands-for s h {ls} {u} q =
+        let A = system width H (table-of H) in
+        let (v, q′, r) = run-along A A Goes goes (stands-for H (of-stack s)) (stands-like s h) q in
+        (v, q′, λ n. equal-sym A A n u v (bisimilar A A Goes goes n u v r))
