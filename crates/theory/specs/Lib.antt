@@ -35,3 +35,4 @@ pub mod Equations
 pub mod StackSteps
 pub mod StandsFor
 pub mod FirstSentence
+pub mod FrameLaws
