@@ -36,3 +36,13 @@ pub mod StackSteps
 pub mod StandsFor
 pub mod FirstSentence
 pub mod FrameLaws
+pub mod Listing
+pub mod Ascending
+pub mod Order
+pub mod Lending
+pub mod Asked
+pub mod InTurn
+pub mod AnswersAre
+pub mod Calls
+pub mod Written
+pub mod LastSentence
