@@ -1,3 +1,4 @@
 pub mod Opened
 pub mod Claims
 pub mod Shelf
+pub mod Instances

@@ -46,3 +46,5 @@ pub mod AnswersAre
 pub mod Calls
 pub mod Written
 pub mod LastSentence
+pub mod Delivered
+pub mod Demand
