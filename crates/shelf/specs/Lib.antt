@@ -1,4 +1,3 @@
 pub mod Opened
 pub mod Claims
 pub mod Shelf
-pub mod Instances

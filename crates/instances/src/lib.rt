@@ -1,0 +1,1 @@
+// Sheets for which the theorems of demand 3 are not empty, in specs/. There is no code here.
