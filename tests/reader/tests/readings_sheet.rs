@@ -2,25 +2,7 @@
 
 mod common;
 
-use common::verdict;
-
-/// The verdict on a sheet whose process X has this right side.
-fn body(text: &str) -> u8 {
-    let declared = "func f:Bool->Bool=1,0;act a;act b:Bool;proc Y=a;proc Z(z:Bool)=b(z)";
-    verdict(&format!("{declared};proc X={text};init X;"))
-}
-
-fn bodies(wanted: u8, texts: &[&str]) {
-    for text in texts {
-        assert_eq!(body(text), wanted, "{text}");
-    }
-}
-
-fn sheets(wanted: u8, texts: &[&str]) {
-    for text in texts {
-        assert_eq!(verdict(text), wanted, "{text}");
-    }
-}
+use common::{bodies, body, sheets, verdict};
 
 #[test]
 fn tokens_are_whole_runs() {

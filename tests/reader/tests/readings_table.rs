@@ -2,26 +2,8 @@
 
 mod common;
 
-use common::{repeated, stream, table, verdict};
+use common::{bodies, repeated, sheets, stream, table, verdict};
 use reader::signature::Data;
-
-/// The verdict on a sheet whose process X has this right side.
-fn body(text: &str) -> u8 {
-    let declared = "func f:Bool->Bool=1,0;act a;act b:Bool;proc Y=a;proc Z(z:Bool)=b(z)";
-    verdict(&format!("{declared};proc X={text};init X;"))
-}
-
-fn bodies(wanted: u8, texts: &[&str]) {
-    for text in texts {
-        assert_eq!(body(text), wanted, "{text}");
-    }
-}
-
-fn sheets(wanted: u8, texts: &[&str]) {
-    for text in texts {
-        assert_eq!(verdict(text), wanted, "{text}");
-    }
-}
 
 #[test]
 fn parameter_lists_stand_before_all_summands() {

@@ -57,3 +57,23 @@ pub fn within<T: Send + 'static>(limit: Duration, work: impl FnOnce() -> T + Sen
     assert!(taken < limit, "took {taken:?}");
     answer
 }
+
+/// The verdict on a sheet whose process X has this right side.
+pub fn body(text: &str) -> u8 {
+    let declared = "func f:Bool->Bool=1,0;act a;act b:Bool;proc Y=a;proc Z(z:Bool)=b(z)";
+    verdict(&format!("{declared};proc X={text};init X;"))
+}
+
+/// Each of these right sides gets this verdict.
+pub fn bodies(wanted: u8, texts: &[&str]) {
+    for text in texts {
+        assert_eq!(body(text), wanted, "{text}");
+    }
+}
+
+/// Each of these sheets gets this verdict.
+pub fn sheets(wanted: u8, texts: &[&str]) {
+    for text in texts {
+        assert_eq!(verdict(text), wanted, "{text}");
+    }
+}
