@@ -1,0 +1,178 @@
+-- A name, a numeral and a mark at a place of the sheet: what the code found there is the definition's token (`Reads`).
+use mathlib.Core.Path.{_≡_, refl, sym, ap, _∙_, subst, subst⁻¹}
+use mathlib.Core.Logic.{_⊎_, inl, inr, ⊎-elim, _≢_}
+use mathlib.Core.Bool.{Bool, true, false}
+use mathlib.Core.List.{List, [], _∷_}
+use mathlib.Core.Option.{Option, none, some}
+use Prim.Native.Nat.{ℕ, suc, _+_, _-_, _*_, _<_, _≤_}
+use native.Mathlib.Nat.{add-sub-cancel-left}
+use native.Mathlib.Omega.{arith}
+use lib.Dec.{leb, eqb, ltb}
+use lib.ListN.{length, take, drop, getD, drop-of-length-le}
+use borrow.Author.Tests.{le-leb, lt-leb, eq-eqb, ne-eqb, lt-ltb, le-ltb, leb-true, leb-false}
+use Rattle.pcrl.specs.Text.{byte}
+use Rattle.pcrl.specs.Limits.{max-name, max-numeral}
+use Rattle.pcrl.specs.Tests.{or, among}
+use Rattle.pcrl.specs.Bytes.{digit, name-byte}
+use Rattle.pcrl.specs.Tokens.{Token, name, numeral, sign, words, run, front, Lexeme, name-of, value-of, numeral-of}
+use Rattle.lexer.specs.Classes.{class-of, in-classes, sign-cell, capped}
+use Rattle.lexer.specs.Cells.{first-word, first-numeral, first-name, cell-token, Reads, Fits}
+use Rattle.lexer.specs.declared.Taken.{Taken}
+use Rattle.lexer.proofs.Runs.{drop-at, run-same, run-fits, run-more, length-front, is-digit, is-name-byte, within-both}
+use Rattle.lexer.proofs.Signs.{Found, Missing, look-up}
+use Rattle.lexer.proofs.Cells.{cell-word, cell-numeral, cell-name}
+
+pub reads-none : (s : List ℕ) (x : Option Lexeme) (t : Taken) → x ≡ none → t .cell ≡ 0 → Reads s x t
+unfolding Reads
+reads-none s x t e z = subst⁻¹ (λ (y : Option Lexeme). Reads s y t) e z
+
+pub reads-some : (s : List ℕ) (x : Option Lexeme) (t : Taken) (k : Token) (n : ℕ) → x ≡ some (k, n) → t .cell ≢ 0 → cell-token s (t .cell) ≡ k → t .len ≡ n → Reads s x t
+unfolding Reads
+reads-some s x t k n e z c l = subst⁻¹ (λ (y : Option Lexeme). Reads s y t) e (z, c, l)
+
+-- ---- names and words
+name-long : (w : List ℕ) → max-name < length w → name-of w ≡ none
+unfolding name-of
+name-long w h = rw (lt-leb _ _ h, name-of)
+
+name-word : (w : List ℕ) → length w ≤ max-name → among w words ≡ true → name-of w ≡ some (sign w, length w)
+unfolding name-of
+name-word w h e = rw (le-leb _ _ h, e, name-of)
+
+name-new : (w : List ℕ) → length w ≤ max-name → among w words ≡ false → name-of w ≡ some (name w, length w)
+unfolding name-of
+name-new w h e = rw (le-leb _ _ h, e, name-of)
+
+module _ (s : List ℕ) (at n : ℕ) (e : n ≡ run (in-classes 2 4) (drop at s)) where
+  name-run : n ≡ run name-byte (drop at s)
+  name-run = e ∙ run-same (in-classes 2 4) name-byte is-name-byte (drop at s)
+
+  width : length (front name-byte (drop at s)) ≡ n
+  width = length-front name-byte (drop at s) ∙ sym name-run
+
+  part : take (at + n - at) (drop at s) ≡ front name-byte (drop at s)
+  part = ap (λ (k : ℕ). take k (drop at s)) (add-sub-cancel-left at n ∙ name-run)
+
+  pub reads-long : max-name < n → Reads s (name-of (front name-byte (drop at s))) (record { cell = 0; len = n })
+  reads-long h = reads-none s (name-of (front name-byte (drop at s))) (record { cell = 0; len = n }) (name-long (front name-byte (drop at s)) (omega (arith, width))) refl
+
+  module _ (h : n ≤ max-name) (w : ℕ) (f : w ≡ sign-cell first-word words (take (at + n - at) (drop at s))) where
+    cell-is : w ≡ sign-cell first-word words (front name-byte (drop at s))
+    cell-is = f ∙ ap (sign-cell first-word words) part
+
+    reads-found : Found first-word words (front name-byte (drop at s)) → (w ≡ 0 → ⊥) → Reads s (name-of (front name-byte (drop at s))) (record { cell = w; len = n })
+    unfolding words
+    reads-found q z =
+        reads-some s (name-of (front name-byte (drop at s))) (record { cell = w; len = n }) (sign (front name-byte (drop at s))) (length (front name-byte (drop at s)))
+        (name-word (front name-byte (drop at s)) (omega (arith, width)) (q .known))
+        z
+        (ap (cell-token s) (cell-is ∙ q .cell) ∙ cell-word s (q .place) (omega (arith, q .inside)) ∙ ap sign (q .here))
+        (sym width)
+
+    pub reads-word : (w ≡ 0 → ⊥) → Reads s (name-of (front name-byte (drop at s))) (record { cell = w; len = n })
+    reads-word z = ⊎-elim (λ q. reads-found q z) (λ q. absurd (z (cell-is ∙ q .cell))) (look-up first-word words (front name-byte (drop at s)))
+
+    reads-missing : Missing first-word words (front name-byte (drop at s)) → Reads s (name-of (front name-byte (drop at s))) (record { cell = first-name + at; len = n })
+    reads-missing q =
+        reads-some s (name-of (front name-byte (drop at s))) (record { cell = first-name + at; len = n }) (name (front name-byte (drop at s))) (length (front name-byte (drop at s)))
+        (name-new (front name-byte (drop at s)) (omega (arith, width)) (q .unknown))
+        (λ z. omega arith)
+        (cell-name s at)
+        (sym width)
+
+    pub reads-name : w ≡ 0 → Reads s (name-of (front name-byte (drop at s))) (record { cell = first-name + at; len = n })
+    reads-name z =
+        ⊎-elim (λ q. absurd (let c = q .cell in let i = cell-is in omega arith)) (λ q. reads-missing q) (look-up first-word words (front name-byte (drop at s)))
+
+-- the run of a byte that starts one has a byte at least, and no more than there are
+pub run-fit : (lo hi : ℕ) (s : List ℕ) (at n c : ℕ) → n ≡ run (in-classes lo hi) (drop at s) → at < length s → lo ≤ class-of (getD s at 0) → class-of (getD s at 0) ≤ hi
+    → Fits (length s) at (record { cell = c; len = n })
+run-fit lo hi s at n c e h l u =
+    let m = run-more (in-classes lo hi) s at h (within-both lo hi (class-of (getD s at 0)) l u) in
+    let f = run-fits (in-classes lo hi) s at in
+    record { least = omega arith; most = omega arith }
+
+-- ---- numerals
+pub value-ge : (v : ℕ) (t : List ℕ) → v ≤ value-of v t
+unfolding value-of
+value-ge v [] = omega arith
+value-ge v (d ∷ t) = omega (arith, value-ge (v * 10 + (d - byte "0")) t)
+
+pub value-step : (v : ℕ) (t : List ℕ) (i : ℕ) → i < length t → value-of v (drop i t) ≡ value-of (v * 10 + (getD t i 0 - byte "0")) (drop (i + 1) t)
+unfolding value-of
+value-step v t i h = rw (drop-at t i h)
+
+pub value-end : (v : ℕ) (t : List ℕ) (i : ℕ) → length t ≤ i → value-of v (drop i t) ≡ v
+unfolding value-of
+value-end v t i h = rw (drop-of-length-le t h)
+
+pub capped-over : (v : ℕ) → max-numeral < v → suc max-numeral ≡ capped v
+unfolding capped
+capped-over v h = rw (lt-leb _ _ h, capped)
+
+pub capped-within : (v : ℕ) → v ≤ max-numeral → v ≡ capped v
+unfolding capped
+capped-within v h = rw (le-leb _ _ h, capped)
+
+capped-cases : (v : ℕ) → ((capped v ≡ v) × (v ≤ max-numeral)) ⊎ ((capped v ≡ suc max-numeral) × (max-numeral < v))
+capped-cases v = go (leb v max-numeral) refl
+  where
+    go : (t : Bool) → leb v max-numeral ≡ t → ((capped v ≡ v) × (v ≤ max-numeral)) ⊎ ((capped v ≡ suc max-numeral) × (max-numeral < v))
+    go true e = inl (sym (capped-within v (leb-true v max-numeral e)), leb-true v max-numeral e)
+    go false e = inr (sym (capped-over v (leb-false v max-numeral e)), leb-false v max-numeral e)
+
+-- one digit, or a first one above 0
+abbrev pub Plain : List ℕ → Type 0
+Plain t = (byte "0" < getD t 0 0) ⊎ (length t ≡ 1)
+
+plain-test : (t : List ℕ) → Plain t → or (eqb (length t) 1) (ltb (byte "0") (getD t 0 0)) ≡ true
+plain-test t (inl h) = go (eqb (length t) 1)
+  where
+    go : (x : Bool) → or x (ltb (byte "0") (getD t 0 0)) ≡ true
+    go true = refl
+    go false = lt-ltb _ _ h
+plain-test t (inr e) = rw (eq-eqb _ _ e)
+
+numeral-zero : (t : List ℕ) → (length t ≡ 1 → ⊥) → getD t 0 0 ≤ byte "0" → numeral-of t ≡ none
+unfolding numeral-of
+numeral-zero t n h = rw (ne-eqb _ _ n, le-ltb _ _ h, numeral-of)
+
+numeral-over : (t : List ℕ) → Plain t → max-numeral < value-of 0 t → numeral-of t ≡ none
+unfolding numeral-of
+numeral-over t q h = rw (plain-test t q, lt-leb _ _ h, numeral-of)
+
+numeral-is : (t : List ℕ) → Plain t → value-of 0 t ≤ max-numeral → numeral-of t ≡ some (numeral (value-of 0 t), length t)
+unfolding numeral-of
+numeral-is t q h = rw (plain-test t q, le-leb _ _ h, numeral-of)
+
+module _ (s t : List ℕ) where
+  pub reads-zero : (length t ≡ 1 → ⊥) → getD t 0 0 ≤ byte "0" → Reads s (numeral-of t) (record { cell = 0; len = length t })
+  reads-zero n h = reads-none s (numeral-of t) (record { cell = 0; len = length t }) (numeral-zero t n h) refl
+
+  module _ (q : Plain t) (v : ℕ) (e : v ≡ capped (value-of 0 t)) where
+    pub reads-over : max-numeral < v → Reads s (numeral-of t) (record { cell = 0; len = length t })
+    reads-over h =
+        reads-none s (numeral-of t) (record { cell = 0; len = length t })
+        (numeral-over t q (⊎-elim (λ k. let (a, b) = k in absurd (omega arith)) (λ k. k .1) (capped-cases (value-of 0 t))))
+        refl
+
+    pub reads-numeral : v ≤ max-numeral → Reads s (numeral-of t) (record { cell = first-numeral + v; len = length t })
+    reads-numeral h = ⊎-elim (λ k. go (k .0) (k .1)) (λ k. let (a, b) = k in absurd (omega arith)) (capped-cases (value-of 0 t))
+      where
+        go : capped (value-of 0 t) ≡ value-of 0 t → value-of 0 t ≤ max-numeral → Reads s (numeral-of t) (record { cell = first-numeral + v; len = length t })
+        go a b =
+            reads-some s (numeral-of t) (record { cell = first-numeral + v; len = length t }) (numeral (value-of 0 t)) (length t)
+            (numeral-is t q b)
+            (λ z. omega arith)
+            (cell-numeral s v (omega arith) ∙ ap numeral (e ∙ a))
+            refl
+
+-- what is read of the digits at a place is read of their run
+pub reads-digits : (s : List ℕ) (at n c : ℕ) → n ≡ run (in-classes 2 2) (drop at s)
+    → Reads s (numeral-of (take (at + n - at) (drop at s))) (record { cell = c; len = length (take (at + n - at) (drop at s)) })
+    → Reads s (numeral-of (front digit (drop at s))) (record { cell = c; len = n })
+reads-digits s at n c e r =
+    let d : n ≡ run digit (drop at s) = e ∙ run-same (in-classes 2 2) digit is-digit (drop at s) in
+    let p : take (at + n - at) (drop at s) ≡ front digit (drop at s) = ap (λ (k : ℕ). take k (drop at s)) (add-sub-cancel-left at n ∙ d) in
+    subst (λ (k : ℕ). Reads s (numeral-of (front digit (drop at s))) (record { cell = c; len = k })) (length-front digit (drop at s) ∙ sym d)
+    (subst (λ (w : List ℕ). Reads s (numeral-of w) (record { cell = c; len = length w })) p r)

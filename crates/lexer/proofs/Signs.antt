@@ -1,0 +1,208 @@
+-- Words and marks: where a sign is found in a list of them, and the mark that bytes begin with.
+use mathlib.Core.Path.{_≡_, refl, sym, ap, _∙_, subst}
+use mathlib.Core.Logic.{_⊎_, inl, inr}
+use mathlib.Core.Bool.{Bool, true, false}
+use mathlib.Core.List.{List, [], _∷_, _++_}
+use mathlib.Core.Option.{none, some}
+use Prim.Native.Nat.{ℕ, suc, _+_, _<_}
+use native.Mathlib.Nat.{add-zero}
+use native.Mathlib.Omega.{arith}
+use lib.Dec.{T, eqb}
+use lib.ListN.{length, take, getD}
+use borrow.Author.Tests.{eqb-true, eqb-false}
+use Rattle.pcrl.specs.Text.{bytes}
+use Rattle.pcrl.specs.Tests.{and, or, negated, same?, among, Every}
+use Rattle.pcrl.specs.Tokens.{sign, words, mark-of}
+use Rattle.lexer.specs.Classes.{sign-cell, Decides}
+use Rattle.lexer.specs.Cells.{first-word}
+
+pub never : {A : Type 0} → false ≡ true → A
+never e = absurd (subst T (sym e) tt)
+
+pub decided : (P : Type 0) (r : Bool) → Decides P r → r ≡ true → P
+decided P true d e = d
+decided P false d e = never e
+
+pub refuted : (P : Type 0) (r : Bool) → Decides P r → r ≡ false → P → ⊥
+refuted P true d e = never (sym e)
+refuted P false d e = d
+
+-- ---- a sign among some
+if-same : {A B : Type 0} (d : Dec A) (x y : B) → A → (elim d as (λ _. B) [ yes e ↦ x | no k ↦ y ]) ≡ x
+if-same (yes e) x y a = refl
+if-same (no k) x y a = absurd (k a)
+
+if-other : {A B : Type 0} (d : Dec A) (x y : B) → (A → ⊥) → (elim d as (λ _. B) [ yes e ↦ x | no k ↦ y ]) ≡ y
+if-other (yes e) x y n = absurd (n e)
+if-other (no k) x y n = refl
+
+pub sign-cell-none : (c : ℕ) (vs : List (List ℕ)) (w : List ℕ) → Every (λ v. w ≡ v → ⊥) vs → sign-cell c vs w ≡ 0
+unfolding sign-cell Every
+sign-cell-none c [] w h = refl
+sign-cell-none c (v ∷ vs) w h = if-other (same? w v) c (sign-cell (suc c) vs w) (h .0) ∙ sign-cell-none (suc c) vs w (h .1)
+
+-- w is one of the signs, and its cell is as far from c as its place from the first
+pub record Found (c : ℕ) (vs : List (List ℕ)) (w : List ℕ) : Type 0 where
+  pub place : ℕ
+  pub inside : place < length vs
+  pub cell : sign-cell c vs w ≡ c + place
+  pub here : getD vs place [] ≡ w
+  pub known : among w vs ≡ true
+
+pub record Missing (c : ℕ) (vs : List (List ℕ)) (w : List ℕ) : Type 0 where
+  pub cell : sign-cell c vs w ≡ 0
+  pub unknown : among w vs ≡ false
+
+look-up-step : (c : ℕ) (v : List ℕ) (vs : List (List ℕ)) (w : List ℕ) (d : Dec (w ≡ v)) → Found (suc c) vs w ⊎ Missing (suc c) vs w
+    → Found c (v ∷ vs) w ⊎ Missing c (v ∷ vs) w
+unfolding sign-cell among
+look-up-step c v vs w (yes e) f =
+    inl (record {
+      place = 0;
+      inside = omega arith;
+      cell = if-same (same? w v) c (sign-cell (suc c) vs w) e ∙ sym (add-zero c);
+      here = sym e;
+      known = if-same (same? w v) true (among w vs) e;
+    })
+look-up-step c v vs w (no h) (inl f) =
+    let q : suc c + f .place ≡ c + suc (f .place) = omega arith in
+    inl (record {
+      place = suc (f .place);
+      inside = omega (arith, f .inside);
+      cell = if-other (same? w v) c (sign-cell (suc c) vs w) h ∙ f .cell ∙ q;
+      here = f .here;
+      known = if-other (same? w v) true (among w vs) h ∙ f .known;
+    })
+look-up-step c v vs w (no h) (inr m) =
+    inr (record {
+      cell = if-other (same? w v) c (sign-cell (suc c) vs w) h ∙ m .cell;
+      unknown = if-other (same? w v) true (among w vs) h ∙ m .unknown;
+    })
+
+pub look-up : (c : ℕ) (vs : List (List ℕ)) (w : List ℕ) → Found c vs w ⊎ Missing c vs w
+unfolding sign-cell among
+look-up c [] w = inr (record { cell = refl; unknown = refl })
+look-up c (v ∷ vs) w = look-up-step c v vs w (same? w v) (look-up (suc c) vs w)
+
+-- ---- words
+module _ (w : List ℕ) where
+  pub no-word : (w ≡ bytes "sort" → ⊥) → (w ≡ bytes "func" → ⊥) → (w ≡ bytes "act" → ⊥) → (w ≡ bytes "proc" → ⊥)
+      → (w ≡ bytes "init" → ⊥) → (w ≡ bytes "sum" → ⊥) → (w ≡ bytes "delta" → ⊥) → (w ≡ bytes "tau" → ⊥) → 0 ≡ sign-cell first-word words w
+  unfolding words Every
+  no-word n₁ n₂ n₃ n₄ n₅ n₆ n₇ n₈ = sym (sign-cell-none first-word words w (n₁, (n₂, (n₃, (n₄, (n₅, (n₆, (n₇, (n₈, tt)))))))))
+
+  other-length : (v : List ℕ) → (length w ≡ length v → ⊥) → w ≡ v → ⊥
+  other-length v n e = n (ap length e)
+
+  pub short-word : length w < 3 → 0 ≡ sign-cell first-word words w
+  short-word h =
+      no-word (other-length (bytes "sort") (λ q. omega arith)) (other-length (bytes "func") (λ q. omega arith)) (other-length (bytes "act") (λ q. omega arith))
+      (other-length (bytes "proc") (λ q. omega arith)) (other-length (bytes "init") (λ q. omega arith)) (other-length (bytes "sum") (λ q. omega arith))
+      (other-length (bytes "delta") (λ q. omega arith)) (other-length (bytes "tau") (λ q. omega arith))
+
+  pub long-word : 5 < length w → 0 ≡ sign-cell first-word words w
+  long-word h =
+      no-word (other-length (bytes "sort") (λ q. omega arith)) (other-length (bytes "func") (λ q. omega arith)) (other-length (bytes "act") (λ q. omega arith))
+      (other-length (bytes "proc") (λ q. omega arith)) (other-length (bytes "init") (λ q. omega arith)) (other-length (bytes "sum") (λ q. omega arith))
+      (other-length (bytes "delta") (λ q. omega arith)) (other-length (bytes "tau") (λ q. omega arith))
+
+-- ---- the mark that bytes begin with
+mark-miss : (m : List ℕ) (ms : List (List ℕ)) (s : List ℕ) → (m ≡ take (length m) s → ⊥) → mark-of (m ∷ ms) s ≡ mark-of ms s
+unfolding mark-of
+mark-miss m ms s h = if-other (same? m (take (length m) s)) (some (sign m, length m)) (mark-of ms s) h
+
+mark-hit : (m : List ℕ) (ms : List (List ℕ)) (s : List ℕ) → m ≡ take (length m) s → mark-of (m ∷ ms) s ≡ some (sign m, length m)
+unfolding mark-of
+mark-hit m ms s e = if-same (same? m (take (length m) s)) (some (sign m, length m)) (mark-of ms s) e
+
+-- no mark begins with b
+abbrev pub unlike : ℕ → List (List ℕ) → Bool
+unlike b [] = true
+unlike b ([] ∷ ms) = false
+unlike b ((k ∷ m) ∷ ms) = and (negated (eqb b k)) (unlike b ms)
+
+-- of the marks that begin with b the first has one byte
+abbrev pub lone : ℕ → List (List ℕ) → Bool
+lone b [] = false
+lone b ([] ∷ ms) = false
+lone b ((k ∷ []) ∷ ms) = or (eqb b k) (lone b ms)
+lone b ((k ∷ j ∷ m) ∷ ms) = and (negated (eqb b k)) (lone b ms)
+
+module _ (b : ℕ) (l : List ℕ) where
+  other-head : (k : ℕ) (m : List ℕ) → eqb b k ≡ false → k ∷ m ≡ take (length (k ∷ m)) (b ∷ l) → ⊥
+  other-head k m h e = eqb-false b k h (ap (λ (x : List ℕ). getD x 0 0) (sym e))
+
+  unlike-step : (k : ℕ) (m : List ℕ) (ms : List (List ℕ)) (t : Bool) → eqb b k ≡ t → (T (unlike b ms) → mark-of ms (b ∷ l) ≡ none)
+      → T (and (negated t) (unlike b ms)) → mark-of ((k ∷ m) ∷ ms) (b ∷ l) ≡ none
+  unlike-step k m ms true e ih h = absurd h
+  unlike-step k m ms false e ih h = mark-miss (k ∷ m) ms (b ∷ l) (other-head k m e) ∙ ih h
+
+  pub no-mark : (ms : List (List ℕ)) → T (unlike b ms) → mark-of ms (b ∷ l) ≡ none
+  unfolding mark-of
+  no-mark [] h = refl
+  no-mark ([] ∷ ms) h = absurd h
+  no-mark ((k ∷ m) ∷ ms) h = unlike-step k m ms (eqb b k) refl (no-mark ms) h
+
+  lone-here : (k : ℕ) (ms : List (List ℕ)) (t : Bool) → eqb b k ≡ t → (T (lone b ms) → mark-of ms (b ∷ l) ≡ some (sign (b ∷ []), 1))
+      → T (or t (lone b ms)) → mark-of ((k ∷ []) ∷ ms) (b ∷ l) ≡ some (sign (b ∷ []), 1)
+  lone-here k ms true e ih h = subst (λ (x : ℕ). mark-of ((x ∷ []) ∷ ms) (b ∷ l) ≡ some (sign (b ∷ []), 1)) (eqb-true b k e) (mark-hit (b ∷ []) ms (b ∷ l) refl)
+  lone-here k ms false e ih h = mark-miss (k ∷ []) ms (b ∷ l) (other-head k [] e) ∙ ih h
+
+  lone-next : (k j : ℕ) (m : List ℕ) (ms : List (List ℕ)) (t : Bool) → eqb b k ≡ t → (T (lone b ms) → mark-of ms (b ∷ l) ≡ some (sign (b ∷ []), 1))
+      → T (and (negated t) (lone b ms)) → mark-of ((k ∷ j ∷ m) ∷ ms) (b ∷ l) ≡ some (sign (b ∷ []), 1)
+  lone-next k j m ms true e ih h = absurd h
+  lone-next k j m ms false e ih h = mark-miss (k ∷ j ∷ m) ms (b ∷ l) (other-head k (j ∷ m) e) ∙ ih h
+
+  pub lone-mark : (ms : List (List ℕ)) → T (lone b ms) → mark-of ms (b ∷ l) ≡ some (sign (b ∷ []), 1)
+  lone-mark [] h = absurd h
+  lone-mark ([] ∷ ms) h = absurd h
+  lone-mark ((k ∷ []) ∷ ms) h = lone-here k ms (eqb b k) refl (lone-mark ms) h
+  lone-mark ((k ∷ j ∷ m) ∷ ms) h = lone-next k j m ms (eqb b k) refl (lone-mark ms) h
+
+-- ---- marks of two bytes
+abbrev pub pairs : List (List ℕ) → Bool
+pairs [] = true
+pairs ([] ∷ vs) = false
+pairs ((k ∷ []) ∷ vs) = false
+pairs ((k ∷ j ∷ []) ∷ vs) = pairs vs
+pairs ((k ∷ j ∷ i ∷ v) ∷ vs) = false
+
+module _ (a x : ℕ) (l : List ℕ) where
+  pair-step : (k j : ℕ) (vs ms : List (List ℕ)) (d : Dec (a ∷ x ∷ [] ≡ k ∷ j ∷ [])) → (among (a ∷ x ∷ []) vs ≡ true → mark-of (vs ++ ms) (a ∷ x ∷ l) ≡ some (sign (a ∷ x ∷ []), 2))
+      → among (a ∷ x ∷ []) ((k ∷ j ∷ []) ∷ vs) ≡ true → mark-of ((k ∷ j ∷ []) ∷ vs ++ ms) (a ∷ x ∷ l) ≡ some (sign (a ∷ x ∷ []), 2)
+  unfolding among
+  pair-step k j vs ms (yes e) ih h =
+      mark-hit (k ∷ j ∷ []) (vs ++ ms) (a ∷ x ∷ l) (sym e) ∙ ap (λ (w : List ℕ). some (sign w, 2)) (sym e)
+  pair-step k j vs ms (no n) ih h =
+      mark-miss (k ∷ j ∷ []) (vs ++ ms) (a ∷ x ∷ l) (λ e. n (sym e)) ∙ ih (sym (if-other (same? (a ∷ x ∷ []) (k ∷ j ∷ [])) true (among (a ∷ x ∷ []) vs) n) ∙ h)
+
+  pub pair-mark : (vs ms : List (List ℕ)) → T (pairs vs) → among (a ∷ x ∷ []) vs ≡ true → mark-of (vs ++ ms) (a ∷ x ∷ l) ≡ some (sign (a ∷ x ∷ []), 2)
+  unfolding among
+  pair-mark [] ms t h = never h
+  pair-mark ([] ∷ vs) ms t h = absurd t
+  pair-mark ((k ∷ []) ∷ vs) ms t h = absurd t
+  pair-mark ((k ∷ j ∷ []) ∷ vs) ms t h = pair-step k j vs ms (same? (a ∷ x ∷ []) (k ∷ j ∷ [])) (pair-mark vs ms t) h
+  pair-mark ((k ∷ j ∷ i ∷ v) ∷ vs) ms t h = absurd t
+
+  no-pair-step : (k j : ℕ) (vs ms : List (List ℕ)) (d : Dec (a ∷ x ∷ [] ≡ k ∷ j ∷ [])) → (among (a ∷ x ∷ []) vs ≡ false → mark-of (vs ++ ms) (a ∷ x ∷ l) ≡ mark-of ms (a ∷ x ∷ l))
+      → among (a ∷ x ∷ []) ((k ∷ j ∷ []) ∷ vs) ≡ false → mark-of ((k ∷ j ∷ []) ∷ vs ++ ms) (a ∷ x ∷ l) ≡ mark-of ms (a ∷ x ∷ l)
+  unfolding among
+  no-pair-step k j vs ms (yes e) ih h = never (sym h ∙ if-same (same? (a ∷ x ∷ []) (k ∷ j ∷ [])) true (among (a ∷ x ∷ []) vs) e)
+  no-pair-step k j vs ms (no n) ih h =
+      mark-miss (k ∷ j ∷ []) (vs ++ ms) (a ∷ x ∷ l) (λ e. n (sym e)) ∙ ih (sym (if-other (same? (a ∷ x ∷ []) (k ∷ j ∷ [])) true (among (a ∷ x ∷ []) vs) n) ∙ h)
+
+  pub no-pair-mark : (vs ms : List (List ℕ)) → T (pairs vs) → among (a ∷ x ∷ []) vs ≡ false → mark-of (vs ++ ms) (a ∷ x ∷ l) ≡ mark-of ms (a ∷ x ∷ l)
+  unfolding among
+  no-pair-mark [] ms t h = refl
+  no-pair-mark ([] ∷ vs) ms t h = absurd t
+  no-pair-mark ((k ∷ []) ∷ vs) ms t h = absurd t
+  no-pair-mark ((k ∷ j ∷ []) ∷ vs) ms t h = no-pair-step k j vs ms (same? (a ∷ x ∷ []) (k ∷ j ∷ [])) (no-pair-mark vs ms t) h
+  no-pair-mark ((k ∷ j ∷ i ∷ v) ∷ vs) ms t h = absurd t
+
+-- behind the last byte of the sheet there is no mark of two
+pub no-pair-end : (a : ℕ) (vs ms : List (List ℕ)) → T (pairs vs) → mark-of (vs ++ ms) (a ∷ []) ≡ mark-of ms (a ∷ [])
+no-pair-end a [] ms t = refl
+no-pair-end a ([] ∷ vs) ms t = absurd t
+no-pair-end a ((k ∷ []) ∷ vs) ms t = absurd t
+no-pair-end a ((k ∷ j ∷ []) ∷ vs) ms t = mark-miss (k ∷ j ∷ []) (vs ++ ms) (a ∷ []) (λ e. let q = ap length e in omega arith) ∙ no-pair-end a vs ms t
+no-pair-end a ((k ∷ j ∷ i ∷ v) ∷ vs) ms t = absurd t
