@@ -14,8 +14,8 @@ use Rattle.pcrl.specs.Stream.{encode-numbers, encode-list, encode-sig, encode-s
 use Rattle.pcrl.specs.Right.{RightTable}
 use Rattle.pcrl.specs.Decode.{decode}
 use Rattle.pcrl.specs.Answers.{table-made}
+use Rattle.laws.specs.Computing.{definitions}
 use Rattle.codec.specs.StreamLaws.{decode-encode, encode-decode}
-use Rattle.codec.specs.Computing.{computing, computing-sheets}
 
 -- parameters and summands of one equation together
 unfoldable pub encode-equation : Equation → List ℕ
@@ -54,11 +54,11 @@ pub right-if-read : (T : Table) → decode (encode T) ≡ found T [] → RightTa
 right-if-read T e = encode-decode (encode T) T [] e .1
 
 pub with-condition-right : RightTable with-condition
-unfolding with-condition computing
+unfolding with-condition definitions
 with-condition-right = right-if-read with-condition refl
 
 pub with-parameter-right : RightTable with-parameter
-unfolding with-parameter computing
+unfolding with-parameter definitions
 with-parameter-right = right-if-read with-parameter refl
 
 -- how many parameters the second equation has
@@ -72,12 +72,12 @@ different e = let z : second-width with-condition ≡ second-width with-paramete
 -- The two tables are made from sheets, which are accepted.
 pub of-sheets : (table-made (bytes "act a;proc X=a.Y;proc Y=delta<|0|>a;init X;") ≡ accepted with-condition)
     × (table-made (bytes "act a;proc X=a.Y(0);proc Y(b:Bool)=a;init X;") ≡ accepted with-parameter)
-unfolding with-condition with-parameter computing-sheets
+unfolding with-condition with-parameter definitions
 of-sheets = (refl, refl)
 
 -- Two different right tables, one stream.
 pub ambiguous : (T : Table) × (U : Table) × RightTable T × RightTable U × (encode-by-equations T ≡ encode-by-equations U) × (T ≡ U → ⊥)
-unfolding encode-by-equations encode-equation with-condition with-parameter computing
+unfolding encode-by-equations encode-equation with-condition with-parameter definitions
 ambiguous = (with-condition, with-parameter, with-condition-right, with-parameter-right, refl, different)
 
 -- With the parameters first it does say so: no right table's stream begins another's.

@@ -16,7 +16,7 @@ pub crc-worked : crc (bytes "123456789") ≡ 0x29B1
 unfolding crc crc-from crc-byte crc-bit
 crc-worked = refl
 
-crc-bit-below : (x : ℕ) → x < 65536 → crc-bit x < 65536
+pub crc-bit-below : (x : ℕ) → x < 65536 → crc-bit x < 65536
 unfolding crc-bit
 crc-bit-below x h = go (ltb x 0x8000) (ltb-true x 0x8000)
   where
@@ -24,7 +24,7 @@ crc-bit-below x h = go (ltb x 0x8000) (ltb-true x 0x8000)
     go true k = let z = k refl in omega arith
     go false k = xor-lt 16 ((x - 0x8000) * 2) 0x1021 (omega arith) (omega arith)
 
-crc-byte-below : (x b : ℕ) → x < 65536 → b < 256 → crc-byte x b < 65536
+pub crc-byte-below : (x b : ℕ) → x < 65536 → b < 256 → crc-byte x b < 65536
 unfolding crc-byte
 crc-byte-below x b h k =
     crc-bit-below _ (crc-bit-below _ (crc-bit-below _ (crc-bit-below _ (crc-bit-below _ (crc-bit-below _ (crc-bit-below _ (crc-bit-below _

@@ -6,13 +6,12 @@ use Rattle.pcrl.specs.Text.{bytes}
 use Rattle.pcrl.specs.Result.{accepted}
 use Rattle.pcrl.specs.Reader.{found}
 use Rattle.pcrl.specs.Sheet.{action}
-use Rattle.pcrl.specs.Parts.{tabulate}
 use Rattle.pcrl.specs.Table.{Table}
 use Rattle.pcrl.specs.Stream.{encode}
 use Rattle.pcrl.specs.Decode.{decode}
-use Rattle.pcrl.specs.Blocks.{crc-bit, crc-byte, crc-from, crc, block-body, block, blocks-for, joined, file-of-stream, file-of}
+use Rattle.pcrl.specs.Blocks.{file-of}
 use Rattle.pcrl.specs.Answers.{table-made}
-use Rattle.codec.specs.Computing.{computing, computing-sheets}
+use Rattle.laws.specs.Computing.{definitions}
 use Rattle.codec.specs.Padding.{zeros}
 
 unfoldable pub worked : List ℕ
@@ -27,18 +26,18 @@ worked-table =
     }
 
 pub worked-made : table-made (bytes "act a;proc X=a.X;init X;") ≡ accepted worked-table
-unfolding worked-table computing-sheets
+unfolding worked-table definitions
 worked-made = refl
 
 pub worked-written : encode worked-table ≡ worked
-unfolding worked worked-table computing
+unfolding worked worked-table definitions
 worked-written = refl
 
 pub worked-read : decode worked ≡ found worked-table []
-unfolding worked worked-table computing
+unfolding worked worked-table definitions
 worked-read = refl
 
 -- number 0, count 1, stream, zeros, check
 pub worked-block : file-of worked-table ≡ (0x00 ∷ 0x00 ∷ 0x01 ∷ 0x00 ∷ []) ++ (worked ++ (zeros 490 ++ (0xAC ∷ 0x85 ∷ [])))
-unfolding worked worked-table computing file-of file-of-stream blocks-for joined tabulate block block-body crc crc-from crc-byte crc-bit
+unfolding worked worked-table definitions
 worked-block = refl

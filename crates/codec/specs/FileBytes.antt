@@ -1,6 +1,6 @@
 -- What is written to a right table's file are bytes.
-use mathlib.Core.List.{List, [], _∷_}
-use Prim.Native.Nat.{ℕ, zero, suc, _-_, _*_, _<_}
+use mathlib.Core.List.{List}
+use Prim.Native.Nat.{ℕ, _-_, _*_, _<_}
 use native.Mathlib.Omega.{arith}
 use lib.ListN.{length, take, drop}
 use Rattle.pcrl.specs.Tests.{Every}
@@ -9,26 +9,8 @@ use Rattle.pcrl.specs.Table.{Table}
 use Rattle.pcrl.specs.Right.{RightTable}
 use Rattle.pcrl.specs.Stream.{encode}
 use Rattle.pcrl.specs.Blocks.{block-stream, crc, low-first, high-first, block-body, block, blocks-for, joined, file-of-stream, file-of}
-use Rattle.codec.specs.Every.{every, every-append}
+use Rattle.laws.specs.Every.{every-of-all, every-append, every-take, every-drop, every-replicate}
 use Rattle.codec.specs.StreamBytes.{Byte, bytes-all, stream-bytes}
-use Rattle.codec.specs.Padding.{zeros}
-
-zeros-bytes : (n : ℕ) → Every Byte (zeros n)
-unfolding Every
-zeros-bytes zero = tt
-zeros-bytes (suc n) = (omega arith, zeros-bytes n)
-
-take-bytes : (n : ℕ) (l : List ℕ) → Every Byte l → Every Byte (take n l)
-unfolding Every
-take-bytes zero l h = tt
-take-bytes (suc n) [] h = tt
-take-bytes (suc n) (x ∷ l) h = (h .0, take-bytes n l (h .1))
-
-drop-bytes : (n : ℕ) (l : List ℕ) → Every Byte l → Every Byte (drop n l)
-unfolding Every
-drop-bytes zero l h = h
-drop-bytes (suc n) [] h = tt
-drop-bytes (suc n) (x ∷ l) h = drop-bytes n l (h .1)
 
 two-bytes : (n : ℕ) → Every Byte (low-first n) × Every Byte (high-first n)
 unfolding Every
@@ -38,7 +20,7 @@ block-is-bytes : (number count : ℕ) (s : List ℕ) → Every Byte s → Every 
 unfolding block block-body
 block-is-bytes number count s h =
     every-append Byte _ _
-    (every-append Byte _ _ (every-append Byte _ _ (two-bytes number .0) (two-bytes count .0)) (every-append Byte _ _ h (zeros-bytes (block-stream - length s))))
+    (every-append Byte _ _ (every-append Byte _ _ (two-bytes number .0) (two-bytes count .0)) (every-append Byte _ _ h (every-replicate Byte (block-stream - length s) 0 (omega arith))))
     (two-bytes (crc (block-body number count s)) .1)
 
 -- Every number of a right table's file is a byte.
@@ -47,5 +29,5 @@ unfolding file-of file-of-stream joined
 file-bytes T h =
     let s : List ℕ = encode T in
     let n : ℕ = blocks-for (length s) in
-    bytes-all _ (λ i (k : Unit {0}). block-is-bytes i n (take block-stream (drop (i * block-stream) s)) (take-bytes block-stream _ (drop-bytes (i * block-stream) s (stream-bytes T h))))
-    (tabulate n (λ i. i)) (every (λ i. tt) (tabulate n (λ i. i)))
+    bytes-all _ (λ i (k : Unit {0}). block-is-bytes i n (take block-stream (drop (i * block-stream) s)) (every-take Byte block-stream _ (every-drop Byte (i * block-stream) s (stream-bytes T h))))
+    (tabulate n (λ i. i)) (every-of-all _ (λ i. tt) (tabulate n (λ i. i)))

@@ -14,9 +14,10 @@ use Rattle.pcrl.specs.Right.{RightTable}
 use Rattle.pcrl.specs.Decode.{decode}
 use Rattle.pcrl.specs.Blocks.{file-of, right-length?, right-blocks?, stream-of, Filled, filled?, table-in, table-read}
 use Rattle.pcrl.specs.Answers.{stream-read, table-checked}
+use Rattle.laws.specs.Tests.{where-yes}
+use Rattle.laws.specs.Questions.{question-passes, question-of-passes, question-passed, question-of-passed, after-passes, after-passed}
 use Rattle.codec.specs.StreamLaws.{decode-encode, encode-decode}
 use Rattle.codec.specs.Padding.{zeros, every-zero}
-use Rattle.codec.specs.Questions.{question-passes, question-of-passes, question-passed, question-of-passed, after-passes, after-passed}
 use Rattle.codec.specs.FileOfStream.{spare, right-length-file, right-blocks-file, stream-of-file, length-stream-of-file, fewest-blocks, file-is-written}
 
 stream-begins : (T : Table) → 1 ≤ length (encode T)
@@ -29,11 +30,7 @@ stream-short T h = h .1 .1
 
 table-found : (s : List ℕ) (g : Got ℕ Table) (T : Table) (rest : List ℕ) → g ≡ found T rest → Filled s T rest → table-in s g ≡ some T
 unfolding table-in
-table-found s g T rest e h = rw e (go (filled? s T rest))
-  where
-    go : (d : Dec (Filled s T rest)) → elim d [ yes h ↦ some T | no h ↦ none ] ≡ some T
-    go (yes k) = refl
-    go (no k) = absurd (k h)
+table-found s g T rest e h = rw e (where-yes (filled? s T rest) h (some T) none)
 
 found-table : (s : List ℕ) (g : Got ℕ Table) (T : Table) → table-in s g ≡ some T → (rest : List ℕ) × (g ≡ found T rest) × Filled s T rest
 unfolding table-in

@@ -15,10 +15,10 @@ use Rattle.codec.specs.Padding.{zeros, zeros-of-every, part-padded}
 use Rattle.codec.specs.BlockLaws.{length-block, stream-of-block, block-padded}
 
 -- the stream bytes of block i
-abbrev part : List ℕ → ℕ → List ℕ
+abbrev pub part : List ℕ → ℕ → List ℕ
 part s i = take block-stream (drop (i * block-stream) s)
 
-few-bytes : (s : List ℕ) (i : ℕ) → length (part s i) ≤ block-stream
+pub few-bytes : (s : List ℕ) (i : ℕ) → length (part s i) ≤ block-stream
 few-bytes s i = rw (length-take block-stream (drop (i * block-stream) s)) (omega arith)
 
 blocks-hold : (n : ℕ) → n ≤ blocks-for n * block-stream
@@ -32,7 +32,7 @@ module _ (s : List ℕ) where
   unfoldable pub spare : ℕ
   spare = blocks-for (length s) * block-stream - length s
 
-  length-file : length (file-of-stream s) ≡ blocks-for (length s) * block-bytes
+  pub length-file : length (file-of-stream s) ≡ blocks-for (length s) * block-bytes
   unfolding file-of-stream
   length-file = length-joined (blocks-for (length s)) block-bytes _ (λ i h. length-block i (blocks-for (length s)) (part s i) (few-bytes s i))
 
@@ -88,7 +88,7 @@ module _ (f : List ℕ) (right : RightLength f) where
   unfolding block-at
   length-block-at i h = length-take-le block-bytes (drop (i * block-bytes) f) (rw (length-drop (i * block-bytes) f) (omega (arith, length-of-count)))
 
-  length-stream-at : (i : ℕ) → i < block-count f → length (stream-at f i) ≡ block-stream
+  pub length-stream-at : (i : ℕ) → i < block-count f → length (stream-at f i) ≡ block-stream
   unfolding stream-at
   length-stream-at i h = length-take-le block-stream (drop 4 (block-at f i)) (rw (length-drop 4 (block-at f i)) (omega (arith, length-block-at i h)))
 

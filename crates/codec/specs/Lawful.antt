@@ -6,34 +6,14 @@ use Prim.Native.Nat.{ℕ, zero, suc}
 use native.Mathlib.Omega.{arith}
 use lib.ListN.{length}
 use Rattle.pcrl.specs.Tests.{Every, Each}
-use Rattle.pcrl.specs.Reader.{Got, missing, found, Reader, bind, keep, one, test, pair, view, times, counted, each, all}
+use Rattle.pcrl.specs.Reader.{found, Reader, bind, one, test, pair, view, times, counted, each, all}
+pub use Rattle.laws.specs.Readers.{never, bound, kept, keeps}
+use Rattle.laws.specs.Readers.{test-read}
 
 -- w writes a value, R says which values are right, r reads
 pub record Lawful {A : Type 0} (w : A → List ℕ) (R : A → Type 0) (r : Reader ℕ A) : Type 0 where
   pub there : (a : A) (rest : List ℕ) → R a → r (w a ++ rest) ≡ found a rest
   pub back : (xs : List ℕ) (a : A) (rest : List ℕ) → r xs ≡ found a rest → (xs ≡ w a ++ rest) × R a
-
--- WHAT WAS FOUND
-
-pub never : {A B : Type 0} (a : A) (xs : List ℕ) → _≡_ {A = Got ℕ A} missing (found a xs) → B
-never a xs e = absurd (let z : _≡_ {A = ℕ} 0 1 = cc in omega arith)
-
--- where a `bind` finds something, its first reader did
-pub bound : {A B : Type 0} (g : Got ℕ A) (k : A → Reader ℕ B) (b : B) (zs : List ℕ) → bind g k ≡ found b zs
-    → (a : A) × (ys : List ℕ) × (g ≡ found a ys) × (k a ys ≡ found b zs)
-unfolding bind
-bound missing k b zs e = never b zs e
-bound (found a ys) k b zs e = (a, ys, refl, e)
-
-pub kept : {A P : Type 0} (d : Dec P) (a b : A) (xs ys : List ℕ) → keep d a xs ≡ found b ys → P × ((a ≡ b) × (xs ≡ ys))
-unfolding keep
-kept (yes h) a b xs ys e = (h, (cc, cc))
-kept (no h) a b xs ys e = never b ys e
-
-pub keeps : {A P : Type 0} (d : Dec P) (a : A) (xs : List ℕ) → P → keep d a xs ≡ found a xs
-unfolding keep
-keeps (yes h) a xs p = refl
-keeps (no h) a xs p = absurd (h p)
 
 -- ONE LAW A READER
 
@@ -48,7 +28,7 @@ one-law {P} p = record { there = λ a rest h. keeps (p a) a rest h; back = from 
 pub test-law : {A : Type 0} {P : A → Type 0} (p : (a : A) → Dec (P a)) {w : A → List ℕ} {R : A → Type 0} {r : Reader ℕ A}
     → Lawful w R r → Lawful w (λ a. R a × P a) (test p r)
 unfolding test bind
-test-law {A} {P} p {w} {R} {r} l = record { there = λ a rest h. rw (l .there a rest (h .0)) (keeps (p a) a rest (h .1)); back = from }
+test-law {A} {P} p {w} {R} {r} l = record { there = λ a rest h. test-read p r _ rest a (l .there a rest (h .0)) (h .1); back = from }
   where
     from : (xs : List ℕ) (a : A) (rest : List ℕ) → test p r xs ≡ found a rest → (xs ≡ w a ++ rest) × (R a × P a)
     from xs a rest e =

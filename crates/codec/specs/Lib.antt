@@ -1,10 +1,8 @@
-pub mod Every
 pub mod Lawful
 pub mod Arguments
 pub mod TermLaws
 pub mod StreamLaws
 pub mod StreamBytes
-pub mod Computing
 pub mod Ambiguous
 pub mod Cut
 pub mod Padding

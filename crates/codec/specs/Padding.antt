@@ -6,19 +6,16 @@ use native.Mathlib.Omega.{arith}
 use lib.ListN.{length, take, drop, replicate, length-append, length-replicate, length-drop}
 use Rattle.pcrl.specs.Tests.{Every}
 use Rattle.pcrl.specs.Stack.{padded}
+use Rattle.laws.specs.Every.{every-replicate, replicate-of-every}
 
 abbrev pub zeros : ℕ → List ℕ
 zeros n = replicate n 0
 
 pub every-zero : (n : ℕ) → Every (λ (b : ℕ). b ≡ 0) (zeros n)
-unfolding Every
-every-zero zero = tt
-every-zero (suc n) = (refl, every-zero n)
+every-zero n = every-replicate _ n 0 refl
 
 pub zeros-of-every : (l : List ℕ) → Every (λ (b : ℕ). b ≡ 0) l → l ≡ zeros (length l)
-unfolding Every
-zeros-of-every [] h = refl
-zeros-of-every (x ∷ l) h = ap (λ (y : ℕ). y ∷ l) (h .0) ∙ ap (λ (m : List ℕ). 0 ∷ m) (zeros-of-every l (h .1))
+zeros-of-every l h = replicate-of-every 0 l h
 
 take-zeros : (k m : ℕ) → k ≤ m → take k (zeros m) ≡ zeros k
 take-zeros zero m h = refl

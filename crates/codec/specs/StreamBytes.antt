@@ -1,16 +1,13 @@
 -- What is written for a right table are bytes: each number is below its limit, and every limit is below 256.
-use mathlib.Core.Path.{_≡_, refl}
 use mathlib.Core.List.{List, [], _∷_, _++_}
-use mathlib.Core.Bool.{Bool, true, false}
-use mathlib.Core.Logic.{_⊎_, inl, inr}
+use mathlib.Core.Logic.{inl, inr}
 use Prim.Native.Nat.{ℕ, _<_, _≤_}
 use native.Mathlib.Omega.{arith}
-use borrow.Author.Tests.{leb-true, eqb-true}
-use lib.Dec.{T, leb, eqb}
+use lib.Dec.{T, leb, eqb, leb→le, eqb→eq}
 use lib.ListN.{length, getD, getElem?, length-append, length-map}
 use Rattle.pcrl.specs.Text.{byte}
 use Rattle.pcrl.specs.Limits.{max-sorts, max-size, max-functions, max-actions, max-equations, max-variables, frame-width}
-use Rattle.pcrl.specs.Tests.{and, or, within, Between, Every, Each}
+use Rattle.pcrl.specs.Tests.{or, within, Between, Every, Each}
 use Rattle.pcrl.specs.Bytes.{letter, digit, name-byte}
 use Rattle.pcrl.specs.Reader.{all}
 use Rattle.pcrl.specs.Sheet.{Data, val, var, app, Datas, nil, cons, Act, tau, action, Func, Action, Sig, size, func, takes-of}
@@ -18,8 +15,10 @@ use Rattle.pcrl.specs.Sorts.{Bool-sort, HasSort, HaveSorts, IsAct}
 use Rattle.pcrl.specs.Table.{Summand, Equation, Table, params-of, summands-of}
 use Rattle.pcrl.specs.Stream.{variable-code, encode-data, encode-datas, encode-numbers, encode-list, encode-sorts, encode-func, encode-action, encode-sig, encode-act, encode-cond, encode-call, encode-summand, encode-equations, encode-start, encode}
 use Rattle.pcrl.specs.Right.{RightSizes, AreSorts, RightFunc, RightName, RightAction, RightSig, RightSorts, RightTerm, RightCond, RightCall, RightSummand, RightSummands, RightEquations, RightStart, RightTable}
-use Rattle.codec.specs.Every.{every-map, every-append, each-with}
-use Rattle.codec.specs.TermLaws.{in-scope}
+use Rattle.laws.specs.Tests.{both-pass, one-passes}
+use Rattle.laws.specs.Lists.{below-some}
+use Rattle.laws.specs.Every.{every-of-all, every-append, every-weaken}
+use Rattle.laws.specs.Each.{each-with, each-every}
 use Rattle.codec.specs.StreamLaws.{small-size, apart}
 
 abbrev pub Byte : ℕ → Type 0
@@ -27,20 +26,17 @@ Byte b = b < 256
 
 -- LISTS
 
-bytes-append : (l m : List ℕ) → Every Byte l → Every Byte m → Every Byte (l ++ m)
-bytes-append l m h k = every-append Byte l m h k
-
 pub bytes-all : {A : Type 0} {R : A → Type 0} (w : A → List ℕ) → ((a : A) → R a → Every Byte (w a)) → (l : List A) → Every R l → Every Byte (all w l)
 unfolding Every all
 bytes-all w f [] h = tt
-bytes-all w f (a ∷ l) h = bytes-append (w a) (all w l) (f a (h .0)) (bytes-all w f l (h .1))
+bytes-all w f (a ∷ l) h = every-append Byte (w a) (all w l) (f a (h .0)) (bytes-all w f l (h .1))
 
 bytes-each : {A B : Type 0} {R : A → B → Type 0} (w : B → List ℕ) → ((a : A) (b : B) → R a b → Every Byte (w b)) → (l : List A) (m : List B) → Each R l m → Every Byte (all w m)
 unfolding Every Each all
 bytes-each w f [] [] h = tt
 bytes-each w f [] (b ∷ m) h = absurd h
 bytes-each w f (a ∷ l) [] h = absurd h
-bytes-each w f (a ∷ l) (b ∷ m) h = bytes-append (w b) (all w m) (f a b (h .0)) (bytes-each w f l m (h .1))
+bytes-each w f (a ∷ l) (b ∷ m) h = every-append Byte (w b) (all w m) (f a b (h .0)) (bytes-each w f l m (h .1))
 
 bytes-list : {A : Type 0} {R : A → Type 0} (w : A → List ℕ) → ((a : A) → R a → Every Byte (w a)) → (l : List A) → Byte (length l) → Every R l → Every Byte (encode-list w l)
 unfolding Every encode-list
@@ -52,35 +48,23 @@ bytes-numbers l h k = (h, k)
 
 -- NAMES
 
-both-of : (x y : Bool) → T (and x y) → T x × T y
-both-of true y h = (tt, h)
-both-of false y h = absurd h
-
-one-of : (x y : Bool) → T (or x y) → T x ⊎ T y
-one-of true y h = inl tt
-one-of false y h = inr h
-
-is-true : (x : Bool) → T x → x ≡ true
-is-true true h = refl
-is-true false h = absurd h
-
 within-at-most : (lo hi b : ℕ) → T (within lo hi b) → b ≤ hi
-within-at-most lo hi b h = leb-true b hi (is-true (leb b hi) (both-of (leb lo b) (leb b hi) h .1))
+within-at-most lo hi b h = leb→le b hi (both-pass (leb lo b) (leb b hi) h .1)
 
 letter-is-byte : (b : ℕ) → T (letter b) → Byte b
 letter-is-byte b h =
-    elim (one-of (within (byte "A") (byte "Z") b) (within (byte "a") (byte "z") b) h) [
+    elim (one-passes (within (byte "A") (byte "Z") b) (within (byte "a") (byte "z") b) h) [
       | inl k ↦ omega (arith, within-at-most (byte "A") (byte "Z") b k)
       | inr k ↦ omega (arith, within-at-most (byte "a") (byte "z") b k)
     ]
 
 name-byte-is-byte : (b : ℕ) → T (name-byte b) → Byte b
 name-byte-is-byte b h =
-    elim (one-of (letter b) (or (digit b) (eqb b (byte "_"))) h) [
+    elim (one-passes (letter b) (or (digit b) (eqb b (byte "_"))) h) [
       | inl k ↦ letter-is-byte b k
-      | inr k ↦ elim (one-of (digit b) (eqb b (byte "_")) k) [
+      | inr k ↦ elim (one-passes (digit b) (eqb b (byte "_")) k) [
         | inl m ↦ omega (arith, within-at-most (byte "0") (byte "9") b m)
-        | inr m ↦ omega (arith, eqb-true b (byte "_") (is-true (eqb b (byte "_")) m))
+        | inr m ↦ omega (arith, eqb→eq b (byte "_") m)
       ]
     ]
 
@@ -92,28 +76,28 @@ module _ (sizes : List ℕ) (ok : RightSizes sizes) where
   few-sizes = ok .0 .0 .1
 
   sorts-bytes : (l : List ℕ) → AreSorts sizes l → Every Byte l
-  sorts-bytes l h = every-map (λ (D : ℕ) (k : D < length sizes). (let z : Byte D = omega (arith, few-sizes) in z)) l h
+  sorts-bytes l h = every-weaken _ Byte (λ D k. omega (arith, few-sizes)) l h
 
   func-bytes : (g : Func) → RightFunc sizes g → Every Byte (encode-func g)
   unfolding encode-func RightFunc Every
   func-bytes g h =
-      bytes-append (encode-numbers (g .takes)) (g .gives ∷ g .values) (bytes-numbers (g .takes) (omega arith) (sorts-bytes (g .takes) (h .0 .1)))
-      (omega (arith, few-sizes), every-map (λ (v : ℕ) (k : v < getD sizes (g .gives) 0). (let z : Byte v = omega (arith, small-size sizes (g .gives) ok) in z)) (g .values) (h .1 .1 .1))
+      every-append Byte (encode-numbers (g .takes)) (g .gives ∷ g .values) (bytes-numbers (g .takes) (omega arith) (sorts-bytes (g .takes) (h .0 .1)))
+      (omega (arith, few-sizes), every-weaken _ Byte (λ v k. omega (arith, small-size sizes (g .gives) ok)) (g .values) (h .1 .1 .1))
 
   action-bytes : (a : Action) → RightAction sizes a → Every Byte (encode-action a)
   unfolding encode-action RightAction RightName
   action-bytes a h =
-      bytes-append _ _ (bytes-numbers (a .name) (omega arith) (every-map name-byte-is-byte (a .name) (h .0 .0 .1))) (bytes-numbers (a .takes) (omega arith) (sorts-bytes (a .takes) (h .1 .1)))
+      every-append Byte _ _ (bytes-numbers (a .name) (omega arith) (every-weaken _ Byte name-byte-is-byte (a .name) (h .0 .0 .1))) (bytes-numbers (a .takes) (omega arith) (sorts-bytes (a .takes) (h .1 .1)))
 
 sizes-bytes : (sizes : List ℕ) → RightSizes sizes → Every Byte (encode-sorts sizes)
 unfolding RightSizes encode-sorts
-sizes-bytes sizes h = bytes-numbers sizes (omega arith) (every-map (λ (n : ℕ) (k : Between 1 max-size n). (let z : Byte n = omega arith in z)) sizes (h .0 .1))
+sizes-bytes sizes h = bytes-numbers sizes (omega arith) (every-weaken (Between 1 max-size) Byte (λ n k. omega arith) sizes (h .0 .1))
 
 sig-bytes : (S : Sig) → RightSig S → Every Byte (encode-sig S)
 unfolding encode-sig RightSig
 sig-bytes S h =
-    bytes-append _ _ (sizes-bytes (S .sorts) (h .0))
-    (bytes-append _ _ (bytes-list encode-func (func-bytes (S .sorts) (h .0)) (S .funcs) (omega arith) (h .1 .0 .1))
+    every-append Byte _ _ (sizes-bytes (S .sorts) (h .0))
+    (every-append Byte _ _ (bytes-list encode-func (func-bytes (S .sorts) (h .0)) (S .funcs) (omega arith) (h .1 .0 .1))
     (bytes-list encode-action (action-bytes (S .sorts) (h .0)) (S .acts) (omega arith) (h .1 .1 .0 .1)))
 
 -- SUMMANDS AND EQUATIONS
@@ -133,13 +117,13 @@ module _ (S : Sig) (ok : RightSig S) where
 
       data-bytes : (d : Data) (D : ℕ) → HasSort S (getElem? Γ) d D → Every Byte (encode-data d)
       data-bytes (val v) D h = (omega (arith, apart S Γ ok l .sizes D), tt)
-      data-bytes (var i) D h = (omega (arith, l, in-scope Γ i D h), tt)
+      data-bytes (var i) D h = (omega (arith, l, below-some Γ i D h), tt)
       data-bytes (app f ds) D h = (omega (arith, few-funcs), datas-bytes ds (func S f .takes) (h .1 .1))
 
       datas-bytes : (ds : Datas) (Ds : List ℕ) → HaveSorts S (getElem? Γ) ds Ds → Every Byte (encode-datas ds)
       datas-bytes nil Ds h = tt
       datas-bytes (cons d ds) [] h = absurd h
-      datas-bytes (cons d ds) (D ∷ Ds) h = bytes-append (encode-data d) (encode-datas ds) (data-bytes d D (h .0)) (datas-bytes ds Ds (h .1))
+      datas-bytes (cons d ds) (D ∷ Ds) h = every-append Byte (encode-data d) (encode-datas ds) (data-bytes d D (h .0)) (datas-bytes ds Ds (h .1))
 
     term-bytes : (D : ℕ) (d : Data) → RightTerm S Γ D d → Every Byte (encode-data d)
     term-bytes D d h = data-bytes d D (h .0)
@@ -167,10 +151,10 @@ module _ (S : Sig) (ok : RightSig S) where
     summand-bytes Δ k h r =
         let Γ : List ℕ = Δ ++ h .vars in
         let l : length (Δ ++ h .vars) ≤ variable-code = simp length-append (omega arith) in
-        bytes-append _ _ (params-bytes max-variables (omega arith) (h .vars) (r .0))
-        (bytes-append _ _ (bytes-list encode-cond (cond-bytes Γ l) (h .conds) (omega arith) (r .1 .0 .1))
-        (bytes-append _ _ (act-bytes (h .act) (r .1 .1 .0))
-        (bytes-append _ _ (bytes-each encode-data (term-bytes Γ l) (takes-of S (h .act)) (h .terms) (r .1 .1 .1 .0))
+        every-append Byte _ _ (params-bytes max-variables (omega arith) (h .vars) (r .0))
+        (every-append Byte _ _ (bytes-list encode-cond (cond-bytes Γ l) (h .conds) (omega arith) (r .1 .0 .1))
+        (every-append Byte _ _ (act-bytes (h .act) (r .1 .1 .0))
+        (every-append Byte _ _ (bytes-each encode-data (term-bytes Γ l) (takes-of S (h .act)) (h .terms) (r .1 .1 .1 .0))
         (bytes-list encode-call (call-bytes Γ l Ps few) (h .calls) (omega arith) (r .1 .1 .1 .1 .1)))))
 
     summands-bytes : (Δ : List ℕ) (hs : List Summand) → RightSorts S frame-width Δ × RightSummands S Ps Δ hs → Every Byte (encode-list encode-summand hs)
@@ -180,15 +164,12 @@ module _ (S : Sig) (ok : RightSig S) where
   equations-bytes : (es : List Equation) → RightEquations S es → Every Byte (encode-equations es)
   unfolding encode-equations RightEquations
   equations-bytes es h =
-      bytes-append _ _ (bytes-list encode-numbers (params-bytes frame-width (omega arith)) (params-of es) (omega arith) (h .0 .1))
+      every-append Byte _ _ (bytes-list encode-numbers (params-bytes frame-width (omega arith)) (params-of es) (omega arith) (h .0 .1))
       (bytes-each (encode-list encode-summand) (summands-bytes (params-of es) (h .0 .0 .1)) (params-of es) (summands-of es) (each-with (RightSummands S (params-of es)) (RightSorts S frame-width) (params-of es) (summands-of es) (h .0 .1) (h .1)))
 
   values-bytes : (Ds vs : List ℕ) → Each (λ (D v : ℕ). v < size S D) Ds vs → Every Byte vs
-  unfolding Each Every size RightSig
-  values-bytes [] [] h = tt
-  values-bytes [] (v ∷ vs) h = absurd h
-  values-bytes (D ∷ Ds) [] h = absurd h
-  values-bytes (D ∷ Ds) (v ∷ vs) h = (omega (arith, small-size (S .sorts) D (ok .0), h .0), values-bytes Ds vs (h .1))
+  unfolding size RightSig
+  values-bytes Ds vs h = each-every _ (λ D. Unit {0}) Byte (λ D v k u. omega (arith, small-size (S .sorts) D (ok .0))) Ds vs h (every-of-all _ (λ D. tt) Ds)
 
   start-bytes : (es : List Equation) → length es ≤ max-equations → (s : ℕ × List ℕ) → RightStart S es s → Every Byte (encode-start s)
   unfolding Every encode-start RightStart
@@ -202,6 +183,6 @@ few-equations S es h = omega (arith, h .0 .0 .1, length-map es (λ (e : Equation
 pub stream-bytes : (T : Table) → RightTable T → Every (λ b. b < 256) (encode T)
 unfolding encode RightTable
 stream-bytes T h =
-    bytes-append _ _ (sig-bytes (T .sig) (h .0 .0))
-    (bytes-append _ _ (equations-bytes (T .sig) (h .0 .0) (T .equations) (h .0 .1 .0))
+    every-append Byte _ _ (sig-bytes (T .sig) (h .0 .0))
+    (every-append Byte _ _ (equations-bytes (T .sig) (h .0 .0) (T .equations) (h .0 .1 .0))
     (start-bytes (T .sig) (h .0 .0) (T .equations) (few-equations (T .sig) (T .equations) (h .0 .1 .0)) (T .start) (h .0 .1 .1)))

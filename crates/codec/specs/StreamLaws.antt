@@ -16,8 +16,9 @@ use Rattle.pcrl.specs.Table.{Summand, Equation, Table, params-of, summands-of, 
 use Rattle.pcrl.specs.Stream.{variable-code, tau-code, encode-data, encode-numbers, encode-list, encode-sorts, encode-func, encode-action, encode-sig, encode-act, encode-cond, encode-call, encode-summand, encode-equations, encode-start, encode}
 use Rattle.pcrl.specs.Right.{RightSizes, RightFunc, free-name, RightName, RightAction, action-names, RightSig, RightSorts, RightTerm, RightCond, RightCall, RightSummand, RightSummands, RightEquations, RightStart, RightTable}
 use Rattle.pcrl.specs.Decode.{read-term, read-sorts, read-sizes, to-func, read-func, to-action, read-name, read-action, to-sig, read-sig, to-summand, zip, to-equations, read-act, read-cond, read-call, read-summand, read-summands, read-equations, read-start, to-table, decode}
-use Rattle.codec.specs.Every.{every, every-map, every-getD}
-use Rattle.codec.specs.Lawful.{Lawful, never, kept, keeps, one-law, test-law, pair-law, view-law, alike-law, times-law, counted-law, each-law}
+use Rattle.laws.specs.Every.{every-of-all, every-getD, every-weaken}
+use Rattle.laws.specs.Readers.{never, kept, keeps}
+use Rattle.codec.specs.Lawful.{Lawful, one-law, test-law, pair-law, view-law, alike-law, times-law, counted-law, each-law}
 use Rattle.codec.specs.TermLaws.{Apart, term-law}
 
 -- LISTS
@@ -74,7 +75,7 @@ sig-law =
 
 pub small-size : (sizes : List ℕ) (D : ℕ) → RightSizes sizes → getD sizes D 0 ≤ max-size
 unfolding RightSizes
-small-size sizes D h = every-getD (λ (n : ℕ). n ≤ max-size) sizes 0 D (every-map (λ (a : ℕ) (k : Between 1 max-size a). k .1) sizes (h .0 .1)) (omega arith)
+small-size sizes D h = every-getD (λ (n : ℕ). n ≤ max-size) sizes 0 D (every-weaken (Between 1 max-size) _ (λ a k. k .1) sizes (h .0 .1)) (omega arith)
 
 pub apart : (S : Sig) (Γ : List ℕ) → RightSig S → length Γ ≤ variable-code → Apart S Γ
 unfolding RightSig size
@@ -130,7 +131,7 @@ module _ (S : Sig) (ok : RightSig S) where
   sorts-law most = numbers-law (at-most? most) (below? (length (S .sorts)))
 
   pub terms-law : (Γ : List ℕ) → length Γ ≤ variable-code → (Ds : List ℕ) → Lawful (all encode-data) (Each (RightTerm S Γ) Ds) (each (read-term S Γ) Ds)
-  terms-law Γ l Ds = each-law (λ D (k : Unit {0}). term-law S Γ (apart S Γ ok l) D) Ds (every (λ D. tt) Ds)
+  terms-law Γ l Ds = each-law (λ D (k : Unit {0}). term-law S Γ (apart S Γ ok l) D) Ds (every-of-all _ (λ D. tt) Ds)
 
   pub cond-law : (Γ : List ℕ) → length Γ ≤ variable-code → Lawful encode-cond (RightCond S Γ) (read-cond S Γ)
   unfolding encode-cond RightCond read-cond
@@ -166,7 +167,7 @@ module _ (S : Sig) (ok : RightSig S) where
   unfolding encode-start RightStart read-start
   start-law es =
       pair-law (one-law (below? (length es))) (λ e h.
-      alike-law (λ l. l) all-numbers (each-law (λ D (k : Unit {0}). one-law (below? (size S D))) (getD (params-of es) e []) (every (λ D. tt) (getD (params-of es) e []))))
+      alike-law (λ l. l) all-numbers (each-law (λ D (k : Unit {0}). one-law (below? (size S D))) (getD (params-of es) e []) (every-of-all _ (λ D. tt) (getD (params-of es) e []))))
 
 -- THE TABLE
 

@@ -2,11 +2,10 @@
 -- By induction on the nodes that may still come, over the list of terms that is expected.
 use mathlib.Core.Path.{_≡_, refl, sym, ap, subst, _∙_}
 use mathlib.Core.List.{List, [], _∷_, _++_, append-nil}
-use mathlib.Core.Option.{some}
 use Prim.Native.Nat.{ℕ, zero, suc, _+_, _-_, _<_, _≤_}
 use native.Mathlib.Omega.{arith}
 use native.Mathlib.Decide.{decLt}
-use lib.ListN.{length, getElem?}
+use lib.ListN.{length}
 use Rattle.pcrl.specs.Limits.{max-nodes}
 use Rattle.pcrl.specs.Tests.{Each}
 use Rattle.pcrl.specs.Reader.{Got, found, Reader, bind, view, all}
@@ -16,7 +15,10 @@ use Rattle.pcrl.specs.Table.{nodes}
 use Rattle.pcrl.specs.Stream.{variable-code, function-code, encode-data, encode-datas}
 use Rattle.pcrl.specs.Right.{RightTerm}
 use Rattle.pcrl.specs.Decode.{Node, value, variable, function, node-of, guard, Fits, fits?, wants, build, read-terms, first, read-term}
-use Rattle.codec.specs.Lawful.{Lawful, never, bound}
+use Rattle.laws.specs.Tests.{where-yes}
+use Rattle.laws.specs.Lists.{below-some}
+use Rattle.laws.specs.Readers.{never, bound}
+use Rattle.codec.specs.Lawful.{Lawful}
 use Rattle.codec.specs.Arguments.{nodes-list, encode-put, nodes-put, encode-taken, nodes-taken, Sorted, sorted-put, arguments-put, drop-put, sorted-taken}
 
 -- A BYTE AND ITS NODE
@@ -41,11 +43,7 @@ byte-of-node b = go (decLt b variable-code) (decLt b function-code)
 
 pub node-value : (v : ℕ) → v < variable-code → node-of v ≡ value v
 unfolding node-of node-by
-node-value v h = go (decLt v variable-code)
-  where
-    go : (d : Dec (v < variable-code)) → node-by v d (decLt v function-code) ≡ value v
-    go (yes k) = refl
-    go (no k) = absurd (k h)
+node-value v h = where-yes (decLt v variable-code) h (value v) _
 
 pub node-variable : (i : ℕ) → i < variable-code → node-of (variable-code + i) ≡ variable i
 unfolding node-of node-by
@@ -86,11 +84,6 @@ unfolding nodes
 one-node (val v) = omega arith
 one-node (var i) = omega arith
 one-node (app f ds) = omega arith
-
-pub in-scope : (Γ : List ℕ) (i D : ℕ) → getElem? Γ i ≡ some D → i < length Γ
-in-scope [] i D e = absurd (let z : _≡_ {A = ℕ} 0 1 = cc in omega arith)
-in-scope (x ∷ Γ) zero D e = omega arith
-in-scope (x ∷ Γ) (suc i) D e = let h = in-scope Γ i D e in omega arith
 
 -- Values and variables keep below the codes of what comes behind them.
 pub record Apart (S : Sig) (Γ : List ℕ) : Type 0 where
@@ -140,7 +133,7 @@ module _ (S : Sig) (Γ : List ℕ) where
         read-node n D Ds v (all encode-data ts ++ rest) (value v) (node-value v (omega (arith, apart .sizes D, h .0))) (h .0)
         ∙ view-found (build S Γ (value v)) (read-terms S Γ n Ds) (all encode-data ts ++ rest) ts rest (terms-there n Ds ts rest (h .1) (omega arith))
     terms-there (suc n) (D ∷ Ds) (var i ∷ ts) rest h l =
-        read-node n D Ds (variable-code + i) (all encode-data ts ++ rest) (variable i) (node-variable i (omega (arith, apart .scope, in-scope Γ i D (h .0)))) (h .0)
+        read-node n D Ds (variable-code + i) (all encode-data ts ++ rest) (variable i) (node-variable i (omega (arith, apart .scope, below-some Γ i D (h .0)))) (h .0)
         ∙ view-found (build S Γ (variable i)) (read-terms S Γ n Ds) (all encode-data ts ++ rest) ts rest (terms-there n Ds ts rest (h .1) (omega arith))
     terms-there (suc n) (D ∷ Ds) (app f ds ∷ ts) rest h l =
         let Es : List ℕ = func S f .takes in

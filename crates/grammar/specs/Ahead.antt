@@ -7,6 +7,7 @@ use lib.Dec.{T}
 use Rattle.pcrl.specs.Tokens.{Token, the, is?}
 use Rattle.pcrl.specs.Reader.{found}
 use Rattle.pcrl.specs.Grammar.{Reads, on, expect}
+use Rattle.laws.specs.Tests.{where-yes}
 
 -- The sign does not stand next.
 unfoldable pub absent : String → List Token → Bool
@@ -15,11 +16,7 @@ absent s (t ∷ ts) = elim (is? s t) [ yes e ↦ false | no h ↦ true ]
 
 pub on-sign : {A : Type 0} (s : String) (behind other : Reads A) (ts : List Token) → on s behind other (the s ∷ ts) ≡ behind ts
 unfolding on
-on-sign s behind other ts = by (is? s (the s))
-  where
-    by : (d : Dec (the s ≡ the s)) → elim d [ yes e ↦ behind ts | no h ↦ other (the s ∷ ts) ] ≡ behind ts
-    by (yes e) = refl
-    by (no h) = absurd (h refl)
+on-sign s behind other ts = where-yes (is? s (the s)) refl (behind ts) (other (the s ∷ ts))
 
 pub on-absent : {A : Type 0} (s : String) (behind other : Reads A) (ts : List Token) → T (absent s ts) → on s behind other ts ≡ other ts
 unfolding on absent

@@ -9,27 +9,24 @@ use native.Mathlib.Omega.{arith}
 use native.Mathlib.Decide.{ℕ-discrete, decLt}
 use lib.Dec.{T}
 use lib.ListN.{length}
-use Rattle.pcrl.specs.Tests.{same?, Every}
+use Rattle.pcrl.specs.Tests.{same?}
 use Rattle.pcrl.specs.Tokens.{Token, the, is?}
 use Rattle.pcrl.specs.Reader.{found, bind, all}
 use Rattle.pcrl.specs.Tree.{RawSheet}
 use Rattle.pcrl.specs.Grammar.{sort-line, func-line, act-line, proc-line, lines, sheet, whole, parse}
+use Rattle.laws.specs.Every.{every-of-all}
+use Rattle.laws.specs.Readers.{test-read}
 use Rattle.grammar.specs.Print.{line, print-lines, print-sort, print-func, print-act, print-proc, print-init, print-sheet, FormedFunc, FormedAct, Formed}
 use Rattle.grammar.specs.PrintLaws.{sheet-before, sheet-length}
 use Rattle.grammar.specs.Ahead.{absent, expect-sign}
 use Rattle.grammar.specs.Parsed.{print-sheet-of, print-parse}
-use Rattle.grammar.specs.PrintedLines.{sort-read, func-read, act-read, proc-read, init-read, test-read, lines-read}
+use Rattle.grammar.specs.PrintedLines.{sort-read, func-read, act-read, proc-read, init-read, lines-read}
 
 -- a word does not stand next where lines of another kind do, nor behind them
 pub absent-lines : {A : Type 0} (s t : String) (w : A → List Token) (ls : List A) (r : List Token) → T (absent s (the t ∷ [])) → T (absent s r) → T (absent s (print-lines t w ls ++ r))
 unfolding absent all line
 absent-lines s t w [] r h k = k
 absent-lines s t w (l ∷ ls) r h k = h
-
-pub every-unit : {A : Type 0} (l : List A) → Every (λ a. Unit {0}) l
-unfolding Every
-every-unit [] = tt
-every-unit (a ∷ l) = (tt, every-unit l)
 
 -- whatever follows
 pub sheet-read : (n : ℕ) (R : RawSheet) (r : List Token) → Formed R → 4 * length (print-sheet R) ≤ n → sheet n (print-sheet R ++ r) ≡ found R r
@@ -45,10 +42,10 @@ sheet-read n R r f h =
     let no-sort : T (absent "sort" from-funcs) = absent-lines "sort" "func" print-func (R .funcs) from-acts tt (absent-lines "sort" "act" print-act (R .acts) from-procs tt (absent-lines "sort" "proc" print-proc (R .procs) from-init tt tt)) in
     rw (
       sheet-before R r,
-      lines-read "sort" print-sort sort-line (λ l. Unit {0}) n (λ l u k. sort-read l) n (R .sorts) from-funcs (every-unit (R .sorts)) (omega arith) (omega arith) no-sort,
+      lines-read "sort" print-sort sort-line (λ l. Unit {0}) n (λ l u k. sort-read l) n (R .sorts) from-funcs (every-of-all _ (λ l. tt) (R .sorts)) (omega arith) (omega arith) no-sort,
       lines-read "func" print-func (func-line n) FormedFunc n (func-read n) n (R .funcs) from-acts (f .funcs) (omega arith) (omega arith) no-func,
       lines-read "act" print-act act-line FormedAct n (λ l g k. act-read l g) n (R .acts) from-procs (f .acts) (omega arith) (omega arith) no-act,
-      test-read (λ ps. decLt 0 (length ps)) (lines "proc" (proc-line n) n) from-procs from-init (R .procs) (lines-read "proc" print-proc (proc-line n) (λ l. Unit {0}) n (λ l u k. proc-read n l k) n (R .procs) from-init (every-unit (R .procs)) (omega arith) (omega arith) tt) (f .procs),
+      test-read (λ ps. decLt 0 (length ps)) (lines "proc" (proc-line n) n) from-procs from-init (R .procs) (lines-read "proc" print-proc (proc-line n) (λ l. Unit {0}) n (λ l u k. proc-read n l k) n (R .procs) from-init (every-of-all _ (λ l. tt) (R .procs)) (omega arith) (omega arith) tt) (f .procs),
       expect-sign,
       init-read n (R .start) (f .start) (omega arith) r,
       expect-sign,

@@ -10,9 +10,10 @@ use lib.ListN.{length, length-append}
 use Rattle.pcrl.specs.Limits.{max-arity}
 use Rattle.pcrl.specs.Tests.{Between, same?, Every, T?}
 use Rattle.pcrl.specs.Tokens.{Token, name, numeral, the, is?}
-use Rattle.pcrl.specs.Reader.{found, bind, Reader, keep, test, all}
+use Rattle.pcrl.specs.Reader.{found, bind, all}
 use Rattle.pcrl.specs.Tree.{Name, SortLine, FuncLine, ActLine, ProcLine, InitLine}
 use Rattle.pcrl.specs.Grammar.{Reads, on, expect, a-name, a-numeral, sort-line, numerals, one-or-two, func-line, act-line, parameters, proc-line, init-line, data-given, none-in, lines}
+use Rattle.laws.specs.Readers.{test-read}
 use Rattle.grammar.specs.Print.{bracketed, joined, print-given, print-choice, line, print-lines, print-sorts, print-values, print-sort, print-func, print-takes, print-act, print-param, print-params, print-proc, print-init, FormedFunc, FormedAct}
 use Rattle.grammar.specs.PrintLaws.{joined-length}
 use Rattle.grammar.specs.Ahead.{absent, on-sign, on-absent, expect-sign}
@@ -88,15 +89,6 @@ proc-read n l h r =
       params-read n (l .params) (after ++ (the ";" ∷ r)) (omega (arith, params-length (l .params))) tt,
       choice-read n (l .right) (the ";" ∷ r) (omega (arith, weight-choice-bound (l .right))) (tt, (tt, (tt, tt))),
     )
-
--- a value that passes the test
-pub test-read : {S A : Type 0} {P : A → Type 0} (p : (a : A) → Dec (P a)) (read : Reader S A) (xs r : List S) (a : A) → read xs ≡ found a r → P a → test p read xs ≡ found a r
-unfolding test bind keep
-test-read {P = P} p read xs r a e h = rw e (by (p a))
-  where
-    by : (d : Dec (P a)) → keep d a r ≡ found a r
-    by (yes k) = refl
-    by (no k) = absurd (k h)
 
 pub init-read : (n : ℕ) (l : InitLine) → T (none-in (l .data-given)) → 4 * length (print-init l) ≤ n → ReadsLine (init-line n) print-init l
 unfolding init-line print-init bind a-name absent is? same? ℕ-discrete

@@ -14,6 +14,7 @@ use Rattle.pcrl.specs.Tests.{and, or, negated, same?, among, Every}
 use Rattle.pcrl.specs.Bytes.{separator, letter, digit, name-byte}
 use Rattle.pcrl.specs.Tokens.{Token, name, numeral, sign, words, marks, run, front, Lexeme, name-of, value-of, numeral-of, mark-of, first-token}
 use Rattle.pcrl.specs.Walk.{decimal}
+use Rattle.laws.specs.Tests.{is-true, both-pass}
 use Rattle.grammar.specs.TokenLaws.{ValidName, ValidToken, front-cons}
 use Rattle.grammar.specs.Render.{blank-byte, write}
 use Rattle.grammar.specs.Spelled.{spelled}
@@ -37,10 +38,6 @@ begins (b ∷ s) = negated (separator b)
 pub record Taken (t : Token) : Type 0 where
   pub here : T (begins (write t))
   pub whole : (r : List ℕ) → Behind r → lexeme (write t ++ r) ≡ some (t, length (write t))
-
-pub is-true : (b : Bool) → T b → b ≡ true
-is-true true t = refl
-is-true false t = absurd t
 
 -- the bytes that pass a test, before a blank that does not
 pub front-append : (p : ℕ → Bool) → p blank-byte ≡ false → (w r : List ℕ) → Every (λ b. T (p b)) w → Behind r → front p (w ++ r) ≡ w
@@ -112,12 +109,8 @@ marks-taken = (by-running _ tt refl (λ s. refl), (by-running _ tt refl (λ s. r
 pub digit-no-letter : (b : ℕ) → T (digit b) → letter b ≡ false
 digit-no-letter b h = by (leb (byte "A") b) (leb b (byte "Z")) (leb (byte "a") b) (leb b (byte "z")) (λ t. omega (arith, leb→le (byte "A") b t, low)) (λ t. omega (arith, leb→le (byte "a") b t, low))
   where
-    right : (x y : Bool) → T (and x y) → T y
-    right true y t = t
-    right false y t = absurd t
-
     low : b ≤ byte "9"
-    low = leb→le b (byte "9") (right (leb (byte "0") b) (leb b (byte "9")) h)
+    low = leb→le b (byte "9") (both-pass (leb (byte "0") b) (leb b (byte "9")) h .1)
 
     by : (a c d e : Bool) → (T a → ⊥) → (T d → ⊥) → or (and a c) (and d e) ≡ false
     by true c d e f g = absurd (f tt)

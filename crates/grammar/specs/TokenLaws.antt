@@ -1,5 +1,5 @@
 -- Every token of a text is valid by the token rule: names are letters, digits and underscores behind a letter, 1 to 16 of them, and no words.
-use mathlib.Core.Path.{_≡_, refl, sym, subst}
+use mathlib.Core.Path.{_≡_, refl, subst}
 use mathlib.Core.List.{List, [], _∷_}
 use mathlib.Core.Bool.{Bool, true, false}
 use mathlib.Core.Option.{Option, none, some}
@@ -12,6 +12,7 @@ use Rattle.pcrl.specs.Limits.{max-name, max-numeral}
 use Rattle.pcrl.specs.Tests.{and, or, Between, same?, among, Every}
 use Rattle.pcrl.specs.Bytes.{separator, letter, digit, name-byte}
 use Rattle.pcrl.specs.Tokens.{Token, name, numeral, sign, words, marks, run, front, Lexeme, name-of, value-of, numeral-of, mark-of, first-token, before, followed, tokens-behind, tokens}
+use Rattle.laws.specs.Tests.{of-true, where-yes}
 
 -- "names (a letter, then letters, digits or underscores, the whole run at most 16 characters)"; the words "are never names"
 unfoldable pub ValidName : List ℕ → Type 0
@@ -41,7 +42,7 @@ front-every test [] = tt
 front-every test (b ∷ s) = by (test b) refl (front-every test s)
   where
     by : (t : Bool) → test b ≡ t → Every (λ b. T (test b)) (front test s) → Every (λ b. T (test b)) (take (elim t [ true ↦ suc (run test s) | false ↦ 0 ]) (b ∷ s))
-    by true e h = (subst T (sym e) tt, h)
+    by true e h = (of-true (test b) e, h)
     by false e h = tt
 
 -- where the first byte passes, the front begins with it
@@ -55,7 +56,7 @@ name-valid w h e l = by (leb (length w) max-name) refl (among w words) refl
   where
     by : (t : Bool) → leb (length w) max-name ≡ t → (u : Bool) → among w words ≡ u → Given ValidLexeme (elim t [ true ↦ some (elim u [ true ↦ sign w | false ↦ name w ], length w) | false ↦ none ])
     by true f true g = just {a = (sign w, length w)} (rw g tt)
-    by true f false g = just {a = (name w, length w)} (((h, leb→le _ _ (subst T (sym f) tt)), e), (l, g))
+    by true f false g = just {a = (name w, length w)} (((h, leb→le _ _ (of-true _ f)), e), (l, g))
     by false f u g = nothing
 
 pub numeral-valid : (w : List ℕ) → Given ValidLexeme (numeral-of w)
@@ -63,18 +64,14 @@ unfolding numeral-of ValidToken
 numeral-valid w = by (or (eqb (length w) 1) (ltb (byte "0") (getD w 0 0))) (leb (value-of 0 w) max-numeral) refl
   where
     by : (a t : Bool) → leb (value-of 0 w) max-numeral ≡ t → Given ValidLexeme (elim (and a t) [ true ↦ some (numeral (value-of 0 w), length w) | false ↦ none ])
-    by true true e = just (leb→le _ _ (subst T (sym e) tt))
+    by true true e = just (leb→le _ _ (of-true _ e))
     by true false e = nothing
     by false t e = nothing
 
 -- one of some lists is among them, with more before
 pub among-here : (m : List ℕ) (ms : List (List ℕ)) → among m (m ∷ ms) ≡ true
 unfolding among
-among-here m ms = by (same? m m)
-  where
-    by : (d : Dec (m ≡ m)) → elim d [ yes e ↦ true | no h ↦ among m ms ] ≡ true
-    by (yes e) = refl
-    by (no h) = absurd (h refl)
+among-here m ms = where-yes (same? m m) refl true (among m ms)
 
 pub among-behind : (w m : List ℕ) (ms : List (List ℕ)) → among w ms ≡ true → among w (m ∷ ms) ≡ true
 unfolding among

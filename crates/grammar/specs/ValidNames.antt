@@ -1,6 +1,6 @@
 -- Every action name that a sheet declares is valid by the token rule: the tree is printed back as the tokens, and every token is valid.
 use mathlib.Core.Path.{_≡_, sym, subst}
-use mathlib.Core.List.{List, [], _∷_, _++_}
+use mathlib.Core.List.{List, [], _∷_}
 use mathlib.Core.Bool.{Bool, true, false}
 use mathlib.Core.Option.{some}
 use Prim.Native.Nat.{ℕ}
@@ -14,27 +14,26 @@ use Rattle.pcrl.specs.Reader.{all}
 use Rattle.pcrl.specs.Tree.{ActLine, RawSheet}
 use Rattle.pcrl.specs.Grammar.{parse}
 use Rattle.pcrl.specs.Right.{free-name, RightName}
+use Rattle.laws.specs.Every.{every-left, every-right}
 use Rattle.grammar.specs.Print.{line, print-lines, print-sort, print-func, print-act, print-sheet}
 use Rattle.grammar.specs.Parsed.{print-parse}
 use Rattle.grammar.specs.TokenLaws.{ValidName, ValidToken, tokens-valid}
-
-pub every-append : {A : Type 0} (P : A → Type 0) (l m : List A) → Every P (l ++ m) → Every P l × Every P m
-unfolding Every
-every-append P [] m h = (tt, h)
-every-append P (a ∷ l) m h = let (f, g) = every-append P l m (h .1) in ((h .0, f), g)
 
 -- what holds of every printed token holds of every action's name
 pub act-names : (P : Token → Type 0) (acts : List ActLine) → Every P (print-lines "act" print-act acts) → Every (λ (a : ActLine). P (name (a .name))) acts
 unfolding Every all line print-act
 act-names P [] h = tt
-act-names P (a ∷ acts) h = let (f, g) = every-append P (line "act" (print-act a)) (print-lines "act" print-act acts) h in (f .1 .0, act-names P acts g)
+act-names P (a ∷ acts) h =
+    let first = line "act" (print-act a) in
+    let rest = print-lines "act" print-act acts in
+    (every-left P first rest h .1 .0, act-names P acts (every-right P first rest h))
 
 pub act-names-of-sheet : (P : Token → Type 0) (R : RawSheet) → Every P (print-sheet R) → Every (λ (a : ActLine). P (name (a .name))) (R .acts)
 unfolding print-sheet
 act-names-of-sheet P R h =
-    let past-sorts = every-append P (print-lines "sort" print-sort (R .sorts)) _ h .1 in
-    let past-funcs = every-append P (print-lines "func" print-func (R .funcs)) _ past-sorts .1 in
-    act-names P (R .acts) (every-append P (print-lines "act" print-act (R .acts)) _ past-funcs .0)
+    let past-sorts = every-right P (print-lines "sort" print-sort (R .sorts)) _ h in
+    let past-funcs = every-right P (print-lines "func" print-func (R .funcs)) _ past-sorts in
+    act-names P (R .acts) (every-left P (print-lines "act" print-act (R .acts)) _ past-funcs)
 
 -- DECLARED ACTION NAMES ARE VALID: 1 to 16 letters, digits and underscores behind a letter, and no word.
 pub names-valid : (s : List ℕ) (ts : List Token) (R : RawSheet) → tokens s ≡ some ts → parse ts ≡ some R → Every (λ (a : ActLine). ValidName (a .name)) (R .acts)

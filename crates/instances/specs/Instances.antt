@@ -7,21 +7,19 @@ use lib.ListN.{replicate}
 use Rattle.pcrl.specs.Text.{bytes}
 use Rattle.pcrl.specs.Limits.{frame-width, stack-limit}
 use Rattle.pcrl.specs.Result.{accepted}
-use Rattle.pcrl.specs.Tests.{Every}
 use Rattle.pcrl.specs.Label.{named}
-use Rattle.pcrl.specs.Sheet.{action, alt, seq, atom, call, Sig, Sheet}
-use Rattle.pcrl.specs.Table.{Summand, Table}
+use Rattle.pcrl.specs.Sheet.{action, alt, seq, atom, call, Sheet}
 use Rattle.pcrl.specs.Heads.{table-of}
 use Rattle.pcrl.specs.Blocks.{file-of}
-use Rattle.pcrl.specs.Stack.{Frame, Stack, frames-of, stack-of, RightFrames, right-frames?}
+use Rattle.pcrl.specs.Stack.{Frame, frames-of, RightFrames, right-frames?}
 use Rattle.pcrl.specs.Terms.{still}
-use Rattle.pcrl.specs.Ask.{Answer, ended, nothing, stepped, refused, labels}
-use Rattle.pcrl.specs.Equality.{Equal, Run}
-use Rattle.pcrl.specs.States.{State, of-term, of-stack, RightState, stands-for}
+use Rattle.pcrl.specs.Ask.{Answer, nothing, stepped, refused, labels}
+use Rattle.pcrl.specs.Equality.{Equal}
+use Rattle.pcrl.specs.States.{of-term, of-stack}
 use Rattle.pcrl.specs.Answers.{asked-all, Reply}
+use Rattle.laws.specs.Computing.{definitions}
 use Rattle.theory.specs.EqualityLaws.{equal-refl}
 use Rattle.theory.specs.Demand.{AcceptedSheet, states, first-sentence-holds, at-once-holds, Answered}
-use Rattle.shelf.specs.Opened.{definitions}
 
 -- act a;act b;proc X=a.b+a;init X;
 unfoldable choice-sheet : Sheet

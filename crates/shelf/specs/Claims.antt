@@ -1,7 +1,6 @@
 -- What document 01 says of a sheet on its shelf, from the sheet's bytes to the answer.
 use mathlib.Core.Path.{_≡_}
 use mathlib.Core.List.{List, [], _∷_, map}
-use mathlib.Core.Option.{Option, none, some}
 use Prim.Native.Nat.{ℕ}
 use Prim.Native.String.{String}
 use lib.ListN.{length}
@@ -11,10 +10,10 @@ use Rattle.pcrl.specs.Result.{Result, refused, accepted, after}
 use Rattle.pcrl.specs.Label.{Label}
 use Rattle.pcrl.specs.Table.{Summand, Table, equation}
 use Rattle.pcrl.specs.Stream.{encode}
-use Rattle.pcrl.specs.Stack.{Frame, Stack, frames-of}
+use Rattle.pcrl.specs.Stack.{Stack, frames-of}
 use Rattle.pcrl.specs.Steps.{steps}
 use Rattle.pcrl.specs.Ask.{Answer}
-use Rattle.pcrl.specs.Answers.{table-made, file-made, start-stack, asked, Reply}
+use Rattle.pcrl.specs.Answers.{table-made, file-made, start-stack, asked}
 use Rattle.pcrl.specs.Walk.{walk-text}
 
 pub data Claim : Type 0 where

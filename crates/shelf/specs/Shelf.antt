@@ -1,17 +1,16 @@
 -- "Sheets on the shelf (* to be proved)": the starred ones as one table, with one theorem.
-use mathlib.Core.Path.{_≡_, refl}
+use mathlib.Core.Path.{refl}
 use mathlib.Core.List.{List, [], _∷_}
 use Prim.Native.Nat.{ℕ}
 use Prim.Native.String.{String}
 use Rattle.pcrl.specs.Text.{bytes}
-use Rattle.pcrl.specs.Result.{Result, refused, accepted}
+use Rattle.pcrl.specs.Result.{refused, accepted}
 use Rattle.pcrl.specs.Tests.{Every}
-use Rattle.pcrl.specs.Label.{Label, silent, named}
-use Rattle.pcrl.specs.Sheet.{Act, action}
-use Rattle.pcrl.specs.Table.{Summand}
-use Rattle.pcrl.specs.Ask.{Answer, stepped}
+use Rattle.pcrl.specs.Label.{Label, named}
+use Rattle.pcrl.specs.Sheet.{action}
+use Rattle.pcrl.specs.Ask.{stepped}
+use Rattle.laws.specs.Computing.{definitions}
 use Rattle.shelf.specs.Claims.{Claim, is-refused, has-summands, has-steps, answers-at, has-stream, walks, Holds, stack-at, answer-at}
-use Rattle.shelf.specs.Opened.{definitions}
 
 -- an action's label
 abbrev a-label : String → List ℕ → Label

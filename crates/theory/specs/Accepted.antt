@@ -16,13 +16,13 @@ use Rattle.pcrl.specs.Names.{names-of, declared, sizes-of}
 use Rattle.pcrl.specs.Sorts.{Sorted, Complete, RightlySorted}
 use Rattle.pcrl.specs.Right.{RightSizes, AreSorts, RightFunc, RightName, RightAction, action-names, RightSig}
 use Rattle.pcrl.specs.Answers.{sheet-read}
+use Rattle.laws.specs.Every.{every-left, every-right, every-map, every-both, map-every}
+use Rattle.laws.specs.Each.{each-every, each-map, each-length}
 use Rattle.grammar.specs.Print.{FormedFunc, FormedAct, Formed}
 use Rattle.grammar.specs.Parsed.{print-parse}
 use Rattle.grammar.specs.TokenLaws.{ValidName}
 use Rattle.grammar.specs.ValidNames.{names-valid, right-name}
 use Rattle.theory.specs.Standing.{Numbered, RightProcess, Standing}
-use Rattle.theory.specs.Lists.{each-length}
-use Rattle.theory.specs.Every.{every-left, every-right, every-map, every-both, map-every, each-every, each-map}
 use Rattle.theory.specs.Distinct.{Unlike, distinct-left, distinct-right, distinct-first}
 use Rattle.theory.specs.Questions.{Accepted, accepted-all}
 use Rattle.theory.specs.Resolved.{Resolved, resolved-lines, Declared, func-from, action-from}

@@ -11,8 +11,8 @@ use lib.ListN.{getElem?}
 use Rattle.pcrl.specs.Reader.{all}
 use Rattle.pcrl.specs.Parts.{tabulate}
 use Rattle.pcrl.specs.Steps.{here, there, if-met}
-use Rattle.theory.specs.Lists.{any-cases, any-none, any-of-map}
-use Rattle.theory.specs.Listing.{In, any-of-all, any-found, any-of-if-met, any-of-tabulate, place-in}
+use Rattle.laws.specs.Any.{any-cases, any-none, any-of-map, In, any-of-all, any-found, any-of-tabulate, place-in}
+use Rattle.theory.specs.Listing.{any-of-if-met}
 
 module _ {A : Type 0} (R : A → A → Type 0) where
   unfoldable pub Ascending : List A → Type 0

@@ -3,7 +3,7 @@ use mathlib.Core.Path.{_≡_, refl, ap, _∙_, subst}
 use mathlib.Core.List.{List, [], _∷_}
 use mathlib.Core.Logic.{_↔_}
 use mathlib.Core.Option.{Option, none, some}
-use Prim.Native.Nat.{ℕ, zero, suc, _<_, _≤_}
+use Prim.Native.Nat.{ℕ, _<_, _≤_}
 use native.Mathlib.Omega.{arith}
 use native.Mathlib.Decide.{decLe}
 use lib.ListN.{length, getElem?}
@@ -12,22 +12,10 @@ use Rattle.pcrl.specs.Table.{Table}
 use Rattle.pcrl.specs.Stack.{Frame, Stack, RightStack, frames-of}
 use Rattle.pcrl.specs.Steps.{StackStep, steps}
 use Rattle.pcrl.specs.Ask.{Answer, ended, nothing, stepped, refused, Asked, step-to, chosen, ask}
-use Rattle.theory.specs.Lists.{getElem?-past}
+use Rattle.laws.specs.Tests.{where-yes, where-no}
+use Rattle.laws.specs.Lists.{past-none, getElem?-past}
 use Rattle.theory.specs.Listing.{listed-steps}
 use Rattle.theory.specs.Lending.{Holds}
-
-pub past-none : {A : Type 0} (xs : List A) (k : ℕ) → getElem? xs k ≡ none → length xs ≤ k
-past-none [] k e = omega arith
-past-none (x ∷ xs) zero e = absurd (let z : _≡_ {A = ℕ} 0 1 = cc in omega arith)
-past-none (x ∷ xs) (suc k) e = let h : length xs ≤ k = past-none xs k e in omega arith
-
-where-yes : {P A : Type 0} (d : Dec P) → P → (a b : A) → (elim d as (λ x. A) [ yes h ↦ a | no h ↦ b ]) ≡ a
-where-yes (yes h) p a b = refl
-where-yes (no h) p a b = absurd (h p)
-
-where-no : {P A : Type 0} (d : Dec P) → (P → ⊥) → (a b : A) → (elim d as (λ x. A) [ yes h ↦ a | no h ↦ b ]) ≡ b
-where-no (yes h) n a b = absurd (n h)
-where-no (no h) n a b = refl
 
 module _ (width limit : ℕ) (T : Table) where
   -- "Asked for step k (from 0)" of the stack s: the answer, and the stack that it leaves.

@@ -1,13 +1,14 @@
 -- Data terms whose variables are below m: more variables behind those do not change what they are worth.
 use mathlib.Core.Path.{_≡_, refl, ap}
 use mathlib.Core.List.{List, [], _∷_, _++_, map}
-use Prim.Native.Nat.{ℕ, zero, suc, _<_}
+use Prim.Native.Nat.{ℕ, suc, _<_}
 use native.Mathlib.Omega.{arith}
-use lib.ListN.{length, getD, List·getD-append}
+use lib.ListN.{length, List·getD-append}
 use Rattle.pcrl.specs.Tests.{Every}
 use Rattle.pcrl.specs.Sheet.{Data, val, var, app, Datas, nil, cons, Sig}
 use Rattle.pcrl.specs.Values.{apply, eval, evals, put-data, put-datas}
 use Rattle.pcrl.specs.Heads.{look}
+use Rattle.laws.specs.Every.{every-append, every-getD, every-weaken}
 
 unfoldable mutual
   pub Below : ℕ → Data → Type 0
@@ -34,22 +35,15 @@ mutual
 -- with the next variable
 pub below-snoc : (m : ℕ) (σ : List Data) → Every (Below m) σ → Every (Below (suc m)) (σ ++ (var m ∷ []))
 unfolding Every Below
-below-snoc m [] h = (omega arith, tt)
-below-snoc m (d ∷ σ) h = (below-suc m d (h .0), below-snoc m σ (h .1))
+below-snoc m σ h = every-append (Below (suc m)) σ (var m ∷ []) (every-weaken (Below m) (Below (suc m)) (below-suc m) σ h) (omega arith, tt)
 
 module _ (m : ℕ) (σ : List Data) (below : Every (Below m) σ) where
-  below-getD : (ds : List Data) → Every (Below m) ds → (i : ℕ) → Below m (getD ds i (val 0))
-  unfolding Every Below
-  below-getD [] h i = tt
-  below-getD (d ∷ ds) h zero = h .0
-  below-getD (d ∷ ds) h (suc i) = below-getD ds (h .1) i
-
   mutual
     unfolding Below put-data look
 
     pub below-look : (d : Data) → Below m (put-data (look σ) d)
     below-look (val v) = tt
-    below-look (var i) = below-getD σ below i
+    below-look (var i) = every-getD (Below m) σ (val 0) i below tt
     below-look (app f ds) = below-look-in ds
 
     below-look-in : (ds : Datas) → BelowIn m (put-datas (look σ) ds)

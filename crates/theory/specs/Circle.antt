@@ -2,30 +2,22 @@
 -- Rounds go down every chain, so a circle would go down for ever; and a chain without a circle names no process twice, so it is short.
 use mathlib.Core.Path.{_≡_, sym, subst}
 use mathlib.Core.List.{List, [], _∷_, map}
-use mathlib.Core.Bool.{Bool, true, false}
+use mathlib.Core.Bool.{Bool, false}
 use mathlib.Core.Logic.{_↔_, _≢_}
 use Prim.Native.Nat.{ℕ, zero, suc, _+_, _<_, _≤_}
 use native.Mathlib.Omega.{arith}
 use native.Mathlib.Decide.{decLt}
 use lib.Dec.{T}
 use lib.ListN.{length, getD, length-map, List·getD-eq-default}
-use Rattle.pcrl.specs.Tests.{and, Every}
+use Rattle.pcrl.specs.Tests.{Every}
 use Rattle.pcrl.specs.Sheet.{Process, no-process, Sheet, params, right}
 use Rattle.pcrl.specs.Sorts.{RightlySorted}
 use Rattle.pcrl.specs.Circles.{at-head, Member, here, later, Chain, direct, further, NoCircle, all-pass, all-true, passed-after, guarded}
-use Rattle.theory.specs.Lists.{every-getD, getD-map}
+use Rattle.laws.specs.Tests.{both-pass, pass-both}
+use Rattle.laws.specs.Lists.{getD-map}
+use Rattle.laws.specs.Every.{every-at, every-weaken}
 use Rattle.theory.specs.AtHead.{AtHead, HeadsThere, heads-there}
 use Rattle.theory.specs.Pigeons.{Distinct, pigeons}
-
--- TESTS
-
-both-true : (a b : Bool) → T (and a b) → T a × T b
-both-true true b h = (tt, h)
-both-true false b h = absurd h
-
-true-both : (a b : Bool) → T a → T b → T (and a b)
-true-both true b h k = k
-true-both false b h k = absurd h
 
 module _ (H : Sheet) where
   -- ROUNDS
@@ -36,13 +28,13 @@ module _ (H : Sheet) where
 
   all-pass-each : (passed : List Bool) (ks : List ℕ) → T (all-pass passed ks) → (k : ℕ) → Member k ks → T (getD passed k false)
   unfolding all-pass
-  all-pass-each passed ks h k (here {l}) = both-true (getD passed k false) _ h .0
-  all-pass-each passed ks h k (later {j} {l} m) = all-pass-each passed l (both-true (getD passed j false) _ h .1) k m
+  all-pass-each passed ks h k (here {l}) = both-pass (getD passed k false) _ h .0
+  all-pass-each passed ks h k (later {j} {l} m) = all-pass-each passed l (both-pass (getD passed j false) _ h .1) k m
 
   each-all-pass : (passed : List Bool) (ks : List ℕ) → ((k : ℕ) → Member k ks → T (getD passed k false)) → T (all-pass passed ks)
   unfolding all-pass
   each-all-pass passed [] f = tt
-  each-all-pass passed (k ∷ ks) f = true-both (getD passed k false) _ (f k here) (each-all-pass passed ks (λ j m. f j (later m)))
+  each-all-pass passed (k ∷ ks) f = pass-both (getD passed k false) _ (f k here) (each-all-pass passed ks (λ j m. f j (later m)))
 
   pub none-pass : (k : ℕ) → Passes 0 k → ⊥
   unfolding Passes passed-after
@@ -83,13 +75,13 @@ module _ (H : Sheet) where
   all-true-each : (bs : List Bool) → T (all-true bs) → (k : ℕ) → k < length bs → T (getD bs k false)
   unfolding all-true
   all-true-each [] h k w = absurd (omega arith)
-  all-true-each (b ∷ bs) h zero w = both-true b _ h .0
-  all-true-each (b ∷ bs) h (suc k) w = all-true-each bs (both-true b _ h .1) k (omega arith)
+  all-true-each (b ∷ bs) h zero w = both-pass b _ h .0
+  all-true-each (b ∷ bs) h (suc k) w = all-true-each bs (both-pass b _ h .1) k (omega arith)
 
   each-all-true : (bs : List Bool) → ((k : ℕ) → k < length bs → T (getD bs k false)) → T (all-true bs)
   unfolding all-true
   each-all-true [] f = tt
-  each-all-true (b ∷ bs) f = true-both b _ (f 0 (omega arith)) (each-all-true bs (λ k w. f (suc k) (omega arith)))
+  each-all-true (b ∷ bs) f = pass-both b _ (f 0 (omega arith)) (each-all-true bs (λ k w. f (suc k) (omega arith)))
 
   guarded-passes : T (guarded H) → (k : ℕ) → k < length (H .procs) → Passes (length (H .procs)) k
   unfolding guarded Passes
@@ -124,26 +116,16 @@ module _ (H : Sheet) where
   -- WITHOUT A CIRCLE ALL PASS
 
   module _ (there : HeadsThere H) (none : NoCircle H) where
-    lead-on : (j k : ℕ) → Member k (at-head (right H j)) → (xs : List ℕ) → Every (λ x. Chain H x j) xs → Every (λ x. Chain H x k) xs
-    unfolding Every
-    lead-on j k a [] l = tt
-    lead-on j k a (x ∷ xs) l = (further (l .0) a, lead-on j k a xs (l .1))
-
-    not-seen : (k : ℕ) (xs : List ℕ) → Every (λ x. Chain H x k) xs → Every (λ x. k ≢ x) xs
-    unfolding Every NoCircle
-    not-seen k [] l = tt
-    not-seen k (x ∷ xs) l = (λ e. none k (subst (λ (y : ℕ). Chain H y k) (sym e) (l .0)), not-seen k xs (l .1))
-
     -- `seen` are different processes that lead to k; so many rounds suffice as there are others
     passes-behind : (n k : ℕ) (seen : List ℕ) → k < length (H .procs) → Distinct (k ∷ seen) → Every (λ x. x < length (H .procs)) seen
         → Every (λ x. Chain H x k) seen → length (H .procs) ≤ length seen + n → Passes n k
-    unfolding Distinct Every
+    unfolding Distinct Every NoCircle
     passes-behind zero k seen w d u l e =
         let c : suc (length seen) ≤ length (H .procs) = pigeons (length (H .procs)) (k ∷ seen) d (w, u) in absurd (omega arith)
     passes-behind (suc n) k seen w d u l e =
         heads-pass n k w (λ j a.
-        let led : Every (λ x. Chain H x j) (k ∷ seen) = (direct a, lead-on k j a seen l) in
-        passes-behind n j (k ∷ seen) (there k j a) (not-seen j (k ∷ seen) led, d) (w, u) led (omega arith))
+        let led : Every (λ x. Chain H x j) (k ∷ seen) = (direct a, every-weaken _ _ (λ x c. further c a) seen l) in
+        passes-behind n j (k ∷ seen) (there k j a) (every-weaken _ (λ x. j ≢ x) (λ x c e. none j (subst (λ (y : ℕ). Chain H y j) (sym e) c)) (k ∷ seen) led, d) (w, u) led (omega arith))
 
     pub no-circle-passes : (n k : ℕ) → length (H .procs) ≤ n → k < length (H .procs) → Passes n k
     unfolding Distinct Every
@@ -159,4 +141,4 @@ module _ (H : Sheet) where
 -- For a sheet that passes question 8, the test of question 9 is what it asks.
 pub guarded-no-circle : (H : Sheet) → RightlySorted H → T (guarded H) ↔ NoCircle H
 unfolding RightlySorted params right
-guarded-no-circle H s = guarded-heads H (heads-there H (λ k w. every-getD _ (H .procs) k no-process w (s .1 .0)))
+guarded-no-circle H s = guarded-heads H (heads-there H (λ k w. every-at _ (H .procs) no-process k (s .1 .0) w))

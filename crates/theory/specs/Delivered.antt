@@ -1,10 +1,10 @@
 -- Both sentences for the table that is read from the file written for a sheet: it is the sheet's own table.
-use mathlib.Core.Path.{_≡_, sym, subst, subst₂, _∙_}
+use mathlib.Core.Path.{_≡_, sym, subst, subst₂}
 use mathlib.Core.List.{List}
 use mathlib.Core.Logic.{_↔_}
 use Prim.Native.Nat.{ℕ}
 use Rattle.pcrl.specs.Limits.{frame-width, stack-limit}
-use Rattle.pcrl.specs.Result.{Result, accepted}
+use Rattle.pcrl.specs.Result.{accepted}
 use Rattle.pcrl.specs.Sheet.{Sheet}
 use Rattle.pcrl.specs.Table.{Table}
 use Rattle.pcrl.specs.Heads.{table-of}
@@ -14,17 +14,15 @@ use Rattle.pcrl.specs.Ask.{Answer, labels}
 use Rattle.pcrl.specs.Equality.{Equal, Run}
 use Rattle.pcrl.specs.States.{State, of-stack, system, RightState, stands-for}
 use Rattle.pcrl.specs.Answers.{sheet-read, file-made, table-checked, asked-all}
+use Rattle.laws.specs.Questions.{accepted-one}
 use Rattle.theory.specs.Standing.{Standing}
 use Rattle.theory.specs.Accepted.{accepted-standing}
 use Rattle.theory.specs.Written.{WrittenFor, written-for}
 use Rattle.theory.specs.FirstSentence.{first-sentence}
 use Rattle.theory.specs.Calls.{Calls, calls-in-turn}
 use Rattle.theory.specs.InTurn.{asked-in-turn}
-use Rattle.theory.specs.LastSentence.{LastSentence, LastSentenceOn, last-sentence-of-calls, asked-all-on-file}
+use Rattle.theory.specs.LastSentence.{last-sentence-of-calls, asked-all-on-file}
 use Rattle.theory.specs.AnswersAre.{AnswersAre}
-
-accepted-one : {A : Type 0} {r : Result A} {a b : A} → r ≡ accepted a → r ≡ accepted b → a ≡ b
-accepted-one {A} {r} {a} {b} e h = let q : accepted a ≡ accepted b = sym e ∙ h in cc
 
 module _ (bytes file : List ℕ) (room : ℕ) (H : Sheet) (T : Table) (read : sheet-read bytes ≡ accepted H) (made : file-made bytes room ≡ accepted file)
     (checked : table-checked file ≡ accepted T) where

@@ -1,19 +1,12 @@
 -- Names that are distinct: `among` and `distinct` as tests, and what they say of the elements of a list and of its parts.
 use mathlib.Core.Path.{_≡_}
 use mathlib.Core.List.{List, [], _∷_, _++_}
-use mathlib.Core.Bool.{Bool, true, false}
+use mathlib.Core.Bool.{Bool, true}
 use Prim.Native.Nat.{ℕ}
 use lib.Dec.{T}
-use Rattle.pcrl.specs.Tests.{and, negated, same?, among, distinct, Every}
-use Rattle.theory.specs.Every.{every-left}
-
-pub both-pass : (a b : Bool) → T (and a b) → T a × T b
-both-pass true b h = (tt, h)
-both-pass false b h = absurd h
-
-pub pass-both : (a b : Bool) → T a → T b → T (and a b)
-pass-both true b h k = k
-pass-both false b h k = absurd h
+use Rattle.pcrl.specs.Tests.{negated, same?, among, distinct, Every}
+use Rattle.laws.specs.Tests.{both-pass, pass-both}
+use Rattle.laws.specs.Every.{every-left}
 
 abbrev pub Unlike : List ℕ → List ℕ → Type 0
 Unlike x y = x ≡ y → ⊥

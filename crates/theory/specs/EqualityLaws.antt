@@ -1,6 +1,6 @@
 -- Equality to n steps is reflexive, symmetric and transitive, over any systems with the same labels; fewer steps ask less.
--- Pairs of a bisimulation are equal to every number of steps, and runs go along with it. Runs may be put one after another.
-use mathlib.Core.List.{List, _++_}
+-- Pairs of a bisimulation are equal to every number of steps, and runs go along with it.
+use mathlib.Core.List.{List}
 use mathlib.Core.Logic.{_↔_}
 use Prim.Native.Nat.{ℕ, zero, suc}
 use Rattle.pcrl.specs.Equality.{System, Equal, Run, stay, go}
@@ -54,10 +54,6 @@ module _ {L : Type 0} where
     λ l s′ h. let (t′, k, r′) = b .forth s t r l s′ h in (t′, k, bisimilar A B R b n s′ t′ r′),
     λ l t′ h. let (s′, k, r′) = b .back s t r l t′ h in (s′, k, bisimilar A B R b n s′ t′ r′),
   )
-
-  pub run-append : (A : System L) {s t u : A .State} {ls ms : List L} → Run A s ls t → Run A t ms u → Run A s (ls ++ ms) u
-  run-append A stay r = r
-  run-append A (go h q) r = go h (run-append A q r)
 
   -- a run goes along with a bisimulation
   pub run-along : (A B : System L) (R : A .State → B .State → Type 0) → Bisimulation A B R → {s s′ : A .State} {ls : List L} (t : B .State) → R s t → Run A s ls s′

@@ -4,12 +4,13 @@ use mathlib.Core.List.{List}
 use Prim.Native.Nat.{ℕ, _+_, _<_}
 use native.Mathlib.Omega.{arith}
 use lib.ListN.{length}
+use lib.Seq.{take-append-seam}
 use Rattle.pcrl.specs.Sheet.{Sheet, params}
 use Rattle.pcrl.specs.Parts.{marks, count, all-new-parts, NewPart, Kind, written, part, kind}
 use Rattle.pcrl.specs.Table.{Equation, Table, equation}
 use Rattle.pcrl.specs.Heads.{equation-of, table-of}
 use Rattle.pcrl.specs.Stack.{used, padded}
-use Rattle.theory.specs.Lists.{length-tabulate, getD-tabulate, take-length-append}
+use Rattle.laws.specs.Lists.{length-tabulate, getD-tabulate}
 use Rattle.theory.specs.Marks.{marks-length, marked-length}
 use Rattle.theory.specs.Segments.{kind-written, part-below}
 use Rattle.theory.specs.Like.{frame-with}
@@ -17,7 +18,7 @@ use Rattle.theory.specs.Like.{frame-with}
 -- the values of a frame that are not spare
 pub used-padded : (width : ℕ) (T : Table) (e : ℕ) (vs : List ℕ) → length (equation T e .params) ≡ length vs → used T (frame-with width e vs) ≡ vs
 unfolding used padded
-used-padded width T e vs h = rw h (take-length-append vs _)
+used-padded width T e vs h = rw h (take-append-seam vs _)
 
 module _ (H : Sheet) where
   pub equation-count : length (table-of H .equations) ≡ length (H .procs) + length (all-new-parts (H .procs))

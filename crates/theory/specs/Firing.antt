@@ -1,8 +1,9 @@
 -- How a summand fires when a sum variable, a condition or calls are put to it: there and back.
 use mathlib.Core.Path.{_≡_, refl, ap, ap₂, sym, _∙_}
-use mathlib.Core.List.{List, [], _∷_, _++_, map, append-assoc}
+use mathlib.Core.List.{List, [], _∷_, _++_, map, map-append}
 use Prim.Native.Nat.{ℕ, _<_}
 use lib.ListN.{length}
+use lib.Seq.{append-snoc}
 use Rattle.pcrl.specs.Tests.{Every, Each}
 use Rattle.pcrl.specs.Sheet.{Data, Sig, size}
 use Rattle.pcrl.specs.Label.{Label}
@@ -11,7 +12,6 @@ use Rattle.pcrl.specs.Table.{Summand}
 use Rattle.pcrl.specs.Heads.{with-var, with-cond, with-calls}
 use Rattle.pcrl.specs.Stack.{Frame, InSorts, padded}
 use Rattle.pcrl.specs.Steps.{Meets, call-frame, outcome, Fires}
-use Rattle.theory.specs.Lists.{map-append}
 use Rattle.theory.specs.Below.{Below, eval-more, all-eval-more}
 
 -- calls whose variables are below m
@@ -19,9 +19,6 @@ abbrev pub CallsBelow : ℕ → List (ℕ × List Data) → Type 0
 CallsBelow m cs = Every (λ (c : ℕ × List Data). Every (Below m) (c .1)) cs
 
 module _ (width : ℕ) (S : Sig) (τ : List ℕ) (l : Label) where
-  snoc : (v : ℕ) (w : List ℕ) → (τ ++ (v ∷ [])) ++ w ≡ τ ++ (v ∷ w)
-  snoc v w = append-assoc τ (v ∷ []) w
-
   pub fires-var : (D : ℕ) (fs : List Frame) (h : Summand) → Fires width S τ l fs (with-var D h) → (v : ℕ) × ((v < size S D) × Fires width S (τ ++ (v ∷ [])) l fs h)
   unfolding with-var InSorts Each outcome
   fires-var D fs h r = go (r .values) (r .in-sorts) (r .meets) (r .gives)
@@ -29,15 +26,15 @@ module _ (width : ℕ) (S : Sig) (τ : List ℕ) (l : Label) where
       go : (w : List ℕ) → InSorts S (D ∷ h .vars) w → Meets S (τ ++ w) (h .conds) → (l, fs) ≡ outcome width S (τ ++ w) (with-var D h)
           → (v : ℕ) × ((v < size S D) × Fires width S (τ ++ (v ∷ [])) l fs h)
       go [] i m e = absurd i
-      go (v ∷ w) i m e = (v, (i .0, record { values = w; in-sorts = i .1; meets = rw (snoc v w) m; gives = rw (snoc v w) e }))
+      go (v ∷ w) i m e = (v, (i .0, record { values = w; in-sorts = i .1; meets = rw (append-snoc τ v w) m; gives = rw (append-snoc τ v w) e }))
 
   pub var-fires : (D : ℕ) (fs : List Frame) (h : Summand) (v : ℕ) → v < size S D → Fires width S (τ ++ (v ∷ [])) l fs h → Fires width S τ l fs (with-var D h)
   unfolding with-var InSorts Each outcome
   var-fires D fs h v i r = record {
     values = v ∷ r .values;
     in-sorts = (i, r .in-sorts);
-    meets = rw (snoc v (r .values)) at (r .meets);
-    gives = rw (snoc v (r .values)) at (r .gives);
+    meets = rw (append-snoc τ v (r .values)) at (r .meets);
+    gives = rw (append-snoc τ v (r .values)) at (r .gives);
   }
 
   pub fires-cond : (w : ℕ) (c : Data) (fs : List Frame) (h : Summand) → Below (length τ) c → Fires width S τ l fs (with-cond w c h) → (eval S τ c ≡ w) × Fires width S τ l fs h

@@ -10,8 +10,9 @@ use Rattle.pcrl.specs.Tests.{Every}
 use Rattle.pcrl.specs.Sheet.{Data, var, Proc, delta, atom, alt, cond, sum, seq, call, Sheet, params, right}
 use Rattle.pcrl.specs.Sorts.{Scope, binding, HasSort, Sorted}
 use Rattle.pcrl.specs.Parts.{if-after, new-parts, new-count, NewPart, part, kind}
+use Rattle.laws.specs.Lists.{length-snoc}
+use Rattle.laws.specs.Each.{each-length}
 use Rattle.theory.specs.Standing.{Numbered, Standing}
-use Rattle.theory.specs.Lists.{length-snoc, each-length}
 use Rattle.theory.specs.AtHead.{AtHead, sorted-heads}
 use Rattle.theory.specs.StandingLaws.{process-numbered, process-sorted}
 use Rattle.theory.specs.Below.{Below, below-snoc}

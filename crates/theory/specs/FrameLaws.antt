@@ -1,18 +1,17 @@
 -- The values of a right frame: exactly as many as a frame has, and spare ones 0.
 use mathlib.Core.Path.{_≡_, refl, sym, ap, _∙_}
 use mathlib.Core.List.{List, [], _∷_, _++_}
-use Prim.Native.Nat.{ℕ, zero, suc, _+_, _-_, _<_, _≤_}
+use Prim.Native.Nat.{ℕ, zero, suc, _-_, _<_, _≤_}
 use native.Mathlib.Omega.{arith}
 use lib.ListN.{length, getD, replicate, length-append, length-replicate}
-use Rattle.pcrl.specs.Sheet.{Sig, size}
+use Rattle.pcrl.specs.Sheet.{size}
 use Rattle.pcrl.specs.Table.{Table, equation}
 use Rattle.pcrl.specs.Stack.{Frame, InSorts, used, padded, RightFrame}
-use Rattle.theory.specs.Lists.{each-length}
+use Rattle.laws.specs.Every.{every-getD, every-replicate}
+use Rattle.laws.specs.Each.{each-length}
 
 past-zeros : (n i : ℕ) → _≡_ {A = ℕ} (getD (replicate n 0) i 0) 0
-past-zeros zero i = refl
-past-zeros (suc n) zero = refl
-past-zeros (suc n) (suc i) = past-zeros n i
+past-zeros n i = every-getD (λ v. v ≡ 0) (replicate n 0) 0 i (every-replicate _ n 0 refl) refl
 
 past-values : (vs : List ℕ) (n i : ℕ) → length vs ≤ i → getD (vs ++ replicate n 0) i 0 ≡ 0
 past-values [] n i h = past-zeros n i

@@ -1,12 +1,13 @@
 -- The heads of a term are its steps: each head that fires is a step, and each step is a head that fires,
 -- where the frames that it makes are like what is left of the term.
 use mathlib.Core.Path.{_≡_, ap, ap₂, sym, _∙_, subst}
-use mathlib.Core.List.{List, [], _∷_, _++_, map}
+use mathlib.Core.List.{List, [], _∷_, _++_, map, map-append}
 use mathlib.Core.Bool.{false}
 use mathlib.Core.Logic.{inl, inr}
 use Prim.Native.Nat.{ℕ, suc, _+_, _<_}
 use native.Mathlib.Omega.{arith}
 use lib.ListN.{length, length-map, length-append}
+use lib.Seq.{getD-append-seam}
 use Rattle.pcrl.specs.Tests.{Every, Each}
 use Rattle.pcrl.specs.Sheet.{Data, var, Proc, delta, atom, alt, cond, sum, seq, call, Sheet, right, params}
 use Rattle.pcrl.specs.Label.{Label, label}
@@ -18,7 +19,8 @@ use Rattle.pcrl.specs.Circles.{at-head, here as member-here}
 use Rattle.pcrl.specs.Stack.{Frame, InSorts}
 use Rattle.pcrl.specs.Steps.{Any, here, Meets, call-frame, outcome, Fires}
 use Rattle.pcrl.specs.Terms.{Rest, done, TermStep, acts, in-left, in-right, if-true, if-false, at-value, as-right}
-use Rattle.theory.specs.Lists.{any-left, any-right, any-cases, any-to, any-map, any-of-map, any-none, any-one, any-some, map-append, length-snoc, getD-length-append}
+use Rattle.laws.specs.Lists.{length-snoc}
+use Rattle.laws.specs.Any.{any-left, any-right, any-cases, any-to, any-map, any-of-map, any-none, any-one, any-some}
 use Rattle.theory.specs.AtHead.{AtHead, member-left, member-right}
 use Rattle.theory.specs.Substitution.{put-only, except-these}
 use Rattle.theory.specs.Below.{Below, below-look, all-below-look, all-eval-more}
@@ -35,7 +37,7 @@ module _ (H : Sheet) where
   -- one variable more, worth v
   one-more : (σ : List Data) (τ : List ℕ) (v : ℕ) → Every (Below (length τ)) σ → map (eval (H .sig) (τ ++ (v ∷ []))) (σ ++ (var (length τ) ∷ [])) ≡ map (eval (H .sig) τ) σ ++ (v ∷ [])
   unfolding eval
-  one-more σ τ v h = map-append _ σ _ ∙ ap₂ (λ (xs : List ℕ) (x : ℕ). xs ++ (x ∷ [])) (all-eval-more (H .sig) τ (v ∷ []) σ h) (getD-length-append τ v [] 0)
+  one-more σ τ v h = map-append _ σ _ ∙ ap₂ (λ (xs : List ℕ) (x : ℕ). xs ++ (x ∷ [])) (all-eval-more (H .sig) τ (v ∷ []) σ h) (getD-append-seam τ v [] 0)
 
   -- a sum's value put in with the others, or by itself
   same-sum : (σ : List Data) (τ Γ : List ℕ) (c x D v : ℕ) (p : Proc) → Placed H false σ (length τ) Γ c (sum x D p)

@@ -10,7 +10,7 @@ use Rattle.pcrl.specs.Stack.{Frame, Stack, RightStack, RightFrames, right-frame
 use Rattle.pcrl.specs.Steps.{StackStep}
 use Rattle.pcrl.specs.Ask.{Answer, ask, ask-all}
 use Rattle.pcrl.specs.Answers.{table-checked, Reply, reply, stack-read, one-answer, asked-in, asked-all-in}
-use Rattle.codec.specs.Questions.{question-passes}
+use Rattle.laws.specs.Questions.{question-passes}
 use Rattle.theory.specs.Lending.{Holds, passes-15, holds-right, holds-stack}
 use Rattle.theory.specs.Asked.{AnswerIs, at-end, too-large, too-deep, goes-to, answer-is, still-holds}
 

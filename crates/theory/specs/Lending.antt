@@ -1,38 +1,24 @@
 -- Stacks in lent frames: question 15 asks exactly that the frames hold a right stack, zeros past it; so a right stack that fits passes it.
 use mathlib.Core.Path.{_≡_, refl, ap, ap₂, sym, _∙_, subst, subst₂}
-use mathlib.Core.List.{List, [], _∷_, _++_, reverse, reverseAux, reverse-reverse}
+use mathlib.Core.List.{List, _++_, reverse, reverse-reverse}
 use mathlib.Core.Logic.{_↔_}
-use Prim.Native.Nat.{ℕ, zero, suc, _-_, _≤_}
+use Prim.Native.Nat.{ℕ, _-_, _≤_}
 use native.Mathlib.Omega.{arith}
 use lib.ListN.{length, take, drop, replicate, length-append, length-reverse, length-replicate, length-drop, length-take, take-append-drop}
+use lib.Seq.{drop-append-seam, take-append-seam}
 use Rattle.pcrl.specs.Tests.{Every}
 use Rattle.pcrl.specs.Table.{Table}
 use Rattle.pcrl.specs.Stack.{Frame, Stack, zero-frame, RightFrame, RightStack, IsZero, RightFrames, frames-of, stack-of}
-use Rattle.theory.specs.Lists.{take-length-append}
-
-every-reverseAux : {A : Type 0} (P : A → Type 0) (xs ys : List A) → Every P xs → Every P ys → Every P (reverseAux xs ys)
-unfolding Every
-every-reverseAux P [] ys h k = k
-every-reverseAux P (x ∷ xs) ys h k = every-reverseAux P xs (x ∷ ys) (h .1) (h .0, k)
-
-pub every-reverse : {A : Type 0} (P : A → Type 0) (xs : List A) → Every P xs → Every P (reverse xs)
-unfolding Every
-every-reverse P xs h = every-reverseAux P xs [] h tt
-
-pub drop-length-append : {A : Type 0} (xs ys : List A) → drop (length xs) (xs ++ ys) ≡ ys
-drop-length-append [] ys = refl
-drop-length-append (x ∷ xs) ys = drop-length-append xs ys
+use Rattle.laws.specs.Every.{every-reverse, every-replicate, replicate-of-every, every-weaken}
 
 module _ (width limit : ℕ) where
   every-zero : (n : ℕ) → Every (IsZero width) (replicate n (zero-frame width))
-  unfolding Every IsZero zero-frame
-  every-zero zero = tt
-  every-zero (suc n) = ((refl, refl), every-zero n)
+  unfolding IsZero zero-frame
+  every-zero n = every-replicate (IsZero width) n (zero-frame width) (refl, refl)
 
   zeros : (fs : List Frame) → Every (IsZero width) fs → fs ≡ replicate (length fs) (zero-frame width)
-  unfolding Every IsZero zero-frame
-  zeros [] h = refl
-  zeros (f ∷ fs) h = ap₂ (λ (x : Frame) (xs : List Frame). x ∷ xs) (λ i. record { number = h .0 .0 i; values = h .0 .1 i }) (zeros fs (h .1))
+  unfolding IsZero zero-frame
+  zeros fs h = replicate-of-every (zero-frame width) fs (every-weaken (IsZero width) _ (λ f z i. record { number = z .0 i; values = z .1 i }) fs h)
 
   pub length-frames : (s : Stack) → length s ≤ limit → length (frames-of width limit s) ≡ limit
   unfolding frames-of
@@ -40,11 +26,11 @@ module _ (width limit : ℕ) where
 
   take-frames : (s : Stack) → take (length s) (frames-of width limit s) ≡ reverse s
   unfolding frames-of
-  take-frames s = ap (λ (n : ℕ). take n (frames-of width limit s)) (sym (length-reverse s)) ∙ take-length-append (reverse s) _
+  take-frames s = ap (λ (n : ℕ). take n (frames-of width limit s)) (sym (length-reverse s)) ∙ take-append-seam (reverse s) _
 
   drop-frames : (s : Stack) → drop (length s) (frames-of width limit s) ≡ replicate (limit - length s) (zero-frame width)
   unfolding frames-of
-  drop-frames s = ap (λ (n : ℕ). drop n (frames-of width limit s)) (sym (length-reverse s)) ∙ drop-length-append (reverse s) _
+  drop-frames s = ap (λ (n : ℕ). drop n (frames-of width limit s)) (sym (length-reverse s)) ∙ drop-append-seam (reverse s) _
 
   -- A stack put in lent frames is found there again.
   pub stack-of-frames : (s : Stack) → stack-of (frames-of width limit s) (length s) ≡ s

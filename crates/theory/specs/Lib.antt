@@ -1,10 +1,7 @@
 pub mod Standing
 pub mod EqualityLaws
-pub mod Eqb
-pub mod Lists
 pub mod Segments
 pub mod Questions
-pub mod Every
 pub mod Optional
 pub mod Distinct
 pub mod Resolved

@@ -1,7 +1,7 @@
 -- Stacks that go on as terms do: a frame like a call or a part with values, stacks on one another like a sequence.
 -- The frames that the calls of a rest make are like that rest.
 use mathlib.Core.Path.{_≡_, sym, _∙_}
-use mathlib.Core.List.{List, [], _∷_, _++_, map}
+use mathlib.Core.List.{List, [], _∷_, _++_, map, map-append}
 use mathlib.Core.Bool.{true}
 use Prim.Native.Nat.{ℕ, _+_, _<_}
 use native.Mathlib.Omega.{arith}
@@ -14,7 +14,8 @@ use Rattle.pcrl.specs.Heads.{look, new-call, calls-of}
 use Rattle.pcrl.specs.Stack.{Frame, Stack, padded}
 use Rattle.pcrl.specs.Steps.{call-frame}
 use Rattle.pcrl.specs.Terms.{Rest, done, still}
-use Rattle.theory.specs.Lists.{map-append, map-map, every-append}
+use Rattle.laws.specs.Lists.{map-twice}
+use Rattle.laws.specs.Every.{every-append}
 use Rattle.theory.specs.Substitution.{eval-look, eval-these}
 use Rattle.theory.specs.Below.{Below, all-below-look}
 use Rattle.theory.specs.Marks.{put-marked, marks-length, marked-length, marked-map, marked-every}
@@ -38,7 +39,7 @@ module _ (H : Sheet) where
 
   pub same-args : (σ : List Data) (τ : List ℕ) (ds : List Data)
       → map (eval (H .sig) τ) (map (put-data (look σ)) ds) ≡ map (eval (H .sig) []) (map (put-data (these (map (eval (H .sig) τ) σ))) ds)
-  same-args σ τ ds = map-map _ _ _ (eval-look (H .sig) τ σ) ds ∙ sym (map-map _ _ _ (eval-these (H .sig) (map (eval (H .sig) τ) σ)) ds)
+  same-args σ τ ds = map-twice _ _ _ (eval-look (H .sig) τ σ) ds ∙ sym (map-twice _ _ _ (eval-these (H .sig) (map (eval (H .sig) τ) σ)) ds)
 
 module _ (width : ℕ) (H : Sheet) where
   -- The data of a call need not be values, and sequences may be bracketed in any way: both come up in terms.

@@ -1,9 +1,8 @@
 -- The listed steps of a stack are its steps, all of them: `Any` through the lists of summands and of values that `steps` goes through.
-use mathlib.Core.Path.{_≡_, refl, ap, sym, subst}
+use mathlib.Core.Path.{_≡_, ap, sym, subst}
 use mathlib.Core.List.{List, [], _∷_, _++_, map}
-use mathlib.Core.Logic.{inl, inr}
 use mathlib.Core.Option.{some}
-use Prim.Native.Nat.{ℕ, zero, suc, _<_}
+use Prim.Native.Nat.{ℕ}
 use native.Mathlib.Omega.{arith}
 use lib.ListN.{getElem?}
 use Rattle.pcrl.specs.Tests.{Each}
@@ -13,51 +12,8 @@ use Rattle.pcrl.specs.Sheet.{Sig, size}
 use Rattle.pcrl.specs.Label.{Label}
 use Rattle.pcrl.specs.Table.{Summand, Table, equation}
 use Rattle.pcrl.specs.Stack.{Frame, Stack, InSorts, used}
-use Rattle.pcrl.specs.Steps.{Any, here, there, meets?, values-of, if-met, outcome, Fires, StackStep, fired, steps}
-use Rattle.theory.specs.Lists.{any-left, any-right, any-cases, any-to, any-map, any-of-map, any-one, any-none}
-
--- x stands in the list
-abbrev pub In : {A : Type 0} → A → List A → Type 0
-In x xs = Any (λ y. y ≡ x) xs
-
-module _ {A B : Type 0} {P : B → Type 0} (f : A → List B) where
-  pub any-all : {xs : List A} → Any (λ x. Any P (f x)) xs → Any P (all f xs)
-  unfolding all
-  any-all (here q) = any-left _ q
-  any-all (there {x} r) = any-right (f x) (any-all r)
-
-  pub any-of-all : (xs : List A) → Any P (all f xs) → Any (λ x. Any P (f x)) xs
-  unfolding all
-  any-of-all [] h = absurd (any-none h)
-  any-of-all (x ∷ xs) h = elim (any-cases (f x) h) [ inl a ↦ here a | inr b ↦ there (any-of-all xs b) ]
-
-module _ {A : Type 0} {P : A → Type 0} where
-  pub any-tabulate : (n : ℕ) (f : ℕ → A) (i : ℕ) → i < n → P (f i) → Any P (tabulate n f)
-  unfolding tabulate
-  any-tabulate zero f i h q = absurd (omega arith)
-  any-tabulate (suc n) f zero h q = here q
-  any-tabulate (suc n) f (suc i) h q = there (any-tabulate n (λ k. f (suc k)) i (omega arith) q)
-
-  pub any-of-tabulate : (n : ℕ) (f : ℕ → A) → Any P (tabulate n f) → (i : ℕ) × (i < n) × P (f i)
-  unfolding tabulate
-  any-of-tabulate zero f h = absurd (any-none h)
-  any-of-tabulate (suc n) f (here q) = (zero, omega arith, q)
-  any-of-tabulate (suc n) f (there r) = let (i, h, q) = any-of-tabulate n (λ k. f (suc k)) r in (suc i, omega arith, q)
-
--- what stands in a list stands at some place
-module _ {A : Type 0} where
-  pub place-in : (xs : List A) (k : ℕ) (x : A) → getElem? xs k ≡ some x → In x xs
-  place-in [] k x h = absurd (let z : _≡_ {A = ℕ} 0 1 = cc in omega arith)
-  place-in (y ∷ xs) zero x h = let e : y ≡ x = cc in here e
-  place-in (y ∷ xs) (suc k) x h = there (place-in xs k x h)
-
-  pub in-place : {xs : List A} {x : A} → In x xs → (k : ℕ) × (getElem? xs k ≡ some x)
-  in-place (here q) = (zero, ap some q)
-  in-place (there r) = let (k, e) = in-place r in (suc k, e)
-
-pub any-found : {A : Type 0} {P : A → Type 0} {xs : List A} → Any P xs → (x : A) × In x xs × P x
-any-found (here {x} q) = (x, here refl, q)
-any-found (there r) = let (x, a, q) = any-found r in (x, there a, q)
+use Rattle.pcrl.specs.Steps.{Any, here, meets?, values-of, if-met, outcome, Fires, StackStep, fired, steps}
+use Rattle.laws.specs.Any.{any-to, any-map, any-of-map, any-one, any-none, In, any-all, any-of-all, any-tabulate, any-of-tabulate, place-in, in-place, any-found}
 
 -- an element that is kept where the test passes
 pub any-of-if-met : {X A : Type 0} {P : A → Type 0} (d : Dec X) (a : A) → Any P (if-met d a) → X × P a

@@ -9,9 +9,9 @@ use Rattle.pcrl.specs.Heads.{table-of}
 use Rattle.pcrl.specs.Right.{Within, within?, RightTable}
 use Rattle.pcrl.specs.Blocks.{file-of, room?}
 use Rattle.pcrl.specs.Answers.{sheet-read, table-made, stream-filed, file-made, table-checked}
+use Rattle.laws.specs.Questions.{past-question, past-answer}
 use Rattle.codec.specs.FileLaws.{read-written}
 use Rattle.theory.specs.Standing.{Standing}
-use Rattle.theory.specs.Questions.{past-question, past-answer}
 use Rattle.theory.specs.Accepted.{accepted-standing}
 use Rattle.theory.specs.TableRight.{table-right}
 

@@ -8,20 +8,14 @@ use Prim.Native.Nat.{ℕ, zero, suc, _+_, _≤_}
 use native.Mathlib.Omega.{arith}
 use lib.Dec.{eqb}
 use lib.ListN.{length, getElem?, replicate}
-use Rattle.pcrl.specs.Tests.{or, and, negated, Every}
+use lib.Seq.{getD-append-seam}
+use Rattle.pcrl.specs.Tests.{and, negated, Every}
 use Rattle.pcrl.specs.Sheet.{Data, val, var, app, Datas, nil, cons, Proc, delta, atom, alt, cond, sum, seq, call, Sig}
 use Rattle.pcrl.specs.Values.{eval, put-data, put-datas, except, put, or-var, these}
 use Rattle.pcrl.specs.Parts.{in-data, in-datas, in-list, in-proc, marks, count, marked, as-params}
-use Rattle.theory.specs.Eqb.{eqb-self}
-use Rattle.theory.specs.Lists.{length-snoc, getD-length-append, length-tabulate, getElem?-tabulate}
+use Rattle.laws.specs.Tests.{or-left, or-right, eqb-self}
+use Rattle.laws.specs.Lists.{length-snoc, length-tabulate, getElem?-tabulate}
 use Rattle.theory.specs.Below.{Below}
-
-or-left : (a b : Bool) → a ≡ true → or a b ≡ true
-or-left a b h = rw h
-
-or-right : (a b : Bool) → b ≡ true → or a b ≡ true
-or-right true b h = refl
-or-right false b h = h
 
 -- TWO WAYS THAT AGREE ON THE VARIABLES OF A TERM
 
@@ -73,7 +67,7 @@ unfolding marked as-params eval
 restored S [] [] pre i e h = refl
 restored S [] (r ∷ ρ) pre i e h = absurd (omega arith)
 restored S (b ∷ bs) [] pre i e h = absurd (omega arith)
-restored S (true ∷ bs) (r ∷ ρ) pre zero e h = rw (getD-length-append pre r (marked bs ρ) 0)
+restored S (true ∷ bs) (r ∷ ρ) pre zero e h = rw (getD-append-seam pre r (marked bs ρ) 0)
 restored S (true ∷ bs) (r ∷ ρ) pre (suc i) e h = simp (append-assoc, length-snoc) at (restored S bs ρ (pre ++ (r ∷ [])) i (omega arith) h)
 restored S (false ∷ bs) (r ∷ ρ) pre zero e (inl h) = cc
 restored S (false ∷ bs) (r ∷ ρ) pre zero e (inr h) = cc
@@ -140,7 +134,7 @@ as-params-all : (S : Sig) (pre vs : List ℕ) → map (eval S (pre ++ vs)) (as-p
 unfolding as-params eval
 as-params-all S pre [] = refl
 as-params-all S pre (v ∷ vs) =
-    ap₂ (λ (x : ℕ) (xs : List ℕ). x ∷ xs) (getD-length-append pre v vs 0) (simp (append-assoc, length-snoc) at (as-params-all S (pre ++ (v ∷ [])) vs))
+    ap₂ (λ (x : ℕ) (xs : List ℕ). x ∷ xs) (getD-append-seam pre v vs 0) (simp (append-assoc, length-snoc) at (as-params-all S (pre ++ (v ∷ [])) vs))
 
 -- the parameters of a written equation are worth their values
 pub eval-params : (S : Sig) (vs : List ℕ) → map (eval S vs) (as-params (replicate (length vs) true) 0) ≡ vs

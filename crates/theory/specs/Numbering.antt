@@ -1,7 +1,7 @@
 -- A resolved process term is numbered: each sum binds the next number. By induction on the raw term.
 use mathlib.Core.Path.{_≡_, refl, subst}
 use mathlib.Core.List.{List, [], _∷_, _++_}
-use mathlib.Core.Option.{Option, none, some}
+use mathlib.Core.Option.{Option, none, some, Option·none-ne-some}
 use Prim.Native.Nat.{ℕ, suc}
 use native.Mathlib.Omega.{arith}
 use lib.ListN.{length, length-append}
@@ -9,7 +9,7 @@ use Rattle.pcrl.specs.Tree.{Name, Choice, Conditional, Sequence, Part, ProcLine
 use Rattle.pcrl.specs.Sheet.{Data, Act, Proc, Process}
 use Rattle.pcrl.specs.Names.{Names, number-of, new-variable, resolve-data, resolve-given, named, resolve-choice, resolve-conditional, resolve-sequence, resolve-part, resolve-params, resolve-proc}
 use Rattle.theory.specs.Standing.{Numbered}
-use Rattle.theory.specs.Optional.{none-is-none, first-given, test-passed}
+use Rattle.theory.specs.Optional.{first-given, test-passed}
 use Rattle.theory.specs.Resolved.{Declared, params-from}
 
 module _ (N : Names) where
@@ -17,7 +17,7 @@ module _ (N : Names) where
   unfolding named Numbered
   named-numbered n (some a) k ds p e = let z : Proc.atom (Act.action a) ds ≡ p = cc in subst (Numbered n) z tt
   named-numbered n none (some k) ds p e = let z : Proc.call k ds ≡ p = cc in subst (Numbered n) z tt
-  named-numbered n none none ds p e = absurd (none-is-none p e)
+  named-numbered n none none ds p e = absurd (Option·none-ne-some p e)
 
   mutual
     unfolding resolve-choice Numbered

@@ -1,7 +1,7 @@
 -- "Steps are listed by summand, then by values, last variable fastest": a step arises in a way, which is a summand and values of its sum variables.
 -- The list goes through all ways of the top frame, each once, in that order; so equal steps stand once for each way in which they arise.
 use mathlib.Core.Path.{_≡_, refl, ap, ap₂, sym, _∙_, subst, subst₂}
-use mathlib.Core.List.{List, [], _∷_, _++_, map}
+use mathlib.Core.List.{List, [], _∷_, _++_, map, map-append}
 use mathlib.Core.Logic.{_⊎_, inl, inr}
 use mathlib.Core.Option.{some}
 use Prim.Native.Nat.{ℕ, zero, suc, _+_, _<_}
@@ -14,8 +14,9 @@ use Rattle.pcrl.specs.Label.{Label}
 use Rattle.pcrl.specs.Table.{Summand, Table, equation}
 use Rattle.pcrl.specs.Stack.{Frame, Stack, InSorts, used}
 use Rattle.pcrl.specs.Steps.{Meets, meets?, values-of, if-met, outcome, fired, steps}
-use Rattle.theory.specs.Lists.{any-left, any-right, any-cases, any-none, any-to, any-map, any-of-map, map-append, map-map}
-use Rattle.theory.specs.Listing.{In, any-all, any-of-all, any-found, any-values, any-of-values, any-if-met, any-of-if-met, place-in, in-place}
+use Rattle.laws.specs.Lists.{map-twice}
+use Rattle.laws.specs.Any.{any-left, any-right, any-cases, any-none, any-to, any-map, any-of-map, In, any-all, any-of-all, any-found, place-in, in-place}
+use Rattle.theory.specs.Listing.{any-values, any-of-values, any-if-met, any-of-if-met}
 use Rattle.theory.specs.Ascending.{Ascending, ascending-append, ascending-places, ascending-once, ascending-map, ascending-all, ascending-if-met, ascending-tabulate}
 
 -- a way in which a step may arise
@@ -177,7 +178,7 @@ module _ (T : Table) (f : Frame) where
     unfolding fired met-values
     summand-gives h g e =
         ap (map onto) (sym (map-if-met (λ vs. meets? (T .sig) (used T f ++ vs) (h .conds)) (λ vs. outcome width (T .sig) (used T f ++ vs) h) (values-of (T .sig) (h .vars))))
-        ∙ map-map onto (λ vs. outcome width (T .sig) (used T f ++ vs) h) g e (met-values h)
+        ∙ map-twice onto (λ vs. outcome width (T .sig) (used T f ++ vs) h) g e (met-values h)
 
     -- summands that `find` finds by their numbers from n on give, in their ways, their steps
     ways-give : (find : ℕ → Summand) (n : ℕ) (hs : List Summand) → ((i : ℕ) → i < length hs → find (n + i) ≡ getD hs i no-summand)
@@ -188,7 +189,7 @@ module _ (T : Table) (f : Frame) where
         let z : find n ≡ h = ap find (let y : n ≡ n + 0 = omega arith in y) ∙ e 0 (omega arith) in
         map-append onto (fired width (T .sig) (used T f) h) _
         ∙ ap₂ (λ (l m : List (Label × Stack)). l ++ m)
-        (summand-gives h _ (λ vs. ap (λ (d : Summand). onto (outcome width (T .sig) (used T f ++ vs) d)) (sym z)) ∙ sym (map-map _ (way n) _ (λ vs. refl) (met-values h)))
+        (summand-gives h _ (λ vs. ap (λ (d : Summand). onto (outcome width (T .sig) (used T f ++ vs) d)) (sym z)) ∙ sym (map-twice _ (way n) _ (λ vs. refl) (met-values h)))
         (ways-give find (suc n) hs (λ i k. ap find (let y : suc n + i ≡ n + suc i = omega arith in y) ∙ e (suc i) (omega arith)))
         ∙ sym (map-append _ (map (way n) (met-values h)) (ways-from (suc n) hs))
 

@@ -7,6 +7,7 @@ use native.Mathlib.Omega.{arith}
 use native.Mathlib.Decide.{ℕ-discrete}
 use lib.ListN.{length}
 use Rattle.pcrl.specs.Tests.{Every}
+use Rattle.laws.specs.Every.{every-both}
 
 -- no number is there twice
 unfoldable pub Distinct : List ℕ → Type 0
@@ -49,18 +50,13 @@ without-distinct n (x ∷ xs) d = go (ℕ-discrete x n) (without-distinct n xs (
     go (yes e) h = d .1
     go (no k) h = (without-every (λ y. x ≢ y) n xs (d .0), h)
 
-others-below : (n : ℕ) (xs : List ℕ) → Every (λ y. n ≢ y) xs → Every (λ y. y < suc n) xs → Every (λ y. y < n) xs
-unfolding Every
-others-below n [] f u = tt
-others-below n (x ∷ xs) f u = (let z : n ≢ x = f .0 in let w : x < suc n = u .0 in omega arith, others-below n xs (f .1) (u .1))
-
 without-below : (n : ℕ) (xs : List ℕ) → Distinct xs → Every (λ y. y < suc n) xs → Every (λ y. y < n) (without n xs)
 unfolding without tail-if Distinct Every
 without-below n [] d u = tt
 without-below n (x ∷ xs) d u = go (ℕ-discrete x n) (without-below n xs (d .1) (u .1))
   where
     go : (b : Dec (x ≡ n)) → Every (λ y. y < n) (without n xs) → Every (λ y. y < n) (tail-if x xs (without n xs) b)
-    go (yes e) h = others-below n xs (subst (λ (m : ℕ). Every (λ y. m ≢ y) xs) e (d .0)) (u .1)
+    go (yes e) h = every-both (λ y. n ≢ y) (λ y. y < suc n) (λ y. y < n) (λ y z w. omega arith) xs (subst (λ (m : ℕ). Every (λ y. m ≢ y) xs) e (d .0)) (u .1)
     go (no k) h = (let z : x ≢ n = k in let w : x < suc n = u .0 in omega arith, h)
 
 pub pigeons : (n : ℕ) (xs : List ℕ) → Distinct xs → Every (λ y. y < n) xs → length xs ≤ n

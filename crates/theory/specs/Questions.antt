@@ -1,11 +1,10 @@
 -- What an accepted answer of `sheet-read` says: each question's fact, in order, as one record. From one law for each kind of question.
 use mathlib.Core.Path.{_≡_, refl, ap, _∙_, subst}
 use mathlib.Core.List.{List}
-use mathlib.Core.Option.{Option, some}
+use mathlib.Core.Option.{some}
 use Prim.Native.Nat.{ℕ}
-use native.Mathlib.Omega.{arith}
 use lib.Dec.{T}
-use Rattle.pcrl.specs.Result.{Result, refused, accepted, question, question-of, after}
+use Rattle.pcrl.specs.Result.{accepted}
 use Rattle.pcrl.specs.Tests.{T?}
 use Rattle.pcrl.specs.Bytes.{Short, short?, Printable, printable?}
 use Rattle.pcrl.specs.Tokens.{Token, tokens, Shallow, shallow?}
@@ -17,18 +16,7 @@ use Rattle.pcrl.specs.Names.{resolve}
 use Rattle.pcrl.specs.Sorts.{RightlySorted, rightly-sorted?}
 use Rattle.pcrl.specs.Circles.{guarded}
 use Rattle.pcrl.specs.Answers.{tokens-read, tree-read, sheet-read}
-use Rattle.codec.specs.Questions.{question-passes, question-of-passes, question-passed, question-of-passed, after-passes, after-passed}
-
--- Where all questions passed, what follows from a question's fact and from the rest follows.
-pub past-question : {P A G : Type 0} (n : ℕ) (d : Dec P) (rest : P → Result A) (a : A) → question n d rest ≡ accepted a → ((h : P) → rest h ≡ accepted a → G) → G
-past-question n d rest a e k = let x = question-passed n d rest a e in k (x .0) (x .1)
-
-pub past-question-of : {A B G : Type 0} (n : ℕ) (o : Option A) (rest : A → Result B) (b : B) → question-of n o rest ≡ accepted b
-    → ((a : A) → o ≡ some a → rest a ≡ accepted b → G) → G
-past-question-of n o rest b e k = let x = question-of-passed n o rest b e in k (x .0) (x .1) (x .2)
-
-pub past-answer : {A B G : Type 0} (r : Result A) (rest : A → Result B) (b : B) → after r rest ≡ accepted b → ((a : A) → r ≡ accepted a → rest a ≡ accepted b → G) → G
-past-answer r rest b e k = let x = after-passed r rest b e in k (x .0) (x .1) (x .2)
+use Rattle.laws.specs.Questions.{question-passes, question-of-passes, after-passes, past-question, past-question-of, past-answer}
 
 -- What questions 1 to 9 have found of the bytes s that were accepted as H.
 pub record Accepted (s : List ℕ) (H : Sheet) : Type 0 where

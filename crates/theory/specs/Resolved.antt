@@ -1,19 +1,19 @@
 -- What a resolved sheet has from its raw sheet, line by line: `resolve` taken apart, and numbers below the number of names.
 use mathlib.Core.Path.{_≡_, refl, subst}
-use mathlib.Core.List.{List, [], _∷_, _++_, map}
-use mathlib.Core.Option.{Option, some}
+use mathlib.Core.List.{List, [], _∷_, _++_}
+use mathlib.Core.Option.{Option, some, Option·none-ne-some}
 use Prim.Native.Nat.{ℕ, suc, _+_, _<_}
 use native.Mathlib.Omega.{arith}
 use lib.Dec.{T}
 use lib.ListN.{length, length-append}
 use Rattle.pcrl.specs.Tests.{same?, distinct, Every, Each}
-use Rattle.pcrl.specs.Tree.{Name, SortLine, FuncLine, ActLine, ProcLine, RawSheet}
+use Rattle.pcrl.specs.Tree.{Name, FuncLine, ActLine, ProcLine, RawSheet}
 use Rattle.pcrl.specs.Sheet.{Func, Action, Process, Sheet}
 use Rattle.pcrl.specs.Maybe.{_>>=_, for-each}
 use Rattle.pcrl.specs.Names.{Names, names-of, number-of, declared, new-variable, sorts-of, resolve-func, resolve-act, resolve-params, resolve-proc, resolve-init, sizes-of, resolve}
-use Rattle.theory.specs.Lists.{each-length}
-use Rattle.theory.specs.Every.{each-every, every-of-all}
-use Rattle.theory.specs.Optional.{none-is-none, first-given, test-passed, each-given}
+use Rattle.laws.specs.Every.{every-of-all}
+use Rattle.laws.specs.Each.{each-every, each-length}
+use Rattle.theory.specs.Optional.{first-given, test-passed, each-given}
 
 -- The lines of a sheet H that was resolved from R.
 pub record Resolved (R : RawSheet) (H : Sheet) : Type 0 where
@@ -54,7 +54,7 @@ first-or-below (no h) o n i f e = first-given o _ i e (λ j e₁ e₂. let w = f
 -- A name's number is below the number of names.
 pub number-below : (x : Name) (l : List Name) (i : ℕ) → number-of x l ≡ some i → i < length l
 unfolding number-of
-number-below x [] i e = absurd (none-is-none i e)
+number-below x [] i e = absurd (Option·none-ne-some i e)
 number-below x (y ∷ l) i e = first-or-below (same? x y) (number-of x l) (length l) i (λ j. number-below x l j) e
 
 module _ (N : Names) where
@@ -66,7 +66,7 @@ module _ (N : Names) where
   unfolding sorts-of
   sorts-declared xs Ds e =
       let h = each-given (λ D. number-of D (N .sorts)) xs Ds e in
-      (each-length _ xs Ds h, each-every _ (λ x. Unit {0}) _ (λ x D k _. number-below x (N .sorts) D k) xs Ds h (every-of-all _ xs (λ x. tt)))
+      (each-length _ xs Ds h, each-every _ (λ x. Unit {0}) _ (λ x D k _. number-below x (N .sorts) D k) xs Ds h (every-of-all _ (λ x. tt) xs))
 
   -- what a function line becomes
   pub record FuncFrom (l : FuncLine) (g : Func) : Type 0 where

@@ -9,8 +9,9 @@ use Rattle.pcrl.specs.Tests.{Every}
 use Rattle.pcrl.specs.Sheet.{Proc, sum, Sheet, params, right}
 use Rattle.pcrl.specs.Sorts.{Scope, binding, Sorted}
 use Rattle.pcrl.specs.Right.{AreSorts}
+use Rattle.laws.specs.Lists.{length-snoc}
+use Rattle.laws.specs.Every.{every-append}
 use Rattle.theory.specs.Standing.{Numbered, Standing}
-use Rattle.theory.specs.Lists.{every-append, length-snoc}
 use Rattle.theory.specs.StandingLaws.{process-sorts, process-numbered, process-sorted}
 use Rattle.theory.specs.Segments.{Hereditary}
 

@@ -1,5 +1,5 @@
 -- Rightly sorted data keep their sorts: in a wider scope, and where data of the right sorts are put for variables.
-use mathlib.Core.Path.{_≡_, refl}
+use mathlib.Core.Path.{_≡_}
 use mathlib.Core.List.{List, [], _∷_, _++_, map, append-assoc}
 use mathlib.Core.Bool.{Bool, true, false}
 use mathlib.Core.Option.{some}
@@ -12,7 +12,7 @@ use Rattle.pcrl.specs.Sorts.{Scope, HasSort, HaveSorts, Arguments}
 use Rattle.pcrl.specs.Values.{put-data, put-datas}
 use Rattle.pcrl.specs.Parts.{marked, as-params}
 use Rattle.pcrl.specs.Heads.{look}
-use Rattle.theory.specs.Lists.{length-snoc}
+use Rattle.laws.specs.Lists.{some-append, getElem?-append-seam, length-snoc}
 
 module _ (S : Sig) (Γ Δ : Scope) (θ : ℕ → Data) (h : (i D : ℕ) → Γ i ≡ some D → HasSort S Δ (θ i) D) where
   mutual
@@ -60,16 +60,6 @@ module _ (S : Sig) (Γ Δ : Scope) (h : (i D : ℕ) → Γ i ≡ some D → Δ i
   wider-arguments (d ∷ ds) [] k = absurd k
   wider-arguments (d ∷ ds) (D ∷ Ds) k = (wider-sort d D (k .0), wider-arguments ds Ds (k .1))
 
--- a variable keeps its sort where others come behind
-pub sort-behind : (Γ Δ : List ℕ) (i D : ℕ) → getElem? Γ i ≡ some D → getElem? (Γ ++ Δ) i ≡ some D
-sort-behind [] Δ i D h = absurd (let z : _≡_ {A = ℕ} 0 1 = cc in omega arith)
-sort-behind (x ∷ Γ) Δ zero D h = h
-sort-behind (x ∷ Γ) Δ (suc i) D h = sort-behind Γ Δ i D h
-
-pub sort-of-next : (Γ : List ℕ) (D : ℕ) (Δ : List ℕ) → getElem? (Γ ++ (D ∷ Δ)) (length Γ) ≡ some D
-sort-of-next [] D Δ = refl
-sort-of-next (x ∷ Γ) D Δ = sort-of-next Γ D Δ
-
 module _ (S : Sig) where
   -- data for the variables of Γ, each of its sort, where Δ is in scope
   abbrev pub Fitting : List ℕ → List Data → List ℕ → Type 0
@@ -86,10 +76,10 @@ module _ (S : Sig) where
   -- one variable more, and the next variable for it
   pub fitting-next : (Δ : List ℕ) (D : ℕ) (σ : List Data) (Γ : List ℕ) → Fitting Δ σ Γ → Fitting (Δ ++ (D ∷ [])) (σ ++ (var (length Δ) ∷ [])) (Γ ++ (D ∷ []))
   unfolding Each HasSort
-  fitting-next Δ D [] [] h = (sort-of-next Δ D [], tt)
+  fitting-next Δ D [] [] h = (getElem?-append-seam Δ D [], tt)
   fitting-next Δ D [] (E ∷ Γ) h = absurd h
   fitting-next Δ D (d ∷ σ) [] h = absurd h
-  fitting-next Δ D (d ∷ σ) (E ∷ Γ) h = (wider-sort S (getElem? Δ) (getElem? (Δ ++ (D ∷ []))) (sort-behind Δ (D ∷ [])) d E (h .0), fitting-next Δ D σ Γ (h .1))
+  fitting-next Δ D (d ∷ σ) (E ∷ Γ) h = (wider-sort S (getElem? Δ) (getElem? (Δ ++ (D ∷ []))) (some-append Δ (D ∷ [])) d E (h .0), fitting-next Δ D σ Γ (h .1))
 
   -- what stands at the marked places fits the sorts there
   pub fitting-marked : (Δ : List ℕ) (bs : List Bool) (σ : List Data) (Γ : List ℕ) → Fitting Δ σ Γ → Fitting Δ (marked bs σ) (marked bs Γ)
@@ -112,5 +102,5 @@ module _ (S : Sig) where
   fitting-params pre [] (D ∷ Γ) e h = absurd (omega arith)
   fitting-params pre (b ∷ bs) [] e h = absurd (omega arith)
   fitting-params pre (true ∷ bs) (D ∷ Γ) e h =
-      (sort-of-next pre D (marked bs Γ), simp (append-assoc, length-snoc) at (fitting-params (pre ++ (D ∷ [])) bs Γ (omega arith) (h .1)))
+      (getElem?-append-seam pre D (marked bs Γ), simp (append-assoc, length-snoc) at (fitting-params (pre ++ (D ∷ [])) bs Γ (omega arith) (h .1)))
   fitting-params pre (false ∷ bs) (D ∷ Γ) e h = (h .0, fitting-params pre bs Γ (omega arith) (h .1))

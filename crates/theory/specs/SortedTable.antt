@@ -12,9 +12,8 @@ use Rattle.pcrl.specs.Parts.{marks, marked, as-params, NewPart, Kind, absent, w
 use Rattle.pcrl.specs.Table.{Equation, equation}
 use Rattle.pcrl.specs.Heads.{fuel, equation-of, table-of}
 use Rattle.pcrl.specs.Right.{RightSizes, AreSorts, RightSig}
+use Rattle.laws.specs.Every.{every-weaken, every-at}
 use Rattle.theory.specs.Standing.{Standing}
-use Rattle.theory.specs.Lists.{every-getD}
-use Rattle.theory.specs.Every.{every-weaken}
 use Rattle.theory.specs.Segments.{written-kind, part-below, seg-right-side, part-of}
 use Rattle.theory.specs.Marks.{marks-length, marked-length, marked-every}
 use Rattle.theory.specs.SortLaws.{Inhabited, fitting-params}
@@ -25,7 +24,7 @@ use Rattle.theory.specs.Equations.{equation-count, equation-at, equation
 -- "sizes 1 to 16": a sort that is there has a value
 pub sorts-inhabited : (S : Sig) → RightSizes (S .sorts) → (Γ : List ℕ) → AreSorts (S .sorts) Γ → Inhabited S Γ
 unfolding RightSizes size
-sorts-inhabited S r Γ h = every-weaken _ _ (λ D w. every-getD (Between 1 max-size) (S .sorts) D 0 w (r .0 .1) .0) Γ h
+sorts-inhabited S r Γ h = every-weaken _ _ (λ D w. every-at (Between 1 max-size) (S .sorts) 0 D (r .0 .1) w .0) Γ h
 
 marked-all : {A : Type 0} (xs : List A) → marked (replicate (length xs) true) xs ≡ xs
 unfolding marked

@@ -15,9 +15,9 @@ use Rattle.pcrl.specs.Heads.{heads, fuel, equation-of, table-of}
 use Rattle.pcrl.specs.Stack.{Frame, Stack, used}
 use Rattle.pcrl.specs.Steps.{Any, Fires, StackStep}
 use Rattle.pcrl.specs.Terms.{Rest, TermStep, as-right}
+use Rattle.laws.specs.Any.{any-to, any-none, any-some}
 use Rattle.theory.specs.Standing.{Standing}
 use Rattle.theory.specs.StandingLaws.{process-heads}
-use Rattle.theory.specs.Lists.{any-to, any-none, any-some}
 use Rattle.theory.specs.AtHead.{AtHead}
 use Rattle.theory.specs.Circle.{Passes, none-pass, passes-heads, no-circle-passes}
 use Rattle.theory.specs.Below.{Below}

@@ -1,12 +1,11 @@
 -- What the theorems ask of a resolved sheet. That every sheet which passes questions 1 to 9 has it is a theorem.
 use mathlib.Core.Path.{_≡_}
-use mathlib.Core.List.{List, [], _∷_}
-use Prim.Native.Nat.{ℕ, suc, _<_, _≤_}
-use lib.ListN.{length, getD, getElem?}
+use Prim.Native.Nat.{ℕ, suc, _≤_}
+use lib.ListN.{length, getElem?}
 use Rattle.pcrl.specs.Limits.{max-processes, frame-width}
 use Rattle.pcrl.specs.Tests.{Every}
 use Rattle.pcrl.specs.Sheet.{Proc, delta, atom, alt, cond, sum, seq, call, Process, Sheet}
-use Rattle.pcrl.specs.Sorts.{closed, Sorted, Complete}
+use Rattle.pcrl.specs.Sorts.{closed, Sorted}
 use Rattle.pcrl.specs.Circles.{NoCircle}
 use Rattle.pcrl.specs.Right.{AreSorts, RightSig}
 

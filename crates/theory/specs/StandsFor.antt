@@ -18,9 +18,9 @@ use Rattle.pcrl.specs.Steps.{StackStep}
 use Rattle.pcrl.specs.Terms.{Rest, done, still}
 use Rattle.pcrl.specs.Equality.{Equal, Run}
 use Rattle.pcrl.specs.States.{State, of-term, of-stack, Ended, StateStep, system, RightState, frame-term, term-of-frame, term-of-stack, stands-for}
+use Rattle.laws.specs.Each.{each-length}
 use Rattle.theory.specs.Standing.{Standing}
 use Rattle.theory.specs.EqualityLaws.{equal-refl, equal-sym, Bisimulation, bisimilar, run-along}
-use Rattle.theory.specs.Lists.{each-length}
 use Rattle.theory.specs.Segments.{written-kind, kind-present}
 use Rattle.theory.specs.Equations.{equation-count, params-written, params-part}
 use Rattle.theory.specs.Like.{frame-with, Like, a-call, a-part, join, LikeRest, nothing-left, something-left, like-some}

@@ -11,21 +11,16 @@ use Rattle.pcrl.specs.Values.{eval}
 use Rattle.pcrl.specs.Label.{Label}
 use Rattle.pcrl.specs.Table.{Summand, Equation, Table, no-equation, equation, params-of, summands-of}
 use Rattle.pcrl.specs.Stack.{Frame, Stack, InSorts, used, padded, RightFrame, RightStack}
-use Rattle.pcrl.specs.Steps.{Any, here, there, call-frame, outcome, StackStep}
+use Rattle.pcrl.specs.Steps.{call-frame, outcome, StackStep}
 use Rattle.pcrl.specs.Right.{RightFunc, RightSig, RightCall, RightSummand, RightSummands, RightEquations, RightStart, RightTable}
 use Rattle.pcrl.specs.Answers.{start-stack}
-use Rattle.theory.specs.Lists.{every-append, each-length}
-use Rattle.theory.specs.Every.{every-map, each-append, each-at, each-flip}
+use Rattle.laws.specs.Every.{every-map, every-append}
+use Rattle.laws.specs.Each.{each-append, each-at, each-flip, each-length}
+use Rattle.laws.specs.Any.{every-any}
 use Rattle.theory.specs.Like.{frame-with}
 use Rattle.theory.specs.Equations.{used-padded}
 use Rattle.theory.specs.ValueSorts.{values-in}
 use Rattle.theory.specs.TableRight.{params-length, params-at}
-
--- one element of which something holds, among elements of which something else holds
-pub every-any : {A : Type 0} {Q R : A → Type 0} (xs : List A) → Every Q xs → Any R xs → (x : A) × Q x × R x
-unfolding Every
-every-any (x ∷ xs) h (here r) = (x, h .0, r)
-every-any (x ∷ xs) h (there k) = every-any xs (h .1) k
 
 pub in-sorts-append : (S : Sig) (Γ Δ vs ws : List ℕ) → InSorts S Γ vs → InSorts S Δ ws → InSorts S (Γ ++ Δ) (vs ++ ws)
 unfolding InSorts

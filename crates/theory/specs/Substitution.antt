@@ -12,9 +12,9 @@ use lib.ListN.{length, getD, getElem?, length-append, List·getD-map}
 use Rattle.pcrl.specs.Sheet.{Data, val, var, app, Datas, nil, cons, Proc, delta, atom, alt, cond, sum, seq, call, Sig}
 use Rattle.pcrl.specs.Values.{apply, eval, evals, put-data, put-datas, except, put, or-var, these, only}
 use Rattle.pcrl.specs.Heads.{look}
+use Rattle.laws.specs.Tests.{eqb-self, eqb-true, eqb-other}
+use Rattle.laws.specs.Lists.{map-twice, getElem?-past, getElem?-below, getElem?-append, getElem?-append-seam}
 use Rattle.theory.specs.Standing.{Numbered}
-use Rattle.theory.specs.Eqb.{eqb-self, eqb-true, eqb-other}
-use Rattle.theory.specs.Lists.{map-map, getElem?-past, getElem?-below, getElem?-append, getElem?-length-append}
 
 -- WORTH
 
@@ -84,7 +84,7 @@ only-these e v i = go (decLt i (length e)) (ℕ-discrete i (length e))
     at-end : i ≡ length e → put-data (only (length e) v) (these e i) ≡ these (e ++ (v ∷ [])) i
     at-end h =
         let a : getElem? e i ≡ none = getElem?-past e i (omega arith) in
-        let b : getElem? (e ++ (v ∷ [])) i ≡ some v = rw h (getElem?-length-append e v []) in
+        let b : getElem? (e ++ (v ∷ [])) i ≡ some v = rw h (getElem?-append-seam e v []) in
         ap (λ (o : Option ℕ). put-data (only (length e) v) (or-var i o)) a ∙ rw h (only-self (length e) v) ∙ sym (ap (or-var i) b)
 
     go : Dec (i < length e) → Dec (i ≡ length e) → put-data (only (length e) v) (these e i) ≡ these (e ++ (v ∷ [])) i
@@ -114,7 +114,7 @@ mutual
 pub put-only : (e : List ℕ) (v n : ℕ) (p : Proc) → length e < n → Numbered n p → put (only (length e) v) (put (these e) p) ≡ put (these (e ++ (v ∷ []))) p
 unfolding put Numbered
 put-only e v n delta h o = refl
-put-only e v n (atom a ds) h o = ap (atom a) (map-map _ _ _ (put-data-only e v) ds)
+put-only e v n (atom a ds) h o = ap (atom a) (map-twice _ _ _ (put-data-only e v) ds)
 put-only e v n (alt p q) h o = ap₂ alt (put-only e v n p h (o .0)) (put-only e v n q h (o .1))
 put-only e v n (cond c p q) h o = cc (put-data-only e v c, put-only e v n p h (o .0), put-only e v n q h (o .1))
 put-only e v n (sum x D p) h o =
@@ -126,4 +126,4 @@ put-only e v n (sum x D p) h o =
     let c : except x (these (e ++ (v ∷ []))) ≡ these (e ++ (v ∷ [])) = except-these _ x k in
     rw (a, b, c, put-only e v (suc n) p (omega arith) (o .1))
 put-only e v n (seq p q) h o = cc (put-only e v n p h (o .0), put-only e v n q h (o .1))
-put-only e v n (call k ds) h o = ap (call k) (map-map _ _ _ (put-data-only e v) ds)
+put-only e v n (call k ds) h o = ap (call k) (map-twice _ _ _ (put-data-only e v) ds)

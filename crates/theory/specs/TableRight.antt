@@ -13,8 +13,9 @@ use Rattle.pcrl.specs.Table.{Summand, Equation, Table, no-equation, equation, p
 use Rattle.pcrl.specs.Heads.{table-of}
 use Rattle.pcrl.specs.Stack.{InSorts}
 use Rattle.pcrl.specs.Right.{Small, SummandWithin, EquationWithin, Within, RightSig, RightSorts, RightCond, RightCall, RightSummand, RightSummands, RightEquations, RightStart, RightTable}
+use Rattle.laws.specs.Every.{at-every, every-weaken, every-both, every-map}
+use Rattle.laws.specs.Each.{each-of-every, each-turned}
 use Rattle.theory.specs.Standing.{Standing}
-use Rattle.theory.specs.Every.{at-every, every-weaken, every-both, every-map, each-of-every, each-turned}
 use Rattle.theory.specs.ValueSorts.{values-in}
 use Rattle.theory.specs.TableSorts.{SortedSummand}
 use Rattle.theory.specs.Equations.{equation-count}

@@ -14,10 +14,11 @@ use Rattle.pcrl.specs.Parts.{marks, marked, NewPart, if-after, new-parts, new-c
 use Rattle.pcrl.specs.Table.{Summand}
 use Rattle.pcrl.specs.Heads.{with-var, with-cond, with-calls, look, new-call, calls-of, heads-by, heads}
 use Rattle.pcrl.specs.Right.{AreSorts}
-use Rattle.theory.specs.Lists.{every-append, each-length, length-snoc}
-use Rattle.theory.specs.Every.{every-weaken, every-map}
+use Rattle.laws.specs.Lists.{length-snoc, some-append}
+use Rattle.laws.specs.Every.{every-weaken, every-map, every-append}
+use Rattle.laws.specs.Each.{each-length}
 use Rattle.theory.specs.Segments.{next-new, Seg, seg-left, seg-right, seg-right-side}
-use Rattle.theory.specs.SortLaws.{put-sort, put-arguments, wider-sort, wider-arguments, sort-behind, Fitting, fitting-look, fitting-next, fitting-marked}
+use Rattle.theory.specs.SortLaws.{put-sort, put-arguments, wider-sort, wider-arguments, Fitting, fitting-look, fitting-next, fitting-marked}
 use Rattle.theory.specs.Scopes.{SortedIn, sorted-in-parts}
 
 -- In a table of which only the signature S and the parameters of each equation are known: n equations, Ps e those of equation e.
@@ -55,14 +56,14 @@ module _ (S : Sig) (n : ℕ) (Ps : ℕ → List ℕ) where
   unfolding with-cond Every
   sorted-with-cond Δ w c h b z k = record {
     vars = k .vars;
-    conds = ((b, wider-sort S (getElem? Δ) (getElem? (Δ ++ h .vars)) (sort-behind Δ (h .vars)) c Bool-sort z), k .conds);
+    conds = ((b, wider-sort S (getElem? Δ) (getElem? (Δ ++ h .vars)) (some-append Δ (h .vars)) c Bool-sort z), k .conds);
     act = k .act;
     terms = k .terms;
     calls = k .calls;
   }
 
   calls-behind : (Γ Δ : List ℕ) (cs : List (ℕ × List Data)) → Every (SortedCall Γ) cs → Every (SortedCall (Γ ++ Δ)) cs
-  calls-behind Γ Δ cs h = every-weaken _ _ (λ c k. (k .0, wider-arguments S (getElem? Γ) (getElem? (Γ ++ Δ)) (sort-behind Γ Δ) (c .1) (Ps (c .0)) (k .1))) cs h
+  calls-behind Γ Δ cs h = every-weaken _ _ (λ c k. (k .0, wider-arguments S (getElem? Γ) (getElem? (Γ ++ Δ)) (some-append Γ Δ) (c .1) (Ps (c .0)) (k .1))) cs h
 
   -- "each followed by the calls of the rest"
   sorted-with-calls : (Δ : List ℕ) (cs : List (ℕ × List Data)) (h : Summand) → Every (SortedCall Δ) cs → SortedSummand Δ h → SortedSummand Δ (with-calls cs h)

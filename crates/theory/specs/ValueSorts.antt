@@ -12,7 +12,7 @@ use Rattle.pcrl.specs.Sorts.{HasSort, HaveSorts, Arguments, volume}
 use Rattle.pcrl.specs.Values.{place, apply, eval, evals}
 use Rattle.pcrl.specs.Stack.{InSorts}
 use Rattle.pcrl.specs.Right.{RightFunc}
-use Rattle.theory.specs.Lists.{every-getD}
+use Rattle.laws.specs.Every.{every-at}
 
 module _ (S : Sig) where
   -- values of some sorts have a place below the number of all values of those sorts; n of m places come before
@@ -41,10 +41,10 @@ module _ (S : Sig) where
     unfolding apply func size RightFunc
     apply-in f vs w h =
         let g = func S f in
-        let r = every-getD (RightFunc (S .sorts)) (S .funcs) f no-func w right-funcs in
+        let r = every-at (RightFunc (S .sorts)) (S .funcs) no-func f right-funcs w in
         let i : place S 0 (g .takes) vs < 1 * volume (S .sorts) (g .takes) = place-below 0 1 (g .takes) vs (omega arith) h in
         let l : length (g .values) ≡ volume (S .sorts) (g .takes) = r .1 .1 .0 in
-        every-getD _ (g .values) (place S 0 (g .takes) vs) 0 (omega arith) (r .1 .1 .1)
+        every-at _ (g .values) 0 (place S 0 (g .takes) vs) (r .1 .1 .1) (omega arith)
 
     module _ (Γ e : List ℕ) (h : InSorts S Γ e) where
       mutual

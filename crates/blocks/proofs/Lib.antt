@@ -1,0 +1,13 @@
+pub mod Xor
+pub mod Register
+pub mod Shifted
+pub mod Check
+pub mod Telling
+pub mod Fronts
+pub mod Joined
+pub mod Block
+pub mod RightBlock
+pub mod Writing
+pub mod RoomLaws
+pub mod Reading
+pub mod RoundTrip
