@@ -1,0 +1,65 @@
+-- The name is none of those passed: what is left to look through are the names from k on.
+use mathlib.Core.Path.{_∙_, _≡_, ap, refl, sym}
+use mathlib.Core.List.{map}
+use Prim.Native.Nat.{_+_, _-_, ℕ}
+use native.Mathlib.Omega.{arith}
+use lib.ListN.{drop, length}
+use borrow.Author.Needs.{needs}
+use Rattle.action_names.proofs.Alike.{found-among, none-among, passed-among}
+use Rattle.pcrl.specs.Tests.{among}
+use Rattle.pcrl.specs.Tokens.{before}
+use Rattle.pcrl.specs.Values.{place}
+use Rattle.terms.proofs.Nodes.{says-no, says-yes}
+use Rattle.terms.proofs.Stack.{places}
+use Rattle.terms.specs.Stands.{list-at}
+use Rattle.action_names.proofs.among.Statement.{statement}
+use Rattle.action_names.proofs.among.Tie as tie
+
+abbrev Inv-loop : tie.InvT-loop
+Inv-loop s name places from k₀ k = among name (map (list-at s) (drop from places)) ≡ among name (map (list-at s) (drop k places))
+
+abbrev μ-loop : tie.MeasureT-loop
+μ-loop s name places from k₀ k = length places - k
+
+loop-holds : tie.Need-loop-holds Inv-loop μ-loop
+loop-holds c = refl
+
+place-requires : tie.Need-place-requires Inv-loop μ-loop
+place-requires c κs = search needs
+
+list-at-requires : tie.Need-list-at-requires Inv-loop μ-loop
+list-at-requires c κs = search needs
+
+same-requires : tie.Need-same-requires Inv-loop μ-loop
+same-requires c κs = search needs
+
+returns : tie.Need-returns Inv-loop μ-loop
+returns c = sym (c .before .before .before .before .before .loop .inv ∙ found-among (list-at (c .before .before .before .before .before .before .before .before .before .args .s .now)) (c .before .before .before .before .before .before .before .before .before .args .places .now) (c .before .before .before .before .before .loop .k) (c .before .before .before .before .before .before .before .before .before .args .name .now) (c .before .before .list-at .result .now) (omega arith) (c .before .before .list-at .ensures ∙ ap (λ (p : ℕ). list-at (c .before .before .before .before .before .before .before .before .before .args .s .now) p) (c .before .before .before .place .ensures .0)) (says-yes (c .before .same .result) ((c .before .before .before .before .before .before .before .before .before .args .name .now) ≡ (c .before .before .list-at .result .now)) (c .before .same .ensures) (c .if1 .taken)))
+
+add-k : tie.Need-add-k Inv-loop μ-loop
+add-k c = omega arith
+
+loop-less : tie.Need-loop-less Inv-loop μ-loop
+loop-less c = omega arith
+
+loop-again : tie.Need-loop-again Inv-loop μ-loop
+loop-again c = c .before .before .before .before .before .loop .inv ∙ passed-among (list-at (c .before .before .before .before .before .before .before .before .before .args .s .now)) (c .before .before .before .before .before .before .before .before .before .args .places .now) (c .before .before .before .before .before .loop .k) (c .before .before .before .before .before .before .before .before .before .args .name .now) (c .before .before .list-at .result .now) ((c .before .before .before .before .before .loop .k) + 1) (omega arith) (omega arith) (c .before .before .list-at .ensures ∙ ap (λ (p : ℕ). list-at (c .before .before .before .before .before .before .before .before .before .args .s .now) p) (c .before .before .before .place .ensures .0)) (says-no (c .before .same .result) ((c .before .before .before .before .before .before .before .before .before .args .name .now) ≡ (c .before .before .list-at .result .now)) (c .before .same .ensures) (c .if1 .left))
+
+returns-2 : tie.Need-returns-2 Inv-loop μ-loop
+returns-2 c = sym (c .before .loop .inv ∙ none-among (list-at (c .before .before .before .before .before .args .s .now)) (c .before .before .before .before .before .args .places .now) (c .before .loop .k) (c .before .before .before .before .before .args .name .now) (omega arith))
+
+pub among-spec : {M : Type 1} → statement M
+among-spec =
+    tie.close
+    (tie.spec
+    Inv-loop
+    μ-loop
+    loop-holds
+    place-requires
+    list-at-requires
+    same-requires
+    returns
+    add-k
+    loop-less
+    loop-again
+    returns-2)

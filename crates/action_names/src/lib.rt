@@ -1,0 +1,181 @@
+// The names of a table's actions: valid by the token rule, no word, not Bool, distinct.
+use terms::Next;
+ghost use mathlib.Core.Path.{_≡_};
+ghost use mathlib.Core.List.{map, _∷_};
+ghost use mathlib.Core.Bool.{true};
+ghost use Prim.Native.Nat.{_<_};
+ghost use lib.ListN.{length, drop};
+ghost use Rattle.pcrl.specs.Limits.{max-name};
+ghost use Rattle.pcrl.specs.Text.{bytes};
+ghost use Rattle.pcrl.specs.Tests as tests;
+ghost use Rattle.pcrl.specs.Bytes as classes;
+ghost use Rattle.pcrl.specs.Tokens.{words};
+ghost use Rattle.pcrl.specs.Reader.{one, counted};
+ghost use Rattle.pcrl.specs.Right.{free-name};
+ghost use Rattle.pcrl.specs.Decode.{read-name};
+ghost use Rattle.terms.specs.Stands.{Says, list-at};
+ghost use Rattle.terms.specs.Ends.{rests, ended};
+
+// "the whole run at most 16 characters"
+const NAME: u8 = 16;
+
+fn within(low: u8, high: u8, b: u8) -> bool
+    ensures { λ r. ⌜ r ≡ tests.within low high b ⌝ }
+{
+    if b < low {
+        return false;
+    }
+    b <= high
+}
+
+fn letter(b: u8) -> bool
+    ensures { λ r. ⌜ r ≡ classes.letter b ⌝ }
+{
+    if within(b'A', b'Z', b) {
+        return true;
+    }
+    within(b'a', b'z', b)
+}
+
+// "letters, digits or underscores"
+fn name_byte(b: u8) -> bool
+    ensures { λ r. ⌜ r ≡ classes.name-byte b ⌝ }
+{
+    if letter(b) {
+        return true;
+    }
+    if within(b'0', b'9', b) {
+        return true;
+    }
+    b == b'_'
+}
+
+fn same(a: &[u8], b: &[u8]) -> bool
+    ensures { λ r. ⌜ Says r (now (a .entry) ≡ now (b .entry)) ⌝ }
+{
+    if a.len() != b.len() {
+        return false;
+    }
+    let mut i = 0usize;
+    while i < a.len() {
+        if a[i] != b[i] {
+            return false;
+        }
+        i += 1;
+    }
+    true
+}
+
+// Bool, or one of the words that are never names.
+fn reserved(n: &[u8]) -> bool
+    ensures { λ r. ⌜ r ≡ tests.among (now (n .entry)) (bytes "Bool" ∷ words) ⌝ }
+{
+    if same(n, b"Bool") {
+        return true;
+    }
+    if same(n, b"sort") {
+        return true;
+    }
+    if same(n, b"func") {
+        return true;
+    }
+    if same(n, b"act") {
+        return true;
+    }
+    if same(n, b"proc") {
+        return true;
+    }
+    if same(n, b"init") {
+        return true;
+    }
+    if same(n, b"sum") {
+        return true;
+    }
+    if same(n, b"delta") {
+        return true;
+    }
+    same(n, b"tau")
+}
+
+// Begins with a letter, and is no word and not Bool.
+fn free_name(n: &[u8]) -> bool
+    ensures { λ r. ⌜ r ≡ free-name (now (n .entry)) ⌝ }
+{
+    if !letter(terms::peek(n, 0)) {
+        return false;
+    }
+    !reserved(n)
+}
+
+// A counted run of the bytes of names.
+fn read_run(s: &[u8], at: usize) -> Next
+    ensures { λ r. ⌜ (rests (counted (tests.between? 1 max-name) (one (λ b. tests.T? (classes.name-byte b))) (drop at (now (s .entry)))) ≡ ended (now (s .entry)) r) × (r .ok ≡ true → at < length (now (s .entry))) ⌝ }
+{
+    if s.len() <= at {
+        return Next { ok: false, at: 0 };
+    }
+    let n = s[at];
+    if n < 1 {
+        return Next { ok: false, at: 0 };
+    }
+    if NAME < n {
+        return Next { ok: false, at: 0 };
+    }
+    let mut i = at + 1;
+    let mut left = n;
+    while 0 < left {
+        if s.len() <= i {
+            return Next { ok: false, at: 0 };
+        }
+        if !name_byte(s[i]) {
+            return Next { ok: false, at: 0 };
+        }
+        i += 1;
+        left -= 1;
+    }
+    Next { ok: true, at: i }
+}
+
+// "valid by the token rule, and none is Bool"
+pub fn read_name(s: &[u8], at: usize) -> Next
+    ensures { λ r. ⌜ (rests (read-name (drop at (now (s .entry)))) ≡ ended (now (s .entry)) r) × (r .ok ≡ true → at < length (now (s .entry))) ⌝ }
+{
+    let t = read_run(s, at);
+    if !t.ok {
+        return Next { ok: false, at: 0 };
+    }
+    if !free_name(terms::list_at(s, at)) {
+        return Next { ok: false, at: 0 };
+    }
+    t
+}
+
+// Does the name stand at one of the places from the given one on?
+fn among(s: &[u8], name: &[u8], places: &[u16], from: usize) -> bool
+    ensures { λ r. ⌜ r ≡ tests.among (now (name .entry)) (map (list-at (now (s .entry))) (drop from (now (places .entry)))) ⌝ }
+{
+    let mut k = from;
+    while k < places.len() {
+        let other = terms::list_at(s, terms::place(places, k));
+        if same(name, other) {
+            return true;
+        }
+        k += 1;
+    }
+    false
+}
+
+// "Action names are distinct": is no name there twice, where each stands at its place?
+pub fn distinct(s: &[u8], places: &[u16]) -> bool
+    ensures { λ r. ⌜ r ≡ tests.distinct (map (list-at (now (s .entry))) (now (places .entry))) ⌝ }
+{
+    let mut k = 0usize;
+    while k < places.len() {
+        let name = terms::list_at(s, terms::place(places, k));
+        if among(s, name, places, k + 1) {
+            return false;
+        }
+        k += 1;
+    }
+    true
+}

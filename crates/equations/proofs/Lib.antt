@@ -1,0 +1,3 @@
+pub mod EachRow
+pub mod Equations
+pub mod Start

@@ -1,0 +1,160 @@
+-- One byte of a term: whether it may stand where a sort is expected, and the sorts that it wants behind it.
+use mathlib.Core.Path.{_≡_, refl, sym, ap, _∙_}
+use mathlib.Core.List.{List, [], _∷_}
+use mathlib.Core.Bool.{Bool, true, false}
+use mathlib.Core.Option.{none, some}
+use Prim.Native.Nat.{ℕ, zero, suc, _+_, _-_, _<_, _≤_}
+use native.Mathlib.Omega.{arith}
+use lib.Dec.{ltb, eqb}
+use lib.ListN.{length, getD, getElem?}
+use borrow.Author.Tests.{ltb-true, ltb-false, eqb-true, eqb-false}
+use Rattle.pcrl.specs.Limits.{max-arity}
+use Rattle.pcrl.specs.Tests.{Between}
+use Rattle.pcrl.specs.Sheet.{Sig, Func, no-func, size, func}
+use Rattle.pcrl.specs.Stream.{variable-code, function-code, encode-func}
+use Rattle.pcrl.specs.Decode.{variable, function, node-of, Fits, wants}
+use Rattle.laws.specs.Every.{every-at}
+use Rattle.codec.specs.TermLaws as terms
+use Rattle.terms.specs.Stands.{Says, Stands, KnownData}
+use Rattle.terms.proofs.Places.{stands-there, as-many, arity-at, takes-at, gives-at}
+
+-- A TEST'S ANSWER
+
+pub says-lt : (a b : ℕ) (P : Type 0) → (a < b → P) → (P → a < b) → Says (ltb a b) P
+says-lt a b P f g = go (ltb a b) refl
+  where
+    go : (t : Bool) → ltb a b ≡ t → Says t P
+    go true e = f (ltb-true a b e)
+    go false e = λ p. let h = g p in let k = ltb-false a b e in omega arith
+
+pub says-eq : (a b : ℕ) (P : Type 0) → (a ≡ b → P) → (P → a ≡ b) → Says (eqb a b) P
+says-eq a b P f g = go (eqb a b) refl
+  where
+    go : (t : Bool) → eqb a b ≡ t → Says t P
+    go true e = f (eqb-true a b e)
+    go false e = λ p. eqb-false a b e (g p)
+
+pub says-yes : (t : Bool) (P : Type 0) → Says t P → t ≡ true → P
+says-yes true P h e = h
+says-yes false P h e = absurd (let z : _≡_ {A = ℕ} 0 1 = cc in omega arith)
+
+pub says-no : (t : Bool) (P : Type 0) → Says t P → t ≡ false → ¬ P
+says-no true P h e = absurd (let z : _≡_ {A = ℕ} 0 1 = cc in omega arith)
+says-no false P h e = h
+
+-- A BYTE'S NODE
+
+node-variable : (b i : ℕ) → b ≡ variable-code + i → i < variable-code → node-of b ≡ variable i
+node-variable b i e h = ap node-of e ∙ terms.node-variable i h
+
+node-function : (b f : ℕ) → b ≡ function-code + f → node-of b ≡ function f
+node-function b f e = ap node-of e ∙ terms.node-function f
+
+elem-at : (Γ : List ℕ) (i : ℕ) → i < length Γ → getElem? Γ i ≡ some (getD Γ i 0)
+elem-at [] i h = absurd (omega arith)
+elem-at (x ∷ Γ) zero h = refl
+elem-at (x ∷ Γ) (suc i) h = elem-at Γ i (omega arith)
+
+elem-none : (Γ : List ℕ) (i : ℕ) → length Γ ≤ i → getElem? Γ i ≡ none
+elem-none [] i h = refl
+elem-none (x ∷ Γ) zero h = absurd (omega arith)
+elem-none (x ∷ Γ) (suc i) h = elem-none Γ i (omega arith)
+
+-- THE ANSWERS OF `fits`
+
+pub size-is : (S : Sig) (s sizes funcs : List ℕ) → KnownData S s sizes funcs → (d i x : ℕ) → i ≡ d → x ≡ getD sizes i 0 → x ≡ size S d
+unfolding size
+size-is S s sizes funcs known d i x z e = e ∙ ap (λ (j : ℕ). getD sizes j 0) z ∙ ap (λ (l : List ℕ). getD l d 0) (known .sizes-are)
+
+module _ (S : Sig) (Γ : List ℕ) (b d : ℕ) where
+  pub fits-value : (x : ℕ) → x ≡ size S d → b < variable-code → Says (ltb b x) (Fits S Γ d (node-of b))
+  unfolding Fits
+  fits-value x z h = rw (terms.node-value b h) (says-lt b x _ (λ l. rw z at l) (λ l. rw (← z) at l))
+
+  pub fits-variable : (x : ℕ) → x ≡ getD Γ (b - variable-code) 0 → variable-code ≤ b → b < function-code → b - variable-code < length Γ → Says (eqb x d) (Fits S Γ d (node-of b))
+  unfolding Fits
+  fits-variable x e l h k =
+      rw (node-variable b (b - variable-code) (omega arith) (omega arith), elem-at Γ (b - variable-code) k) (says-eq x d _ (λ q. ap some (sym e ∙ q)) (λ q. let z : getD Γ (b - variable-code) 0 ≡ d = cc in e ∙ z))
+
+  pub no-variable : variable-code ≤ b → b < function-code → length Γ ≤ b - variable-code → ¬ Fits S Γ d (node-of b)
+  unfolding Fits
+  no-variable l h k = rw (node-variable b (b - variable-code) (omega arith) (omega arith), elem-none Γ (b - variable-code) k) (λ q. let z : _≡_ {A = ℕ} 0 1 = cc in omega arith)
+
+-- a function by its place
+module _ (S : Sig) (s sizes funcs : List ℕ) (known : KnownData S s sizes funcs) (f : ℕ) where
+  pub function-stands : f < length funcs → Stands s (getD funcs f 0) (encode-func (func S f))
+  unfolding func
+  function-stands h = let z = as-many encode-func s (S .funcs) funcs (known .stand) in stands-there encode-func s (S .funcs) funcs (known .stand) no-func f (omega arith)
+
+  pub one-or-two : f < length (S .funcs) → Between 1 max-arity (length (func S f .takes))
+  unfolding func
+  one-or-two h = every-at (λ (g : Func). Between 1 max-arity (length (g .takes))) (S .funcs) no-func f (known .arity) h
+
+  module _ (Γ : List ℕ) (b d : ℕ) (is : b ≡ function-code + f) where
+    pub fits-function : (x : ℕ) → x ≡ getD s (getD funcs f 0 + 1 + getD s (getD funcs f 0) 0) 0 → f < length funcs → Says (eqb x d) (Fits S Γ d (node-of b))
+    unfolding Fits
+    fits-function x e h =
+        let z : x ≡ func S f .gives = e ∙ gives-at s (getD funcs f 0) (func S f) (function-stands h) in
+        let q = as-many encode-func s (S .funcs) funcs (known .stand) in
+        let l : f < length (S .funcs) = omega arith in
+        rw (node-function b f is) (says-eq x d _ (λ y. (l, sym z ∙ y)) (λ y. z ∙ y .1))
+
+    pub no-function : length funcs ≤ f → ¬ Fits S Γ d (node-of b)
+    unfolding Fits
+    no-function h = rw (node-function b f is) (λ y. let q = as-many encode-func s (S .funcs) funcs (known .stand) in let l = y .0 in omega arith)
+
+-- THE ANSWERS OF `after`
+
+one-sort : (l : List ℕ) → length l ≡ 1 → l ≡ getD l 0 0 ∷ []
+one-sort [] e = absurd (omega arith)
+one-sort (x ∷ []) e = refl
+one-sort (x ∷ (y ∷ l)) e = absurd (omega arith)
+
+two-sorts : (l : List ℕ) → ¬ (length l ≡ 1) → Between 1 max-arity (length l) → l ≡ getD l 0 0 ∷ (getD l 1 0 ∷ [])
+two-sorts [] n h = absurd (omega arith)
+two-sorts (x ∷ []) n h = absurd (n refl)
+two-sorts (x ∷ (y ∷ [])) n h = refl
+two-sorts (x ∷ (y ∷ (z ∷ l))) n h = absurd (omega arith)
+
+pub wants-none : (S : Sig) (Γ : List ℕ) (b : ℕ) → b < function-code → wants S Γ (node-of b) ≡ []
+unfolding wants
+wants-none S Γ b h = go (ltb b variable-code) refl
+  where
+    go : (t : Bool) → ltb b variable-code ≡ t → wants S Γ (node-of b) ≡ []
+    go true e = rw (terms.node-value b (ltb-true b variable-code e))
+    go false e = let k = ltb-false b variable-code e in rw (node-variable b (b - variable-code) (omega arith) (omega arith))
+
+-- n, x, y: what is read at the function's place
+module _ (S : Sig) (s sizes funcs : List ℕ) (known : KnownData S s sizes funcs) (Γ : List ℕ) (D b f n x : ℕ) (is : b ≡ function-code + f)
+    (fits : Fits S Γ D (node-of b)) (count : n ≡ getD s (getD funcs f 0) 0) (one : x ≡ getD s (getD funcs f 0 + 1) 0) where
+  fits-there : f < length (S .funcs)
+  unfolding Fits
+  fits-there = let h : Fits S Γ D (function f) = rw (node-function b f is) at fits in h .0
+
+  stands : Stands s (getD funcs f 0) (encode-func (func S f))
+  stands = let q = as-many encode-func s (S .funcs) funcs (known .stand) in let l = fits-there in function-stands S s sizes funcs known f (omega arith)
+
+  some-sorts : Between 1 max-arity (length (func S f .takes))
+  some-sorts = one-or-two S s sizes funcs known f fits-there
+
+  sort-at : (i : ℕ) → i < length (func S f .takes) → getD s (getD funcs f 0 + 1 + i) 0 ≡ getD (func S f .takes) i 0
+  sort-at = takes-at s (getD funcs f 0) (func S f) stands
+
+  first-sort : x ≡ getD (func S f .takes) 0 0
+  first-sort = let k = some-sorts in let z : getD funcs f 0 + 1 ≡ getD funcs f 0 + 1 + 0 = omega arith in one ∙ ap (λ (i : ℕ). getD s i 0) z ∙ sort-at 0 (omega arith)
+
+  pub wants-one : n ≡ 1 → wants S Γ (node-of b) ≡ x ∷ []
+  unfolding wants
+  wants-one e =
+      rw (node-function b f is) (one-sort (func S f .takes) (sym (arity-at s (getD funcs f 0) (func S f) stands) ∙ sym count ∙ e) ∙ ap (λ (y : ℕ). y ∷ []) (sym first-sort))
+
+  pub wants-two : (y : ℕ) → y ≡ getD s (getD funcs f 0 + 2) 0 → ¬ (n ≡ 1) → wants S Γ (node-of b) ≡ x ∷ (y ∷ [])
+  unfolding wants
+  wants-two y two e =
+      let a = arity-at s (getD funcs f 0) (func S f) stands in
+      let k = some-sorts in
+      let z : getD funcs f 0 + 2 ≡ getD funcs f 0 + 1 + 1 = omega arith in
+      let l : ¬ (length (func S f .takes) ≡ 1) = λ w. e (count ∙ a ∙ w) in
+      let v : 1 < length (func S f .takes) = omega arith in
+      let w : y ≡ getD (func S f .takes) 1 0 = two ∙ ap (λ (i : ℕ). getD s i 0) z ∙ sort-at 1 v in
+      rw (node-function b f is) (two-sorts (func S f .takes) l k ∙ cc (first-sort, w))

@@ -1,0 +1,4 @@
+pub mod Stands
+pub mod Ends
+pub mod Numbers
+pub mod Laid

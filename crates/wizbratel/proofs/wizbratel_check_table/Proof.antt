@@ -1,0 +1,64 @@
+-- The check of a table: where blocks are refused so is the file, and else the stream's table decides.
+use borrow.Author.Needs.{needs}
+use mathlib.Core.Path.{_≡_}
+use Prim.Native.Nat.{_-_}
+use native.Mathlib.Omega.{arith}
+use lib.ListN.{take, length-take}
+use Rattle.blocks.proofs.RoundTrip.{opens-accepted, opens-refused}
+use Rattle.wizbratel.proofs.TableCheck.{no-stream, table-answer}
+use Rattle.wizbratel.proofs.wizbratel_check_table.Statement.{statement}
+use Rattle.wizbratel.proofs.wizbratel_check_table.Tie as tie
+use Rattle.wizbratel.proofs.wizbratel_check_table.Reads as reads
+use Rattle.wizbratel.proofs.wizbratel_check_table.Lts as lts
+use Rattle.blocks.proofs.read_file.Reads as read-file-reads
+use Rattle.tables.proofs.read_table.Reads as read-table-reads
+
+slice-aggregate-read-file : tie.Need-slice-aggregate-read-file
+slice-aggregate-read-file c = search needs
+
+read-file-requires : tie.Need-read-file-requires
+read-file-requires c κs = search needs
+
+returns : tie.Need-returns
+returns c =
+    let read = c .before .before .before .read-file in
+    no-stream _ (read .result .refused) (opens-refused (read .result) (read .last .1 .0) _ (read .ensures) (omega arith))
+
+sub-read-table : tie.Need-sub-read-table
+sub-read-table c = search needs
+
+part-read-table-start : tie.Need-part-read-table-start
+part-read-table-start c = search needs
+
+part-read-table-end : tie.Need-part-read-table-end
+part-read-table-end c =
+    let read = c .before .before .before .before .read-file in
+    let a = opens-accepted (read .result) (read .last .1 .0) _ (read .ensures) (omega arith) in
+    omega (arith, a .1)
+
+read-table-requires : tie.Need-read-table-requires
+read-table-requires c κs =
+    let read = c .before .before .before .before .before .read-file in
+    let a = opens-accepted (read .result) (read .last .1 .0) _ (read .ensures) (omega arith) in
+    rw (length-take (read .result .count - 0) (read .last .1 .0)) (omega (arith, read .kept .1 .0))
+
+returns-2 : tie.Need-returns-2
+returns-2 c =
+    let read = c .before .before .before .before .before .before .before .read-file in
+    let a = opens-accepted (read .result) (read .last .1 .0) _ (read .ensures) (omega arith) in
+    let z : read .result .count - 0 ≡ read .result .count = omega arith in
+    let t = c .before .read-table in
+    table-answer _ (take (read .result .count) (read .last .1 .0)) (t .result) (a .0) (rw z at (t .ensures)) .0 (c .if2 .taken)
+
+returns-3 : tie.Need-returns-3
+returns-3 c =
+    let read = c .before .before .before .before .before .before .before .read-file in
+    let a = opens-accepted (read .result) (read .last .1 .0) _ (read .ensures) (omega arith) in
+    let z : read .result .count - 0 ≡ read .result .count = omega arith in
+    let t = c .before .read-table in
+    table-answer _ (take (read .result .count) (read .last .1 .0)) (t .result) (a .0) (rw z at (t .ensures)) .1 (c .if2 .left)
+
+pub wizbratel-check-table-spec : {M : Type 1} → statement M
+wizbratel-check-table-spec =
+    tie.close
+    (tie.spec slice-aggregate-read-file read-file-requires returns sub-read-table part-read-table-start part-read-table-end read-table-requires returns-2 returns-3)

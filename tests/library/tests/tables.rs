@@ -1,0 +1,158 @@
+//! Table files put to the proved library and to the other reader: vectors, files made of sheets, and mutants of them.
+
+#[path = "../../reader/tests/common/mod.rs"]
+mod common;
+
+use common::random::Random;
+use library::check_table;
+
+/// Both say the same of a file.
+fn same(file: &[u8], what: &str) -> u8 {
+    let wanted = reader::read_table(file).err().unwrap_or(0);
+    assert_eq!(check_table(file), wanted, "{what}");
+    wanted
+}
+
+/// The check of each block made right again.
+fn rechecked(mut file: Vec<u8>) -> Vec<u8> {
+    for block in file.chunks_mut(512) {
+        if block.len() == 512 {
+            let check = reader::crc16(&block[..510]).to_be_bytes();
+            block[510..].copy_from_slice(&check);
+        }
+    }
+    file
+}
+
+/// Files of accepted sheets of the vectors.
+fn made() -> Vec<Vec<u8>> {
+    let sheets = common::vectors("sheets.jsonl");
+    sheets
+        .iter()
+        .filter_map(|case| reader::make_table(&case.bytes("sheet")).ok())
+        .collect()
+}
+
+#[test]
+fn vectors_get_their_answers() {
+    for case in common::vectors("tables.jsonl") {
+        let wanted = match case.text("answer") {
+            "ok" => 0,
+            refused => refused["refused ".len()..].parse().expect("a number"),
+        };
+        assert_eq!(
+            check_table(&case.bytes("file")),
+            wanted,
+            "{}",
+            case.text("name")
+        );
+    }
+}
+
+#[test]
+fn files_of_sheets_are_accepted() {
+    let files = made();
+    assert!(files.len() > 300);
+    for file in &files {
+        assert_eq!(same(file, "a file of a sheet"), 0);
+    }
+}
+
+#[test]
+fn every_byte_changed_in_turn() {
+    for file in made().iter().step_by(60) {
+        for at in 0..file.len() {
+            let mut mutant = file.clone();
+            mutant[at] ^= 1 << (at % 8);
+            assert_ne!(same(&mutant, &format!("byte {at}")), 0);
+        }
+    }
+}
+
+#[test]
+fn stream_bytes_changed_and_the_check_made_right_again() {
+    let mut random = Random::new(5);
+    let mut accepted = 0;
+    for file in made().iter().step_by(3) {
+        for _ in 0..60 {
+            let mut mutant = file.clone();
+            let block = random.below(mutant.len() / 512);
+            let used = if random.one_in(8) { 506 } else { 60 };
+            mutant[block * 512 + 4 + random.below(used)] = random.below(256) as u8;
+            accepted += usize::from(same(&rechecked(mutant), "a changed stream") == 0);
+        }
+    }
+    assert!(accepted > 100, "only {accepted} mutants were accepted");
+}
+
+#[test]
+fn small_values_changed_and_the_check_made_right_again() {
+    let mut random = Random::new(6);
+    let mut accepted = 0;
+    for file in made().iter().step_by(2) {
+        for _ in 0..60 {
+            let mut mutant = file.clone();
+            let at = 4 + random.below(60);
+            mutant[at] = mutant[at].wrapping_add([1, 255, 32, 64, 2][random.below(5)]);
+            accepted += usize::from(same(&rechecked(mutant), "a changed stream") == 0);
+        }
+    }
+    assert!(accepted > 100, "only {accepted} mutants were accepted");
+}
+
+#[test]
+fn blocks_dropped_doubled_swapped_and_renumbered() {
+    for file in made().iter().filter(|file| file.len() > 1024).take(20) {
+        let blocks: Vec<&[u8]> = file.chunks(512).collect();
+        same(&blocks[1..].concat(), "first block dropped");
+        same(&blocks[..blocks.len() - 1].concat(), "last block dropped");
+        same(&[file.as_slice(), blocks[0]].concat(), "a block doubled");
+        let mut swapped = blocks.clone();
+        swapped.swap(0, 1);
+        same(&swapped.concat(), "blocks swapped");
+        for at in 0..4 {
+            let mut mutant = file.clone();
+            mutant[512 + at] ^= 1;
+            same(&rechecked(mutant), "number or count changed");
+        }
+    }
+}
+
+#[test]
+fn one_block_too_many_and_one_too_few() {
+    for file in made().iter().step_by(25) {
+        let count = file.len() / 512;
+        for wanted in [count - 1, count + 1] {
+            let mut mutant = file.clone();
+            mutant.resize(wanted * 512, 0);
+            for (number, block) in mutant.chunks_mut(512).enumerate() {
+                block[..2].copy_from_slice(&(number as u16).to_le_bytes());
+                block[2..4].copy_from_slice(&(wanted as u16).to_le_bytes());
+            }
+            assert_ne!(same(&rechecked(mutant), "another number of blocks"), 0);
+        }
+    }
+}
+
+#[test]
+fn lengths() {
+    for length in [0, 1, 511, 512, 513, 1024, 65_536, 66_048, 200_000] {
+        same(&vec![0; length], "zeros");
+    }
+    let file = &made()[0];
+    for cut in [1, 100, 511] {
+        assert_eq!(same(&file[..file.len() - cut], "cut"), 12);
+    }
+}
+
+#[test]
+fn a_table_of_128_blocks() {
+    let file = library::large::large_file();
+    assert_eq!(file.len(), 65_536);
+    assert_eq!(same(&file, "a large table"), 0);
+    for at in (4..file.len()).step_by(997) {
+        let mut mutant = file.clone();
+        mutant[at] ^= 0x40;
+        same(&rechecked(mutant), "a changed large table");
+    }
+}
