@@ -21,7 +21,7 @@ use Rattle.blocks.proofs.Reading.{read-whole}
 -- WRITTEN AND READ
 
 -- where n bytes were answered, the first n bytes of the output are the file
-written-file : (s out : List ℕ) (n : ℕ) → Bytes n ≡ filed-answer (stream-filed s (length out)) → take n (output-after (stream-filed s (length out)) out) ≡ file-of-stream s
+pub written-file : (s out : List ℕ) (n : ℕ) → Bytes n ≡ filed-answer (stream-filed s (length out)) → take n (output-after (stream-filed s (length out)) out) ≡ file-of-stream s
 unfolding stream-filed question filed-answer output-after
 written-file s out n = go (room? (file-of-stream s) (length out))
   where

@@ -1,1 +1,2 @@
 pub mod TableCheck
+pub mod RoundTrip
