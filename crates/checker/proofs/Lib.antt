@@ -1,0 +1,11 @@
+pub mod Sets
+pub mod Heads
+pub mod Rounds
+pub mod Answers
+pub mod DataSorts
+pub mod EachFits
+pub mod AllFit
+pub mod NodeSorts
+pub mod TermSorts
+pub mod FunctionValues
+pub mod Sheets

@@ -1,0 +1,5 @@
+pub mod Circles
+pub mod Says
+pub mod Fits
+pub mod Known
+pub mod Sorts

@@ -1,0 +1,169 @@
+// Data terms and their sorts. A data term is rightly sorted where each of its nodes is: a node's own arguments are looked at
+// from the node, so no walk needs a stack.
+ghost use mathlib.Core.Path.{_≡_};
+ghost use Prim.Native.Nat.{_<_};
+ghost use Rattle.pcrl.specs.Sheet.{Sig, size};
+ghost use Rattle.nodes.specs.Layout.{cell-limit, byte-limit};
+ghost use Rattle.checker.specs.Known.{KnownSizes};
+ghost use Rattle.checker.specs.Sorts.{start-limit, FitsAt, EachFitsAt, ArgumentsFitAt, AllFitAt, ArgumentsAt};
+use nodes::Datum;
+use nodes::FUNC_ROW;
+use nodes::FUNCTION;
+use nodes::Outline;
+use nodes::VALUE;
+use nodes::VARIABLE;
+use nodes::byte;
+use nodes::cell;
+use nodes::data_at;
+use nodes::skip_data;
+
+// A sort's size, 0 for no sort.
+pub fn size_of(sizes: &[u8], sorts: usize, sort: usize) -> usize
+    ensures { λ r. ⌜ r < byte-limit ⌝ }
+    ensures { λ r. ⌜ ((S : Sig) → KnownSizes S (now (sizes .entry)) sorts → r ≡ size S sort) ⌝ }
+{
+    if sort < sorts { byte(sizes, sort) } else { 0 }
+}
+
+// Has the first node of a data term this sort, whatever its arguments are?
+pub fn fits(
+    cells: &[u16],
+    at: usize,
+    sort: usize,
+    scope: &[u16],
+    sizes: &[u8],
+    funcs: &[u8],
+    n: Outline,
+) -> bool
+    ensures { λ r. ⌜ FitsAt (now (cells .entry)) (now (scope .entry)) (now (sizes .entry)) (now (funcs .entry)) n at sort r ⌝ }
+{
+    if at >= cells.len() {
+        return false;
+    }
+    let d = data_at(cells, at);
+    if d.tag == VALUE {
+        return d.number < size_of(sizes, n.sorts, sort);
+    }
+    if d.tag == VARIABLE {
+        return cell(scope, d.number) == sort;
+    }
+    if d.number >= n.funcs {
+        return false;
+    }
+    byte(funcs, FUNC_ROW * d.number + 3) == sort
+}
+
+// Do as many data terms as a row has sorts fit these sorts, one by one?
+pub fn each_fits(
+    cells: &[u16],
+    at: usize,
+    count: usize,
+    row: &[u8],
+    start: usize,
+    scope: &[u16],
+    sizes: &[u8],
+    funcs: &[u8],
+    n: Outline,
+) -> bool
+    requires { ⌜ (start < start-limit) × (count < cell-limit) ⌝ }
+    ensures { λ r. ⌜ EachFitsAt (now (cells .entry)) (now (scope .entry)) (now (sizes .entry)) (now (funcs .entry)) n at count (now (row .entry)) start r ⌝ }
+{
+    if byte(row, start) != count {
+        return false;
+    }
+    let mut p = at;
+    let mut i: usize = 0;
+    while i < count {
+        let sort = byte(row, start + 1 + i);
+        if !fits(cells, p, sort, scope, sizes, funcs, n) {
+            return false;
+        }
+        p = skip_data(cells, p, 1);
+        i += 1;
+    }
+    true
+}
+
+// Do the arguments of one node of a data term fit?
+pub fn arguments_fit(
+    cells: &[u16],
+    d: Datum,
+    scope: &[u16],
+    sizes: &[u8],
+    funcs: &[u8],
+    n: Outline,
+) -> bool
+    requires { ⌜ (d .number < cell-limit) × (d .kids < cell-limit) ⌝ }
+    ensures { λ r. ⌜ ArgumentsFitAt (now (cells .entry)) (now (scope .entry)) (now (sizes .entry)) (now (funcs .entry)) n d r ⌝ }
+{
+    if d.tag != FUNCTION {
+        return true;
+    }
+    if d.number >= n.funcs {
+        return false;
+    }
+    each_fits(
+        cells,
+        d.next,
+        d.kids,
+        funcs,
+        FUNC_ROW * d.number,
+        scope,
+        sizes,
+        funcs,
+        n,
+    )
+}
+
+// Do the arguments of every node in some data terms fit?
+pub fn all_fit(
+    cells: &[u16],
+    at: usize,
+    count: usize,
+    scope: &[u16],
+    sizes: &[u8],
+    funcs: &[u8],
+    n: Outline,
+) -> bool
+    requires { ⌜ count < cell-limit ⌝ }
+    ensures { λ r. ⌜ AllFitAt (now (cells .entry)) (now (scope .entry)) (now (sizes .entry)) (now (funcs .entry)) n at count r ⌝ }
+{
+    let mut p = at;
+    let mut need = count;
+    while need > 0 {
+        if p >= cells.len() {
+            return false;
+        }
+        if need > cells.len() {
+            return false;
+        }
+        let d = data_at(cells, p);
+        if !arguments_fit(cells, d, scope, sizes, funcs, n) {
+            return false;
+        }
+        need = need - 1 + d.kids;
+        p = d.next;
+    }
+    true
+}
+
+// "Argument counts and sorts right": have data terms the sorts of a row?
+pub fn arguments_right(
+    cells: &[u16],
+    at: usize,
+    count: usize,
+    row: &[u8],
+    start: usize,
+    scope: &[u16],
+    sizes: &[u8],
+    funcs: &[u8],
+    n: Outline,
+) -> bool
+    requires { ⌜ (start < start-limit) × (count < cell-limit) ⌝ }
+    ensures { λ r. ⌜ ArgumentsAt (now (cells .entry)) (now (scope .entry)) (now (sizes .entry)) (now (funcs .entry)) n at count (now (row .entry)) start r ⌝ }
+{
+    if !each_fits(cells, at, count, row, start, scope, sizes, funcs, n) {
+        return false;
+    }
+    all_fit(cells, at, count, scope, sizes, funcs, n)
+}

@@ -1,0 +1,5 @@
+pub mod Bits
+pub mod Cells
+pub mod Data
+pub mod Nodes
+pub mod NewParts

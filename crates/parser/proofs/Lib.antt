@@ -1,0 +1,14 @@
+pub mod Signs
+pub mod Writing
+pub mod Reading
+pub mod Words
+pub mod DataLaws
+pub mod ProcessLaws
+pub mod LineLaws
+pub mod InitLaws
+pub mod InitRead
+pub mod RunLaws
+pub mod Room
+pub mod Places
+pub mod SheetLaws
+pub mod ParseLaws

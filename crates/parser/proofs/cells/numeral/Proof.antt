@@ -1,0 +1,48 @@
+-- `cells::numeral` meets its contract.
+use native.Mathlib.Omega.{arith}
+use Rattle.parser.proofs.Reading.{live}
+use Rattle.parser.proofs.Words.{numeral-missing-low, numeral-missing-high, reads-missing, reads-numeral}
+use borrow.Author.Needs.{needs}
+use Rattle.parser.proofs.cells.numeral.Statement.{statement}
+use Rattle.parser.proofs.cells.numeral.Tie as tie
+
+peek-requires : tie.Need-peek-requires
+peek-requires c κs = search needs
+
+lost-requires : tie.Need-lost-requires
+lost-requires c κs = search needs
+
+returns : tie.Need-returns
+returns c = (omega arith, λ s f l. reads-missing (numeral-missing-low s (c .before .before .before .before .before .args .toks .now) (c .before .before .before .before .before .args .at) (omega arith)) (omega arith))
+
+lost-requires-2 : tie.Need-lost-requires-2
+lost-requires-2 c κs = search needs
+
+returns-2 : tie.Need-returns-2
+returns-2 c = (omega arith, λ s f l. reads-missing (numeral-missing-high s (c .before .before .before .before .before .before .args .toks .now) (c .before .before .before .before .before .before .args .at) (omega arith)) (omega arith))
+
+add-t7 : tie.Need-add-t7
+add-t7 c = let l = live (c .before .before .before .before .before .args .toks .now) (c .before .before .before .before .before .args .at) (omega arith) in omega arith
+
+put-requires : tie.Need-put-requires
+put-requires c κs = search needs
+
+same-length : tie.Need-same-length
+same-length c = search needs
+
+returns-3 : tie.Need-returns-3
+returns-3 c = (omega arith, λ s f l. reads-numeral s (c .before .before .before .before .before .before .before .before .before .args .toks .now) (c .before .before .before .before .before .before .before .before .before .args .at) (c .before .before .put .ensures) (c .before .before .before .before .before .before .peek .ensures) (omega arith) (omega arith))
+
+pub numeral-spec : {M : Type 1} → statement M
+numeral-spec =
+    tie.close
+    (tie.spec
+    peek-requires
+    lost-requires
+    returns
+    lost-requires-2
+    returns-2
+    add-t7
+    put-requires
+    same-length
+    returns-3)

@@ -1,0 +1,39 @@
+-- `process::sum_head` meets its contract: a straight run of readers.
+use native.Mathlib.Omega.{arith}
+use Rattle.parser.proofs.ProcessLaws.{head-read}
+use borrow.Author.Needs.{needs}
+use Rattle.parser.proofs.process.sum_head.Statement.{statement}
+use Rattle.parser.proofs.process.sum_head.Tie as tie
+
+expect-requires : tie.Need-expect-requires
+expect-requires c κs = omega arith
+
+name-requires : tie.Need-name-requires
+name-requires c κs = tt
+
+expect-requires-2 : tie.Need-expect-requires-2
+expect-requires-2 c κs = omega arith
+
+name-requires-2 : tie.Need-name-requires-2
+name-requires-2 c κs = tt
+
+expect-requires-3 : tie.Need-expect-requires-3
+expect-requires-3 c κs = omega arith
+
+same-length : tie.Need-same-length
+same-length c = search needs
+
+returns : tie.Need-returns
+returns c = (omega (arith, c .before .before .before .before .before .before .before .before .before .before .expect .ensures .0, c .before .before .before .before .before .before .before .before .name .ensures .0, c .before .before .before .before .before .expect2 .ensures .0, c .before .before .before .name2 .ensures .0, c .expect3 .ensures .0), λ s f l. head-read s (c .before .before .before .before .before .before .before .before .before .before .before .before .before .args .toks .now) (c .before .before .before .before .before .before .before .before .before .before .before .before .before .args .at) (c .before .before .before .before .before .before .before .before .before .before .expect .ensures .1) (c .before .before .before .before .before .before .before .before .name .ensures .0) (c .before .before .before .before .before .before .before .before .name .ensures .1 s 1 (omega arith)) (c .before .before .before .before .before .expect2 .ensures .0) (c .before .before .before .before .before .expect2 .ensures .1) (c .before .before .before .name2 .ensures .0) (c .before .before .before .name2 .ensures .1 s 1 (omega arith)) (c .expect3 .ensures .0) (c .expect3 .ensures .1))
+
+pub sum-head-spec : {M : Type 1} → statement M
+sum-head-spec =
+    tie.close
+    (tie.spec
+    expect-requires
+    name-requires
+    expect-requires-2
+    name-requires-2
+    expect-requires-3
+    same-length
+    returns)

@@ -1,0 +1,53 @@
+-- `sheet::act_line` meets its contract.
+use mathlib.Core.Path.{sym, _∙_}
+use native.Mathlib.Omega.{arith}
+use borrow.Author.Needs.{needs}
+use Rattle.parser.proofs.Reading.{live}
+use Rattle.parser.proofs.LineLaws.{act-bare, act-sorts}
+use Rattle.parser.proofs.sheet.act_line.Statement.{statement}
+use Rattle.parser.proofs.sheet.act_line.Tie as tie
+
+put-requires : tie.Need-put-requires
+put-requires c κs = tt
+
+name-requires : tie.Need-name-requires
+name-requires c κs = tt
+
+peek-requires : tie.Need-peek-requires
+peek-requires c κs = tt
+
+put-requires-2 : tie.Need-put-requires-2
+put-requires-2 c κs = tt
+
+same-length : tie.Need-same-length
+same-length c = search needs
+
+returns : tie.Need-returns
+returns c = ((c .before .before .before .before .before .before .before .before .name .ensures .0), λ s f l. act-bare s (c .before .before .before .before .before .before .before .before .before .before .before .before .before .before .before .before .args .toks .now) (c .before .before .before .before .before .before .before .before .before .before .before .before .before .before .before .before .args .at) (c .before .before .before .before .before .before .before .before .before .before .before .before .put .ensures) (c .before .before .before .before .before .before .before .before .name .ensures .1 s 1 (omega arith)) (λ e. c .before .before .before .before .if1 .taken (c .before .before .before .before .before .peek .ensures ∙ e)) (c .before .before .put2 .ensures))
+
+add-one-or-two : tie.Need-add-one-or-two
+add-one-or-two c = let l = live (c .before .before .before .before .before .before .before .before .before .before .before .before .before .args .toks .now) (c .before .before .before .before .before .name .result .at) (omega arith) in omega arith
+
+one-or-two-requires : tie.Need-one-or-two-requires
+one-or-two-requires c κs = search needs
+
+same-length-2 : tie.Need-same-length-2
+same-length-2 c = search needs
+
+returns-2 : tie.Need-returns-2
+returns-2 c = let l = live (c .before .before .before .before .before .before .before .before .before .before .before .before .before .before .before .before .before .args .toks .now) (c .before .before .before .before .before .before .before .before .before .name .result .at) (omega arith) in (omega (arith, (c .before .before .before .before .before .before .before .before .before .name .ensures .0), (c .before .before .one-or-two .ensures .0)), λ s f l. act-sorts s (c .before .before .before .before .before .before .before .before .before .before .before .before .before .before .before .before .before .args .toks .now) (c .before .before .before .before .before .before .before .before .before .before .before .before .before .before .before .before .before .args .at) (c .before .before .before .before .before .before .before .before .before .before .before .before .before .put .ensures) (c .before .before .before .before .before .before .before .before .before .name .ensures .1 s 1 (omega arith)) (sym (c .before .before .before .before .before .before .peek .ensures) ∙ c .before .before .before .before .before .if1 .left) (c .before .before .one-or-two .ensures .1 s 1 (omega arith)))
+
+pub act-line-spec : {M : Type 1} → statement M
+act-line-spec =
+    tie.close
+    (tie.spec
+    put-requires
+    name-requires
+    peek-requires
+    put-requires-2
+    same-length
+    returns
+    add-one-or-two
+    one-or-two-requires
+    same-length-2
+    returns-2)

@@ -1,0 +1,24 @@
+-- `sheet::bare` meets its contract.
+use native.Mathlib.Omega.{arith}
+use Rattle.parser.proofs.Reading.{live}
+use Rattle.parser.proofs.InitLaws.{called-low, called-told}
+use Rattle.parser.proofs.sheet.bare.Statement.{statement}
+use Rattle.parser.proofs.sheet.bare.Tie as tie
+
+peek-requires : tie.Need-peek-requires
+peek-requires c κs = tt
+
+returns : tie.Need-returns
+returns c = λ s. called-low s (c .before .before .before .args .toks .now) (c .before .before .before .args .at) (omega arith)
+
+add-peek : tie.Need-add-peek
+add-peek c = let l = live (c .before .before .before .args .toks .now) (c .before .before .before .args .at) (omega arith) in omega arith
+
+peek-requires-2 : tie.Need-peek-requires-2
+peek-requires-2 c κs = tt
+
+returns-2 : tie.Need-returns-2
+returns-2 c = λ s. called-told s (c .before .before .before .before .args .toks .now) (c .before .before .before .before .args .at) (omega arith) (c .peek2 .result) (c .peek2 .ensures)
+
+pub bare-spec : {M : Type 1} → statement M
+bare-spec = tie.close (tie.spec peek-requires returns add-peek peek-requires-2 returns-2)

@@ -1,0 +1,54 @@
+-- `sheet::func_line` meets its contract: a straight run of readers.
+use mathlib.Core.Path.{_∙_}
+use native.Mathlib.Omega.{arith}
+use borrow.Author.Needs.{needs}
+use Rattle.parser.proofs.Reading.{ahead-then}
+use Rattle.parser.proofs.LineLaws.{func-read}
+use lib.ListN.{length}
+use Rattle.parser.proofs.sheet.func_line.Statement.{statement}
+use Rattle.parser.proofs.sheet.func_line.Tie as tie
+
+put-requires : tie.Need-put-requires
+put-requires c κs = tt
+
+name-requires : tie.Need-name-requires
+name-requires c κs = tt
+
+expect-requires : tie.Need-expect-requires
+expect-requires c κs = omega arith
+
+one-or-two-requires : tie.Need-one-or-two-requires
+one-or-two-requires c κs = search needs
+
+expect-requires-2 : tie.Need-expect-requires-2
+expect-requires-2 c κs = omega arith
+
+name-requires-2 : tie.Need-name-requires-2
+name-requires-2 c κs = tt
+
+expect-requires-3 : tie.Need-expect-requires-3
+expect-requires-3 c κs = omega arith
+
+numerals-requires : tie.Need-numerals-requires
+numerals-requires c κs = search needs
+
+same-length : tie.Need-same-length
+same-length c = c .before .before .numerals .kept .1 .1 .0 ∙ c .before .before .before .before .before .before .before .name2 .kept .1 .1 .0 ∙ c .before .before .before .before .before .before .before .before .before .before .before .before .one-or-two .kept .1 .1 .0 ∙ c .before .before .before .before .before .before .before .before .before .before .before .before .before .before .before .before .before .name .kept .1 .1 .0 ∙ c .before .before .before .before .before .before .before .before .before .before .before .before .before .before .before .before .before .before .before .before .before .put .kept .0
+
+returns : tie.Need-returns
+returns c = (ahead-then (length (c .before .before .before .before .before .before .before .before .before .before .before .before .before .before .before .before .before .before .before .before .before .before .before .before .before .args .toks .now)) (c .before .before .before .before .before .before .before .before .before .before .before .before .before .before .before .before .before .before .before .before .before .before .before .before .before .args .at) (ahead-then (length (c .before .before .before .before .before .before .before .before .before .before .before .before .before .before .before .before .before .before .before .before .before .before .before .before .before .args .toks .now)) (c .before .before .before .before .before .before .before .before .before .before .before .before .before .before .before .before .before .before .before .before .before .before .before .before .before .args .at) (ahead-then (length (c .before .before .before .before .before .before .before .before .before .before .before .before .before .before .before .before .before .before .before .before .before .before .before .before .before .args .toks .now)) (c .before .before .before .before .before .before .before .before .before .before .before .before .before .before .before .before .before .before .before .before .before .before .before .before .before .args .at) (ahead-then (length (c .before .before .before .before .before .before .before .before .before .before .before .before .before .before .before .before .before .before .before .before .before .before .before .before .before .args .toks .now)) (c .before .before .before .before .before .before .before .before .before .before .before .before .before .before .before .before .before .before .before .before .before .before .before .before .before .args .at) (ahead-then (length (c .before .before .before .before .before .before .before .before .before .before .before .before .before .before .before .before .before .before .before .before .before .before .before .before .before .args .toks .now)) (c .before .before .before .before .before .before .before .before .before .before .before .before .before .before .before .before .before .before .before .before .before .before .before .before .before .args .at) (ahead-then (length (c .before .before .before .before .before .before .before .before .before .before .before .before .before .before .before .before .before .before .before .before .before .before .before .before .before .args .toks .now)) (c .before .before .before .before .before .before .before .before .before .before .before .before .before .before .before .before .before .before .before .before .before .before .before .before .before .args .at) (c .before .before .before .before .before .before .before .before .before .before .before .before .before .before .before .before .before .name .ensures .0) (c .before .before .before .before .before .before .before .before .before .before .before .before .before .before .expect .ensures .0)) (c .before .before .before .before .before .before .before .before .before .before .before .before .one-or-two .ensures .0)) (c .before .before .before .before .before .before .before .before .before .expect2 .ensures .0)) (c .before .before .before .before .before .before .before .name2 .ensures .0)) (c .before .before .before .before .expect3 .ensures .0)) (c .before .before .numerals .ensures .0), λ s. func-read s (c .before .before .before .before .before .before .before .before .before .before .before .before .before .before .before .before .before .before .before .before .before .before .before .before .before .args .toks .now) (c .before .before .before .before .before .before .before .before .before .before .before .before .before .before .before .before .before .before .before .before .before .before .before .before .before .args .at) (c .before .before .before .before .before .before .before .before .before .before .before .before .before .before .before .before .before .before .before .before .before .put .ensures) (c .before .before .before .before .before .before .before .before .before .before .before .before .before .before .before .before .before .name .ensures .1 s 1 (omega arith)) (c .before .before .before .before .before .before .before .before .before .before .before .before .before .before .expect .ensures .0) (c .before .before .before .before .before .before .before .before .before .before .before .before .before .before .expect .ensures .1) (c .before .before .before .before .before .before .before .before .before .before .before .before .one-or-two .ensures .0) (c .before .before .before .before .before .before .before .before .before .before .before .before .one-or-two .ensures .1 s 1 (omega arith)) (c .before .before .before .before .before .before .before .before .before .expect2 .ensures .0) (c .before .before .before .before .before .before .before .before .before .expect2 .ensures .1) (c .before .before .before .before .before .before .before .name2 .ensures .0) (c .before .before .before .before .before .before .before .name2 .ensures .1 s 1 (omega arith)) (c .before .before .before .before .expect3 .ensures .0) (c .before .before .before .before .expect3 .ensures .1) (c .before .before .numerals .ensures .0) (c .before .before .numerals .ensures .1 s))
+
+pub func-line-spec : {M : Type 1} → statement M
+func-line-spec =
+    tie.close
+    (tie.spec
+    put-requires
+    name-requires
+    expect-requires
+    one-or-two-requires
+    expect-requires-2
+    name-requires-2
+    expect-requires-3
+    numerals-requires
+    same-length
+    returns)

@@ -1,0 +1,55 @@
+-- `sheet::init_line` meets its contract: a call whose names all have brackets is the definition's init line.
+use native.Mathlib.Omega.{arith}
+use borrow.Author.Needs.{needs}
+use Rattle.parser.proofs.InitRead.{init-lost, init-read, init-refused}
+use Rattle.parser.proofs.sheet.init_line.Statement.{statement}
+use Rattle.parser.proofs.sheet.init_line.Tie as tie
+
+put-requires : tie.Need-put-requires
+put-requires c κs = tt
+
+named-requires : tie.Need-named-requires
+named-requires c κs = search needs
+
+same-length : tie.Need-same-length
+same-length c = search needs
+
+returns : tie.Need-returns
+returns c = (c .before .before .before .before .named .ensures .0, λ s. init-lost s (c .before .before .before .before .before .before .before .before .before .before .before .before .args .toks .now) (c .before .before .before .before .before .before .before .before .before .before .before .before .args .at) (c .before .before .before .before .before .before .before .before .put .ensures) (c .before .before .before .before .named .ensures .1 s) (omega arith))
+
+add-all-called : tie.Need-add-all-called
+add-all-called c = search needs
+
+all-called-requires : tie.Need-all-called-requires
+all-called-requires c κs = search needs
+
+same-length-2 : tie.Need-same-length-2
+same-length-2 c = search needs
+
+returns-2 : tie.Need-returns-2
+returns-2 c = (c .before .before .before .before .before .before .named .ensures .0, λ s. init-read s (c .before .before .before .before .before .before .before .before .before .before .before .before .before .before .args .toks .now) (c .before .before .before .before .before .before .before .before .before .before .before .before .before .before .args .at) (c .before .before .before .before .before .before .before .before .before .before .put .ensures) (c .before .before .before .before .before .before .named .ensures .1 s) (omega arith) (c .before .all-called .ensures s) (c .if2 .taken))
+
+lost-requires : tie.Need-lost-requires
+lost-requires c κs = tt
+
+same-length-3 : tie.Need-same-length-3
+same-length-3 c = search needs
+
+returns-3 : tie.Need-returns-3
+returns-3 c = (omega arith, λ s. init-refused s (c .before .before .before .before .before .before .before .before .before .before .before .before .before .before .before .args .toks .now) (c .before .before .before .before .before .before .before .before .before .before .before .before .before .before .before .args .at) (c .before .before .before .before .before .before .before .before .before .before .before .put .ensures) (c .before .before .before .before .before .before .before .named .ensures .1 s) (omega arith) (c .before .before .all-called .ensures s) (c .before .if2 .left) (c .lost .ensures))
+
+pub init-line-spec : {M : Type 1} → statement M
+init-line-spec =
+    tie.close
+    (tie.spec
+    put-requires
+    named-requires
+    same-length
+    returns
+    add-all-called
+    all-called-requires
+    same-length-2
+    returns-2
+    lost-requires
+    same-length-3
+    returns-3)

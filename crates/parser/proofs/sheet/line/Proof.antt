@@ -1,0 +1,63 @@
+-- `sheet::line` meets its contract, kind by kind.
+use mathlib.Core.Path.{sym, subst}
+use Prim.Native.Nat.{_+_, _*_}
+use native.Mathlib.Omega.{arith}
+use borrow.Author.Needs.{needs}
+use Rattle.parser.proofs.RunLaws.{sort-kind-is, func-kind-is, act-kind-is, proc-kind-is}
+use Rattle.parser.specs.Reading.{Read}
+use lib.ListN.{length}
+use Rattle.parser.proofs.sheet.line.Statement.{statement}
+use Rattle.parser.proofs.sheet.line.Tie as tie
+
+sort-line-requires : tie.Need-sort-line-requires
+sort-line-requires c κs = search needs
+
+same-length : tie.Need-same-length
+same-length c = search needs
+
+returns : tie.Need-returns
+returns c = (c .before .before .sort-line .ensures .0, subst (λ K. Read (4 * length (c .before .before .before .before .before .before .before .args .toks .now) + 3) (K .enc) (K .reader) (c .before .before .before .before .before .before .before .args .toks .now) (c .before .before .before .before .before .before .before .args .at) (c .before .before .before .before .before .before .before .args .w) (c .before .before .before .before .before .before .before .args .out .now) (c .before .before .sort-line .result) (c .before .before .sort-line .last .1 .1 .0)) (sym (sort-kind-is (c .before .before .before .before .before .before .before .args .word) (c .before .before .before .before .if1 .taken))) (λ s f l. c .before .before .sort-line .ensures .1 s f (omega arith)))
+
+func-line-requires : tie.Need-func-line-requires
+func-line-requires c κs = search needs
+
+same-length-2 : tie.Need-same-length-2
+same-length-2 c = search needs
+
+returns-2 : tie.Need-returns-2
+returns-2 c = (c .before .before .func-line .ensures .0, subst (λ K. Read (4 * length (c .before .before .before .before .before .before .before .before .args .toks .now) + 3) (K .enc) (K .reader) (c .before .before .before .before .before .before .before .before .args .toks .now) (c .before .before .before .before .before .before .before .before .args .at) (c .before .before .before .before .before .before .before .before .args .w) (c .before .before .before .before .before .before .before .before .args .out .now) (c .before .before .func-line .result) (c .before .before .func-line .last .1 .1 .0)) (sym (func-kind-is (c .before .before .before .before .before .before .before .before .args .word) (c .before .before .before .before .if2 .taken))) (λ s f l. c .before .before .func-line .ensures .1 s f (omega arith)))
+
+act-line-requires : tie.Need-act-line-requires
+act-line-requires c κs = search needs
+
+same-length-3 : tie.Need-same-length-3
+same-length-3 c = search needs
+
+returns-3 : tie.Need-returns-3
+returns-3 c = (c .before .before .act-line .ensures .0, subst (λ K. Read (4 * length (c .before .before .before .before .before .before .before .before .before .args .toks .now) + 3) (K .enc) (K .reader) (c .before .before .before .before .before .before .before .before .before .args .toks .now) (c .before .before .before .before .before .before .before .before .before .args .at) (c .before .before .before .before .before .before .before .before .before .args .w) (c .before .before .before .before .before .before .before .before .before .args .out .now) (c .before .before .act-line .result) (c .before .before .act-line .last .1 .1 .0)) (sym (act-kind-is (c .before .before .before .before .before .before .before .before .before .args .word) (c .before .before .before .before .if3 .taken))) (λ s f l. c .before .before .act-line .ensures .1 s f (omega arith)))
+
+proc-line-requires : tie.Need-proc-line-requires
+proc-line-requires c κs = search needs
+
+same-length-4 : tie.Need-same-length-4
+same-length-4 c = search needs
+
+returns-4 : tie.Need-returns-4
+returns-4 c = (c .before .before .proc-line .ensures .0, subst (λ K. Read (4 * length (c .before .before .before .before .before .before .before .before .before .args .toks .now) + 3) (K .enc) (K .reader) (c .before .before .before .before .before .before .before .before .before .args .toks .now) (c .before .before .before .before .before .before .before .before .before .args .at) (c .before .before .before .before .before .before .before .before .before .args .w) (c .before .before .before .before .before .before .before .before .before .args .out .now) (c .before .before .proc-line .result) (c .before .before .proc-line .last .1 .1 .0)) (sym (proc-kind-is (c .before .before .before .before .before .before .before .before .before .args .word) (c .before .before .before .before .before .before .if1 .left) (c .before .before .before .before .before .if2 .left) (c .before .before .before .before .if3 .left))) (λ s f l. c .before .before .proc-line .ensures .1 s f (omega arith)))
+
+pub line-spec : {M : Type 1} → statement M
+line-spec =
+    tie.close
+    (tie.spec
+    sort-line-requires
+    same-length
+    returns
+    func-line-requires
+    same-length-2
+    returns-2
+    act-line-requires
+    same-length-3
+    returns-3
+    proc-line-requires
+    same-length-4
+    returns-4)

@@ -1,0 +1,61 @@
+-- `sheet::one_or_two` meets its contract.
+use mathlib.Core.Path.{sym, _∙_}
+use native.Mathlib.Omega.{arith}
+use borrow.Author.Needs.{needs}
+use Rattle.parser.proofs.Reading.{live}
+use Rattle.parser.proofs.LineLaws.{sorts-one, sorts-two}
+use Rattle.parser.proofs.sheet.one_or_two.Statement.{statement}
+use Rattle.parser.proofs.sheet.one_or_two.Tie as tie
+
+put-requires : tie.Need-put-requires
+put-requires c κs = tt
+
+name-requires : tie.Need-name-requires
+name-requires c κs = tt
+
+peek-requires : tie.Need-peek-requires
+peek-requires c κs = tt
+
+put-requires-2 : tie.Need-put-requires-2
+put-requires-2 c κs = tt
+
+same-length : tie.Need-same-length
+same-length c = search needs
+
+returns : tie.Need-returns
+returns c = ((c .before .before .before .before .before .before .before .before .name .ensures .0), λ s f l. sorts-one s (c .before .before .before .before .before .before .before .before .before .before .before .before .before .before .before .before .args .toks .now) (c .before .before .before .before .before .before .before .before .before .before .before .before .before .before .before .before .args .at) (c .before .before .before .before .before .before .before .before .before .before .before .before .put .ensures) (c .before .before .before .before .before .before .before .before .name .ensures .1 s 1 (omega arith)) (λ e. c .before .before .before .before .if1 .taken (c .before .before .before .before .before .peek .ensures ∙ e)) (c .before .before .put2 .ensures))
+
+put-requires-3 : tie.Need-put-requires-3
+put-requires-3 c κs = tt
+
+add-name : tie.Need-add-name
+add-name c = let l = live (c .before .before .before .before .before .before .before .before .before .before .before .before .before .before .before .before .before .args .toks .now) (c .before .before .before .before .before .before .before .before .before .name .result .at) (omega arith) in omega arith
+
+name-requires-2 : tie.Need-name-requires-2
+name-requires-2 c κs = tt
+
+put-requires-4 : tie.Need-put-requires-4
+put-requires-4 c κs = tt
+
+same-length-2 : tie.Need-same-length-2
+same-length-2 c = search needs
+
+returns-2 : tie.Need-returns-2
+returns-2 c = let l = live (c .before .before .before .before .before .before .before .before .before .before .before .before .before .before .before .before .before .before .before .before .before .before .before .before .before .args .toks .now) (c .before .before .before .before .before .before .before .before .before .before .before .before .before .before .before .before .before .name .result .at) (omega arith) in (omega (arith, (c .before .before .before .before .before .before .before .before .before .before .before .before .before .before .before .before .before .name .ensures .0), (c .before .before .before .before .before .before .name2 .ensures .0)), λ s f l. sorts-two s (c .before .before .before .before .before .before .before .before .before .before .before .before .before .before .before .before .before .before .before .before .before .before .before .before .before .args .toks .now) (c .before .before .before .before .before .before .before .before .before .before .before .before .before .before .before .before .before .before .before .before .before .before .before .before .before .args .at) (c .before .before .before .before .before .before .before .before .before .before .before .before .before .before .before .before .before .before .before .before .before .put .ensures) (c .before .before .before .before .before .before .before .before .before .before .before .before .before .before .before .before .before .name .ensures .1 s 1 (omega arith)) (sym (c .before .before .before .before .before .before .before .before .before .before .before .before .before .before .peek .ensures) ∙ c .before .before .before .before .before .before .before .before .before .before .before .before .before .if1 .left) (c .before .before .before .before .before .before .before .before .before .before .before .put3 .ensures) (c .before .before .before .before .before .before .name2 .ensures .1 s 1 (omega arith)) (c .before .before .put4 .ensures))
+
+pub one-or-two-spec : {M : Type 1} → statement M
+one-or-two-spec =
+    tie.close
+    (tie.spec
+    put-requires
+    name-requires
+    peek-requires
+    put-requires-2
+    same-length
+    returns
+    put-requires-3
+    add-name
+    name-requires-2
+    put-requires-4
+    same-length-2
+    returns-2)

@@ -1,0 +1,89 @@
+// One token read, one cell written. No reader asks for room: a cell past the end is not written.
+ghost use mathlib.Core.Path.{_≡_};
+ghost use Prim.Native.Nat.{_+_, _<_};
+ghost use lib.ListN.{length, getD};
+ghost use Rattle.pcrl.specs.Grammar.{a-name, a-numeral};
+ghost use Rattle.parser.specs.Cells.{enc-name, enc-numeral};
+ghost use Rattle.parser.specs.Reading.{Ahead, Put, Expected, Read};
+use crate::Step;
+use crate::codes;
+
+// The token at `at`, or 0 past the end: no token is 0.
+pub fn peek(toks: &[u16], at: usize) -> u16
+    ensures { λ r. ⌜ r ≡ getD (now (toks .entry)) at 0 ⌝ }
+{
+    if at < toks.len() { toks[at] } else { 0 }
+}
+
+// Writes a cell; the next free one.
+pub fn put(out: &mut [u16], w: usize, v: u16) -> usize
+    ensures { λ r. ⌜ Put (now (out .entry)) w v r (now (out .exit)) ⌝ }
+{
+    if w < out.len() {
+        out[w] = v;
+        w + 1
+    } else {
+        w
+    }
+}
+
+// A wrong form: past the end.
+pub fn lost(toks: &[u16], w: usize) -> Step
+    ensures { λ r. ⌜ length (now (toks .entry)) < r .at ⌝ }
+{
+    Step {
+        at: toks.len() + 1,
+        w: w,
+    }
+}
+
+// The sign stands next: the place behind it.
+pub fn expect(toks: &[u16], at: usize, sign: u16) -> usize
+    requires { ⌜ 0 < sign ⌝ }
+    ensures ahead { λ r. ⌜ Ahead (length (now (toks .entry))) at r ⌝ }
+    ensures read { λ r. ⌜ Expected (now (toks .entry)) at sign r ⌝ }
+{
+    if peek(toks, at) == sign {
+        at + 1
+    } else {
+        toks.len() + 1
+    }
+}
+
+pub fn name(toks: &[u16], at: usize, out: &mut [u16], w: usize) -> Step
+    ensures ahead { λ r. ⌜ Ahead (length (now (toks .entry))) at (r .at) ⌝ }
+    ensures read { λ r. ⌜ Read 0 enc-name (λ f. a-name) (now (toks .entry)) at w (now (out .entry)) r (now (out .exit)) ⌝ }
+{
+    let t = peek(toks, at);
+    if t < codes::FIRST_NAME {
+        return lost(toks, w);
+    }
+    Step {
+        at: at + 1,
+        w: put(out, w, t),
+    }
+}
+
+pub fn numeral(toks: &[u16], at: usize, out: &mut [u16], w: usize) -> Step
+    ensures ahead { λ r. ⌜ Ahead (length (now (toks .entry))) at (r .at) ⌝ }
+    ensures read { λ r. ⌜ Read 0 enc-numeral (λ f. a-numeral) (now (toks .entry)) at w (now (out .entry)) r (now (out .exit)) ⌝ }
+{
+    let t = peek(toks, at);
+    if t < codes::FIRST_NUMERAL {
+        return lost(toks, w);
+    }
+    if t >= codes::FIRST_NAME {
+        return lost(toks, w);
+    }
+    Step {
+        at: at + 1,
+        w: put(out, w, t),
+    }
+}
+
+// A place as a cell.
+pub fn short(w: usize) -> u16
+    ensures { λ r. ⌜ (w < 65536 → r ≡ w) ⌝ }
+{
+    if w < 65536 { w as u16 } else { 0 }
+}

@@ -1,0 +1,93 @@
+// The cells of signs, as the lexer writes them, and the tags of the tree's cells (specs/Cells.antt).
+pub const HASH: u16 = 35;
+
+pub const OPEN: u16 = 40;
+
+pub const CLOSE: u16 = 41;
+
+pub const PLUS: u16 = 43;
+
+pub const COMMA: u16 = 44;
+
+pub const DOT: u16 = 46;
+
+pub const COLON: u16 = 58;
+
+pub const SEMICOLON: u16 = 59;
+
+pub const EQUALS: u16 = 61;
+
+pub const ARROW: u16 = 128;
+
+pub const IF: u16 = 129;
+
+pub const ELSE: u16 = 130;
+
+pub const SORT: u16 = 160;
+
+pub const FUNC: u16 = 161;
+
+pub const ACT: u16 = 162;
+
+pub const PROC: u16 = 163;
+
+pub const INIT: u16 = 164;
+
+pub const SUM: u16 = 165;
+
+pub const DELTA: u16 = 166;
+
+pub const TAU: u16 = 167;
+
+// where numerals and names begin
+pub const FIRST_NUMERAL: u16 = 256;
+
+pub const FIRST_NAME: u16 = 1024;
+
+pub const VALUE_TAG: u16 = 1;
+
+pub const VARIABLE_TAG: u16 = 2;
+
+pub const APPLY_TAG: u16 = 3;
+
+pub const ONE_TAG: u16 = 4;
+
+pub const MORE_TAG: u16 = 5;
+
+pub const ONLY_TAG: u16 = 6;
+
+pub const PLUS_TAG: u16 = 7;
+
+pub const PLAIN_TAG: u16 = 8;
+
+pub const COND_TAG: u16 = 9;
+
+pub const LAST_TAG: u16 = 10;
+
+pub const THEN_TAG: u16 = 11;
+
+pub const DELTA_TAG: u16 = 12;
+
+pub const TAU_TAG: u16 = 13;
+
+pub const BARE_TAG: u16 = 14;
+
+pub const GIVEN_TAG: u16 = 15;
+
+pub const SUM_TAG: u16 = 16;
+
+pub const GROUP_TAG: u16 = 17;
+
+pub const END_TAG: u16 = 18;
+
+pub const ITEM_TAG: u16 = 19;
+
+pub const SORT_TAG: u16 = 20;
+
+pub const FUNC_TAG: u16 = 21;
+
+pub const ACT_TAG: u16 = 22;
+
+pub const PROC_TAG: u16 = 23;
+
+pub const INIT_TAG: u16 = 24;

@@ -1,0 +1,70 @@
+// "Data is a numeral, a variable, or a function name with bracketed data."
+ghost use Prim.Native.Nat.{_+_, _*_, _<_};
+ghost use lib.ListN.{length};
+ghost use Rattle.pcrl.specs.Grammar.{data-term, data-list};
+ghost use Rattle.parser.specs.Cells.{enc-data, enc-datas, enc-part};
+ghost use Rattle.parser.specs.Call.{call};
+ghost use Rattle.parser.specs.Reading.{Ahead, Read, left};
+use crate::Step;
+use crate::cells::expect;
+use crate::cells::lost;
+use crate::cells::name;
+use crate::cells::peek;
+use crate::cells::put;
+use crate::codes;
+
+pub fn data_term(toks: &[u16], at: usize, out: &mut [u16], w: usize) -> Step
+    ensures ahead { λ r. ⌜ Ahead (length (now (toks .entry))) at (r .at) ⌝ }
+    ensures read { λ r. ⌜ Read (2 * left (now (toks .entry)) at) enc-data data-term (now (toks .entry)) at w (now (out .entry)) r (now (out .exit)) ⌝ }
+{
+    let t = peek(toks, at);
+    if t < codes::FIRST_NUMERAL {
+        return lost(toks, w);
+    }
+    if t < codes::FIRST_NAME {
+        let v = put(out, w, codes::VALUE_TAG);
+        return Step {
+            at: at + 1,
+            w: put(out, v, t),
+        };
+    }
+    let x = put(out, w, codes::VARIABLE_TAG);
+    let d = put(out, x, t);
+    let p = at + 1;
+    if peek(toks, p) != codes::OPEN {
+        return Step { at: p, w: d };
+    }
+    put(out, w, codes::APPLY_TAG);
+    data_list(toks, p + 1, out, d)
+}
+
+// Bracketed data, behind the opening bracket.
+pub fn data_list(toks: &[u16], at: usize, out: &mut [u16], w: usize) -> Step
+    ensures ahead { λ r. ⌜ Ahead (length (now (toks .entry))) at (r .at) ⌝ }
+    ensures read { λ r. ⌜ Read (2 * left (now (toks .entry)) at + 1) enc-datas data-list (now (toks .entry)) at w (now (out .entry)) r (now (out .exit)) ⌝ }
+{
+    let d = put(out, w, codes::ONE_TAG);
+    let a = data_term(toks, at, out, d);
+    if peek(toks, a.at) != codes::COMMA {
+        return Step {
+            at: expect(toks, a.at, codes::CLOSE),
+            w: a.w,
+        };
+    }
+    put(out, w, codes::MORE_TAG);
+    data_list(toks, a.at + 1, out, a.w)
+}
+
+// A name with or without bracketed data.
+pub fn named(toks: &[u16], at: usize, out: &mut [u16], w: usize) -> Step
+    ensures ahead { λ r. ⌜ Ahead (length (now (toks .entry))) at (r .at) ⌝ }
+    ensures read { λ r. ⌜ Read (2 * left (now (toks .entry)) at) enc-part call (now (toks .entry)) at w (now (out .entry)) r (now (out .exit)) ⌝ }
+{
+    let x = put(out, w, codes::BARE_TAG);
+    let a = name(toks, at, out, x);
+    if peek(toks, a.at) != codes::OPEN {
+        return a;
+    }
+    put(out, w, codes::GIVEN_TAG);
+    data_list(toks, a.at + 1, out, a.w)
+}

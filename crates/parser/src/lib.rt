@@ -1,0 +1,85 @@
+// Question 5: the tokens of a sheet to the cells of its tree, in prefix order (specs/Cells.antt).
+ghost use mathlib.Core.List.{List, map};
+ghost use Prim.Native.Nat.{ℕ, _*_, _≤_, _<_};
+ghost use lib.ListN.{length};
+ghost use Rattle.pcrl.specs.Grammar.{parse};
+ghost use Rattle.lexer.specs.Cells.{cell-token};
+ghost use Rattle.parser.specs.Parses.{Parses};
+
+pub mod codes; // the numbers of signs and tags
+pub mod cells; // one token, one cell
+pub mod data; // data terms
+pub mod process; // choices, conditionals, sequences and parts
+pub mod sheet; // the lines of a sheet
+
+use cells::expect;
+use cells::short;
+use sheet::init_line;
+use sheet::lines_of;
+use sheet::some_lines;
+
+// A place among the tokens and the next free cell. A place past the end of the tokens is a wrong form.
+pub struct Step {
+    pub at: usize,
+    pub w: usize,
+}
+
+// The same, and how many lines were counted.
+pub struct Run {
+    pub at: usize,
+    pub w: usize,
+    pub count: usize,
+}
+
+// How many lines of each kind there are, and where in the cells each of the first 8, 16, 32, 16 stands.
+pub struct Lines {
+    pub sorts: [u16; 8],
+    pub funcs: [u16; 16],
+    pub acts: [u16; 32],
+    pub procs: [u16; 16],
+    pub sort_count: usize,
+    pub func_count: usize,
+    pub act_count: usize,
+    pub proc_count: usize,
+    pub init: u16,
+}
+
+pub struct Parsed {
+    pub ok: bool,
+    pub used: usize,
+    pub lines: Lines,
+}
+
+// 5: "The form above?" Three cells a token are room enough.
+pub fn parse(toks: &[u16], out: &mut [u16]) -> Parsed
+    requires { ⌜ (3 * length (now toks) ≤ length (now out)) × (length (now out) < 65536) ⌝ }
+    ensures { λ r. ⌜ ((s : List ℕ) → Parses (parse (map (cell-token s) (now (toks .entry)))) s r (now (out .exit))) ⌝ }
+{
+    let mut sorts = [0u16; 8];
+    let mut funcs = [0u16; 16];
+    let mut acts = [0u16; 32];
+    let mut procs = [0u16; 16];
+    let a = lines_of(codes::SORT, toks, 0, out, 0, &mut sorts, 0);
+    let b = lines_of(codes::FUNC, toks, a.at, out, a.w, &mut funcs, 0);
+    let c = lines_of(codes::ACT, toks, b.at, out, b.w, &mut acts, 0);
+    let d = lines_of(codes::PROC, toks, c.at, out, c.w, &mut procs, 0);
+    let p = some_lines(toks, d.at, d.count);
+    let i = expect(toks, p, codes::INIT);
+    let e = init_line(toks, i, out, d.w);
+    let end = expect(toks, e.at, codes::SEMICOLON);
+    Parsed {
+        ok: end == toks.len(),
+        used: e.w,
+        lines: Lines {
+            sorts: sorts,
+            funcs: funcs,
+            acts: acts,
+            procs: procs,
+            sort_count: a.count,
+            func_count: b.count,
+            act_count: c.count,
+            proc_count: d.count,
+            init: short(d.w),
+        },
+    }
+}
