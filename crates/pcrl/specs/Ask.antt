@@ -1,13 +1,12 @@
 -- Step questions: one, and a list of them put in turn.
-use mathlib.Core.Path.{_≡_}
 use mathlib.Core.List.{List, [], _∷_}
 use mathlib.Core.Option.{Option, none, some}
-use Prim.Native.Nat.{ℕ, zero, suc, _≤_}
+use Prim.Native.Nat.{ℕ}
 use native.Mathlib.Decide.{decLe}
 use lib.ListN.{length, getElem?}
 use Rattle.pcrl.specs.Label.{Label}
 use Rattle.pcrl.specs.Table.{Table}
-use Rattle.pcrl.specs.Stack.{Frame, Stack, stack-of, frames-of}
+use Rattle.pcrl.specs.Stack.{Stack}
 use Rattle.pcrl.specs.Steps.{steps}
 
 -- "the answer is ended (depth 0) or none (k too large), both with the lent frames unchanged, or the label and the new depth,

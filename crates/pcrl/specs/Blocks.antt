@@ -1,14 +1,13 @@
 -- Blocks of 512 bytes, their check, and reading a table's file: questions 11 to 14.
 use mathlib.Core.Path.{_≡_}
 use mathlib.Core.List.{List, [], _∷_, _++_}
-use mathlib.Core.Bool.{Bool, true, false}
+use mathlib.Core.Bool.{true, false}
 use mathlib.Core.Option.{Option, none, some}
-use Prim.Native.Nat.{ℕ, zero, suc, _+_, _-_, _*_, _/_, _%_, _≤_}
+use Prim.Native.Nat.{ℕ, _+_, _-_, _*_, _/_, _%_, _≤_}
 use native.Mathlib.Decide.{ℕ-discrete, decLe}
 use lib.Bits.{bitXor}
 use lib.Dec.{ltb}
 use lib.ListN.{length, take, drop, replicate}
-use Rattle.pcrl.specs.Result.{Result, question, question-of, accepted}
 use Rattle.pcrl.specs.Tests.{Between, both?, between?, same?, Every, every?}
 use Rattle.pcrl.specs.Reader.{Got, missing, found, all}
 use Rattle.pcrl.specs.Parts.{tabulate}

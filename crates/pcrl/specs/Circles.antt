@@ -1,12 +1,10 @@
 -- Question 9: circles at the head.
-use mathlib.Core.Path.{_≡_}
 use mathlib.Core.List.{List, [], _∷_, _++_, map}
 use mathlib.Core.Bool.{Bool, true, false}
 use Prim.Native.Nat.{ℕ, zero, suc}
-use lib.Dec.{T}
-use lib.ListN.{length, getD, replicate}
-use Rattle.pcrl.specs.Tests.{and, T?}
-use Rattle.pcrl.specs.Sheet.{Data, Act, Proc, delta, atom, alt, cond, sum, seq, call, Process, Sheet, right}
+use lib.ListN.{length, getD}
+use Rattle.pcrl.specs.Tests.{and}
+use Rattle.pcrl.specs.Sheet.{Proc, delta, atom, alt, cond, sum, seq, call, Process, Sheet, right}
 
 -- The processes at the head of a term: "The head is a sequence's first part, looked for inside sums, brackets and each side of `+` and of a conditional.
 -- Conditions are ignored."

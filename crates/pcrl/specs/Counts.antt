@@ -1,6 +1,5 @@
 -- Question 6: counts and sizes. Lines are counted, whether or not their names repeat.
-use mathlib.Core.List.{List}
-use Prim.Native.Nat.{ℕ, suc, _≤_}
+use Prim.Native.Nat.{suc, _≤_}
 use lib.ListN.{length}
 use Rattle.pcrl.specs.Limits.{max-sorts, max-size, max-functions, max-actions, max-processes, frame-width}
 use Rattle.pcrl.specs.Tests.{Between, both?, between?, at-most?, Every, every?}

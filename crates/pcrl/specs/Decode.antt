@@ -2,7 +2,6 @@
 -- exactly where the stream begins with that table's bytes and the table is right.
 use mathlib.Core.Path.{_≡_}
 use mathlib.Core.List.{List, [], _∷_, _++_}
-use mathlib.Core.Bool.{Bool, true, false}
 use mathlib.Core.Option.{Option}
 use Prim.Native.Nat.{ℕ, zero, suc, _-_, _<_}
 use native.Mathlib.Decide.{ℕ-discrete, decLt}
@@ -11,7 +10,7 @@ use lib.ListN.{length, getD, getElem?, drop}
 use Rattle.pcrl.specs.Limits.{max-name, max-sorts, max-size, max-functions, max-actions, max-arity, frame-width, max-equations, max-summands, max-variables, max-conditions, max-calls, max-nodes, max-stream}
 use Rattle.pcrl.specs.Tests.{both?, between?, at-most?, below?, T?, some?, distinct}
 use Rattle.pcrl.specs.Bytes.{name-byte}
-use Rattle.pcrl.specs.Reader.{Got, missing, found, Reader, bind, keep, one, test, pair, view, times, counted, each}
+use Rattle.pcrl.specs.Reader.{Got, missing, found, Reader, keep, one, test, pair, view, times, counted, each}
 use Rattle.pcrl.specs.Sheet.{Data, val, var, app, Datas, nil, cons, Act, tau, action, Func, Action, Sig, size, func, takes-of}
 use Rattle.pcrl.specs.Sorts.{Bool-sort, volume}
 use Rattle.pcrl.specs.Table.{Summand, Equation, Table, params-of, summand-count}

@@ -1,17 +1,15 @@
 -- The form of a sheet, question 5: readers of tokens, each named after what it reads.
 -- n bounds how deep the readers call each other; `parse` gives more than any sheet can take.
-use mathlib.Core.Path.{_≡_}
 use mathlib.Core.List.{List, [], _∷_}
 use mathlib.Core.Bool.{Bool, true, false}
 use mathlib.Core.Option.{Option, none, some}
-use Prim.Native.Nat.{ℕ, zero, suc, _+_, _*_, _≤_, _<_}
+use Prim.Native.Nat.{ℕ, zero, suc, _+_, _*_}
 use Prim.Native.String.{String}
 use native.Mathlib.Decide.{decLt}
-use lib.Dec.{T}
 use lib.ListN.{length}
 use Rattle.pcrl.specs.Tests.{and, T?}
-use Rattle.pcrl.specs.Tokens.{Token, the, is?}
-use Rattle.pcrl.specs.Reader.{Got, missing, found, Reader, bind, _>>=_, _>>_, return, test}
+use Rattle.pcrl.specs.Tokens.{Token, is?}
+use Rattle.pcrl.specs.Reader.{Got, missing, found, Reader, _>>=_, _>>_, return, test}
 use Rattle.pcrl.specs.Tree.{Name, RawData, RawDatas, Choice, Conditional, Sequence, Part, SortLine, FuncLine, ActLine, ProcLine, InitLine, RawSheet}
 
 abbrev pub Reads : Type 0 → Type 0

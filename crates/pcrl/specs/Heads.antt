@@ -1,11 +1,11 @@
 -- Heads, and the table of a sheet.
 use mathlib.Core.List.{List, [], _∷_, _++_, map}
-use mathlib.Core.Bool.{Bool, true, false}
+use mathlib.Core.Bool.{true, false}
 use Prim.Native.Nat.{ℕ, zero, suc, _+_}
 use lib.ListN.{length, getD, replicate}
-use Rattle.pcrl.specs.Sheet.{Data, val, var, Act, Proc, delta, atom, alt, cond, sum, seq, call, Process, Sheet, params, right}
+use Rattle.pcrl.specs.Sheet.{Data, val, var, Proc, delta, atom, alt, cond, sum, seq, call, Sheet, params, right}
 use Rattle.pcrl.specs.Values.{eval, put-data}
-use Rattle.pcrl.specs.Parts.{tabulate, marks, count, marked, as-params, NewPart, new-count, all-new-parts, first-new, Kind, absent, written, part, kind}
+use Rattle.pcrl.specs.Parts.{tabulate, marks, count, marked, as-params, new-count, all-new-parts, first-new, Kind, absent, written, part, kind}
 use Rattle.pcrl.specs.Table.{Summand, Equation, Table, no-equation}
 
 -- "d put before their variables"

@@ -1,13 +1,13 @@
 -- Question 7: names. A raw sheet resolved to numbers, or nothing where a name is not as it must be.
 use mathlib.Core.List.{List, [], _∷_, _++_, map}
-use mathlib.Core.Bool.{Bool, true, false}
+use mathlib.Core.Bool.{Bool}
 use mathlib.Core.Option.{Option, none, some}
-use Prim.Native.Nat.{ℕ, zero, suc}
+use Prim.Native.Nat.{ℕ, suc}
 use lib.ListN.{length}
 use Rattle.pcrl.specs.Text.{bytes}
 use Rattle.pcrl.specs.Tests.{and, negated, same?, among, distinct}
 use Rattle.pcrl.specs.Tree.{Name, RawData, RawDatas, Choice, Conditional, Sequence, Part, SortLine, FuncLine, ActLine, ProcLine, InitLine, RawSheet}
-use Rattle.pcrl.specs.Sheet.{Data, Datas, list-of, Act, Proc, Func, Action, Sig, Process, Sheet}
+use Rattle.pcrl.specs.Sheet.{Data, Datas, list-of, Act, Proc, Func, Action, Process, Sheet}
 use Rattle.pcrl.specs.Maybe.{_>>=_, _>>_, provided, for-each}
 
 -- the declared names of each kind, in order; a name's number is its place

@@ -1,6 +1,6 @@
 -- The new equations: "Brackets that hold only a sequence are flattened into the sequence around them.
 -- Each part that then stands after the first and is not a call of a process gets a new equation, even if an equal part exists."
-use mathlib.Core.List.{List, [], _∷_, _++_, map}
+use mathlib.Core.List.{List, [], _∷_, _++_}
 use mathlib.Core.Bool.{Bool, true, false}
 use Prim.Native.Nat.{ℕ, zero, suc, _+_}
 use lib.Dec.{eqb}

@@ -1,7 +1,7 @@
 -- What questions 10 and 14 ask of a table: its limits, and that it is rightly sorted.
 use mathlib.Core.Path.{_≡_}
 use mathlib.Core.List.{List, [], _∷_, _++_, map}
-use mathlib.Core.Bool.{Bool, true, false}
+use mathlib.Core.Bool.{Bool}
 use Prim.Native.Nat.{ℕ, _<_, _≤_}
 use lib.Dec.{T}
 use lib.ListN.{length, getD, getElem?}
@@ -10,7 +10,7 @@ use Rattle.pcrl.specs.Limits.{max-name, max-sorts, max-size, max-functio
 use Rattle.pcrl.specs.Tests.{and, negated, among, distinct, Between, both?, at-most?, Every, every?, Each}
 use Rattle.pcrl.specs.Bytes.{letter, name-byte}
 use Rattle.pcrl.specs.Tokens.{words}
-use Rattle.pcrl.specs.Sheet.{Data, Act, Func, Action, Sig, size, takes-of}
+use Rattle.pcrl.specs.Sheet.{Data, Func, Action, Sig, size, takes-of}
 use Rattle.pcrl.specs.Sorts.{Bool-sort, HasSort, IsAct, volume}
 use Rattle.pcrl.specs.Table.{Summand, Equation, Table, params-of, summands-of, summand-count, nodes}
 use Rattle.pcrl.specs.Stream.{encode}

@@ -1,15 +1,14 @@
 -- Question 8: counts of arguments, sorts, numerals, function values.
-use mathlib.Core.Path.{_≡_, refl}
+use mathlib.Core.Path.{_≡_}
 use mathlib.Core.List.{List, [], _∷_}
-use mathlib.Core.Bool.{Bool, true, false}
+use mathlib.Core.Bool.{true, false}
 use mathlib.Core.Option.{Option, none, some}
-use Prim.Native.Nat.{ℕ, zero, suc, _*_, _<_}
-use native.Mathlib.Omega.{arith}
+use Prim.Native.Nat.{ℕ, _*_, _<_}
 use native.Mathlib.Decide.{ℕ-discrete, decLt}
 use lib.Dec.{eqb}
 use lib.ListN.{length, getD, getElem?}
 use Rattle.pcrl.specs.Tests.{both?, below?, some?, Every, every?, Each, each?}
-use Rattle.pcrl.specs.Sheet.{Data, val, var, app, Datas, nil, cons, Act, tau, action, Proc, delta, atom, alt, cond, sum, seq, call, Func, Sig, Process, Sheet, no-action, size, func, takes-of, params, right}
+use Rattle.pcrl.specs.Sheet.{Data, val, var, app, Datas, nil, cons, Act, tau, action, Proc, delta, atom, alt, cond, sum, seq, call, Func, Sig, Process, Sheet, size, func, takes-of, params, right}
 
 -- the sorts of the variables in scope, by their numbers
 abbrev pub Scope : Type 0

@@ -1,14 +1,13 @@
 -- Frames and stacks of a table. Everything is said for frames of any width; document 01 has four values in a frame.
 -- In a list of frames that is called a stack the top frame stands first; lent frames have it last.
 use mathlib.Core.Path.{_≡_}
-use mathlib.Core.List.{List, [], _∷_, _++_, map, reverse}
-use Prim.Native.Nat.{ℕ, zero, suc, _+_, _-_, _<_, _≤_}
+use mathlib.Core.List.{List, _++_, reverse}
+use Prim.Native.Nat.{ℕ, _-_, _<_, _≤_}
 use native.Mathlib.Decide.{ℕ-discrete, decLt, decLe}
 use lib.ListN.{length, take, drop, replicate}
 use Rattle.pcrl.specs.Tests.{both?, same?, Every, every?, Each, each?}
-use Rattle.pcrl.specs.Sheet.{Data, Act, tau, action, Sig, no-action, size}
-use Rattle.pcrl.specs.Values.{eval}
-use Rattle.pcrl.specs.Table.{Summand, Equation, Table, equation}
+use Rattle.pcrl.specs.Sheet.{Sig, size}
+use Rattle.pcrl.specs.Table.{Table, equation}
 
 pub record Frame : Type 0 where
   pub number : ℕ

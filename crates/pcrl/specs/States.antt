@@ -5,7 +5,7 @@ use lib.ListN.{length}
 use Rattle.pcrl.specs.Sheet.{val, Proc, delta, seq, call, Sheet}
 use Rattle.pcrl.specs.Label.{Label}
 use Rattle.pcrl.specs.Values.{eval, put, these}
-use Rattle.pcrl.specs.Parts.{marks, as-params, NewPart, Kind, absent, written, part, kind}
+use Rattle.pcrl.specs.Parts.{marks, as-params, Kind, absent, written, part, kind}
 use Rattle.pcrl.specs.Table.{Table}
 use Rattle.pcrl.specs.Heads.{table-of}
 use Rattle.pcrl.specs.Stack.{Frame, Stack, used, RightStack}

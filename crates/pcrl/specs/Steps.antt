@@ -1,17 +1,15 @@
 -- The steps of stacks: as a relation, and as the list in its order.
 use mathlib.Core.Path.{_≡_}
 use mathlib.Core.List.{List, [], _∷_, _++_, map}
-use mathlib.Core.Option.{Option, none, some}
-use Prim.Native.Nat.{ℕ, zero, suc}
+use Prim.Native.Nat.{ℕ}
 use native.Mathlib.Decide.{ℕ-discrete}
-use lib.ListN.{length, getElem?}
 use Rattle.pcrl.specs.Tests.{Every, every?}
 use Rattle.pcrl.specs.Reader.{all}
 use Rattle.pcrl.specs.Sheet.{Data, Sig, size}
 use Rattle.pcrl.specs.Label.{Label, label}
 use Rattle.pcrl.specs.Values.{eval}
 use Rattle.pcrl.specs.Parts.{tabulate}
-use Rattle.pcrl.specs.Table.{Summand, Equation, Table, equation}
+use Rattle.pcrl.specs.Table.{Summand, Table, equation}
 use Rattle.pcrl.specs.Stack.{Frame, Stack, InSorts, used, padded}
 
 -- P holds of some element

@@ -1,6 +1,6 @@
 -- Linear tables: an equation has parameters and summands.
-use mathlib.Core.List.{List, [], _∷_, _++_, map}
-use Prim.Native.Nat.{ℕ, zero, suc, _+_}
+use mathlib.Core.List.{List, [], _∷_, map}
+use Prim.Native.Nat.{ℕ, suc, _+_}
 use lib.ListN.{length, getD}
 use Rattle.pcrl.specs.Sheet.{Data, val, var, app, Datas, nil, cons, Act, Sig}
 

@@ -1,8 +1,8 @@
 -- Closed process terms and their steps, "by the usual rules".
 use mathlib.Core.Path.{_≡_}
-use mathlib.Core.List.{List, [], _∷_, map}
+use mathlib.Core.List.{List, [], map}
 use Prim.Native.Nat.{ℕ, _<_}
-use Rattle.pcrl.specs.Sheet.{Data, Act, Proc, delta, atom, alt, cond, sum, seq, call, Sheet, size, right}
+use Rattle.pcrl.specs.Sheet.{Data, Act, Proc, atom, alt, cond, sum, seq, call, Sheet, size, right}
 use Rattle.pcrl.specs.Label.{Label, label}
 use Rattle.pcrl.specs.Sorts.{closed, Sorted}
 use Rattle.pcrl.specs.Values.{eval, put, these, only}

@@ -1,8 +1,7 @@
 -- "The walk": a program reads a sheet and takes step 0 up to 8 times. Its text, byte for byte.
 use mathlib.Core.List.{List, [], _∷_, _++_}
-use mathlib.Core.Bool.{Bool, true, false}
-use Prim.Native.Nat.{ℕ, zero, suc, _+_, _-_, _/_, _%_}
-use Prim.Native.String.{String}
+use mathlib.Core.Bool.{true, false}
+use Prim.Native.Nat.{ℕ, zero, suc, _+_, _/_, _%_}
 use lib.Dec.{ltb}
 use Rattle.pcrl.specs.Text.{bytes, byte}
 use Rattle.pcrl.specs.Limits.{frame-width, stack-limit}
