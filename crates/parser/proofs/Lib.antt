@@ -1,14 +1,15 @@
-pub mod Signs
-pub mod Writing
-pub mod Reading
-pub mod Words
-pub mod DataLaws
-pub mod ProcessLaws
-pub mod LineLaws
-pub mod InitLaws
-pub mod InitRead
-pub mod RunLaws
-pub mod Room
-pub mod Places
-pub mod SheetLaws
-pub mod ParseLaws
+mod Signs
+mod Writing
+mod Reading
+mod Words
+mod DataLaws
+mod ProcessLaws
+mod LineLaws
+mod InitLaws
+mod InitRead
+mod RunLaws
+mod Room
+mod Places
+mod SheetLaws
+mod ParseLaws
+pub mod Answered

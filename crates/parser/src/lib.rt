@@ -18,7 +18,7 @@ use sheet::init_line;
 use sheet::lines_of;
 use sheet::some_lines;
 
-// A place among the tokens and the next free cell. A place past the end of the tokens is a wrong form.
+// A place among the tokens and the next free cell. A wrong form is a place past the end, which every later reader keeps.
 pub struct Step {
     pub at: usize,
     pub w: usize,

@@ -53,28 +53,45 @@ short-requires : tie.Need-short-requires
 short-requires c κs = tt
 
 same-length : tie.Need-same-length
-same-length c = c .before .before .before .before .init-line .kept .1 .1 .0 ∙ c .before .before .before .before .before .before .before .before .before .before .before .lines-of4 .kept .1 .1 .1 .0 ∙ c .before .before .before .before .before .before .before .before .before .before .before .before .before .before .before .before .before .lines-of3 .kept .1 .1 .1 .0 ∙ c .before .before .before .before .before .before .before .before .before .before .before .before .before .before .before .before .before .before .before .before .before .before .before .lines-of2 .kept .1 .1 .1 .0 ∙ c .before .before .before .before .before .before .before .before .before .before .before .before .before .before .before .before .before .before .before .before .before .before .before .before .before .before .before .before .before .lines-of .kept .1 .1 .1 .0
+same-length c =
+    let at-init-line = c .before .before .before .before .init-line in
+    let at-lines-of4 = c .before .before .before .before .before .before .before .before .before .before .before .lines-of4 in
+    let at-lines-of3 = c .before .before .before .before .before .before .before .before .before .before .before .before .before .before .before .before .before .lines-of3 in
+    let at-lines-of2 = c .before .before .before .before .before .before .before .before .before .before .before .before .before .before .before .before .before .before .before .before .before .before .before .lines-of2 in
+    let at-lines-of = c .before .before .before .before .before .before .before .before .before .before .before .before .before .before .before .before .before .before .before .before .before .before .before .before .before .before .before .before .before .lines-of in
+    at-init-line .kept .1 .1 .0 ∙ at-lines-of4 .kept .1 .1 .1 .0 ∙ at-lines-of3 .kept .1 .1 .1 .0 ∙ at-lines-of2 .kept .1 .1 .1 .0 ∙ at-lines-of .kept .1 .1 .1 .0
 
 returns : tie.Need-returns
 unfolding kind-of
-returns c = λ s.
-    let q = c .before .before .before .before .before .before .before .before .before .before .before .before .before .before .before .before .before .before .before .before .before .before .before .before .before .before .before .before .before .before .before .before .before .before .pre in
-    let n : ℕ = 4 * length (map (cell-token s) (c .before .before .before .before .before .before .before .before .before .before .before .before .before .before .before .before .before .before .before .before .before .before .before .before .before .before .before .before .before .before .before .before .before .before .args .toks .now)) + 4 in
-    let l = length-map (c .before .before .before .before .before .before .before .before .before .before .before .before .before .before .before .before .before .before .before .before .before .before .before .before .before .before .before .before .before .before .before .before .before .before .args .toks .now) (cell-token s) in
-    let k : 4 * length (c .before .before .before .before .before .before .before .before .before .before .before .before .before .before .before .before .before .before .before .before .before .before .before .before .before .before .before .before .before .before .before .before .before .before .args .toks .now) + 3 < n = omega arith in
-    let g : length (c .before .before .before .before .before .before .before .before .before .before .before .before .before .before .before .before .before .before .before .before .before .before .before .before .before .before .before .before .before .before .before .before .before .before .args .toks .now) < n = omega arith in
-    parses s (c .before .before .before .before .before .before .before .before .before .before .before .before .before .before .before .before .before .before .before .before .before .before .before .before .before .before .before .before .before .before .before .before .before .before .args .toks .now) (c .before .before .before .before .before .before .before .before .before .before .before .before .before .before .before .before .before .before .before .before .before .before .before .before .before .before .before .before .before .before .before .before .before .before .args .out .now) _ _ _ _ (q .0) (q .1)
-    (sheet-read s (c .before .before .before .before .before .before .before .before .before .before .before .before .before .before .before .before .before .before .before .before .before .before .before .before .before .before .before .before .before .before .before .before .before .before .args .toks .now) n (c .before .before .before .before .before .before .before .before .before .before .before .before .before .before .before .before .before .before .before .before .before .before .before .before .before .before .before .before .before .lines-of .result) (c .before .before .before .before .before .before .before .before .before .before .before .before .before .before .before .before .before .before .before .before .before .before .before .lines-of2 .result) (c .before .before .before .before .before .before .before .before .before .before .before .before .before .before .before .before .before .lines-of3 .result) (c .before .before .before .before .before .before .before .before .before .before .before .lines-of4 .result)
-    (c .before .before .before .before .before .before .before .before .before .before .before .before .before .before .before .before .before .before .before .before .before .before .before .before .before .before .before .before .before .lines-of .ensures .1 (omega arith) s n n k (left-below (c .before .before .before .before .before .before .before .before .before .before .before .before .before .before .before .before .before .before .before .before .before .before .before .before .before .before .before .before .before .before .before .before .before .before .args .toks .now) 0 g))
-    (c .before .before .before .before .before .before .before .before .before .before .before .before .before .before .before .before .before .before .before .before .before .before .before .lines-of2 .ensures .0) (λ i. c .before .before .before .before .before .before .before .before .before .before .before .before .before .before .before .before .before .before .before .before .before .before .before .lines-of2 .ensures .1 i s n n k (left-below (c .before .before .before .before .before .before .before .before .before .before .before .before .before .before .before .before .before .before .before .before .before .before .before .before .before .before .before .before .before .before .before .before .before .before .args .toks .now) _ g))
-    (c .before .before .before .before .before .before .before .before .before .before .before .before .before .before .before .before .before .lines-of3 .ensures .0) (λ i. c .before .before .before .before .before .before .before .before .before .before .before .before .before .before .before .before .before .lines-of3 .ensures .1 i s n n k (left-below (c .before .before .before .before .before .before .before .before .before .before .before .before .before .before .before .before .before .before .before .before .before .before .before .before .before .before .before .before .before .before .before .before .before .before .args .toks .now) _ g))
-    (c .before .before .before .before .before .before .before .before .before .before .before .lines-of4 .ensures .0) (λ i. c .before .before .before .before .before .before .before .before .before .before .before .lines-of4 .ensures .1 i s n n k (left-below (c .before .before .before .before .before .before .before .before .before .before .before .before .before .before .before .before .before .before .before .before .before .before .before .before .before .before .before .before .before .before .before .before .before .before .args .toks .now) _ g))
-    (c .before .before .before .before .before .before .before .some-lines .ensures .0) (c .before .before .before .before .before .before .before .some-lines .ensures .1)
-    (c .before .before .before .before .before .before .expect .ensures .0) (c .before .before .before .before .before .before .expect .ensures .1)
-    (c .before .before .before .before .init-line .ensures .0) (c .before .before .before .before .init-line .ensures .1 s n (omega arith))
-    (c .before .expect2 .ensures .0) (c .before .expect2 .ensures .1)
-    (omega (arith, c .before .before .before .before .before .before .before .before .before .before .before .before .before .before .before .before .before .before .before .before .before .before .before .before .before .before .before .before .before .lines-of .kept .1 .1 .1 .1 .1 .0)) (omega (arith, c .before .before .before .before .before .before .before .before .before .before .before .before .before .before .before .before .before .before .before .before .before .before .before .lines-of2 .kept .1 .1 .1 .1 .1 .0)) (omega (arith, c .before .before .before .before .before .before .before .before .before .before .before .before .before .before .before .before .before .lines-of3 .kept .1 .1 .1 .1 .1 .0)) (omega (arith, c .before .before .before .before .before .before .before .before .before .before .before .lines-of4 .kept .1 .1 .1 .1 .1 .0))
-    (c .short .ensures))
+returns c =
+    let at-start = c .before .before .before .before .before .before .before .before .before .before .before .before .before .before .before .before .before .before .before .before .before .before .before .before .before .before .before .before .before .before .before .before .before .before in
+    let at-lines-of = c .before .before .before .before .before .before .before .before .before .before .before .before .before .before .before .before .before .before .before .before .before .before .before .before .before .before .before .before .before .lines-of in
+    let at-lines-of2 = c .before .before .before .before .before .before .before .before .before .before .before .before .before .before .before .before .before .before .before .before .before .before .before .lines-of2 in
+    let at-lines-of3 = c .before .before .before .before .before .before .before .before .before .before .before .before .before .before .before .before .before .lines-of3 in
+    let at-lines-of4 = c .before .before .before .before .before .before .before .before .before .before .before .lines-of4 in
+    let at-some-lines = c .before .before .before .before .before .before .before .some-lines in
+    let at-expect = c .before .before .before .before .before .before .expect in
+    let at-init-line = c .before .before .before .before .init-line in
+    let at-expect2 = c .before .expect2 in
+    let at-short = c .short in
+    λ s.
+    let q = at-start .pre in
+    let n : ℕ = 4 * length (map (cell-token s) (at-start .args .toks .now)) + 4 in
+    let l = length-map (at-start .args .toks .now) (cell-token s) in
+    let k : 4 * length (at-start .args .toks .now) + 3 < n = omega arith in
+    let g : length (at-start .args .toks .now) < n = omega arith in
+    parses s (at-start .args .toks .now) (at-start .args .out .now) _ _ _ _ (q .0) (q .1)
+    (sheet-read s (at-start .args .toks .now) n (at-lines-of .result) (at-lines-of2 .result) (at-lines-of3 .result) (at-lines-of4 .result)
+    (at-lines-of .ensures .1 (omega arith) s n n k (left-below (at-start .args .toks .now) 0 g))
+    (at-lines-of2 .ensures .0) (λ i. at-lines-of2 .ensures .1 i s n n k (left-below (at-start .args .toks .now) _ g))
+    (at-lines-of3 .ensures .0) (λ i. at-lines-of3 .ensures .1 i s n n k (left-below (at-start .args .toks .now) _ g))
+    (at-lines-of4 .ensures .0) (λ i. at-lines-of4 .ensures .1 i s n n k (left-below (at-start .args .toks .now) _ g))
+    (at-some-lines .ensures .0) (at-some-lines .ensures .1)
+    (at-expect .ensures .0) (at-expect .ensures .1)
+    (at-init-line .ensures .0) (at-init-line .ensures .1 s n (omega arith))
+    (at-expect2 .ensures .0) (at-expect2 .ensures .1)
+    (omega (arith, at-lines-of .kept .1 .1 .1 .1 .1 .0)) (omega (arith, at-lines-of2 .kept .1 .1 .1 .1 .1 .0)) (omega (arith, at-lines-of3 .kept .1 .1 .1 .1 .1 .0)) (omega (arith, at-lines-of4 .kept .1 .1 .1 .1 .1 .0))
+    (at-short .ensures))
 
 pub parse-spec : {M : Type 1} → statement M
 parse-spec =

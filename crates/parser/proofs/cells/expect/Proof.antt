@@ -11,16 +11,25 @@ peek-requires : tie.Need-peek-requires
 peek-requires c κs = search needs
 
 add-result : tie.Need-add-result
-add-result c = let l = live (c .before .before .before .args .toks .now) (c .before .before .before .args .at) (omega arith) in omega arith
+add-result c =
+    let at-start = c .before .before .before in
+    let l = live (at-start .args .toks .now) (at-start .args .at) (omega arith) in
+    omega arith
 
 add-result-2 : tie.Need-add-result-2
 add-result-2 c = search needs
 
 returns : tie.Need-returns
-returns c = (omega arith, next (sym (c .before .peek .ensures) ∙ c .if1 .taken))
+returns c =
+    let at-peek = c .before .peek in
+    let at-if1 = c .if1 in
+    (omega arith, next (sym (at-peek .ensures) ∙ at-if1 .taken))
 
 returns-2 : tie.Need-returns-2
-returns-2 c = (omega arith, wrong (λ e. c .if1 .left (c .before .peek .ensures ∙ e)))
+returns-2 c =
+    let at-if1 = c .if1 in
+    let at-peek = c .before .peek in
+    (omega arith, wrong (λ e. at-if1 .left (at-peek .ensures ∙ e)))
 
 pub expect-spec : {M : Type 1} → statement M
 expect-spec = tie.close (tie.spec peek-requires add-result add-result-2 returns returns-2)

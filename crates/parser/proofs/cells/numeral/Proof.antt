@@ -13,16 +13,27 @@ lost-requires : tie.Need-lost-requires
 lost-requires c κs = search needs
 
 returns : tie.Need-returns
-returns c = (omega arith, λ s f l. reads-missing (numeral-missing-low s (c .before .before .before .before .before .args .toks .now) (c .before .before .before .before .before .args .at) (omega arith)) (omega arith))
+returns c =
+    let at-start = c .before .before .before .before .before in (
+      omega arith,
+      λ s f l. reads-missing (numeral-missing-low s (at-start .args .toks .now) (at-start .args .at) (omega arith)) (omega arith),
+    )
 
 lost-requires-2 : tie.Need-lost-requires-2
 lost-requires-2 c κs = search needs
 
 returns-2 : tie.Need-returns-2
-returns-2 c = (omega arith, λ s f l. reads-missing (numeral-missing-high s (c .before .before .before .before .before .before .args .toks .now) (c .before .before .before .before .before .before .args .at) (omega arith)) (omega arith))
+returns-2 c =
+    let at-start = c .before .before .before .before .before .before in (
+      omega arith,
+      λ s f l. reads-missing (numeral-missing-high s (at-start .args .toks .now) (at-start .args .at) (omega arith)) (omega arith),
+    )
 
 add-t7 : tie.Need-add-t7
-add-t7 c = let l = live (c .before .before .before .before .before .args .toks .now) (c .before .before .before .before .before .args .at) (omega arith) in omega arith
+add-t7 c =
+    let at-start = c .before .before .before .before .before in
+    let l = live (at-start .args .toks .now) (at-start .args .at) (omega arith) in
+    omega arith
 
 put-requires : tie.Need-put-requires
 put-requires c κs = search needs
@@ -31,7 +42,13 @@ same-length : tie.Need-same-length
 same-length c = search needs
 
 returns-3 : tie.Need-returns-3
-returns-3 c = (omega arith, λ s f l. reads-numeral s (c .before .before .before .before .before .before .before .before .before .args .toks .now) (c .before .before .before .before .before .before .before .before .before .args .at) (c .before .before .put .ensures) (c .before .before .before .before .before .before .peek .ensures) (omega arith) (omega arith))
+returns-3 c =
+    let at-start = c .before .before .before .before .before .before .before .before .before in
+    let at-put = c .before .before .put in
+    let at-peek = c .before .before .before .before .before .before .peek in (
+      omega arith,
+      λ s f l. reads-numeral s (at-start .args .toks .now) (at-start .args .at) (at-put .ensures) (at-peek .ensures) (omega arith) (omega arith),
+    )
 
 pub numeral-spec : {M : Type 1} → statement M
 numeral-spec =

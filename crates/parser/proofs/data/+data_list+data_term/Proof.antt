@@ -64,22 +64,50 @@ data-list-same-length : (t : ℕ) → data-list-lts.Need-same-length (data-list-
 data-list-same-length t c = search needs
 
 data-list-returns : (t : ℕ) → data-list-lts.Need-returns (data-list-calls t) (data-list-at t) data-list.Post
-data-list-returns t c = (omega (arith, c .before .before .before .before .before .data-term .ensures .0, c .expect .ensures .0), λ s. list-one s (c .before .before .before .before .before .before .before .before .before .before .before .before .before .args .toks .now) (c .before .before .before .before .before .before .before .before .before .before .before .before .before .args .at) (c .before .before .before .before .before .before .before .before .before .put .ensures) (c .before .before .before .before .before .data-term .ensures .0) (c .before .before .before .before .before .data-term .ensures .1 s) (λ e. c .before .if1 .taken (c .before .before .peek .ensures ∙ e)) (c .expect .ensures .0) (c .expect .ensures .1))
+data-list-returns t c =
+    let at-data-term = c .before .before .before .before .before .data-term in
+    let at-expect = c .expect in
+    let at-start = c .before .before .before .before .before .before .before .before .before .before .before .before .before in
+    let at-put = c .before .before .before .before .before .before .before .before .before .put in
+    let at-if1 = c .before .if1 in
+    let at-peek = c .before .before .peek in (
+      omega (arith, at-data-term .ensures .0, at-expect .ensures .0),
+      λ s. list-one s (at-start .args .toks .now) (at-start .args .at) (at-put .ensures) (at-data-term .ensures .0) (at-data-term .ensures .1 s) (λ e. at-if1 .taken (at-peek .ensures ∙ e)) (at-expect .ensures .0) (at-expect .ensures .1),
+    )
 
 data-list-put-requires-2 : (t : ℕ) → data-list-lts.Need-put-requires-2 (data-list-calls t) (data-list-at t) data-list.Post
 data-list-put-requires-2 t c κs = tt
 
 data-list-add-data-list : (t : ℕ) → data-list-lts.Need-add-data-list (data-list-calls t) (data-list-at t) data-list.Post
-data-list-add-data-list t c = let l = live (c .before .before .before .before .before .before .before .before .before .before .before .before .before .before .before .before .before .args .toks .now) (c .before .before .before .before .before .before .before .before .before .data-term .result .at) (omega arith) in omega arith
+data-list-add-data-list t c =
+    let at-start = c .before .before .before .before .before .before .before .before .before .before .before .before .before .before .before .before .before in
+    let at-data-term = c .before .before .before .before .before .before .before .before .before .data-term in
+    let l = live (at-start .args .toks .now) (at-data-term .result .at) (omega arith) in
+    omega arith
 
 data-list-data-list-requires : (t : ℕ) → data-list-lts.Need-data-list-requires (data-list-calls t) (data-list-at t) data-list.Post
-data-list-data-list-requires t c κs = let l = live (c .before .before .before .before .before .before .before .before .before .before .before .before .before .before .before .before .before .before .args .toks .now) (c .before .before .before .before .before .before .before .before .before .before .data-term .result .at) (omega arith) in (omega (arith, c .before .before .before .before .before .before .before .before .before .before .data-term .ensures .0), tt)
+data-list-data-list-requires t c κs =
+    let at-start = c .before .before .before .before .before .before .before .before .before .before .before .before .before .before .before .before .before .before in
+    let at-data-term = c .before .before .before .before .before .before .before .before .before .before .data-term in
+    let l = live (at-start .args .toks .now) (at-data-term .result .at) (omega arith) in
+    (omega (arith, at-data-term .ensures .0), tt)
 
 data-list-same-length-2 : (t : ℕ) → data-list-lts.Need-same-length-2 (data-list-calls t) (data-list-at t) data-list.Post
 data-list-same-length-2 t c = search needs
 
 data-list-returns-2 : (t : ℕ) → data-list-lts.Need-returns-2 (data-list-calls t) (data-list-at t) data-list.Post
-data-list-returns-2 t c = let l = live (c .before .before .before .before .before .before .before .before .before .before .before .before .before .before .before .before .before .before .before .before .before .args .toks .now) (c .before .before .before .before .before .before .before .before .before .before .before .before .before .data-term .result .at) (omega arith) in (omega (arith, c .before .before .before .before .before .before .before .before .before .before .before .before .before .data-term .ensures .0, c .before .before .data-list .ensures .0), λ s. list-more s (c .before .before .before .before .before .before .before .before .before .before .before .before .before .before .before .before .before .before .before .before .before .args .toks .now) (c .before .before .before .before .before .before .before .before .before .before .before .before .before .before .before .before .before .before .before .before .before .args .at) (c .before .before .before .before .before .before .before .before .before .before .before .before .before .before .before .before .before .put .ensures) (c .before .before .before .before .before .before .before .before .before .before .before .before .before .data-term .ensures .0) (c .before .before .before .before .before .before .before .before .before .before .before .before .before .data-term .ensures .1 s) (sym (c .before .before .before .before .before .before .before .before .before .before .peek .ensures) ∙ c .before .before .before .before .before .before .before .before .before .if1 .left) (c .before .before .before .before .before .before .before .put2 .ensures) (c .before .before .data-list .ensures .1 s))
+data-list-returns-2 t c =
+    let at-start = c .before .before .before .before .before .before .before .before .before .before .before .before .before .before .before .before .before .before .before .before .before in
+    let at-data-term = c .before .before .before .before .before .before .before .before .before .before .before .before .before .data-term in
+    let at-data-list = c .before .before .data-list in
+    let at-put = c .before .before .before .before .before .before .before .before .before .before .before .before .before .before .before .before .before .put in
+    let at-peek = c .before .before .before .before .before .before .before .before .before .before .peek in
+    let at-if1 = c .before .before .before .before .before .before .before .before .before .if1 in
+    let at-put2 = c .before .before .before .before .before .before .before .put2 in
+    let l = live (at-start .args .toks .now) (at-data-term .result .at) (omega arith) in (
+      omega (arith, at-data-term .ensures .0, at-data-list .ensures .0),
+      λ s. list-more s (at-start .args .toks .now) (at-start .args .at) (at-put .ensures) (at-data-term .ensures .0) (at-data-term .ensures .1 s) (sym (at-peek .ensures) ∙ at-if1 .left) (at-put2 .ensures) (at-data-list .ensures .1 s),
+    )
 
 data-term-peek-requires : (t : ℕ) → data-term-lts.Need-peek-requires (data-term-calls t) (data-term-at t) data-term.Post
 data-term-peek-requires t c κs = tt
@@ -88,13 +116,21 @@ data-term-lost-requires : (t : ℕ) → data-term-lts.Need-lost-requires (data-t
 data-term-lost-requires t c κs = tt
 
 data-term-returns : (t : ℕ) → data-term-lts.Need-returns (data-term-calls t) (data-term-at t) data-term.Post
-data-term-returns t c = (omega arith, λ s. term-none s (c .before .before .before .before .before .args .toks .now) (c .before .before .before .before .before .args .at) (omega arith) (c .lost .ensures))
+data-term-returns t c =
+    let at-start = c .before .before .before .before .before in
+    let at-lost = c .lost in (
+      omega arith,
+      λ s. term-none s (at-start .args .toks .now) (at-start .args .at) (omega arith) (at-lost .ensures),
+    )
 
 data-term-put-requires : (t : ℕ) → data-term-lts.Need-put-requires (data-term-calls t) (data-term-at t) data-term.Post
 data-term-put-requires t c κs = tt
 
 data-term-add-t13 : (t : ℕ) → data-term-lts.Need-add-t13 (data-term-calls t) (data-term-at t) data-term.Post
-data-term-add-t13 t c = let l = live (c .before .before .before .before .before .before .before .before .before .args .toks .now) (c .before .before .before .before .before .before .before .before .before .args .at) (omega arith) in omega arith
+data-term-add-t13 t c =
+    let at-start = c .before .before .before .before .before .before .before .before .before in
+    let l = live (at-start .args .toks .now) (at-start .args .at) (omega arith) in
+    omega arith
 
 data-term-put-requires-2 : (t : ℕ) → data-term-lts.Need-put-requires-2 (data-term-calls t) (data-term-at t) data-term.Post
 data-term-put-requires-2 t c κs = tt
@@ -103,7 +139,15 @@ data-term-same-length : (t : ℕ) → data-term-lts.Need-same-length (data-term-
 data-term-same-length t c = search needs
 
 data-term-returns-2 : (t : ℕ) → data-term-lts.Need-returns-2 (data-term-calls t) (data-term-at t) data-term.Post
-data-term-returns-2 t c = let l = live (c .before .before .before .before .before .before .before .before .before .before .before .before .before .args .toks .now) (c .before .before .before .before .before .before .before .before .before .before .before .before .before .args .at) (omega arith) in (omega arith, λ s. term-value s (c .before .before .before .before .before .before .before .before .before .before .before .before .before .args .toks .now) (c .before .before .before .before .before .before .before .before .before .before .before .before .before .args .at) (c .before .before .before .before .before .before .before .before .before .before .peek .ensures) (c .before .before .put2 .ensures) (c .before .before .before .before .before .before .put .ensures) (omega arith) (omega arith))
+data-term-returns-2 t c =
+    let at-start = c .before .before .before .before .before .before .before .before .before .before .before .before .before in
+    let at-peek = c .before .before .before .before .before .before .before .before .before .before .peek in
+    let at-put2 = c .before .before .put2 in
+    let at-put = c .before .before .before .before .before .before .put in
+    let l = live (at-start .args .toks .now) (at-start .args .at) (omega arith) in (
+      omega arith,
+      λ s. term-value s (at-start .args .toks .now) (at-start .args .at) (at-peek .ensures) (at-put2 .ensures) (at-put .ensures) (omega arith) (omega arith),
+    )
 
 data-term-put-requires-3 : (t : ℕ) → data-term-lts.Need-put-requires-3 (data-term-calls t) (data-term-at t) data-term.Post
 data-term-put-requires-3 t c κs = tt
@@ -112,7 +156,10 @@ data-term-put-requires-4 : (t : ℕ) → data-term-lts.Need-put-requires-4 (data
 data-term-put-requires-4 t c κs = tt
 
 data-term-add-p : (t : ℕ) → data-term-lts.Need-add-p (data-term-calls t) (data-term-at t) data-term.Post
-data-term-add-p t c = let l = live (c .before .before .before .before .before .before .before .before .before .before .before .before .before .args .toks .now) (c .before .before .before .before .before .before .before .before .before .before .before .before .before .args .at) (omega arith) in omega arith
+data-term-add-p t c =
+    let at-start = c .before .before .before .before .before .before .before .before .before .before .before .before .before in
+    let l = live (at-start .args .toks .now) (at-start .args .at) (omega arith) in
+    omega arith
 
 data-term-peek-requires-2 : (t : ℕ) → data-term-lts.Need-peek-requires-2 (data-term-calls t) (data-term-at t) data-term.Post
 data-term-peek-requires-2 t c κs = tt
@@ -121,22 +168,53 @@ data-term-same-length-2 : (t : ℕ) → data-term-lts.Need-same-length-2 (data-t
 data-term-same-length-2 t c = search needs
 
 data-term-returns-3 : (t : ℕ) → data-term-lts.Need-returns-3 (data-term-calls t) (data-term-at t) data-term.Post
-data-term-returns-3 t c = let l = live (c .before .before .before .before .before .before .before .before .before .before .before .before .before .before .before .args .toks .now) (c .before .before .before .before .before .before .before .before .before .before .before .before .before .before .before .args .at) (omega arith) in (omega arith, λ s. term-variable s (c .before .before .before .before .before .before .before .before .before .before .before .before .before .before .before .args .toks .now) (c .before .before .before .before .before .before .before .before .before .before .before .before .before .before .before .args .at) (c .before .before .before .before .before .before .before .before .before .before .before .before .peek .ensures) (c .before .before .before .before .put4 .ensures) (c .before .before .before .before .before .before .before .before .put3 .ensures) (omega arith) (λ e. c .if3 .taken (c .before .peek2 .ensures ∙ e)))
+data-term-returns-3 t c =
+    let at-start = c .before .before .before .before .before .before .before .before .before .before .before .before .before .before .before in
+    let at-peek = c .before .before .before .before .before .before .before .before .before .before .before .before .peek in
+    let at-put4 = c .before .before .before .before .put4 in
+    let at-put3 = c .before .before .before .before .before .before .before .before .put3 in
+    let at-if3 = c .if3 in
+    let at-peek2 = c .before .peek2 in
+    let l = live (at-start .args .toks .now) (at-start .args .at) (omega arith) in (
+      omega arith,
+      λ s. term-variable s (at-start .args .toks .now) (at-start .args .at) (at-peek .ensures) (at-put4 .ensures) (at-put3 .ensures) (omega arith) (λ e. at-if3 .taken (at-peek2 .ensures ∙ e)),
+    )
 
 data-term-put-requires-5 : (t : ℕ) → data-term-lts.Need-put-requires-5 (data-term-calls t) (data-term-at t) data-term.Post
 data-term-put-requires-5 t c κs = tt
 
 data-term-add-data-list : (t : ℕ) → data-term-lts.Need-add-data-list (data-term-calls t) (data-term-at t) data-term.Post
-data-term-add-data-list t c = let l = live (c .before .before .before .before .before .before .before .before .before .before .before .before .before .before .before .before .before .before .before .args .toks .now) ((c .before .before .before .before .before .before .before .before .before .before .before .before .before .before .before .before .before .before .before .args .at) + 1) (omega arith) in omega arith
+data-term-add-data-list t c =
+    let at-start = c .before .before .before .before .before .before .before .before .before .before .before .before .before .before .before .before .before .before .before in
+    let l = live (at-start .args .toks .now) ((at-start .args .at) + 1) (omega arith) in
+    omega arith
 
 data-term-data-list-requires : (t : ℕ) → data-term-lts.Need-data-list-requires (data-term-calls t) (data-term-at t) data-term.Post
-data-term-data-list-requires t c κs = let l = live (c .before .before .before .before .before .before .before .before .before .before .before .before .before .before .before .before .before .before .before .before .args .toks .now) ((c .before .before .before .before .before .before .before .before .before .before .before .before .before .before .before .before .before .before .before .before .args .at) + 1) (omega arith) in (omega arith, tt)
+data-term-data-list-requires t c κs =
+    let at-start = c .before .before .before .before .before .before .before .before .before .before .before .before .before .before .before .before .before .before .before .before in
+    let l = live (at-start .args .toks .now) ((at-start .args .at) + 1) (omega arith) in
+    (omega arith, tt)
 
 data-term-same-length-3 : (t : ℕ) → data-term-lts.Need-same-length-3 (data-term-calls t) (data-term-at t) data-term.Post
 data-term-same-length-3 t c = search needs
 
 data-term-returns-4 : (t : ℕ) → data-term-lts.Need-returns-4 (data-term-calls t) (data-term-at t) data-term.Post
-data-term-returns-4 t c = let l = live (c .before .before .before .before .before .before .before .before .before .before .before .before .before .before .before .before .before .before .before .before .before .before .before .args .toks .now) ((c .before .before .before .before .before .before .before .before .before .before .before .before .before .before .before .before .before .before .before .before .before .before .before .args .at) + 1) (omega arith) in (omega (arith, c .before .before .data-list .ensures .0), λ s. term-apply s (c .before .before .before .before .before .before .before .before .before .before .before .before .before .before .before .before .before .before .before .before .before .before .before .args .toks .now) (c .before .before .before .before .before .before .before .before .before .before .before .before .before .before .before .before .before .before .before .before .before .before .before .args .at) (c .before .before .before .before .before .before .before .before .before .before .before .before .before .before .before .before .before .before .before .before .peek .ensures) (c .before .before .before .before .before .before .before .before .before .before .before .before .put4 .ensures) (c .before .before .before .before .before .before .before .before .before .before .before .before .before .before .before .before .put3 .ensures) (omega arith) (sym (c .before .before .before .before .before .before .before .before .before .peek2 .ensures) ∙ c .before .before .before .before .before .before .before .before .if3 .left) (c .before .before .before .before .before .before .put5 .ensures) (c .before .before .data-list .ensures .1 s))
+data-term-returns-4 t c =
+    let at-if2 = c .before .before .before .before .before .before .before .before .before .before .before .before .before .before .before .before .before .before .if2 in
+    let at-peek = c .before .before .before .before .before .before .before .before .before .before .before .before .before .before .before .before .before .before .before .before .peek in
+    let at-start = c .before .before .before .before .before .before .before .before .before .before .before .before .before .before .before .before .before .before .before .before .before .before .before in
+    let at-data-list = c .before .before .data-list in
+    let at-put4 = c .before .before .before .before .before .before .before .before .before .before .before .before .put4 in
+    let at-put3 = c .before .before .before .before .before .before .before .before .before .before .before .before .before .before .before .before .put3 in
+    let at-peek2 = c .before .before .before .before .before .before .before .before .before .peek2 in
+    let at-if3 = c .before .before .before .before .before .before .before .before .if3 in
+    let at-put5 = c .before .before .before .before .before .before .put5 in
+    let q = at-if2 .left in
+    let e = at-peek .ensures in
+    let l = live (at-start .args .toks .now) ((at-start .args .at) + 1) (omega arith) in (
+      omega (arith, at-data-list .ensures .0),
+      λ s. term-apply s (at-start .args .toks .now) (at-start .args .at) (at-peek .ensures) (at-put4 .ensures) (at-put3 .ensures) (omega arith) (sym (at-peek2 .ensures) ∙ at-if3 .left) (at-put5 .ensures) (at-data-list .ensures .1 s),
+    )
 
 pub +data-list+data-term-spec : {M : Type 1} → statement M
 +data-list+data-term-spec = close μ-data-list μ-data-term (λ t. data-list-lts.spec (data-list-calls t)

@@ -20,13 +20,25 @@ same-length : tie.Need-same-length
 same-length c = search needs
 
 returns : tie.Need-returns
-returns c = (omega arith, λ s f l. call-bare s (c .before .before .before .before .before .before .before .before .before .before .before .before .args .toks .now) (c .before .before .before .before .before .before .before .before .before .before .before .before .args .at) (c .before .before .before .before .before .before .before .before .put .ensures) (c .before .before .before .before .name .ensures .0) (c .before .before .before .before .name .ensures .1 s 1 (omega arith)) (λ e. c .if1 .taken (c .before .peek .ensures ∙ e)) f)
+returns c =
+    let at-start = c .before .before .before .before .before .before .before .before .before .before .before .before in
+    let at-put = c .before .before .before .before .before .before .before .before .put in
+    let at-name = c .before .before .before .before .name in
+    let at-if1 = c .if1 in
+    let at-peek = c .before .peek in (
+      omega arith,
+      λ s f l. call-bare s (at-start .args .toks .now) (at-start .args .at) (at-put .ensures) (at-name .ensures .0) (at-name .ensures .1 s 1 (omega arith)) (λ e. at-if1 .taken (at-peek .ensures ∙ e)) f,
+    )
 
 put-requires-2 : tie.Need-put-requires-2
 put-requires-2 c κs = tt
 
 add-data-list : tie.Need-add-data-list
-add-data-list c = let l = live (c .before .before .before .before .before .before .before .before .before .before .before .before .before .before .before .before .before .args .toks .now) (c .before .before .before .before .before .before .before .before .before .name .result .at) (omega arith) in omega arith
+add-data-list c =
+    let at-start = c .before .before .before .before .before .before .before .before .before .before .before .before .before .before .before .before .before in
+    let at-name = c .before .before .before .before .before .before .before .before .before .name in
+    let l = live (at-start .args .toks .now) (at-name .result .at) (omega arith) in
+    omega arith
 
 data-list-requires : tie.Need-data-list-requires
 data-list-requires c κs = search needs
@@ -35,7 +47,18 @@ same-length-2 : tie.Need-same-length-2
 same-length-2 c = search needs
 
 returns-2 : tie.Need-returns-2
-returns-2 c = let l = live (c .before .before .before .before .before .before .before .before .before .before .before .before .before .before .before .before .before .before .before .before .before .args .toks .now) (c .before .before .before .before .before .before .before .before .before .before .before .before .before .name .result .at) (omega arith) in (omega (arith, c .before .before .before .before .before .before .before .before .before .before .before .before .before .name .ensures .0, c .before .before .data-list .ensures .0), λ s. call-given s (c .before .before .before .before .before .before .before .before .before .before .before .before .before .before .before .before .before .before .before .before .before .args .toks .now) (c .before .before .before .before .before .before .before .before .before .before .before .before .before .before .before .before .before .before .before .before .before .args .at) (c .before .before .before .before .before .before .before .before .before .before .before .before .before .before .before .before .before .put .ensures) (c .before .before .before .before .before .before .before .before .before .before .before .before .before .name .ensures .0) (c .before .before .before .before .before .before .before .before .before .before .before .before .before .name .ensures .1 s 1 (omega arith)) (sym (c .before .before .before .before .before .before .before .before .before .before .peek .ensures) ∙ c .before .before .before .before .before .before .before .before .before .if1 .left) (c .before .before .before .before .before .before .before .put2 .ensures) (c .before .before .data-list .ensures .1 s))
+returns-2 c =
+    let at-start = c .before .before .before .before .before .before .before .before .before .before .before .before .before .before .before .before .before .before .before .before .before in
+    let at-name = c .before .before .before .before .before .before .before .before .before .before .before .before .before .name in
+    let at-data-list = c .before .before .data-list in
+    let at-put = c .before .before .before .before .before .before .before .before .before .before .before .before .before .before .before .before .before .put in
+    let at-peek = c .before .before .before .before .before .before .before .before .before .before .peek in
+    let at-if1 = c .before .before .before .before .before .before .before .before .before .if1 in
+    let at-put2 = c .before .before .before .before .before .before .before .put2 in
+    let l = live (at-start .args .toks .now) (at-name .result .at) (omega arith) in (
+      omega (arith, at-name .ensures .0, at-data-list .ensures .0),
+      λ s. call-given s (at-start .args .toks .now) (at-start .args .at) (at-put .ensures) (at-name .ensures .0) (at-name .ensures .1 s 1 (omega arith)) (sym (at-peek .ensures) ∙ at-if1 .left) (at-put2 .ensures) (at-data-list .ensures .1 s),
+    )
 
 pub named-spec : {M : Type 1} → statement M
 named-spec =

@@ -92,7 +92,12 @@ abbrev choice-μ-loop : choice-lts.MeasureT-loop
 choice-μ-loop toks at out₀ w from₀ v₀ out from v = length toks - from
 
 choice-loop-holds : (t : ℕ) → choice-lts.Need-loop-holds (choice-calls t) (choice-at t) choice.Post choice-Inv-loop choice-μ-loop
-choice-loop-holds t c = (omega arith, refl, λ s. goes-start s (c .before .before .args .toks .now) enc-choice G.choice 3 (c .before .before .args .at) (c .before .before .args .w) (c .before .before .args .out .now))
+choice-loop-holds t c =
+    let at-start = c .before .before in (
+      omega arith,
+      refl,
+      λ s. goes-start s (at-start .args .toks .now) enc-choice G.choice 3 (at-start .args .at) (at-start .args .w) (at-start .args .out .now),
+    )
 
 choice-put-requires : (t : ℕ) → choice-lts.Need-put-requires (choice-calls t) (choice-at t) choice.Post choice-Inv-loop choice-μ-loop
 choice-put-requires t c κs = tt
@@ -104,22 +109,54 @@ choice-peek-requires : (t : ℕ) → choice-lts.Need-peek-requires (choice-calls
 choice-peek-requires t c κs = tt
 
 choice-same-length : (t : ℕ) → choice-lts.Need-same-length (choice-calls t) (choice-at t) choice.Post choice-Inv-loop choice-μ-loop
-choice-same-length t c = omega (arith, c .before .before .before .before .conditional .kept .1 .1 .0, c .before .before .before .before .before .before .before .before .put .kept .0)
+choice-same-length t c =
+    let at-conditional = c .before .before .before .before .conditional in
+    let at-put = c .before .before .before .before .before .before .before .before .put in
+    omega (arith, at-conditional .kept .1 .1 .0, at-put .kept .0)
 
 choice-returns : (t : ℕ) → choice-lts.Need-returns (choice-calls t) (choice-at t) choice.Post choice-Inv-loop choice-μ-loop
-choice-returns t c = (omega (arith, c .before .before .before .before .conditional .ensures .0), λ s. goes-end s (c .before .before .before .before .before .before .before .before .before .before .before .before .before .args .toks .now) enc-choice G.choice 3 (c .before .before .before .before .before .before .before .before .before .before .before .before .before .args .at) (c .before .before .before .before .before .before .before .before .before .before .before .before .before .args .w) (c .before .before .before .before .before .before .before .before .before .before .before .before .before .args .out .now) (c .before .before .before .before .before .before .before .before .before .before .loop .from) (c .before .before .before .before .before .before .before .before .before .before .loop .v) (c .before .before .before .before .before .before .before .before .before .before .loop .out) (c .before .before .before .before .before .before .before .before .before .before .loop .inv .2 s) (choice-only s (c .before .before .before .before .before .before .before .before .before .before .before .before .before .args .toks .now) (c .before .before .before .before .before .before .before .before .before .before .loop .from) (c .before .before .before .before .before .before .before .before .put .ensures) (c .before .before .before .before .conditional .ensures .0) (c .before .before .before .before .conditional .ensures .1 s) (λ e. c .if1 .taken (c .before .peek .ensures ∙ e))))
+choice-returns t c =
+    let at-conditional = c .before .before .before .before .conditional in
+    let at-start = c .before .before .before .before .before .before .before .before .before .before .before .before .before in
+    let at-loop = c .before .before .before .before .before .before .before .before .before .before .loop in
+    let at-put = c .before .before .before .before .before .before .before .before .put in
+    let at-if1 = c .if1 in
+    let at-peek = c .before .peek in (
+      omega (arith, at-conditional .ensures .0),
+      λ s. goes-end s (at-start .args .toks .now) enc-choice G.choice 3 (at-start .args .at) (at-start .args .w) (at-start .args .out .now) (at-loop .from) (at-loop .v) (at-loop .out) (at-loop .inv .2 s) (choice-only s (at-start .args .toks .now) (at-loop .from) (at-put .ensures) (at-conditional .ensures .0) (at-conditional .ensures .1 s) (λ e. at-if1 .taken (at-peek .ensures ∙ e))),
+    )
 
 choice-put-requires-2 : (t : ℕ) → choice-lts.Need-put-requires-2 (choice-calls t) (choice-at t) choice.Post choice-Inv-loop choice-μ-loop
 choice-put-requires-2 t c κs = tt
 
 choice-add-from : (t : ℕ) → choice-lts.Need-add-from (choice-calls t) (choice-at t) choice.Post choice-Inv-loop choice-μ-loop
-choice-add-from t c = let l = live (c .before .before .before .before .before .before .before .before .before .before .before .before .before .before .before .before .before .before .args .toks .now) (c .before .before .before .before .before .before .before .before .before .conditional .result .at) (omega arith) in omega arith
+choice-add-from t c =
+    let at-start = c .before .before .before .before .before .before .before .before .before .before .before .before .before .before .before .before .before .before in
+    let at-conditional = c .before .before .before .before .before .before .before .before .before .conditional in
+    let l = live (at-start .args .toks .now) (at-conditional .result .at) (omega arith) in
+    omega arith
 
 choice-loop-less : (t : ℕ) → choice-lts.Need-loop-less (choice-calls t) (choice-at t) choice.Post choice-Inv-loop choice-μ-loop
-choice-loop-less t c = let l = live (c .before .before .before .before .before .before .before .before .before .before .before .before .before .before .before .before .before .before .args .toks .now) (c .before .before .before .before .before .before .before .before .before .conditional .result .at) (omega arith) in omega (arith, c .before .before .before .before .before .before .before .before .before .conditional .ensures .0)
+choice-loop-less t c =
+    let at-start = c .before .before .before .before .before .before .before .before .before .before .before .before .before .before .before .before .before .before in
+    let at-conditional = c .before .before .before .before .before .before .before .before .before .conditional in
+    let l = live (at-start .args .toks .now) (at-conditional .result .at) (omega arith) in
+    omega (arith, at-conditional .ensures .0)
 
 choice-loop-again : (t : ℕ) → choice-lts.Need-loop-again (choice-calls t) (choice-at t) choice.Post choice-Inv-loop choice-μ-loop
-choice-loop-again t c = let l = live (c .before .before .before .before .before .before .before .before .before .before .before .before .before .before .before .before .before .before .args .toks .now) (c .before .before .before .before .before .before .before .before .before .conditional .result .at) (omega arith) in (omega (arith, c .before .before .before .before .before .before .before .before .before .conditional .ensures .0), omega (arith, c .before .before .before .put2 .kept .0, c .before .before .before .before .before .before .before .before .before .conditional .kept .1 .1 .0, c .before .before .before .before .before .before .before .before .before .before .before .before .before .put .kept .0), λ s. goes-on s (c .before .before .before .before .before .before .before .before .before .before .before .before .before .before .before .before .before .before .args .toks .now) enc-choice G.choice 3 (c .before .before .before .before .before .before .before .before .before .before .before .before .before .before .before .before .before .before .args .at) (c .before .before .before .before .before .before .before .before .before .before .before .before .before .before .before .before .before .before .args .w) (c .before .before .before .before .before .before .before .before .before .before .before .before .before .before .before .before .before .before .args .out .now) (c .before .before .before .before .before .before .before .before .before .before .before .before .before .before .before .loop .from) (c .before .before .before .before .before .before .before .before .before .before .before .before .before .before .before .loop .v) (c .before .before .before .before .before .before .before .before .before .before .before .before .before .before .before .loop .out) (c .before .before .before .before .before .before .before .before .before .before .before .before .before .before .before .loop .inv .2 s) _ _ _ (choice-plus s (c .before .before .before .before .before .before .before .before .before .before .before .before .before .before .before .before .before .before .args .toks .now) (c .before .before .before .before .before .before .before .before .before .before .before .before .before .before .before .loop .from) (c .before .before .before .before .before .before .before .before .before .before .before .before .before .put .ensures) (c .before .before .before .before .before .before .before .before .before .conditional .ensures .0) (c .before .before .before .before .before .before .before .before .before .conditional .ensures .1 s) (sym (c .before .before .before .before .before .before .peek .ensures) ∙ c .before .before .before .before .before .if1 .left) (c .before .before .before .put2 .ensures)))
+choice-loop-again t c =
+    let at-start = c .before .before .before .before .before .before .before .before .before .before .before .before .before .before .before .before .before .before in
+    let at-conditional = c .before .before .before .before .before .before .before .before .before .conditional in
+    let at-put2 = c .before .before .before .put2 in
+    let at-put = c .before .before .before .before .before .before .before .before .before .before .before .before .before .put in
+    let at-loop = c .before .before .before .before .before .before .before .before .before .before .before .before .before .before .before .loop in
+    let at-peek = c .before .before .before .before .before .before .peek in
+    let at-if1 = c .before .before .before .before .before .if1 in
+    let l = live (at-start .args .toks .now) (at-conditional .result .at) (omega arith) in (
+      omega (arith, at-conditional .ensures .0),
+      omega (arith, at-put2 .kept .0, at-conditional .kept .1 .1 .0, at-put .kept .0),
+      λ s. goes-on s (at-start .args .toks .now) enc-choice G.choice 3 (at-start .args .at) (at-start .args .w) (at-start .args .out .now) (at-loop .from) (at-loop .v) (at-loop .out) (at-loop .inv .2 s) _ _ _ (choice-plus s (at-start .args .toks .now) (at-loop .from) (at-put .ensures) (at-conditional .ensures .0) (at-conditional .ensures .1 s) (sym (at-peek .ensures) ∙ at-if1 .left) (at-put2 .ensures)),
+    )
 
 conditional-put-requires : (t : ℕ) → conditional-lts.Need-put-requires (conditional-calls t) (conditional-at t) conditional.Post
 conditional-put-requires t c κs = tt
@@ -134,13 +171,25 @@ conditional-same-length : (t : ℕ) → conditional-lts.Need-same-length (condit
 conditional-same-length t c = search needs
 
 conditional-returns : (t : ℕ) → conditional-lts.Need-returns (conditional-calls t) (conditional-at t) conditional.Post
-conditional-returns t c = (c .before .before .before .before .sequence .ensures .0, λ s. conditional-plain s (c .before .before .before .before .before .before .before .before .before .before .before .before .args .toks .now) (c .before .before .before .before .before .before .before .before .before .before .before .before .args .at) (c .before .before .before .before .before .before .before .before .put .ensures) (c .before .before .before .before .sequence .ensures .0) (c .before .before .before .before .sequence .ensures .1 s) (λ e. c .if1 .taken (c .before .peek .ensures ∙ e)))
+conditional-returns t c =
+    let at-sequence = c .before .before .before .before .sequence in
+    let at-start = c .before .before .before .before .before .before .before .before .before .before .before .before in
+    let at-put = c .before .before .before .before .before .before .before .before .put in
+    let at-if1 = c .if1 in
+    let at-peek = c .before .peek in (
+      at-sequence .ensures .0,
+      λ s. conditional-plain s (at-start .args .toks .now) (at-start .args .at) (at-put .ensures) (at-sequence .ensures .0) (at-sequence .ensures .1 s) (λ e. at-if1 .taken (at-peek .ensures ∙ e)),
+    )
 
 conditional-put-requires-2 : (t : ℕ) → conditional-lts.Need-put-requires-2 (conditional-calls t) (conditional-at t) conditional.Post
 conditional-put-requires-2 t c κs = tt
 
 conditional-add-data-term : (t : ℕ) → conditional-lts.Need-add-data-term (conditional-calls t) (conditional-at t) conditional.Post
-conditional-add-data-term t c = let l = live (c .before .before .before .before .before .before .before .before .before .before .before .before .before .before .before .before .before .args .toks .now) (c .before .before .before .before .before .before .before .before .before .sequence .result .at) (omega arith) in omega arith
+conditional-add-data-term t c =
+    let at-start = c .before .before .before .before .before .before .before .before .before .before .before .before .before .before .before .before .before in
+    let at-sequence = c .before .before .before .before .before .before .before .before .before .sequence in
+    let l = live (at-start .args .toks .now) (at-sequence .result .at) (omega arith) in
+    omega arith
 
 conditional-data-term-requires : (t : ℕ) → conditional-lts.Need-data-term-requires (conditional-calls t) (conditional-at t) conditional.Post
 conditional-data-term-requires t c κs = tt
@@ -149,19 +198,45 @@ conditional-expect-requires : (t : ℕ) → conditional-lts.Need-expect-requires
 conditional-expect-requires t c κs = omega arith
 
 conditional-sequence-requires-2 : (t : ℕ) → conditional-lts.Need-sequence-requires-2 (conditional-calls t) (conditional-at t) conditional.Post
-conditional-sequence-requires-2 t c κs = let l = live (c .before .before .before .before .before .before .before .before .before .before .before .before .before .before .before .before .before .before .before .before .before .before .before .args .toks .now) (c .before .before .before .before .before .before .before .before .before .before .before .before .before .before .before .sequence .result .at) (omega arith) in (omega (arith, c .before .before .before .before .before .before .before .before .before .before .before .before .before .before .before .sequence .ensures .0, c .before .before .before .before .data-term .ensures .0, c .before .expect .ensures .0), tt)
+conditional-sequence-requires-2 t c κs =
+    let at-if1 = c .before .before .before .before .before .before .before .before .before .before .before .if1 in
+    let at-peek = c .before .before .before .before .before .before .before .before .before .before .before .before .peek in
+    let at-start = c .before .before .before .before .before .before .before .before .before .before .before .before .before .before .before .before .before .before .before .before .before .before .before in
+    let at-sequence = c .before .before .before .before .before .before .before .before .before .before .before .before .before .before .before .sequence in
+    let at-data-term = c .before .before .before .before .data-term in
+    let at-expect = c .before .expect in
+    let q = at-if1 .left in
+    let e = at-peek .ensures in
+    let l = live (at-start .args .toks .now) (at-sequence .result .at) (omega arith) in
+    (omega (arith, at-sequence .ensures .0, at-data-term .ensures .0, at-expect .ensures .0), tt)
 
 conditional-same-length-2 : (t : ℕ) → conditional-lts.Need-same-length-2 (conditional-calls t) (conditional-at t) conditional.Post
 conditional-same-length-2 t c = search needs
 
 conditional-returns-2 : (t : ℕ) → conditional-lts.Need-returns-2 (conditional-calls t) (conditional-at t) conditional.Post
-conditional-returns-2 t c = let l = live (c .before .before .before .before .before .before .before .before .before .before .before .before .before .before .before .before .before .before .before .before .before .before .before .before .before .before .args .toks .now) (c .before .before .before .before .before .before .before .before .before .before .before .before .before .before .before .before .before .before .sequence .result .at) (omega arith) in (omega (arith, c .before .before .before .before .before .before .before .before .before .before .before .before .before .before .before .before .before .before .sequence .ensures .0, c .before .before .before .before .before .before .before .data-term .ensures .0, c .before .before .before .before .expect .ensures .0, c .before .before .sequence2 .ensures .0), λ s. conditional-cond s (c .before .before .before .before .before .before .before .before .before .before .before .before .before .before .before .before .before .before .before .before .before .before .before .before .before .before .args .toks .now) (c .before .before .before .before .before .before .before .before .before .before .before .before .before .before .before .before .before .before .before .before .before .before .before .before .before .before .args .at) (c .before .before .before .before .before .before .before .before .before .before .before .before .before .before .before .before .before .before .before .before .before .before .put .ensures) (c .before .before .before .before .before .before .before .before .before .before .before .before .before .before .before .before .before .before .sequence .ensures .0) (c .before .before .before .before .before .before .before .before .before .before .before .before .before .before .before .before .before .before .sequence .ensures .1 s) (sym (c .before .before .before .before .before .before .before .before .before .before .before .before .before .before .before .peek .ensures) ∙ c .before .before .before .before .before .before .before .before .before .before .before .before .before .before .if1 .left) (c .before .before .before .before .before .before .before .before .before .before .before .before .put2 .ensures) (c .before .before .before .before .before .before .before .data-term .ensures .0) (c .before .before .before .before .before .before .before .data-term .ensures .1 s) (c .before .before .before .before .expect .ensures .0) (c .before .before .before .before .expect .ensures .1) (c .before .before .sequence2 .ensures .0) (c .before .before .sequence2 .ensures .1 s))
+conditional-returns-2 t c =
+    let at-start = c .before .before .before .before .before .before .before .before .before .before .before .before .before .before .before .before .before .before .before .before .before .before .before .before .before .before in
+    let at-sequence = c .before .before .before .before .before .before .before .before .before .before .before .before .before .before .before .before .before .before .sequence in
+    let at-data-term = c .before .before .before .before .before .before .before .data-term in
+    let at-expect = c .before .before .before .before .expect in
+    let at-sequence2 = c .before .before .sequence2 in
+    let at-put = c .before .before .before .before .before .before .before .before .before .before .before .before .before .before .before .before .before .before .before .before .before .before .put in
+    let at-peek = c .before .before .before .before .before .before .before .before .before .before .before .before .before .before .before .peek in
+    let at-if1 = c .before .before .before .before .before .before .before .before .before .before .before .before .before .before .if1 in
+    let at-put2 = c .before .before .before .before .before .before .before .before .before .before .before .before .put2 in
+    let l = live (at-start .args .toks .now) (at-sequence .result .at) (omega arith) in (
+      omega (arith, at-sequence .ensures .0, at-data-term .ensures .0, at-expect .ensures .0, at-sequence2 .ensures .0),
+      λ s. conditional-cond s (at-start .args .toks .now) (at-start .args .at) (at-put .ensures) (at-sequence .ensures .0) (at-sequence .ensures .1 s) (sym (at-peek .ensures) ∙ at-if1 .left) (at-put2 .ensures) (at-data-term .ensures .0) (at-data-term .ensures .1 s) (at-expect .ensures .0) (at-expect .ensures .1) (at-sequence2 .ensures .0) (at-sequence2 .ensures .1 s),
+    )
 
 part-peek-requires : (t : ℕ) → part-lts.Need-peek-requires (part-calls t) (part-at t) part.Post
 part-peek-requires t c κs = tt
 
 part-add-t12 : (t : ℕ) → part-lts.Need-add-t12 (part-calls t) (part-at t) part.Post
-part-add-t12 t c = let l = live (c .before .before .before .before .args .toks .now) (c .before .before .before .before .args .at) (omega arith) in omega arith
+part-add-t12 t c =
+    let at-start = c .before .before .before .before in
+    let l = live (at-start .args .toks .now) (at-start .args .at) (omega arith) in
+    omega arith
 
 part-put-requires : (t : ℕ) → part-lts.Need-put-requires (part-calls t) (part-at t) part.Post
 part-put-requires t c κs = tt
@@ -170,10 +245,21 @@ part-same-length : (t : ℕ) → part-lts.Need-same-length (part-calls t) (part-
 part-same-length t c = search needs
 
 part-returns : (t : ℕ) → part-lts.Need-returns (part-calls t) (part-at t) part.Post
-part-returns t c = let l = live (c .before .before .before .before .before .before .before .before .args .toks .now) (c .before .before .before .before .before .before .before .before .args .at) (omega arith) in (omega arith, λ s. part-delta s (c .before .before .before .before .before .before .before .before .args .toks .now) (c .before .before .before .before .before .before .before .before .args .at) (c .before .before .put .ensures) (sym (c .before .before .before .before .before .peek .ensures) ∙ c .before .before .before .before .if1 .taken))
+part-returns t c =
+    let at-start = c .before .before .before .before .before .before .before .before in
+    let at-put = c .before .before .put in
+    let at-peek = c .before .before .before .before .before .peek in
+    let at-if1 = c .before .before .before .before .if1 in
+    let l = live (at-start .args .toks .now) (at-start .args .at) (omega arith) in (
+      omega arith,
+      λ s. part-delta s (at-start .args .toks .now) (at-start .args .at) (at-put .ensures) (sym (at-peek .ensures) ∙ at-if1 .taken),
+    )
 
 part-add-t16 : (t : ℕ) → part-lts.Need-add-t16 (part-calls t) (part-at t) part.Post
-part-add-t16 t c = let l = live (c .before .before .before .before .before .args .toks .now) (c .before .before .before .before .before .args .at) (omega arith) in omega arith
+part-add-t16 t c =
+    let at-start = c .before .before .before .before .before in
+    let l = live (at-start .args .toks .now) (at-start .args .at) (omega arith) in
+    omega arith
 
 part-put-requires-2 : (t : ℕ) → part-lts.Need-put-requires-2 (part-calls t) (part-at t) part.Post
 part-put-requires-2 t c κs = tt
@@ -182,19 +268,35 @@ part-same-length-2 : (t : ℕ) → part-lts.Need-same-length-2 (part-calls t) (p
 part-same-length-2 t c = search needs
 
 part-returns-2 : (t : ℕ) → part-lts.Need-returns-2 (part-calls t) (part-at t) part.Post
-part-returns-2 t c = let l = live (c .before .before .before .before .before .before .before .before .before .args .toks .now) (c .before .before .before .before .before .before .before .before .before .args .at) (omega arith) in (omega arith, λ s. part-tau s (c .before .before .before .before .before .before .before .before .before .args .toks .now) (c .before .before .before .before .before .before .before .before .before .args .at) (λ e. c .before .before .before .before .before .if1 .left (c .before .before .before .before .before .before .peek .ensures ∙ e)) (c .before .before .put2 .ensures) (sym (c .before .before .before .before .before .before .peek .ensures) ∙ c .before .before .before .before .if2 .taken))
+part-returns-2 t c =
+    let at-start = c .before .before .before .before .before .before .before .before .before in
+    let at-if1 = c .before .before .before .before .before .if1 in
+    let at-peek = c .before .before .before .before .before .before .peek in
+    let at-put2 = c .before .before .put2 in
+    let at-if2 = c .before .before .before .before .if2 in
+    let l = live (at-start .args .toks .now) (at-start .args .at) (omega arith) in (
+      omega arith,
+      λ s. part-tau s (at-start .args .toks .now) (at-start .args .at) (λ e. at-if1 .left (at-peek .ensures ∙ e)) (at-put2 .ensures) (sym (at-peek .ensures) ∙ at-if2 .taken),
+    )
 
 part-put-requires-3 : (t : ℕ) → part-lts.Need-put-requires-3 (part-calls t) (part-at t) part.Post
 part-put-requires-3 t c κs = tt
 
 part-add-sum-head : (t : ℕ) → part-lts.Need-add-sum-head (part-calls t) (part-at t) part.Post
-part-add-sum-head t c = let l = live (c .before .before .before .before .before .before .before .before .before .before .args .toks .now) (c .before .before .before .before .before .before .before .before .before .before .args .at) (omega arith) in omega arith
+part-add-sum-head t c =
+    let at-start = c .before .before .before .before .before .before .before .before .before .before in
+    let l = live (at-start .args .toks .now) (at-start .args .at) (omega arith) in
+    omega arith
 
 part-sum-head-requires : (t : ℕ) → part-lts.Need-sum-head-requires (part-calls t) (part-at t) part.Post
 part-sum-head-requires t c κs = tt
 
 part-choice-requires : (t : ℕ) → part-lts.Need-choice-requires (part-calls t) (part-at t) part.Post
-part-choice-requires t c κs = let l = live (c .before .before .before .before .before .before .before .before .before .before .before .before .before .before .before .args .toks .now) (c .before .before .before .before .before .before .before .before .before .before .before .before .before .before .before .args .at) (omega arith) in (omega (arith, c .before .before .before .sum-head .ensures .0), tt)
+part-choice-requires t c κs =
+    let at-start = c .before .before .before .before .before .before .before .before .before .before .before .before .before .before .before in
+    let at-sum-head = c .before .before .before .sum-head in
+    let l = live (at-start .args .toks .now) (at-start .args .at) (omega arith) in
+    (omega (arith, at-sum-head .ensures .0), tt)
 
 part-expect-requires : (t : ℕ) → part-lts.Need-expect-requires (part-calls t) (part-at t) part.Post
 part-expect-requires t c κs = omega arith
@@ -203,16 +305,35 @@ part-same-length-3 : (t : ℕ) → part-lts.Need-same-length-3 (part-calls t) (p
 part-same-length-3 t c = search needs
 
 part-returns-3 : (t : ℕ) → part-lts.Need-returns-3 (part-calls t) (part-at t) part.Post
-part-returns-3 t c = let l = live (c .before .before .before .before .before .before .before .before .before .before .before .before .before .before .before .before .before .before .before .args .toks .now) (c .before .before .before .before .before .before .before .before .before .before .before .before .before .before .before .before .before .before .before .args .at) (omega arith) in (omega (arith, c .before .before .before .before .before .before .before .sum-head .ensures .0, c .before .before .before .choice .ensures .0, c .expect .ensures .0), λ s. part-sum s (c .before .before .before .before .before .before .before .before .before .before .before .before .before .before .before .before .before .before .before .args .toks .now) (c .before .before .before .before .before .before .before .before .before .before .before .before .before .before .before .before .before .before .before .args .at) (λ e. c .before .before .before .before .before .before .before .before .before .before .before .before .before .before .before .if1 .left (c .before .before .before .before .before .before .before .before .before .before .before .before .before .before .before .before .peek .ensures ∙ e)) (λ e. c .before .before .before .before .before .before .before .before .before .before .before .before .before .before .if2 .left (c .before .before .before .before .before .before .before .before .before .before .before .before .before .before .before .before .peek .ensures ∙ e)) (c .before .before .before .before .before .before .before .before .before .before .before .put3 .ensures) (sym (c .before .before .before .before .before .before .before .before .before .before .before .before .before .before .before .before .peek .ensures) ∙ c .before .before .before .before .before .before .before .before .before .before .before .before .before .if3 .taken) (c .before .before .before .before .before .before .before .sum-head .ensures .0) (c .before .before .before .before .before .before .before .sum-head .ensures .1 s 1 (omega arith)) (c .before .before .before .choice .ensures .0) (c .before .before .before .choice .ensures .1 s) (c .expect .ensures .0) (c .expect .ensures .1))
+part-returns-3 t c =
+    let at-start = c .before .before .before .before .before .before .before .before .before .before .before .before .before .before .before .before .before .before .before in
+    let at-sum-head = c .before .before .before .before .before .before .before .sum-head in
+    let at-choice = c .before .before .before .choice in
+    let at-expect = c .expect in
+    let at-if1 = c .before .before .before .before .before .before .before .before .before .before .before .before .before .before .before .if1 in
+    let at-peek = c .before .before .before .before .before .before .before .before .before .before .before .before .before .before .before .before .peek in
+    let at-if2 = c .before .before .before .before .before .before .before .before .before .before .before .before .before .before .if2 in
+    let at-put3 = c .before .before .before .before .before .before .before .before .before .before .before .put3 in
+    let at-if3 = c .before .before .before .before .before .before .before .before .before .before .before .before .before .if3 in
+    let l = live (at-start .args .toks .now) (at-start .args .at) (omega arith) in (
+      omega (arith, at-sum-head .ensures .0, at-choice .ensures .0, at-expect .ensures .0),
+      λ s. part-sum s (at-start .args .toks .now) (at-start .args .at) (λ e. at-if1 .left (at-peek .ensures ∙ e)) (λ e. at-if2 .left (at-peek .ensures ∙ e)) (at-put3 .ensures) (sym (at-peek .ensures) ∙ at-if3 .taken) (at-sum-head .ensures .0) (at-sum-head .ensures .1 s 1 (omega arith)) (at-choice .ensures .0) (at-choice .ensures .1 s) (at-expect .ensures .0) (at-expect .ensures .1),
+    )
 
 part-put-requires-4 : (t : ℕ) → part-lts.Need-put-requires-4 (part-calls t) (part-at t) part.Post
 part-put-requires-4 t c κs = tt
 
 part-add-choice : (t : ℕ) → part-lts.Need-add-choice (part-calls t) (part-at t) part.Post
-part-add-choice t c = let l = live (c .before .before .before .before .before .before .before .before .before .before .before .args .toks .now) (c .before .before .before .before .before .before .before .before .before .before .before .args .at) (omega arith) in omega arith
+part-add-choice t c =
+    let at-start = c .before .before .before .before .before .before .before .before .before .before .before in
+    let l = live (at-start .args .toks .now) (at-start .args .at) (omega arith) in
+    omega arith
 
 part-choice-requires-2 : (t : ℕ) → part-lts.Need-choice-requires-2 (part-calls t) (part-at t) part.Post
-part-choice-requires-2 t c κs = let l = live (c .before .before .before .before .before .before .before .before .before .before .before .before .args .toks .now) (c .before .before .before .before .before .before .before .before .before .before .before .before .args .at) (omega arith) in (omega arith, tt)
+part-choice-requires-2 t c κs =
+    let at-start = c .before .before .before .before .before .before .before .before .before .before .before .before in
+    let l = live (at-start .args .toks .now) (at-start .args .at) (omega arith) in
+    (omega arith, tt)
 
 part-expect-requires-2 : (t : ℕ) → part-lts.Need-expect-requires-2 (part-calls t) (part-at t) part.Post
 part-expect-requires-2 t c κs = omega arith
@@ -221,7 +342,20 @@ part-same-length-4 : (t : ℕ) → part-lts.Need-same-length-4 (part-calls t) (p
 part-same-length-4 t c = search needs
 
 part-returns-4 : (t : ℕ) → part-lts.Need-returns-4 (part-calls t) (part-at t) part.Post
-part-returns-4 t c = let l = live (c .before .before .before .before .before .before .before .before .before .before .before .before .before .before .before .before .args .toks .now) (c .before .before .before .before .before .before .before .before .before .before .before .before .before .before .before .before .args .at) (omega arith) in (omega (arith, c .before .before .before .choice2 .ensures .0, c .expect2 .ensures .0), λ s. part-group s (c .before .before .before .before .before .before .before .before .before .before .before .before .before .before .before .before .args .toks .now) (c .before .before .before .before .before .before .before .before .before .before .before .before .before .before .before .before .args .at) (λ e. c .before .before .before .before .before .before .before .before .before .before .before .before .if1 .left (c .before .before .before .before .before .before .before .before .before .before .before .before .before .peek .ensures ∙ e)) (λ e. c .before .before .before .before .before .before .before .before .before .before .before .if2 .left (c .before .before .before .before .before .before .before .before .before .before .before .before .before .peek .ensures ∙ e)) (λ e. c .before .before .before .before .before .before .before .before .before .before .if3 .left (c .before .before .before .before .before .before .before .before .before .before .before .before .before .peek .ensures ∙ e)) (c .before .before .before .before .before .before .before .put4 .ensures) (sym (c .before .before .before .before .before .before .before .before .before .before .before .before .before .peek .ensures) ∙ c .before .before .before .before .before .before .before .before .before .if4 .taken) (c .before .before .before .choice2 .ensures .0) (c .before .before .before .choice2 .ensures .1 s) (c .expect2 .ensures .0) (c .expect2 .ensures .1))
+part-returns-4 t c =
+    let at-start = c .before .before .before .before .before .before .before .before .before .before .before .before .before .before .before .before in
+    let at-choice2 = c .before .before .before .choice2 in
+    let at-expect2 = c .expect2 in
+    let at-if1 = c .before .before .before .before .before .before .before .before .before .before .before .before .if1 in
+    let at-peek = c .before .before .before .before .before .before .before .before .before .before .before .before .before .peek in
+    let at-if2 = c .before .before .before .before .before .before .before .before .before .before .before .if2 in
+    let at-if3 = c .before .before .before .before .before .before .before .before .before .before .if3 in
+    let at-put4 = c .before .before .before .before .before .before .before .put4 in
+    let at-if4 = c .before .before .before .before .before .before .before .before .before .if4 in
+    let l = live (at-start .args .toks .now) (at-start .args .at) (omega arith) in (
+      omega (arith, at-choice2 .ensures .0, at-expect2 .ensures .0),
+      λ s. part-group s (at-start .args .toks .now) (at-start .args .at) (λ e. at-if1 .left (at-peek .ensures ∙ e)) (λ e. at-if2 .left (at-peek .ensures ∙ e)) (λ e. at-if3 .left (at-peek .ensures ∙ e)) (at-put4 .ensures) (sym (at-peek .ensures) ∙ at-if4 .taken) (at-choice2 .ensures .0) (at-choice2 .ensures .1 s) (at-expect2 .ensures .0) (at-expect2 .ensures .1),
+    )
 
 part-named-requires : (t : ℕ) → part-lts.Need-named-requires (part-calls t) (part-at t) part.Post
 part-named-requires t c κs = tt
@@ -230,7 +364,17 @@ part-same-length-5 : (t : ℕ) → part-lts.Need-same-length-5 (part-calls t) (p
 part-same-length-5 t c = search needs
 
 part-returns-5 : (t : ℕ) → part-lts.Need-returns-5 (part-calls t) (part-at t) part.Post
-part-returns-5 t c = (c .before .before .named .ensures .0, λ s. part-named s (c .before .before .before .before .before .before .before .before .before .before .before .args .toks .now) (c .before .before .before .before .before .before .before .before .before .before .before .args .at) (λ e. c .before .before .before .before .before .before .before .if1 .left (c .before .before .before .before .before .before .before .before .peek .ensures ∙ e)) (λ e. c .before .before .before .before .before .before .if2 .left (c .before .before .before .before .before .before .before .before .peek .ensures ∙ e)) (λ e. c .before .before .before .before .before .if3 .left (c .before .before .before .before .before .before .before .before .peek .ensures ∙ e)) (λ e. c .before .before .before .before .if4 .left (c .before .before .before .before .before .before .before .before .peek .ensures ∙ e)) (c .before .before .named .ensures .1 s) (c .before .before .named .ensures .0))
+part-returns-5 t c =
+    let at-named = c .before .before .named in
+    let at-start = c .before .before .before .before .before .before .before .before .before .before .before in
+    let at-if1 = c .before .before .before .before .before .before .before .if1 in
+    let at-peek = c .before .before .before .before .before .before .before .before .peek in
+    let at-if2 = c .before .before .before .before .before .before .if2 in
+    let at-if3 = c .before .before .before .before .before .if3 in
+    let at-if4 = c .before .before .before .before .if4 in (
+      at-named .ensures .0,
+      λ s. part-named s (at-start .args .toks .now) (at-start .args .at) (λ e. at-if1 .left (at-peek .ensures ∙ e)) (λ e. at-if2 .left (at-peek .ensures ∙ e)) (λ e. at-if3 .left (at-peek .ensures ∙ e)) (λ e. at-if4 .left (at-peek .ensures ∙ e)) (at-named .ensures .1 s) (at-named .ensures .0),
+    )
 
 abbrev sequence-Inv-loop : sequence-lts.InvT-loop
 sequence-Inv-loop toks at out₀ w from₀ v₀ out from v = (at ≤ from) × (length out ≡ length out₀) × ((s : List ℕ) → Goes s toks enc-sequence G.sequence 1 at w out₀ from v out)
@@ -239,7 +383,12 @@ abbrev sequence-μ-loop : sequence-lts.MeasureT-loop
 sequence-μ-loop toks at out₀ w from₀ v₀ out from v = length toks - from
 
 sequence-loop-holds : (t : ℕ) → sequence-lts.Need-loop-holds (sequence-calls t) (sequence-at t) sequence.Post sequence-Inv-loop sequence-μ-loop
-sequence-loop-holds t c = (omega arith, refl, λ s. goes-start s (c .before .before .args .toks .now) enc-sequence G.sequence 1 (c .before .before .args .at) (c .before .before .args .w) (c .before .before .args .out .now))
+sequence-loop-holds t c =
+    let at-start = c .before .before in (
+      omega arith,
+      refl,
+      λ s. goes-start s (at-start .args .toks .now) enc-sequence G.sequence 1 (at-start .args .at) (at-start .args .w) (at-start .args .out .now),
+    )
 
 sequence-put-requires : (t : ℕ) → sequence-lts.Need-put-requires (sequence-calls t) (sequence-at t) sequence.Post sequence-Inv-loop sequence-μ-loop
 sequence-put-requires t c κs = tt
@@ -251,22 +400,54 @@ sequence-peek-requires : (t : ℕ) → sequence-lts.Need-peek-requires (sequence
 sequence-peek-requires t c κs = tt
 
 sequence-same-length : (t : ℕ) → sequence-lts.Need-same-length (sequence-calls t) (sequence-at t) sequence.Post sequence-Inv-loop sequence-μ-loop
-sequence-same-length t c = omega (arith, c .before .before .before .before .part .kept .1 .1 .0, c .before .before .before .before .before .before .before .before .put .kept .0)
+sequence-same-length t c =
+    let at-part = c .before .before .before .before .part in
+    let at-put = c .before .before .before .before .before .before .before .before .put in
+    omega (arith, at-part .kept .1 .1 .0, at-put .kept .0)
 
 sequence-returns : (t : ℕ) → sequence-lts.Need-returns (sequence-calls t) (sequence-at t) sequence.Post sequence-Inv-loop sequence-μ-loop
-sequence-returns t c = (omega (arith, c .before .before .before .before .part .ensures .0), λ s. goes-end s (c .before .before .before .before .before .before .before .before .before .before .before .before .before .args .toks .now) enc-sequence G.sequence 1 (c .before .before .before .before .before .before .before .before .before .before .before .before .before .args .at) (c .before .before .before .before .before .before .before .before .before .before .before .before .before .args .w) (c .before .before .before .before .before .before .before .before .before .before .before .before .before .args .out .now) (c .before .before .before .before .before .before .before .before .before .before .loop .from) (c .before .before .before .before .before .before .before .before .before .before .loop .v) (c .before .before .before .before .before .before .before .before .before .before .loop .out) (c .before .before .before .before .before .before .before .before .before .before .loop .inv .2 s) (sequence-last s (c .before .before .before .before .before .before .before .before .before .before .before .before .before .args .toks .now) (c .before .before .before .before .before .before .before .before .before .before .loop .from) (c .before .before .before .before .before .before .before .before .put .ensures) (c .before .before .before .before .part .ensures .0) (c .before .before .before .before .part .ensures .1 s) (λ e. c .if1 .taken (c .before .peek .ensures ∙ e))))
+sequence-returns t c =
+    let at-part = c .before .before .before .before .part in
+    let at-start = c .before .before .before .before .before .before .before .before .before .before .before .before .before in
+    let at-loop = c .before .before .before .before .before .before .before .before .before .before .loop in
+    let at-put = c .before .before .before .before .before .before .before .before .put in
+    let at-if1 = c .if1 in
+    let at-peek = c .before .peek in (
+      omega (arith, at-part .ensures .0),
+      λ s. goes-end s (at-start .args .toks .now) enc-sequence G.sequence 1 (at-start .args .at) (at-start .args .w) (at-start .args .out .now) (at-loop .from) (at-loop .v) (at-loop .out) (at-loop .inv .2 s) (sequence-last s (at-start .args .toks .now) (at-loop .from) (at-put .ensures) (at-part .ensures .0) (at-part .ensures .1 s) (λ e. at-if1 .taken (at-peek .ensures ∙ e))),
+    )
 
 sequence-put-requires-2 : (t : ℕ) → sequence-lts.Need-put-requires-2 (sequence-calls t) (sequence-at t) sequence.Post sequence-Inv-loop sequence-μ-loop
 sequence-put-requires-2 t c κs = tt
 
 sequence-add-from : (t : ℕ) → sequence-lts.Need-add-from (sequence-calls t) (sequence-at t) sequence.Post sequence-Inv-loop sequence-μ-loop
-sequence-add-from t c = let l = live (c .before .before .before .before .before .before .before .before .before .before .before .before .before .before .before .before .before .before .args .toks .now) (c .before .before .before .before .before .before .before .before .before .part .result .at) (omega arith) in omega arith
+sequence-add-from t c =
+    let at-start = c .before .before .before .before .before .before .before .before .before .before .before .before .before .before .before .before .before .before in
+    let at-part = c .before .before .before .before .before .before .before .before .before .part in
+    let l = live (at-start .args .toks .now) (at-part .result .at) (omega arith) in
+    omega arith
 
 sequence-loop-less : (t : ℕ) → sequence-lts.Need-loop-less (sequence-calls t) (sequence-at t) sequence.Post sequence-Inv-loop sequence-μ-loop
-sequence-loop-less t c = let l = live (c .before .before .before .before .before .before .before .before .before .before .before .before .before .before .before .before .before .before .args .toks .now) (c .before .before .before .before .before .before .before .before .before .part .result .at) (omega arith) in omega (arith, c .before .before .before .before .before .before .before .before .before .part .ensures .0)
+sequence-loop-less t c =
+    let at-start = c .before .before .before .before .before .before .before .before .before .before .before .before .before .before .before .before .before .before in
+    let at-part = c .before .before .before .before .before .before .before .before .before .part in
+    let l = live (at-start .args .toks .now) (at-part .result .at) (omega arith) in
+    omega (arith, at-part .ensures .0)
 
 sequence-loop-again : (t : ℕ) → sequence-lts.Need-loop-again (sequence-calls t) (sequence-at t) sequence.Post sequence-Inv-loop sequence-μ-loop
-sequence-loop-again t c = let l = live (c .before .before .before .before .before .before .before .before .before .before .before .before .before .before .before .before .before .before .args .toks .now) (c .before .before .before .before .before .before .before .before .before .part .result .at) (omega arith) in (omega (arith, c .before .before .before .before .before .before .before .before .before .part .ensures .0), omega (arith, c .before .before .before .put2 .kept .0, c .before .before .before .before .before .before .before .before .before .part .kept .1 .1 .0, c .before .before .before .before .before .before .before .before .before .before .before .before .before .put .kept .0), λ s. goes-on s (c .before .before .before .before .before .before .before .before .before .before .before .before .before .before .before .before .before .before .args .toks .now) enc-sequence G.sequence 1 (c .before .before .before .before .before .before .before .before .before .before .before .before .before .before .before .before .before .before .args .at) (c .before .before .before .before .before .before .before .before .before .before .before .before .before .before .before .before .before .before .args .w) (c .before .before .before .before .before .before .before .before .before .before .before .before .before .before .before .before .before .before .args .out .now) (c .before .before .before .before .before .before .before .before .before .before .before .before .before .before .before .loop .from) (c .before .before .before .before .before .before .before .before .before .before .before .before .before .before .before .loop .v) (c .before .before .before .before .before .before .before .before .before .before .before .before .before .before .before .loop .out) (c .before .before .before .before .before .before .before .before .before .before .before .before .before .before .before .loop .inv .2 s) _ _ _ (sequence-then s (c .before .before .before .before .before .before .before .before .before .before .before .before .before .before .before .before .before .before .args .toks .now) (c .before .before .before .before .before .before .before .before .before .before .before .before .before .before .before .loop .from) (c .before .before .before .before .before .before .before .before .before .before .before .before .before .put .ensures) (c .before .before .before .before .before .before .before .before .before .part .ensures .0) (c .before .before .before .before .before .before .before .before .before .part .ensures .1 s) (sym (c .before .before .before .before .before .before .peek .ensures) ∙ c .before .before .before .before .before .if1 .left) (c .before .before .before .put2 .ensures)))
+sequence-loop-again t c =
+    let at-start = c .before .before .before .before .before .before .before .before .before .before .before .before .before .before .before .before .before .before in
+    let at-part = c .before .before .before .before .before .before .before .before .before .part in
+    let at-put2 = c .before .before .before .put2 in
+    let at-put = c .before .before .before .before .before .before .before .before .before .before .before .before .before .put in
+    let at-loop = c .before .before .before .before .before .before .before .before .before .before .before .before .before .before .before .loop in
+    let at-peek = c .before .before .before .before .before .before .peek in
+    let at-if1 = c .before .before .before .before .before .if1 in
+    let l = live (at-start .args .toks .now) (at-part .result .at) (omega arith) in (
+      omega (arith, at-part .ensures .0),
+      omega (arith, at-put2 .kept .0, at-part .kept .1 .1 .0, at-put .kept .0),
+      λ s. goes-on s (at-start .args .toks .now) enc-sequence G.sequence 1 (at-start .args .at) (at-start .args .w) (at-start .args .out .now) (at-loop .from) (at-loop .v) (at-loop .out) (at-loop .inv .2 s) _ _ _ (sequence-then s (at-start .args .toks .now) (at-loop .from) (at-put .ensures) (at-part .ensures .0) (at-part .ensures .1 s) (sym (at-peek .ensures) ∙ at-if1 .left) (at-put2 .ensures)),
+    )
 
 pub +choice+conditional+part+sequence-spec : {M : Type 1} → statement M
 +choice+conditional+part+sequence-spec =

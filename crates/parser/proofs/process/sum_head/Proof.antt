@@ -24,7 +24,16 @@ same-length : tie.Need-same-length
 same-length c = search needs
 
 returns : tie.Need-returns
-returns c = (omega (arith, c .before .before .before .before .before .before .before .before .before .before .expect .ensures .0, c .before .before .before .before .before .before .before .before .name .ensures .0, c .before .before .before .before .before .expect2 .ensures .0, c .before .before .before .name2 .ensures .0, c .expect3 .ensures .0), λ s f l. head-read s (c .before .before .before .before .before .before .before .before .before .before .before .before .before .args .toks .now) (c .before .before .before .before .before .before .before .before .before .before .before .before .before .args .at) (c .before .before .before .before .before .before .before .before .before .before .expect .ensures .1) (c .before .before .before .before .before .before .before .before .name .ensures .0) (c .before .before .before .before .before .before .before .before .name .ensures .1 s 1 (omega arith)) (c .before .before .before .before .before .expect2 .ensures .0) (c .before .before .before .before .before .expect2 .ensures .1) (c .before .before .before .name2 .ensures .0) (c .before .before .before .name2 .ensures .1 s 1 (omega arith)) (c .expect3 .ensures .0) (c .expect3 .ensures .1))
+returns c =
+    let at-expect = c .before .before .before .before .before .before .before .before .before .before .expect in
+    let at-name = c .before .before .before .before .before .before .before .before .name in
+    let at-expect2 = c .before .before .before .before .before .expect2 in
+    let at-name2 = c .before .before .before .name2 in
+    let at-expect3 = c .expect3 in
+    let at-start = c .before .before .before .before .before .before .before .before .before .before .before .before .before in (
+      omega (arith, at-expect .ensures .0, at-name .ensures .0, at-expect2 .ensures .0, at-name2 .ensures .0, at-expect3 .ensures .0),
+      λ s f l. head-read s (at-start .args .toks .now) (at-start .args .at) (at-expect .ensures .1) (at-name .ensures .0) (at-name .ensures .1 s 1 (omega arith)) (at-expect2 .ensures .0) (at-expect2 .ensures .1) (at-name2 .ensures .0) (at-name2 .ensures .1 s 1 (omega arith)) (at-expect3 .ensures .0) (at-expect3 .ensures .1),
+    )
 
 pub sum-head-spec : {M : Type 1} → statement M
 sum-head-spec =

@@ -38,7 +38,13 @@ lines-of-peek-requires : (t : ℕ) → lines-of-lts.Need-peek-requires (lines-of
 lines-of-peek-requires t c κs = tt
 
 lines-of-returns : (t : ℕ) → lines-of-lts.Need-returns (lines-of-calls t) (lines-of-at t) lines-of.Post
-lines-of-returns t c = (omega arith, λ i s f g l k. run-none (kind-sign (c .before .before .before .before .before .args .word) (omega arith) (omega arith)) (kind-of (c .before .before .before .before .before .args .word) .reader f) s (c .before .before .before .before .before .args .toks .now) (c .before .before .before .before .before .args .at) (c .before .before .before .before .before .args .w) (c .before .before .before .before .before .args .n) (c .before .before .before .before .before .args .out .now) (c .before .before .before .before .before .args .places .now) i (λ e. c .if1 .taken (c .before .peek .ensures ∙ e)) g k)
+lines-of-returns t c =
+    let at-start = c .before .before .before .before .before in
+    let at-if1 = c .if1 in
+    let at-peek = c .before .peek in (
+      omega arith,
+      λ i s f g l k. run-none (kind-sign (at-start .args .word) (omega arith) (omega arith)) (kind-of (at-start .args .word) .reader f) s (at-start .args .toks .now) (at-start .args .at) (at-start .args .w) (at-start .args .n) (at-start .args .out .now) (at-start .args .places .now) i (λ e. at-if1 .taken (at-peek .ensures ∙ e)) g k,
+    )
 
 lines-of-short-requires : (t : ℕ) → lines-of-lts.Need-short-requires (lines-of-calls t) (lines-of-at t) lines-of.Post
 lines-of-short-requires t c κs = tt
@@ -47,7 +53,10 @@ lines-of-put-requires : (t : ℕ) → lines-of-lts.Need-put-requires (lines-of-c
 lines-of-put-requires t c κs = tt
 
 lines-of-add-line : (t : ℕ) → lines-of-lts.Need-add-line (lines-of-calls t) (lines-of-at t) lines-of.Post
-lines-of-add-line t c = let l = live (c .before .before .before .before .before .before .before .before .before .before .args .toks .now) (c .before .before .before .before .before .before .before .before .before .before .args .at) (omega arith) in omega arith
+lines-of-add-line t c =
+    let at-start = c .before .before .before .before .before .before .before .before .before .before in
+    let l = live (at-start .args .toks .now) (at-start .args .at) (omega arith) in
+    omega arith
 
 lines-of-line-requires : (t : ℕ) → lines-of-lts.Need-line-requires (lines-of-calls t) (lines-of-at t) lines-of.Post
 lines-of-line-requires t c κs = tt
@@ -56,10 +65,25 @@ lines-of-expect-requires : (t : ℕ) → lines-of-lts.Need-expect-requires (line
 lines-of-expect-requires t c κs = omega arith
 
 lines-of-add-lines-of : (t : ℕ) → lines-of-lts.Need-add-lines-of (lines-of-calls t) (lines-of-at t) lines-of.Post
-lines-of-add-lines-of t c = let l = live (c .before .before .before .before .before .before .before .before .before .before .before .before .before .before .before .before .before .args .toks .now) (c .before .before .before .before .before .before .before .before .before .before .before .before .before .before .before .before .before .args .at) (omega arith) in omega arith
+lines-of-add-lines-of t c =
+    let at-start = c .before .before .before .before .before .before .before .before .before .before .before .before .before .before .before .before .before in
+    let l = live (at-start .args .toks .now) (at-start .args .at) (omega arith) in
+    omega arith
 
 lines-of-lines-of-requires : (t : ℕ) → lines-of-lts.Need-lines-of-requires (lines-of-calls t) (lines-of-at t) lines-of.Post
-lines-of-lines-of-requires t c κs = let l = live (c .before .before .before .before .before .before .before .before .before .before .before .before .before .before .before .before .before .args .toks .now) (c .before .before .before .before .before .before .before .before .before .before .before .before .before .before .before .before .before .args .at) (omega arith) in let a = (c .before .before .before .before .before .line .ensures .0) in let b = (c .before .before .expect .ensures .0) in (omega arith, (omega arith, omega arith, omega arith))
+lines-of-lines-of-requires t c κs =
+    let at-start = c .before .before .before .before .before .before .before .before .before .before .before .before .before .before .before .before .before in
+    let at-if1 = c .before .before .before .before .before .before .before .before .before .before .before .before .if1 in
+    let at-peek = c .before .before .before .before .before .before .before .before .before .before .before .before .before .peek in
+    let at-line = c .before .before .before .before .before .line in
+    let at-expect = c .before .before .expect in
+    let q = at-start .pre in
+    let i = at-if1 .left in
+    let e = at-peek .ensures in
+    let l = live (at-start .args .toks .now) (at-start .args .at) (omega arith) in
+    let a = (at-line .ensures .0) in
+    let b = (at-expect .ensures .0) in
+    (omega arith, (omega arith, omega arith, omega arith))
 
 lines-of-same-length : (t : ℕ) → lines-of-lts.Need-same-length (lines-of-calls t) (lines-of-at t) lines-of.Post
 lines-of-same-length t c = search needs
@@ -68,7 +92,23 @@ lines-of-same-length-2 : (t : ℕ) → lines-of-lts.Need-same-length-2 (lines-of
 lines-of-same-length-2 t c = search needs
 
 lines-of-returns-2 : (t : ℕ) → lines-of-lts.Need-returns-2 (lines-of-calls t) (lines-of-at t) lines-of.Post
-lines-of-returns-2 t c = let q = c .before .before .before .before .before .before .before .before .before .before .before .before .before .before .before .before .before .before .before .before .before .before .pre in let l = live (c .before .before .before .before .before .before .before .before .before .before .before .before .before .before .before .before .before .before .before .before .before .before .args .toks .now) (c .before .before .before .before .before .before .before .before .before .before .before .before .before .before .before .before .before .before .before .before .before .before .args .at) (omega arith) in let a = (c .before .before .before .before .before .before .before .before .before .before .line .ensures .0) in let b = (c .before .before .before .before .before .before .before .expect .ensures .0) in let d = (c .before .before .before .before .lines-of .ensures .0) in (omega arith, λ i s f g l k. run-more (kind-sign (c .before .before .before .before .before .before .before .before .before .before .before .before .before .before .before .before .before .before .before .before .before .before .args .word) (omega arith) (omega arith)) (kind-of (c .before .before .before .before .before .before .before .before .before .before .before .before .before .before .before .before .before .before .before .before .before .before .args .word) .reader f) s (c .before .before .before .before .before .before .before .before .before .before .before .before .before .before .before .before .before .before .before .before .before .before .args .toks .now) (c .before .before .before .before .before .before .before .before .before .before .before .before .before .before .before .before .before .before .before .before .before .before .args .at) (c .before .before .before .before .before .before .before .before .before .before .before .before .before .before .before .before .before .before .before .before .before .before .args .w) (c .before .before .before .before .before .before .before .before .before .before .before .before .before .before .before .before .before .before .before .before .before .before .args .n) (c .before .before .before .before .before .before .before .before .before .before .before .before .before .before .before .before .before .before .before .before .before .before .args .out .now) (c .before .before .before .before .before .before .before .before .before .before .before .before .before .before .before .before .before .before .before .before .before .before .args .places .now) (sym (c .before .before .before .before .before .before .before .before .before .before .before .before .before .before .before .before .before .before .peek .ensures) ∙ c .before .before .before .before .before .before .before .before .before .before .before .before .before .before .before .before .before .if1 .left) (c .before .before .before .before .before .before .before .before .before .before .before .before .before .before .before .short .ensures) (c .before .before .before .before .before .before .before .before .before .before .before .before .before .before .put .ensures) (c .before .before .before .before .before .before .before .before .before .before .line .ensures .1 s f l) (c .before .before .before .before .before .before .before .expect .ensures .0) (c .before .before .before .before .before .before .before .expect .ensures .1) (c .before .before .before .before .lines-of .ensures .0) (omega arith) (λ j e m. c .before .before .before .before .lines-of .ensures .1 j s f e l m) g k)
+lines-of-returns-2 t c =
+    let at-start = c .before .before .before .before .before .before .before .before .before .before .before .before .before .before .before .before .before .before .before .before .before .before in
+    let at-line = c .before .before .before .before .before .before .before .before .before .before .line in
+    let at-expect = c .before .before .before .before .before .before .before .expect in
+    let at-lines-of = c .before .before .before .before .lines-of in
+    let at-peek = c .before .before .before .before .before .before .before .before .before .before .before .before .before .before .before .before .before .before .peek in
+    let at-if1 = c .before .before .before .before .before .before .before .before .before .before .before .before .before .before .before .before .before .if1 in
+    let at-short = c .before .before .before .before .before .before .before .before .before .before .before .before .before .before .before .short in
+    let at-put = c .before .before .before .before .before .before .before .before .before .before .before .before .before .before .put in
+    let q = at-start .pre in
+    let l = live (at-start .args .toks .now) (at-start .args .at) (omega arith) in
+    let a = (at-line .ensures .0) in
+    let b = (at-expect .ensures .0) in
+    let d = (at-lines-of .ensures .0) in (
+      omega arith,
+      λ i s f g l k. run-more (kind-sign (at-start .args .word) (omega arith) (omega arith)) (kind-of (at-start .args .word) .reader f) s (at-start .args .toks .now) (at-start .args .at) (at-start .args .w) (at-start .args .n) (at-start .args .out .now) (at-start .args .places .now) (sym (at-peek .ensures) ∙ at-if1 .left) (at-short .ensures) (at-put .ensures) (at-line .ensures .1 s f l) (at-expect .ensures .0) (at-expect .ensures .1) (at-lines-of .ensures .0) (omega arith) (λ j e m. at-lines-of .ensures .1 j s f e l m) g k,
+    )
 
 pub +lines-of-spec : {M : Type 1} → statement M
 +lines-of-spec = close μ-lines-of λ t. lines-of-lts.spec (lines-of-calls t)

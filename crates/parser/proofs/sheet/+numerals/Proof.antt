@@ -47,19 +47,46 @@ numerals-same-length : (t : ℕ) → numerals-lts.Need-same-length (numerals-cal
 numerals-same-length t c = search needs
 
 numerals-returns : (t : ℕ) → numerals-lts.Need-returns (numerals-calls t) (numerals-at t) numerals.Post
-numerals-returns t c = ((c .before .before .before .before .before .before .before .before .numeral .ensures .0), λ s. numerals-last s (c .before .before .before .before .before .before .before .before .before .before .before .before .before .before .before .before .args .toks .now) (c .before .before .before .before .before .before .before .before .before .before .before .before .before .before .before .before .args .at) (c .before .before .before .before .before .before .before .before .before .before .before .before .put .ensures) (c .before .before .before .before .before .before .before .before .numeral .ensures .0) (c .before .before .before .before .before .before .before .before .numeral .ensures .1 s 1 (omega arith)) (λ e. c .before .before .before .before .if1 .taken (c .before .before .before .before .before .peek .ensures ∙ e)) (c .before .before .put2 .ensures))
+numerals-returns t c =
+    let at-numeral = c .before .before .before .before .before .before .before .before .numeral in
+    let at-start = c .before .before .before .before .before .before .before .before .before .before .before .before .before .before .before .before in
+    let at-put = c .before .before .before .before .before .before .before .before .before .before .before .before .put in
+    let at-if1 = c .before .before .before .before .if1 in
+    let at-peek = c .before .before .before .before .before .peek in
+    let at-put2 = c .before .before .put2 in (
+      (at-numeral .ensures .0),
+      λ s. numerals-last s (at-start .args .toks .now) (at-start .args .at) (at-put .ensures) (at-numeral .ensures .0) (at-numeral .ensures .1 s 1 (omega arith)) (λ e. at-if1 .taken (at-peek .ensures ∙ e)) (at-put2 .ensures),
+    )
 
 numerals-add-numerals : (t : ℕ) → numerals-lts.Need-add-numerals (numerals-calls t) (numerals-at t) numerals.Post
-numerals-add-numerals t c = let l = live (c .before .before .before .before .before .before .before .before .before .before .before .before .before .args .toks .now) (c .before .before .before .before .before .numeral .result .at) (omega arith) in omega arith
+numerals-add-numerals t c =
+    let at-start = c .before .before .before .before .before .before .before .before .before .before .before .before .before in
+    let at-numeral = c .before .before .before .before .before .numeral in
+    let l = live (at-start .args .toks .now) (at-numeral .result .at) (omega arith) in
+    omega arith
 
 numerals-numerals-requires : (t : ℕ) → numerals-lts.Need-numerals-requires (numerals-calls t) (numerals-at t) numerals.Post
-numerals-numerals-requires t c κs = let l = live (c .before .before .before .before .before .before .before .before .before .before .before .before .before .before .args .toks .now) (c .before .before .before .before .before .before .numeral .result .at) (omega arith) in (omega (arith, (c .before .before .before .before .before .before .numeral .ensures .0)), tt)
+numerals-numerals-requires t c κs =
+    let at-start = c .before .before .before .before .before .before .before .before .before .before .before .before .before .before in
+    let at-numeral = c .before .before .before .before .before .before .numeral in
+    let l = live (at-start .args .toks .now) (at-numeral .result .at) (omega arith) in
+    (omega (arith, (at-numeral .ensures .0)), tt)
 
 numerals-same-length-2 : (t : ℕ) → numerals-lts.Need-same-length-2 (numerals-calls t) (numerals-at t) numerals.Post
 numerals-same-length-2 t c = search needs
 
 numerals-returns-2 : (t : ℕ) → numerals-lts.Need-returns-2 (numerals-calls t) (numerals-at t) numerals.Post
-numerals-returns-2 t c = let l = live (c .before .before .before .before .before .before .before .before .before .before .before .before .before .before .before .before .before .args .toks .now) (c .before .before .before .before .before .before .before .before .before .numeral .result .at) (omega arith) in (omega (arith, (c .before .before .before .before .before .before .before .before .before .numeral .ensures .0), (c .before .before .numerals .ensures .0)), λ s. numerals-more s (c .before .before .before .before .before .before .before .before .before .before .before .before .before .before .before .before .before .args .toks .now) (c .before .before .before .before .before .before .before .before .before .before .before .before .before .before .before .before .before .args .at) (c .before .before .before .before .before .before .before .before .before .before .before .before .before .put .ensures) (c .before .before .before .before .before .before .before .before .before .numeral .ensures .0) (c .before .before .before .before .before .before .before .before .before .numeral .ensures .1 s 1 (omega arith)) (sym (c .before .before .before .before .before .before .peek .ensures) ∙ c .before .before .before .before .before .if1 .left) (c .before .before .numerals .ensures .1 s))
+numerals-returns-2 t c =
+    let at-start = c .before .before .before .before .before .before .before .before .before .before .before .before .before .before .before .before .before in
+    let at-numeral = c .before .before .before .before .before .before .before .before .before .numeral in
+    let at-numerals = c .before .before .numerals in
+    let at-put = c .before .before .before .before .before .before .before .before .before .before .before .before .before .put in
+    let at-peek = c .before .before .before .before .before .before .peek in
+    let at-if1 = c .before .before .before .before .before .if1 in
+    let l = live (at-start .args .toks .now) (at-numeral .result .at) (omega arith) in (
+      omega (arith, (at-numeral .ensures .0), (at-numerals .ensures .0)),
+      λ s. numerals-more s (at-start .args .toks .now) (at-start .args .at) (at-put .ensures) (at-numeral .ensures .0) (at-numeral .ensures .1 s 1 (omega arith)) (sym (at-peek .ensures) ∙ at-if1 .left) (at-numerals .ensures .1 s),
+    )
 
 pub +numerals-spec : {M : Type 1} → statement M
 +numerals-spec = close μ-numerals λ t. numerals-lts.spec (numerals-calls t)

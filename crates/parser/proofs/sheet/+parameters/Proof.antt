@@ -59,19 +59,55 @@ parameters-same-length : (t : ℕ) → parameters-lts.Need-same-length (paramete
 parameters-same-length t c = search needs
 
 parameters-returns : (t : ℕ) → parameters-lts.Need-returns (parameters-calls t) (parameters-at t) parameters.Post
-parameters-returns t c = (ahead-then (length (c .before .before .before .before .before .before .before .before .before .before .before .before .before .before .before .before .before .before .before .before .before .before .args .toks .now)) (c .before .before .before .before .before .before .before .before .before .before .before .before .before .before .before .before .before .before .before .before .before .before .args .at) (ahead-then (length (c .before .before .before .before .before .before .before .before .before .before .before .before .before .before .before .before .before .before .before .before .before .before .args .toks .now)) (c .before .before .before .before .before .before .before .before .before .before .before .before .before .before .before .before .before .before .before .before .before .before .args .at) (ahead-then (length (c .before .before .before .before .before .before .before .before .before .before .before .before .before .before .before .before .before .before .before .before .before .before .args .toks .now)) (c .before .before .before .before .before .before .before .before .before .before .before .before .before .before .before .before .before .before .before .before .before .before .args .at) (c .before .before .before .before .before .before .before .before .before .before .before .before .before .before .name .ensures .0) (c .before .before .before .before .before .before .before .before .before .before .before .expect .ensures .0)) (c .before .before .before .before .before .before .before .before .before .name2 .ensures .0)) (c .before .before .before .before .expect2 .ensures .0), λ s. parameters-last s (c .before .before .before .before .before .before .before .before .before .before .before .before .before .before .before .before .before .before .before .before .before .before .args .toks .now) (c .before .before .before .before .before .before .before .before .before .before .before .before .before .before .before .before .before .before .before .before .before .before .args .at) (c .before .before .before .before .before .before .before .before .before .before .before .before .before .before .before .before .before .before .put .ensures) (c .before .before .before .before .before .before .before .before .before .before .before .before .before .before .name .ensures .0) (c .before .before .before .before .before .before .before .before .before .before .before .before .before .before .name .ensures .1 s 1 (omega arith)) (c .before .before .before .before .before .before .before .before .before .before .before .expect .ensures .0) (c .before .before .before .before .before .before .before .before .before .before .before .expect .ensures .1) (c .before .before .before .before .before .before .before .before .before .name2 .ensures .0) (c .before .before .before .before .before .before .before .before .before .name2 .ensures .1 s 1 (omega arith)) (λ e. c .before .before .before .before .before .if1 .taken (c .before .before .before .before .before .before .peek .ensures ∙ e)) (c .before .before .before .before .expect2 .ensures .0) (c .before .before .before .before .expect2 .ensures .1) (c .before .before .put2 .ensures))
+parameters-returns t c =
+    let at-start = c .before .before .before .before .before .before .before .before .before .before .before .before .before .before .before .before .before .before .before .before .before .before in
+    let at-name = c .before .before .before .before .before .before .before .before .before .before .before .before .before .before .name in
+    let at-expect = c .before .before .before .before .before .before .before .before .before .before .before .expect in
+    let at-name2 = c .before .before .before .before .before .before .before .before .before .name2 in
+    let at-expect2 = c .before .before .before .before .expect2 in
+    let at-put = c .before .before .before .before .before .before .before .before .before .before .before .before .before .before .before .before .before .before .put in
+    let at-if1 = c .before .before .before .before .before .if1 in
+    let at-peek = c .before .before .before .before .before .before .peek in
+    let at-put2 = c .before .before .put2 in (
+      ahead-then (length (at-start .args .toks .now)) (at-start .args .at) (ahead-then (length (at-start .args .toks .now)) (at-start .args .at) (ahead-then (length (at-start .args .toks .now)) (at-start .args .at) (at-name .ensures .0) (at-expect .ensures .0)) (at-name2 .ensures .0)) (at-expect2 .ensures .0),
+      λ s. parameters-last s (at-start .args .toks .now) (at-start .args .at) (at-put .ensures) (at-name .ensures .0) (at-name .ensures .1 s 1 (omega arith)) (at-expect .ensures .0) (at-expect .ensures .1) (at-name2 .ensures .0) (at-name2 .ensures .1 s 1 (omega arith)) (λ e. at-if1 .taken (at-peek .ensures ∙ e)) (at-expect2 .ensures .0) (at-expect2 .ensures .1) (at-put2 .ensures),
+    )
 
 parameters-add-parameters : (t : ℕ) → parameters-lts.Need-add-parameters (parameters-calls t) (parameters-at t) parameters.Post
-parameters-add-parameters t c = let l = live (c .before .before .before .before .before .before .before .before .before .before .before .before .before .before .before .before .before .before .args .toks .now) (c .before .before .before .before .before .name2 .result .at) (omega arith) in omega arith
+parameters-add-parameters t c =
+    let at-start = c .before .before .before .before .before .before .before .before .before .before .before .before .before .before .before .before .before .before in
+    let at-name2 = c .before .before .before .before .before .name2 in
+    let l = live (at-start .args .toks .now) (at-name2 .result .at) (omega arith) in
+    omega arith
 
 parameters-parameters-requires : (t : ℕ) → parameters-lts.Need-parameters-requires (parameters-calls t) (parameters-at t) parameters.Post
-parameters-parameters-requires t c κs = let l = live (c .before .before .before .before .before .before .before .before .before .before .before .before .before .before .before .before .before .before .before .args .toks .now) (c .before .before .before .before .before .before .name2 .result .at) (omega arith) in let h = (ahead-then (length (c .before .before .before .before .before .before .before .before .before .before .before .before .before .before .before .before .before .before .before .args .toks .now)) (c .before .before .before .before .before .before .before .before .before .before .before .before .before .before .before .before .before .before .before .args .at) (ahead-then (length (c .before .before .before .before .before .before .before .before .before .before .before .before .before .before .before .before .before .before .before .args .toks .now)) (c .before .before .before .before .before .before .before .before .before .before .before .before .before .before .before .before .before .before .before .args .at) (c .before .before .before .before .before .before .before .before .before .before .before .name .ensures .0) (c .before .before .before .before .before .before .before .before .expect .ensures .0)) (c .before .before .before .before .before .before .name2 .ensures .0)) in (omega arith, tt)
+parameters-parameters-requires t c κs =
+    let at-start = c .before .before .before .before .before .before .before .before .before .before .before .before .before .before .before .before .before .before .before in
+    let at-name2 = c .before .before .before .before .before .before .name2 in
+    let at-name = c .before .before .before .before .before .before .before .before .before .before .before .name in
+    let at-expect = c .before .before .before .before .before .before .before .before .expect in
+    let l = live (at-start .args .toks .now) (at-name2 .result .at) (omega arith) in
+    let h = (ahead-then (length (at-start .args .toks .now)) (at-start .args .at) (ahead-then (length (at-start .args .toks .now)) (at-start .args .at) (at-name .ensures .0) (at-expect .ensures .0)) (at-name2 .ensures .0)) in
+    (omega arith, tt)
 
 parameters-same-length-2 : (t : ℕ) → parameters-lts.Need-same-length-2 (parameters-calls t) (parameters-at t) parameters.Post
 parameters-same-length-2 t c = search needs
 
 parameters-returns-2 : (t : ℕ) → parameters-lts.Need-returns-2 (parameters-calls t) (parameters-at t) parameters.Post
-parameters-returns-2 t c = let l = live (c .before .before .before .before .before .before .before .before .before .before .before .before .before .before .before .before .before .before .before .before .before .before .args .toks .now) (c .before .before .before .before .before .before .before .before .before .name2 .result .at) (omega arith) in let h = (ahead-then (length (c .before .before .before .before .before .before .before .before .before .before .before .before .before .before .before .before .before .before .before .before .before .before .args .toks .now)) (c .before .before .before .before .before .before .before .before .before .before .before .before .before .before .before .before .before .before .before .before .before .before .args .at) (ahead-then (length (c .before .before .before .before .before .before .before .before .before .before .before .before .before .before .before .before .before .before .before .before .before .before .args .toks .now)) (c .before .before .before .before .before .before .before .before .before .before .before .before .before .before .before .before .before .before .before .before .before .before .args .at) (c .before .before .before .before .before .before .before .before .before .before .before .before .before .before .name .ensures .0) (c .before .before .before .before .before .before .before .before .before .before .before .expect .ensures .0)) (c .before .before .before .before .before .before .before .before .before .name2 .ensures .0)) in (omega (arith, (c .before .before .parameters .ensures .0)), λ s. parameters-more s (c .before .before .before .before .before .before .before .before .before .before .before .before .before .before .before .before .before .before .before .before .before .before .args .toks .now) (c .before .before .before .before .before .before .before .before .before .before .before .before .before .before .before .before .before .before .before .before .before .before .args .at) (c .before .before .before .before .before .before .before .before .before .before .before .before .before .before .before .before .before .before .put .ensures) (c .before .before .before .before .before .before .before .before .before .before .before .before .before .before .name .ensures .0) (c .before .before .before .before .before .before .before .before .before .before .before .before .before .before .name .ensures .1 s 1 (omega arith)) (c .before .before .before .before .before .before .before .before .before .before .before .expect .ensures .0) (c .before .before .before .before .before .before .before .before .before .before .before .expect .ensures .1) (c .before .before .before .before .before .before .before .before .before .name2 .ensures .0) (c .before .before .before .before .before .before .before .before .before .name2 .ensures .1 s 1 (omega arith)) (sym (c .before .before .before .before .before .before .peek .ensures) ∙ c .before .before .before .before .before .if1 .left) (c .before .before .parameters .ensures .1 s))
+parameters-returns-2 t c =
+    let at-start = c .before .before .before .before .before .before .before .before .before .before .before .before .before .before .before .before .before .before .before .before .before .before in
+    let at-name2 = c .before .before .before .before .before .before .before .before .before .name2 in
+    let at-name = c .before .before .before .before .before .before .before .before .before .before .before .before .before .before .name in
+    let at-expect = c .before .before .before .before .before .before .before .before .before .before .before .expect in
+    let at-parameters = c .before .before .parameters in
+    let at-put = c .before .before .before .before .before .before .before .before .before .before .before .before .before .before .before .before .before .before .put in
+    let at-peek = c .before .before .before .before .before .before .peek in
+    let at-if1 = c .before .before .before .before .before .if1 in
+    let l = live (at-start .args .toks .now) (at-name2 .result .at) (omega arith) in
+    let h = (ahead-then (length (at-start .args .toks .now)) (at-start .args .at) (ahead-then (length (at-start .args .toks .now)) (at-start .args .at) (at-name .ensures .0) (at-expect .ensures .0)) (at-name2 .ensures .0)) in (
+      omega (arith, (at-parameters .ensures .0)),
+      λ s. parameters-more s (at-start .args .toks .now) (at-start .args .at) (at-put .ensures) (at-name .ensures .0) (at-name .ensures .1 s 1 (omega arith)) (at-expect .ensures .0) (at-expect .ensures .1) (at-name2 .ensures .0) (at-name2 .ensures .1 s 1 (omega arith)) (sym (at-peek .ensures) ∙ at-if1 .left) (at-parameters .ensures .1 s),
+    )
 
 pub +parameters-spec : {M : Type 1} → statement M
 +parameters-spec = close μ-parameters λ t. parameters-lts.spec (parameters-calls t)

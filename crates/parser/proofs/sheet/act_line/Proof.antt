@@ -23,10 +23,23 @@ same-length : tie.Need-same-length
 same-length c = search needs
 
 returns : tie.Need-returns
-returns c = ((c .before .before .before .before .before .before .before .before .name .ensures .0), λ s f l. act-bare s (c .before .before .before .before .before .before .before .before .before .before .before .before .before .before .before .before .args .toks .now) (c .before .before .before .before .before .before .before .before .before .before .before .before .before .before .before .before .args .at) (c .before .before .before .before .before .before .before .before .before .before .before .before .put .ensures) (c .before .before .before .before .before .before .before .before .name .ensures .1 s 1 (omega arith)) (λ e. c .before .before .before .before .if1 .taken (c .before .before .before .before .before .peek .ensures ∙ e)) (c .before .before .put2 .ensures))
+returns c =
+    let at-name = c .before .before .before .before .before .before .before .before .name in
+    let at-start = c .before .before .before .before .before .before .before .before .before .before .before .before .before .before .before .before in
+    let at-put = c .before .before .before .before .before .before .before .before .before .before .before .before .put in
+    let at-if1 = c .before .before .before .before .if1 in
+    let at-peek = c .before .before .before .before .before .peek in
+    let at-put2 = c .before .before .put2 in (
+      (at-name .ensures .0),
+      λ s f l. act-bare s (at-start .args .toks .now) (at-start .args .at) (at-put .ensures) (at-name .ensures .1 s 1 (omega arith)) (λ e. at-if1 .taken (at-peek .ensures ∙ e)) (at-put2 .ensures),
+    )
 
 add-one-or-two : tie.Need-add-one-or-two
-add-one-or-two c = let l = live (c .before .before .before .before .before .before .before .before .before .before .before .before .before .args .toks .now) (c .before .before .before .before .before .name .result .at) (omega arith) in omega arith
+add-one-or-two c =
+    let at-start = c .before .before .before .before .before .before .before .before .before .before .before .before .before in
+    let at-name = c .before .before .before .before .before .name in
+    let l = live (at-start .args .toks .now) (at-name .result .at) (omega arith) in
+    omega arith
 
 one-or-two-requires : tie.Need-one-or-two-requires
 one-or-two-requires c κs = search needs
@@ -35,7 +48,17 @@ same-length-2 : tie.Need-same-length-2
 same-length-2 c = search needs
 
 returns-2 : tie.Need-returns-2
-returns-2 c = let l = live (c .before .before .before .before .before .before .before .before .before .before .before .before .before .before .before .before .before .args .toks .now) (c .before .before .before .before .before .before .before .before .before .name .result .at) (omega arith) in (omega (arith, (c .before .before .before .before .before .before .before .before .before .name .ensures .0), (c .before .before .one-or-two .ensures .0)), λ s f l. act-sorts s (c .before .before .before .before .before .before .before .before .before .before .before .before .before .before .before .before .before .args .toks .now) (c .before .before .before .before .before .before .before .before .before .before .before .before .before .before .before .before .before .args .at) (c .before .before .before .before .before .before .before .before .before .before .before .before .before .put .ensures) (c .before .before .before .before .before .before .before .before .before .name .ensures .1 s 1 (omega arith)) (sym (c .before .before .before .before .before .before .peek .ensures) ∙ c .before .before .before .before .before .if1 .left) (c .before .before .one-or-two .ensures .1 s 1 (omega arith)))
+returns-2 c =
+    let at-start = c .before .before .before .before .before .before .before .before .before .before .before .before .before .before .before .before .before in
+    let at-name = c .before .before .before .before .before .before .before .before .before .name in
+    let at-one-or-two = c .before .before .one-or-two in
+    let at-put = c .before .before .before .before .before .before .before .before .before .before .before .before .before .put in
+    let at-peek = c .before .before .before .before .before .before .peek in
+    let at-if1 = c .before .before .before .before .before .if1 in
+    let l = live (at-start .args .toks .now) (at-name .result .at) (omega arith) in (
+      omega (arith, (at-name .ensures .0), (at-one-or-two .ensures .0)),
+      λ s f l. act-sorts s (at-start .args .toks .now) (at-start .args .at) (at-put .ensures) (at-name .ensures .1 s 1 (omega arith)) (sym (at-peek .ensures) ∙ at-if1 .left) (at-one-or-two .ensures .1 s 1 (omega arith)),
+    )
 
 pub act-line-spec : {M : Type 1} → statement M
 act-line-spec =

@@ -16,13 +16,23 @@ abbrev μ-loop : tie.MeasureT-loop
 μ-loop toks from to i₀ i = to - i
 
 loop-holds : tie.Need-loop-holds Inv-loop μ-loop
-loop-holds c = (omega arith, omega arith, λ s. still-start s (c .before .args .toks .now) (c .before .args .from) (c .before .args .to))
+loop-holds c =
+    let at-start = c .before in (
+      omega arith,
+      omega arith,
+      λ s. still-start s (at-start .args .toks .now) (at-start .args .from) (at-start .args .to),
+    )
 
 bare-requires : tie.Need-bare-requires Inv-loop μ-loop
 bare-requires c κs = tt
 
 returns : tie.Need-returns Inv-loop μ-loop
-returns c = λ s. still-bare s (c .before .before .before .before .before .args .toks .now) (c .before .before .before .before .before .args .from) (c .before .before .before .before .before .args .to) (c .before .before .before .loop .i) (omega arith) (omega arith) (c .before .bare .ensures s ∙ ap not (c .if1 .taken)) (c .before .before .before .loop .inv .2 s)
+returns c =
+    let at-start = c .before .before .before .before .before in
+    let at-loop = c .before .before .before .loop in
+    let at-bare = c .before .bare in
+    let at-if1 = c .if1 in
+    λ s. still-bare s (at-start .args .toks .now) (at-start .args .from) (at-start .args .to) (at-loop .i) (omega arith) (omega arith) (at-bare .ensures s ∙ ap not (at-if1 .taken)) (at-loop .inv .2 s)
 
 add-i : tie.Need-add-i Inv-loop μ-loop
 add-i c = omega arith
@@ -31,10 +41,22 @@ loop-less : tie.Need-loop-less Inv-loop μ-loop
 loop-less c = omega arith
 
 loop-again : tie.Need-loop-again Inv-loop μ-loop
-loop-again c = (omega arith, omega arith, λ s. still-next s (c .before .before .before .before .before .args .toks .now) (c .before .before .before .before .before .args .from) (c .before .before .before .before .before .args .to) (c .before .before .before .loop .i) (omega arith) (omega arith) (c .before .bare .ensures s ∙ ap not (c .if1 .left)) (c .before .before .before .loop .inv .2 s))
+loop-again c =
+    let at-start = c .before .before .before .before .before in
+    let at-loop = c .before .before .before .loop in
+    let at-bare = c .before .bare in
+    let at-if1 = c .if1 in (
+      omega arith,
+      omega arith,
+      λ s. still-next s (at-start .args .toks .now) (at-start .args .from) (at-start .args .to) (at-loop .i) (omega arith) (omega arith) (at-bare .ensures s ∙ ap not (at-if1 .left)) (at-loop .inv .2 s),
+    )
 
 returns-2 : tie.Need-returns-2 Inv-loop μ-loop
-returns-2 c = let e : (c .before .loop .i) ≡ (c .before .before .before .args .to) = omega arith in λ s. still-end s (c .before .before .before .args .toks .now) (c .before .before .before .args .from) (c .before .before .before .args .to) (subst (λ k. Still s (c .before .before .before .args .toks .now) (c .before .before .before .args .from) (c .before .before .before .args .to) k) e (c .before .loop .inv .2 s))
+returns-2 c =
+    let at-loop = c .before .loop in
+    let at-start = c .before .before .before in
+    let e : (at-loop .i) ≡ (at-start .args .to) = omega arith in
+    λ s. still-end s (at-start .args .toks .now) (at-start .args .from) (at-start .args .to) (subst (λ k. Still s (at-start .args .toks .now) (at-start .args .from) (at-start .args .to) k) e (at-loop .inv .2 s))
 
 pub all-called-spec : {M : Type 1} → statement M
 all-called-spec =

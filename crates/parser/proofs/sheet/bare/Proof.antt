@@ -9,16 +9,24 @@ peek-requires : tie.Need-peek-requires
 peek-requires c κs = tt
 
 returns : tie.Need-returns
-returns c = λ s. called-low s (c .before .before .before .args .toks .now) (c .before .before .before .args .at) (omega arith)
+returns c =
+    let at-start = c .before .before .before in
+    λ s. called-low s (at-start .args .toks .now) (at-start .args .at) (omega arith)
 
 add-peek : tie.Need-add-peek
-add-peek c = let l = live (c .before .before .before .args .toks .now) (c .before .before .before .args .at) (omega arith) in omega arith
+add-peek c =
+    let at-start = c .before .before .before in
+    let l = live (at-start .args .toks .now) (at-start .args .at) (omega arith) in
+    omega arith
 
 peek-requires-2 : tie.Need-peek-requires-2
 peek-requires-2 c κs = tt
 
 returns-2 : tie.Need-returns-2
-returns-2 c = λ s. called-told s (c .before .before .before .before .args .toks .now) (c .before .before .before .before .args .at) (omega arith) (c .peek2 .result) (c .peek2 .ensures)
+returns-2 c =
+    let at-start = c .before .before .before .before in
+    let at-peek2 = c .peek2 in
+    λ s. called-told s (at-start .args .toks .now) (at-start .args .at) (omega arith) (at-peek2 .result) (at-peek2 .ensures)
 
 pub bare-spec : {M : Type 1} → statement M
 bare-spec = tie.close (tie.spec peek-requires returns add-peek peek-requires-2 returns-2)

@@ -33,10 +33,28 @@ numerals-requires : tie.Need-numerals-requires
 numerals-requires c κs = search needs
 
 same-length : tie.Need-same-length
-same-length c = c .before .before .numerals .kept .1 .1 .0 ∙ c .before .before .before .before .before .before .before .name2 .kept .1 .1 .0 ∙ c .before .before .before .before .before .before .before .before .before .before .before .before .one-or-two .kept .1 .1 .0 ∙ c .before .before .before .before .before .before .before .before .before .before .before .before .before .before .before .before .before .name .kept .1 .1 .0 ∙ c .before .before .before .before .before .before .before .before .before .before .before .before .before .before .before .before .before .before .before .before .before .put .kept .0
+same-length c =
+    let at-numerals = c .before .before .numerals in
+    let at-name2 = c .before .before .before .before .before .before .before .name2 in
+    let at-one-or-two = c .before .before .before .before .before .before .before .before .before .before .before .before .one-or-two in
+    let at-name = c .before .before .before .before .before .before .before .before .before .before .before .before .before .before .before .before .before .name in
+    let at-put = c .before .before .before .before .before .before .before .before .before .before .before .before .before .before .before .before .before .before .before .before .before .put in
+    at-numerals .kept .1 .1 .0 ∙ at-name2 .kept .1 .1 .0 ∙ at-one-or-two .kept .1 .1 .0 ∙ at-name .kept .1 .1 .0 ∙ at-put .kept .0
 
 returns : tie.Need-returns
-returns c = (ahead-then (length (c .before .before .before .before .before .before .before .before .before .before .before .before .before .before .before .before .before .before .before .before .before .before .before .before .before .args .toks .now)) (c .before .before .before .before .before .before .before .before .before .before .before .before .before .before .before .before .before .before .before .before .before .before .before .before .before .args .at) (ahead-then (length (c .before .before .before .before .before .before .before .before .before .before .before .before .before .before .before .before .before .before .before .before .before .before .before .before .before .args .toks .now)) (c .before .before .before .before .before .before .before .before .before .before .before .before .before .before .before .before .before .before .before .before .before .before .before .before .before .args .at) (ahead-then (length (c .before .before .before .before .before .before .before .before .before .before .before .before .before .before .before .before .before .before .before .before .before .before .before .before .before .args .toks .now)) (c .before .before .before .before .before .before .before .before .before .before .before .before .before .before .before .before .before .before .before .before .before .before .before .before .before .args .at) (ahead-then (length (c .before .before .before .before .before .before .before .before .before .before .before .before .before .before .before .before .before .before .before .before .before .before .before .before .before .args .toks .now)) (c .before .before .before .before .before .before .before .before .before .before .before .before .before .before .before .before .before .before .before .before .before .before .before .before .before .args .at) (ahead-then (length (c .before .before .before .before .before .before .before .before .before .before .before .before .before .before .before .before .before .before .before .before .before .before .before .before .before .args .toks .now)) (c .before .before .before .before .before .before .before .before .before .before .before .before .before .before .before .before .before .before .before .before .before .before .before .before .before .args .at) (ahead-then (length (c .before .before .before .before .before .before .before .before .before .before .before .before .before .before .before .before .before .before .before .before .before .before .before .before .before .args .toks .now)) (c .before .before .before .before .before .before .before .before .before .before .before .before .before .before .before .before .before .before .before .before .before .before .before .before .before .args .at) (c .before .before .before .before .before .before .before .before .before .before .before .before .before .before .before .before .before .name .ensures .0) (c .before .before .before .before .before .before .before .before .before .before .before .before .before .before .expect .ensures .0)) (c .before .before .before .before .before .before .before .before .before .before .before .before .one-or-two .ensures .0)) (c .before .before .before .before .before .before .before .before .before .expect2 .ensures .0)) (c .before .before .before .before .before .before .before .name2 .ensures .0)) (c .before .before .before .before .expect3 .ensures .0)) (c .before .before .numerals .ensures .0), λ s. func-read s (c .before .before .before .before .before .before .before .before .before .before .before .before .before .before .before .before .before .before .before .before .before .before .before .before .before .args .toks .now) (c .before .before .before .before .before .before .before .before .before .before .before .before .before .before .before .before .before .before .before .before .before .before .before .before .before .args .at) (c .before .before .before .before .before .before .before .before .before .before .before .before .before .before .before .before .before .before .before .before .before .put .ensures) (c .before .before .before .before .before .before .before .before .before .before .before .before .before .before .before .before .before .name .ensures .1 s 1 (omega arith)) (c .before .before .before .before .before .before .before .before .before .before .before .before .before .before .expect .ensures .0) (c .before .before .before .before .before .before .before .before .before .before .before .before .before .before .expect .ensures .1) (c .before .before .before .before .before .before .before .before .before .before .before .before .one-or-two .ensures .0) (c .before .before .before .before .before .before .before .before .before .before .before .before .one-or-two .ensures .1 s 1 (omega arith)) (c .before .before .before .before .before .before .before .before .before .expect2 .ensures .0) (c .before .before .before .before .before .before .before .before .before .expect2 .ensures .1) (c .before .before .before .before .before .before .before .name2 .ensures .0) (c .before .before .before .before .before .before .before .name2 .ensures .1 s 1 (omega arith)) (c .before .before .before .before .expect3 .ensures .0) (c .before .before .before .before .expect3 .ensures .1) (c .before .before .numerals .ensures .0) (c .before .before .numerals .ensures .1 s))
+returns c =
+    let at-start = c .before .before .before .before .before .before .before .before .before .before .before .before .before .before .before .before .before .before .before .before .before .before .before .before .before in
+    let at-name = c .before .before .before .before .before .before .before .before .before .before .before .before .before .before .before .before .before .name in
+    let at-expect = c .before .before .before .before .before .before .before .before .before .before .before .before .before .before .expect in
+    let at-one-or-two = c .before .before .before .before .before .before .before .before .before .before .before .before .one-or-two in
+    let at-expect2 = c .before .before .before .before .before .before .before .before .before .expect2 in
+    let at-name2 = c .before .before .before .before .before .before .before .name2 in
+    let at-expect3 = c .before .before .before .before .expect3 in
+    let at-numerals = c .before .before .numerals in
+    let at-put = c .before .before .before .before .before .before .before .before .before .before .before .before .before .before .before .before .before .before .before .before .before .put in (
+      ahead-then (length (at-start .args .toks .now)) (at-start .args .at) (ahead-then (length (at-start .args .toks .now)) (at-start .args .at) (ahead-then (length (at-start .args .toks .now)) (at-start .args .at) (ahead-then (length (at-start .args .toks .now)) (at-start .args .at) (ahead-then (length (at-start .args .toks .now)) (at-start .args .at) (ahead-then (length (at-start .args .toks .now)) (at-start .args .at) (at-name .ensures .0) (at-expect .ensures .0)) (at-one-or-two .ensures .0)) (at-expect2 .ensures .0)) (at-name2 .ensures .0)) (at-expect3 .ensures .0)) (at-numerals .ensures .0),
+      λ s. func-read s (at-start .args .toks .now) (at-start .args .at) (at-put .ensures) (at-name .ensures .1 s 1 (omega arith)) (at-expect .ensures .0) (at-expect .ensures .1) (at-one-or-two .ensures .0) (at-one-or-two .ensures .1 s 1 (omega arith)) (at-expect2 .ensures .0) (at-expect2 .ensures .1) (at-name2 .ensures .0) (at-name2 .ensures .1 s 1 (omega arith)) (at-expect3 .ensures .0) (at-expect3 .ensures .1) (at-numerals .ensures .0) (at-numerals .ensures .1 s),
+    )
 
 pub func-line-spec : {M : Type 1} → statement M
 func-line-spec =

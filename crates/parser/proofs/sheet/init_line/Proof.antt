@@ -15,7 +15,13 @@ same-length : tie.Need-same-length
 same-length c = search needs
 
 returns : tie.Need-returns
-returns c = (c .before .before .before .before .named .ensures .0, λ s. init-lost s (c .before .before .before .before .before .before .before .before .before .before .before .before .args .toks .now) (c .before .before .before .before .before .before .before .before .before .before .before .before .args .at) (c .before .before .before .before .before .before .before .before .put .ensures) (c .before .before .before .before .named .ensures .1 s) (omega arith))
+returns c =
+    let at-named = c .before .before .before .before .named in
+    let at-start = c .before .before .before .before .before .before .before .before .before .before .before .before in
+    let at-put = c .before .before .before .before .before .before .before .before .put in (
+      at-named .ensures .0,
+      λ s. init-lost s (at-start .args .toks .now) (at-start .args .at) (at-put .ensures) (at-named .ensures .1 s) (omega arith),
+    )
 
 add-all-called : tie.Need-add-all-called
 add-all-called c = search needs
@@ -27,7 +33,15 @@ same-length-2 : tie.Need-same-length-2
 same-length-2 c = search needs
 
 returns-2 : tie.Need-returns-2
-returns-2 c = (c .before .before .before .before .before .before .named .ensures .0, λ s. init-read s (c .before .before .before .before .before .before .before .before .before .before .before .before .before .before .args .toks .now) (c .before .before .before .before .before .before .before .before .before .before .before .before .before .before .args .at) (c .before .before .before .before .before .before .before .before .before .before .put .ensures) (c .before .before .before .before .before .before .named .ensures .1 s) (omega arith) (c .before .all-called .ensures s) (c .if2 .taken))
+returns-2 c =
+    let at-named = c .before .before .before .before .before .before .named in
+    let at-start = c .before .before .before .before .before .before .before .before .before .before .before .before .before .before in
+    let at-put = c .before .before .before .before .before .before .before .before .before .before .put in
+    let at-all-called = c .before .all-called in
+    let at-if2 = c .if2 in (
+      at-named .ensures .0,
+      λ s. init-read s (at-start .args .toks .now) (at-start .args .at) (at-put .ensures) (at-named .ensures .1 s) (omega arith) (at-all-called .ensures s) (at-if2 .taken),
+    )
 
 lost-requires : tie.Need-lost-requires
 lost-requires c κs = tt
@@ -36,7 +50,16 @@ same-length-3 : tie.Need-same-length-3
 same-length-3 c = search needs
 
 returns-3 : tie.Need-returns-3
-returns-3 c = (omega arith, λ s. init-refused s (c .before .before .before .before .before .before .before .before .before .before .before .before .before .before .before .args .toks .now) (c .before .before .before .before .before .before .before .before .before .before .before .before .before .before .before .args .at) (c .before .before .before .before .before .before .before .before .before .before .before .put .ensures) (c .before .before .before .before .before .before .before .named .ensures .1 s) (omega arith) (c .before .before .all-called .ensures s) (c .before .if2 .left) (c .lost .ensures))
+returns-3 c =
+    let at-start = c .before .before .before .before .before .before .before .before .before .before .before .before .before .before .before in
+    let at-put = c .before .before .before .before .before .before .before .before .before .before .before .put in
+    let at-named = c .before .before .before .before .before .before .before .named in
+    let at-all-called = c .before .before .all-called in
+    let at-if2 = c .before .if2 in
+    let at-lost = c .lost in (
+      omega arith,
+      λ s. init-refused s (at-start .args .toks .now) (at-start .args .at) (at-put .ensures) (at-named .ensures .1 s) (omega arith) (at-all-called .ensures s) (at-if2 .left) (at-lost .ensures),
+    )
 
 pub init-line-spec : {M : Type 1} → statement M
 init-line-spec =

@@ -23,13 +23,26 @@ same-length : tie.Need-same-length
 same-length c = search needs
 
 returns : tie.Need-returns
-returns c = ((c .before .before .before .before .before .before .before .before .name .ensures .0), λ s f l. sorts-one s (c .before .before .before .before .before .before .before .before .before .before .before .before .before .before .before .before .args .toks .now) (c .before .before .before .before .before .before .before .before .before .before .before .before .before .before .before .before .args .at) (c .before .before .before .before .before .before .before .before .before .before .before .before .put .ensures) (c .before .before .before .before .before .before .before .before .name .ensures .1 s 1 (omega arith)) (λ e. c .before .before .before .before .if1 .taken (c .before .before .before .before .before .peek .ensures ∙ e)) (c .before .before .put2 .ensures))
+returns c =
+    let at-name = c .before .before .before .before .before .before .before .before .name in
+    let at-start = c .before .before .before .before .before .before .before .before .before .before .before .before .before .before .before .before in
+    let at-put = c .before .before .before .before .before .before .before .before .before .before .before .before .put in
+    let at-if1 = c .before .before .before .before .if1 in
+    let at-peek = c .before .before .before .before .before .peek in
+    let at-put2 = c .before .before .put2 in (
+      (at-name .ensures .0),
+      λ s f l. sorts-one s (at-start .args .toks .now) (at-start .args .at) (at-put .ensures) (at-name .ensures .1 s 1 (omega arith)) (λ e. at-if1 .taken (at-peek .ensures ∙ e)) (at-put2 .ensures),
+    )
 
 put-requires-3 : tie.Need-put-requires-3
 put-requires-3 c κs = tt
 
 add-name : tie.Need-add-name
-add-name c = let l = live (c .before .before .before .before .before .before .before .before .before .before .before .before .before .before .before .before .before .args .toks .now) (c .before .before .before .before .before .before .before .before .before .name .result .at) (omega arith) in omega arith
+add-name c =
+    let at-start = c .before .before .before .before .before .before .before .before .before .before .before .before .before .before .before .before .before in
+    let at-name = c .before .before .before .before .before .before .before .before .before .name in
+    let l = live (at-start .args .toks .now) (at-name .result .at) (omega arith) in
+    omega arith
 
 name-requires-2 : tie.Need-name-requires-2
 name-requires-2 c κs = tt
@@ -41,7 +54,19 @@ same-length-2 : tie.Need-same-length-2
 same-length-2 c = search needs
 
 returns-2 : tie.Need-returns-2
-returns-2 c = let l = live (c .before .before .before .before .before .before .before .before .before .before .before .before .before .before .before .before .before .before .before .before .before .before .before .before .before .args .toks .now) (c .before .before .before .before .before .before .before .before .before .before .before .before .before .before .before .before .before .name .result .at) (omega arith) in (omega (arith, (c .before .before .before .before .before .before .before .before .before .before .before .before .before .before .before .before .before .name .ensures .0), (c .before .before .before .before .before .before .name2 .ensures .0)), λ s f l. sorts-two s (c .before .before .before .before .before .before .before .before .before .before .before .before .before .before .before .before .before .before .before .before .before .before .before .before .before .args .toks .now) (c .before .before .before .before .before .before .before .before .before .before .before .before .before .before .before .before .before .before .before .before .before .before .before .before .before .args .at) (c .before .before .before .before .before .before .before .before .before .before .before .before .before .before .before .before .before .before .before .before .before .put .ensures) (c .before .before .before .before .before .before .before .before .before .before .before .before .before .before .before .before .before .name .ensures .1 s 1 (omega arith)) (sym (c .before .before .before .before .before .before .before .before .before .before .before .before .before .before .peek .ensures) ∙ c .before .before .before .before .before .before .before .before .before .before .before .before .before .if1 .left) (c .before .before .before .before .before .before .before .before .before .before .before .put3 .ensures) (c .before .before .before .before .before .before .name2 .ensures .1 s 1 (omega arith)) (c .before .before .put4 .ensures))
+returns-2 c =
+    let at-start = c .before .before .before .before .before .before .before .before .before .before .before .before .before .before .before .before .before .before .before .before .before .before .before .before .before in
+    let at-name = c .before .before .before .before .before .before .before .before .before .before .before .before .before .before .before .before .before .name in
+    let at-name2 = c .before .before .before .before .before .before .name2 in
+    let at-put = c .before .before .before .before .before .before .before .before .before .before .before .before .before .before .before .before .before .before .before .before .before .put in
+    let at-peek = c .before .before .before .before .before .before .before .before .before .before .before .before .before .before .peek in
+    let at-if1 = c .before .before .before .before .before .before .before .before .before .before .before .before .before .if1 in
+    let at-put3 = c .before .before .before .before .before .before .before .before .before .before .before .put3 in
+    let at-put4 = c .before .before .put4 in
+    let l = live (at-start .args .toks .now) (at-name .result .at) (omega arith) in (
+      omega (arith, (at-name .ensures .0), (at-name2 .ensures .0)),
+      λ s f l. sorts-two s (at-start .args .toks .now) (at-start .args .at) (at-put .ensures) (at-name .ensures .1 s 1 (omega arith)) (sym (at-peek .ensures) ∙ at-if1 .left) (at-put3 .ensures) (at-name2 .ensures .1 s 1 (omega arith)) (at-put4 .ensures),
+    )
 
 pub one-or-two-spec : {M : Type 1} → statement M
 one-or-two-spec =

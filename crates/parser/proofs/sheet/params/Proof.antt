@@ -17,10 +17,20 @@ same-length : tie.Need-same-length
 same-length c = search needs
 
 returns : tie.Need-returns
-returns c = (omega arith, λ i s f l. params-none s (c .before .before .before .before .before .before .before .before .args .toks .now) (c .before .before .before .before .before .before .before .before .args .at) i (λ e. c .before .before .before .before .if1 .taken (c .before .before .before .before .before .peek .ensures ∙ e)) (c .before .before .put .ensures) f)
+returns c =
+    let at-start = c .before .before .before .before .before .before .before .before in
+    let at-if1 = c .before .before .before .before .if1 in
+    let at-peek = c .before .before .before .before .before .peek in
+    let at-put = c .before .before .put in (
+      omega arith,
+      λ i s f l. params-none s (at-start .args .toks .now) (at-start .args .at) i (λ e. at-if1 .taken (at-peek .ensures ∙ e)) (at-put .ensures) f,
+    )
 
 add-parameters : tie.Need-add-parameters
-add-parameters c = let l = live (c .before .before .before .before .args .toks .now) (c .before .before .before .before .args .at) (omega arith) in omega arith
+add-parameters c =
+    let at-start = c .before .before .before .before in
+    let l = live (at-start .args .toks .now) (at-start .args .at) (omega arith) in
+    omega arith
 
 parameters-requires : tie.Need-parameters-requires
 parameters-requires c κs = search needs
@@ -29,7 +39,15 @@ same-length-2 : tie.Need-same-length-2
 same-length-2 c = search needs
 
 returns-2 : tie.Need-returns-2
-returns-2 c = let l = live (c .before .before .before .before .before .before .before .before .args .toks .now) (c .before .before .before .before .before .before .before .before .args .at) (omega arith) in (omega (arith, (c .before .before .parameters .ensures .0)), λ i s. params-some s (c .before .before .before .before .before .before .before .before .args .toks .now) (c .before .before .before .before .before .before .before .before .args .at) (sym (c .before .before .before .before .before .peek .ensures) ∙ c .before .before .before .before .if1 .left) (c .before .before .parameters .ensures .1 s))
+returns-2 c =
+    let at-start = c .before .before .before .before .before .before .before .before in
+    let at-parameters = c .before .before .parameters in
+    let at-peek = c .before .before .before .before .before .peek in
+    let at-if1 = c .before .before .before .before .if1 in
+    let l = live (at-start .args .toks .now) (at-start .args .at) (omega arith) in (
+      omega (arith, (at-parameters .ensures .0)),
+      λ i s. params-some s (at-start .args .toks .now) (at-start .args .at) (sym (at-peek .ensures) ∙ at-if1 .left) (at-parameters .ensures .1 s),
+    )
 
 pub params-spec : {M : Type 1} → statement M
 params-spec =

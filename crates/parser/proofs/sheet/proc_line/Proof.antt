@@ -26,7 +26,16 @@ same-length : tie.Need-same-length
 same-length c = search needs
 
 returns : tie.Need-returns
-returns c = (ahead-then (length (c .before .before .before .before .before .before .before .before .before .before .before .before .before .before .before .before .before .before .before .args .toks .now)) (c .before .before .before .before .before .before .before .before .before .before .before .before .before .before .before .before .before .before .before .args .at) (ahead-then (length (c .before .before .before .before .before .before .before .before .before .before .before .before .before .before .before .before .before .before .before .args .toks .now)) (c .before .before .before .before .before .before .before .before .before .before .before .before .before .before .before .before .before .before .before .args .at) (ahead-on (length (c .before .before .before .before .before .before .before .before .before .before .before .before .before .before .before .before .before .before .before .args .toks .now)) (c .before .before .before .before .before .before .before .before .before .before .before .before .before .before .before .before .before .before .before .args .at) (c .before .before .before .before .before .before .before .before .before .before .before .name .ensures .0) (c .before .before .before .before .before .before .before .params .ensures .0)) (c .before .before .before .before .expect .ensures .0)) (c .before .before .choice .ensures .0), λ s. proc-read s (c .before .before .before .before .before .before .before .before .before .before .before .before .before .before .before .before .before .before .before .args .toks .now) (c .before .before .before .before .before .before .before .before .before .before .before .before .before .before .before .before .before .before .before .args .at) (c .before .before .before .before .before .before .before .before .before .before .before .before .before .before .before .put .ensures) (c .before .before .before .before .before .before .before .before .before .before .before .name .ensures .1 s 1 (omega arith)) (c .before .before .before .before .before .before .before .params .ensures .0) (λ i. c .before .before .before .before .before .before .before .params .ensures .1 i s) (c .before .before .before .before .expect .ensures .0) (c .before .before .before .before .expect .ensures .1) (c .before .before .choice .ensures .0) (c .before .before .choice .ensures .1 s))
+returns c =
+    let at-start = c .before .before .before .before .before .before .before .before .before .before .before .before .before .before .before .before .before .before .before in
+    let at-name = c .before .before .before .before .before .before .before .before .before .before .before .name in
+    let at-params = c .before .before .before .before .before .before .before .params in
+    let at-expect = c .before .before .before .before .expect in
+    let at-choice = c .before .before .choice in
+    let at-put = c .before .before .before .before .before .before .before .before .before .before .before .before .before .before .before .put in (
+      ahead-then (length (at-start .args .toks .now)) (at-start .args .at) (ahead-then (length (at-start .args .toks .now)) (at-start .args .at) (ahead-on (length (at-start .args .toks .now)) (at-start .args .at) (at-name .ensures .0) (at-params .ensures .0)) (at-expect .ensures .0)) (at-choice .ensures .0),
+      λ s. proc-read s (at-start .args .toks .now) (at-start .args .at) (at-put .ensures) (at-name .ensures .1 s 1 (omega arith)) (at-params .ensures .0) (λ i. at-params .ensures .1 i s) (at-expect .ensures .0) (at-expect .ensures .1) (at-choice .ensures .0) (at-choice .ensures .1 s),
+    )
 
 pub proc-line-spec : {M : Type 1} → statement M
 proc-line-spec =

@@ -18,7 +18,14 @@ same-length : tie.Need-same-length
 same-length c = search needs
 
 returns : tie.Need-returns
-returns c = (omega (arith, (c .before .before .before .before .before .before .name .ensures .0), (c .before .before .numeral .ensures .0)), λ s f l. sort-read s (c .before .before .before .before .before .before .before .before .before .before .before .before .before .before .args .toks .now) (c .before .before .before .before .before .before .before .before .before .before .before .before .before .before .args .at) (c .before .before .before .before .before .before .before .before .before .before .put .ensures) (c .before .before .before .before .before .before .name .ensures .1 s 1 (omega arith)) (c .before .before .numeral .ensures .0) (c .before .before .numeral .ensures .1 s 1 (omega arith)))
+returns c =
+    let at-name = c .before .before .before .before .before .before .name in
+    let at-numeral = c .before .before .numeral in
+    let at-start = c .before .before .before .before .before .before .before .before .before .before .before .before .before .before in
+    let at-put = c .before .before .before .before .before .before .before .before .before .before .put in (
+      omega (arith, (at-name .ensures .0), (at-numeral .ensures .0)),
+      λ s f l. sort-read s (at-start .args .toks .now) (at-start .args .at) (at-put .ensures) (at-name .ensures .1 s 1 (omega arith)) (at-numeral .ensures .0) (at-numeral .ensures .1 s 1 (omega arith)),
+    )
 
 pub sort-line-spec : {M : Type 1} → statement M
 sort-line-spec =

@@ -1,0 +1,4 @@
+pub mod NameCells
+pub mod Standing
+pub mod Items
+pub mod Rows

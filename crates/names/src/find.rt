@@ -1,0 +1,162 @@
+// Names by their cells: compared byte by byte, and looked up among those that lines declare.
+ghost use mathlib.Core.Path.{_≡_};
+ghost use mathlib.Core.List.{_∷_};
+ghost use Prim.Native.Nat.{suc, _+_, _-_, _≤_, _<_};
+ghost use lib.ListN.{length, getD};
+ghost use Rattle.pcrl.specs.Text.{bytes};
+ghost use Rattle.pcrl.specs.Names.{number-of};
+ghost use Rattle.lexer.specs.Cells.{first-name};
+ghost use Rattle.nodes.specs.Layout.{cell-limit};
+ghost use Rattle.names.specs.NameCells.{Says, name-at, names-at, scope-at, or-count, shown};
+use lexer::FIRST_NAME;
+
+// A cell, 0 past the end.
+pub fn cell(cells: &[u16], i: usize) -> u16
+    ensures { λ r. ⌜ r ≡ getD (now (cells .entry)) i 0 ⌝ }
+{
+    if i < cells.len() { cells[i] } else { 0 }
+}
+
+// A cell as a place.
+pub fn place(c: u16) -> usize
+    ensures { λ r. ⌜ (r ≡ c) × (r < cell-limit) ⌝ }
+{
+    c as usize
+}
+
+// Where a name's first byte stands in the sheet.
+fn first_byte(c: u16) -> usize
+    ensures { λ r. ⌜ (r ≡ c - first-name) × (r < cell-limit) ⌝ }
+{
+    if c < FIRST_NAME {
+        0
+    } else {
+        place(c - FIRST_NAME)
+    }
+}
+
+// The byte, if names have it, else 0.
+fn letter(b: u8) -> u8
+    ensures { λ r. ⌜ r ≡ shown b ⌝ }
+{
+    if b < b'0' {
+        return 0;
+    }
+    if b <= b'9' {
+        return b;
+    }
+    if b < b'A' {
+        return 0;
+    }
+    if b <= b'Z' {
+        return b;
+    }
+    if b < b'_' {
+        return 0;
+    }
+    if b == b'_' {
+        return b;
+    }
+    if b < b'a' {
+        return 0;
+    }
+    if b <= b'z' {
+        return b;
+    }
+    0
+}
+
+// The name's byte at a place, 0 behind the name.
+fn letter_at(s: &[u8], i: usize) -> u8
+    ensures { λ r. ⌜ r ≡ shown (getD (now (s .entry)) i 0) ⌝ }
+{
+    if i < s.len() { letter(s[i]) } else { 0 }
+}
+
+// The same name? Both runs are compared to their ends.
+pub fn same_name(s: &[u8], a: u16, b: u16) -> bool
+    ensures { λ r. ⌜ Says r (name-at (now (s .entry)) a ≡ name-at (now (s .entry)) b) ⌝ }
+{
+    let p = first_byte(a);
+    let q = first_byte(b);
+    let mut i: usize = 0;
+    while i < s.len() {
+        let x = letter_at(s, p + i);
+        if x != letter_at(s, q + i) {
+            return false;
+        }
+        if x == 0 {
+            return true;
+        }
+        i += 1;
+    }
+    true
+}
+
+// "Bool is taken."
+pub fn is_bool(s: &[u8], a: u16) -> bool
+    ensures { λ r. ⌜ Says r (name-at (now (s .entry)) a ≡ bytes "Bool") ⌝ }
+{
+    let p = first_byte(a);
+    if letter_at(s, p) != b'B' {
+        return false;
+    }
+    if letter_at(s, p + 1) != b'o' {
+        return false;
+    }
+    if letter_at(s, p + 2) != b'o' {
+        return false;
+    }
+    if letter_at(s, p + 3) != b'l' {
+        return false;
+    }
+    if letter_at(s, p + 4) != 0 {
+        return false;
+    }
+    true
+}
+
+// The first of the lines at these places that declares the name of cell c, or how many there are.
+pub fn number_of(s: &[u8], cells: &[u16], places: &[u16], count: usize, c: u16) -> usize
+    requires { ⌜ count ≤ length (now places) ⌝ }
+    ensures most { λ r. ⌜ r ≤ count ⌝ }
+    ensures number { λ r. ⌜ r ≡ or-count count (number-of (name-at (now (s .entry)) c) (names-at (now (s .entry)) (now (cells .entry)) (now (places .entry)) count)) ⌝ }
+{
+    let mut i: usize = 0;
+    while i < count {
+        let p = place(places[i]);
+        if same_name(s, c, cell(cells, p + 1)) {
+            return i;
+        }
+        i += 1;
+    }
+    count
+}
+
+// The sort's number: Bool is 0, the first line 1; or how many sorts there are.
+pub fn sort_number(s: &[u8], cells: &[u16], places: &[u16], count: usize, c: u16) -> usize
+    requires { ⌜ count ≤ length (now places) ⌝ }
+    ensures most { λ r. ⌜ r ≤ count + 1 ⌝ }
+    ensures number { λ r. ⌜ r ≡ or-count (suc count) (number-of (name-at (now (s .entry)) c) (bytes "Bool" ∷ names-at (now (s .entry)) (now (cells .entry)) (now (places .entry)) count)) ⌝ }
+{
+    if is_bool(s, c) {
+        return 0;
+    }
+    number_of(s, cells, places, count, c) + 1
+}
+
+// The first of n names in scope that is the name of cell c, or n.
+pub fn scope_number(s: &[u8], scope: &[u16], n: usize, c: u16) -> usize
+    requires { ⌜ n ≤ length (now scope) ⌝ }
+    ensures most { λ r. ⌜ r ≤ n ⌝ }
+    ensures number { λ r. ⌜ r ≡ or-count n (number-of (name-at (now (s .entry)) c) (scope-at (now (s .entry)) (now (scope .entry)) n)) ⌝ }
+{
+    let mut i: usize = 0;
+    while i < n {
+        if same_name(s, c, scope[i]) {
+            return i;
+        }
+        i += 1;
+    }
+    n
+}

@@ -1,0 +1,101 @@
+// "Every declared name new (Bool is taken), each variable unlike all declared names and all variables in scope."
+ghost use mathlib.Core.Path.{_≡_};
+ghost use mathlib.Core.List.{List, _∷_, _++_, map};
+ghost use Prim.Native.Nat.{ℕ, _+_, _≤_, _<_};
+ghost use lib.ListN.{length, take, drop};
+ghost use Rattle.pcrl.specs.Text.{bytes};
+ghost use Rattle.pcrl.specs.Tests.{and, negated, among, distinct};
+ghost use Rattle.names.specs.NameCells.{name-at, name-cell, names-at, scope-at};
+use crate::find::cell;
+use crate::find::is_bool;
+use crate::find::place;
+use crate::find::same_name;
+
+// Is the name of cell c among those of n cells, from a place on?
+pub fn among_from(s: &[u8], names: &[u16], from: usize, n: usize, c: u16) -> bool
+    requires { ⌜ n ≤ length (now names) ⌝ }
+    ensures { λ r. ⌜ r ≡ among (name-at (now (s .entry)) c) (drop from (scope-at (now (s .entry)) (now (names .entry)) n)) ⌝ }
+{
+    let mut i = from;
+    while i < n {
+        if same_name(s, c, names[i]) {
+            return true;
+        }
+        i += 1;
+    }
+    false
+}
+
+// The cells of the names that lines declare, behind n cells.
+fn gather(cells: &[u16], places: &[u16], names: &mut [u16], n: usize) -> usize
+    requires { ⌜ n + length (now places) ≤ length (now names) ⌝ }
+    ensures next { λ r. ⌜ r ≡ n + length (now (places .entry)) ⌝ }
+    ensures cells { λ r. ⌜ take r (now (names .exit)) ≡ take n (now (names .entry)) ++ map (name-cell (now (cells .entry))) (now (places .entry)) ⌝ }
+{
+    let mut i: usize = 0;
+    while i < places.len() {
+        names[n + i] = cell(cells, place(places[i]) + 1);
+        i += 1;
+    }
+    n + i
+}
+
+// The cells of all declared names, but for Bool.
+pub fn declared_names(
+    cells: &[u16],
+    sorts: &[u16],
+    funcs: &[u16],
+    acts: &[u16],
+    procs: &[u16],
+    names: &mut [u16],
+) -> usize
+    requires { ⌜ length (now sorts) + (length (now funcs) + (length (now acts) + length (now procs))) ≤ length (now names) ⌝ }
+    ensures most { λ r. ⌜ r ≤ length (now (names .exit)) ⌝ }
+    ensures names { λ r. ⌜ ((s : List ℕ) → scope-at s (now (names .exit)) r
+        ≡ names-at s (now (cells .entry)) (now (sorts .entry)) (length (now (sorts .entry)))
+        ++ (names-at s (now (cells .entry)) (now (funcs .entry)) (length (now (funcs .entry)))
+        ++ (names-at s (now (cells .entry)) (now (acts .entry)) (length (now (acts .entry)))
+        ++ names-at s (now (cells .entry)) (now (procs .entry)) (length (now (procs .entry)))))) ⌝ }
+{
+    let a = gather(cells, sorts, names, 0);
+    let b = gather(cells, funcs, names, a);
+    let c = gather(cells, acts, names, b);
+    gather(cells, procs, names, c)
+}
+
+// "Every declared name new (Bool is taken)", n names.
+pub fn all_new(s: &[u8], names: &[u16], n: usize) -> bool
+    requires { ⌜ n ≤ length (now names) ⌝ }
+    ensures { λ r. ⌜ r ≡ distinct (bytes "Bool" ∷ scope-at (now (s .entry)) (now (names .entry)) n) ⌝ }
+{
+    let mut i: usize = 0;
+    while i < n {
+        let c = names[i];
+        if is_bool(s, c) {
+            return false;
+        }
+        if among_from(s, names, i + 1, n, c) {
+            return false;
+        }
+        i += 1;
+    }
+    true
+}
+
+// A variable unlike Bool, the other n declared names and the k variables in scope.
+pub fn new_variable(s: &[u8], names: &[u16], n: usize, scope: &[u16], k: usize, c: u16) -> bool
+    requires { ⌜ (n ≤ length (now names)) × (k ≤ length (now scope)) ⌝ }
+    ensures { λ r. ⌜ r ≡ and (negated (among (name-at (now (s .entry)) c) (bytes "Bool" ∷ scope-at (now (s .entry)) (now (names .entry)) n)))
+        (negated (among (name-at (now (s .entry)) c) (scope-at (now (s .entry)) (now (scope .entry)) k))) ⌝ }
+{
+    if is_bool(s, c) {
+        return false;
+    }
+    if among_from(s, names, 0, n, c) {
+        return false;
+    }
+    if among_from(s, scope, 0, k, c) {
+        return false;
+    }
+    true
+}

@@ -1,0 +1,14 @@
+pub mod Writing
+pub mod Symbols
+pub mod Items
+pub mod Lookup
+pub mod DataCells
+pub mod DataLaws
+pub mod GivenLaws
+pub mod ProcessCells
+pub mod Terms
+pub mod NamedLaws
+pub mod NewLaws
+pub mod ForkLaws
+pub mod TermLaws
+pub mod EntryLaws

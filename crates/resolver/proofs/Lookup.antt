@@ -1,0 +1,37 @@
+-- What is learnt from a search: a number below the count is the name's, and the count itself says that the name is not there.
+use mathlib.Core.Path.{_≡_, refl, sym, ap, _∙_}
+use mathlib.Core.List.{List, [], _∷_}
+use mathlib.Core.Option.{Option, none, some}
+use Prim.Native.Nat.{ℕ, suc, _≤_, _<_}
+use native.Mathlib.Omega.{arith}
+use lib.ListN.{length, take, length-map}
+use lib.Seq.{length-take-le}
+use Rattle.pcrl.specs.Maybe.{_>>=_}
+use Rattle.pcrl.specs.Tests.{same?}
+use Rattle.pcrl.specs.Tree.{Name}
+use Rattle.pcrl.specs.Names.{number-of}
+use Rattle.resolver.specs.InScope.{number-below}
+use Rattle.names.specs.NameCells.{or-count, name-at, names-at, scope-at}
+
+module _ (x : Name) (l : List Name) (r m : ℕ) (many : length l ≡ m) (found : r ≡ or-count m (number-of x l)) where
+  pub known : r < m → number-of x l ≡ some r
+  known h = by (number-of x l) found
+    where
+      by : (o : Option ℕ) → r ≡ or-count m o → o ≡ some r
+      by none e = absurd (omega arith)
+      by (some i) e = ap some (sym e)
+
+  pub unknown : m ≤ r → number-of x l ≡ none
+  unknown h = by (number-of x l) refl found
+    where
+      by : (o : Option ℕ) → number-of x l ≡ o → r ≡ or-count m o → o ≡ none
+      by none q e = refl
+      by (some i) q e = let b = number-below x l i q in absurd (omega arith)
+
+pub names-many : (s raw places : List ℕ) → length (names-at s raw places (length places)) ≡ length places
+unfolding names-at
+names-many s raw places = length-map (take (length places) places) _ ∙ length-take-le (length places) places (omega arith)
+
+pub scope-many : (s scope : List ℕ) (n : ℕ) → n ≤ length scope → length (scope-at s scope n) ≡ n
+unfolding scope-at
+scope-many s scope n h = length-map (take n scope) (name-at s) ∙ length-take-le n scope h

@@ -1,0 +1,94 @@
+-- The cells of a resolved process term, by its parts.
+use mathlib.Core.Path.{_≡_, refl}
+use mathlib.Core.Bool.{Bool, true, false}
+use mathlib.Core.List.{List, [], _∷_, _++_}
+use mathlib.Core.Option.{Option, none, some}
+use Prim.Native.Nat.{ℕ, _+_, _*_}
+use lib.ListN.{length}
+use Rattle.pcrl.specs.Maybe.{_>>=_, _>>_, provided}
+use Rattle.pcrl.specs.Tree.{Name, RawData, RawDatas, Choice, Conditional, Sequence, Part}
+use Rattle.pcrl.specs.Sheet.{Data, Proc}
+use Rattle.pcrl.specs.Names.{Names, number-of, new-variable, named, resolve-data, resolve-given, resolve-choice, resolve-conditional, resolve-sequence, resolve-part}
+use Rattle.nodes.specs.Layout.{enc-data, enc-datas, after-mark, one-if, atom-kind, alt-kind, cond-kind, call-kind, seq-kind, act-number, enc}
+use Rattle.resolver.specs.Raw.{choice, conditional, sequence, part, resolve-term}
+use Rattle.resolver.specs.Resolving.{data-cells, given-cells, term-cells, binder-cells, _⊕_}
+
+module _ (N : Names) (scope : List Name) (after : Bool) where
+  pub plus-cells : (c : Conditional) (d : Choice)
+      → term-cells N scope after (choice (Choice.plus c d)) ≡ some ((after-mark * one-if after + alt-kind) ∷ 0 ∷ 0 ∷ []) ⊕ (term-cells N scope false (conditional c) ⊕ term-cells N scope false (choice d))
+  unfolding term-cells resolve-term resolve-choice enc _⊕_
+  plus-cells c d = by (resolve-conditional N scope c) (resolve-choice N scope d)
+    where
+      by : (p q : Option Proc) → (_>>=_ (_>>=_ p (λ a. _>>=_ q (λ b. some (Proc.alt a b)))) (λ a. some (enc after a)))
+          ≡ some ((after-mark * one-if after + alt-kind) ∷ 0 ∷ 0 ∷ []) ⊕ ((_>>=_ p (λ a. some (enc false a))) ⊕ (_>>=_ q (λ a. some (enc false a))))
+      by none q = refl
+      by (some a) none = refl
+      by (some a) (some b) = refl
+
+  pub then-cells : (p : Part) (q : Sequence)
+      → term-cells N scope after (sequence (Sequence.then p q)) ≡ some (seq-kind ∷ 0 ∷ 0 ∷ []) ⊕ (term-cells N scope after (part p) ⊕ term-cells N scope true (sequence q))
+  unfolding term-cells resolve-term resolve-choice enc _⊕_
+  then-cells p q = by (resolve-part N scope p) (resolve-sequence N scope q)
+    where
+      by : (p q : Option Proc) → (_>>=_ (_>>=_ p (λ a. _>>=_ q (λ b. some (Proc.seq a b)))) (λ a. some (enc after a)))
+          ≡ some (seq-kind ∷ 0 ∷ 0 ∷ []) ⊕ ((_>>=_ p (λ a. some (enc after a))) ⊕ (_>>=_ q (λ a. some (enc true a))))
+      by none q = refl
+      by (some a) none = refl
+      by (some a) (some b) = refl
+
+  -- the condition stands before the parts
+  pub cond-cells : (p : Sequence) (c : RawData) (q : Sequence)
+      → term-cells N scope after (conditional (Conditional.cond p c q))
+      ≡ (some ((after-mark * one-if after + cond-kind) ∷ 0 ∷ 1 ∷ []) ⊕ data-cells N scope c) ⊕ (term-cells N scope false (sequence p) ⊕ term-cells N scope false (sequence q))
+  unfolding term-cells data-cells resolve-term resolve-choice enc _⊕_
+  cond-cells p c q = by (resolve-sequence N scope p) (resolve-data N scope c) (resolve-sequence N scope q)
+    where
+      by : (p : Option Proc) (c : Option Data) (q : Option Proc)
+          → (_>>=_ (_>>=_ p (λ a. _>>=_ c (λ d. _>>=_ q (λ b. some (Proc.cond d a b))))) (λ a. some (enc after a)))
+          ≡ (some ((after-mark * one-if after + cond-kind) ∷ 0 ∷ 1 ∷ []) ⊕ (_>>=_ c (λ d. some (enc-data d)))) ⊕ ((_>>=_ p (λ a. some (enc false a))) ⊕ (_>>=_ q (λ a. some (enc false a))))
+      by none none q = refl
+      by none (some d) q = refl
+      by (some a) none q = refl
+      by (some a) (some d) none = refl
+      by (some a) (some d) (some b) = refl
+
+  pub sum-cells : (v D : Name) (p : Choice)
+      → term-cells N scope after (part (Part.sum v D p)) ≡ binder-cells N scope after v D ⊕ term-cells N (scope ++ (v ∷ [])) false (choice p)
+  unfolding term-cells binder-cells resolve-term resolve-choice enc enc-data _⊕_
+  sum-cells v D p = by (new-variable N scope v) (number-of D (N .sorts)) (resolve-choice N (scope ++ (v ∷ [])) p)
+    where
+      by : (b : Bool) (E : Option ℕ) (q : Option Proc)
+          → (_>>=_ (_>>_ (provided b) (_>>=_ E (λ E. _>>=_ q (λ q. some (Proc.sum (length scope) E q))))) (λ a. some (enc after a)))
+          ≡ (_>>_ (provided b) (_>>=_ E (λ E. some ((after-mark * one-if after + 1) ∷ E ∷ 1 ∷ (4 * length scope + 1) ∷ [])))) ⊕ (_>>=_ q (λ a. some (enc false a)))
+      by false E q = refl
+      by true none q = refl
+      by true (some E) none = refl
+      by true (some E) (some q) = refl
+
+  pub action-cells : (x : Name) (ds : Option RawDatas) (i : ℕ) → number-of x (N .acts) ≡ some i
+      → term-cells N scope after (part (Part.named x ds)) ≡ given-cells N scope (after-mark * one-if after + atom-kind) (i + 1) ds
+  unfolding term-cells given-cells resolve-term resolve-choice named enc act-number
+  action-cells x ds i e = rw e (by (resolve-given N scope ds))
+    where
+      by : (o : Option (List Data)) → (_>>=_ (_>>=_ o (λ es. named N (some i) (number-of x (N .procs)) es)) (λ a. some (enc after a)))
+          ≡ (_>>=_ o (λ es. some ((after-mark * one-if after + atom-kind) ∷ (i + 1) ∷ length es ∷ enc-datas es)))
+      by none = refl
+      by (some es) = refl
+
+  pub process-cells : (x : Name) (ds : Option RawDatas) (k : ℕ) → number-of x (N .acts) ≡ none → number-of x (N .procs) ≡ some k
+      → term-cells N scope after (part (Part.named x ds)) ≡ given-cells N scope call-kind k ds
+  unfolding term-cells given-cells resolve-term resolve-choice named enc
+  process-cells x ds k e f = rw (e, f) (by (resolve-given N scope ds))
+    where
+      by : (o : Option (List Data)) → (_>>=_ (_>>=_ o (λ es. named N none (some k) es)) (λ a. some (enc after a)))
+          ≡ (_>>=_ o (λ es. some (call-kind ∷ k ∷ length es ∷ enc-datas es)))
+      by none = refl
+      by (some es) = refl
+
+  pub unnamed-cells : (x : Name) (ds : Option RawDatas) → number-of x (N .acts) ≡ none → number-of x (N .procs) ≡ none → term-cells N scope after (part (Part.named x ds)) ≡ none
+  unfolding term-cells resolve-term resolve-choice named
+  unnamed-cells x ds e f = rw (e, f) (by (resolve-given N scope ds))
+    where
+      by : (o : Option (List Data)) → _≡_ {A = Option (List ℕ)} (_>>=_ (_>>=_ o (λ es. named N none none es)) (λ a. some (enc after a))) none
+      by none = refl
+      by (some es) = refl

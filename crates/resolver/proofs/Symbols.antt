@@ -1,0 +1,116 @@
+-- The next cell of the raw tree: a tag is its number, a name's cell stands for its name, a numeral's for its value.
+use mathlib.Core.Path.{_≡_, refl, sym, ap, _∙_}
+use mathlib.Core.Bool.{Bool, true, false}
+use mathlib.Core.List.{List, [], _∷_, map}
+use Prim.Native.Nat.{ℕ, zero, suc, _+_, _-_, _≤_, _<_}
+use native.Mathlib.Decide.{decLt}
+use native.Mathlib.Numerals.{add-one}
+use native.Mathlib.Omega.{arith}
+use borrow.Author.Tests.{ltb-true, ltb-false}
+use lib.Dec.{ltb}
+use lib.ListN.{length, drop, getD, drop-of-length-le, length-map, List·getD-eq-default}
+use lib.Seq.{drop-cons}
+use Rattle.pcrl.specs.Tokens.{Token, name, numeral, sign}
+use Rattle.lexer.specs.Cells.{cell-token, written, first-name, first-numeral}
+use Rattle.parser.specs.Cells.{Symbol, tag, token, symbol-of}
+use Rattle.names.specs.NameCells.{name-at}
+use Rattle.resolver.specs.Raw.{symbols}
+
+pub map-drop : {A B : Type 0} (f : A → B) (i : ℕ) (l : List A) → drop i (map f l) ≡ map f (drop i l)
+map-drop f zero l = refl
+map-drop f (suc i) [] = refl
+map-drop f (suc i) (x ∷ l) = map-drop f i l
+
+-- a symbol stands at `at`, and others behind it
+pub record Next (s raw : List ℕ) (at : ℕ) (y : Symbol) (l : List Symbol) : Type 0 where
+  pub inside : at < length raw
+  pub is : symbol-of s (getD raw at 0) ≡ y
+  pub behind : drop (at + 1) (symbols s raw) ≡ l
+
+pub next : (s raw : List ℕ) (at : ℕ) (y : Symbol) (l : List Symbol) → drop at (symbols s raw) ≡ y ∷ l → Next s raw at y l
+unfolding symbols
+next s raw at y l e = by (decLt at (length raw))
+  where
+    by : Dec (at < length raw) → Next s raw at y l
+    by (yes h) =
+        let f : symbol-of s (getD raw at 0) ∷ drop (at + 1) (map (symbol-of s) raw) ≡ y ∷ l = ap (λ k. symbol-of s (getD raw at 0) ∷ drop k (map (symbol-of s) raw)) (add-one at)
+        ∙ ap (λ k. symbol-of s (getD raw at 0) ∷ k) (map-drop (symbol-of s) (suc at) raw) ∙ ap (map (symbol-of s)) (sym (drop-cons raw at 0 h)) ∙ sym (map-drop (symbol-of s) at raw) ∙ e in
+        record { inside = h; is = cc; behind = cc }
+    by (no h) =
+        let z : [] ≡ y ∷ l = sym (drop-of-length-le (map (symbol-of s) raw) {i = at} (let q = length-map raw (symbol-of s) in omega arith)) ∙ e in
+        let q : _≡_ {A = ℕ} 0 1 = cc in
+        absurd (omega arith)
+
+pub tag-is : (s : List ℕ) (c k : ℕ) → symbol-of s c ≡ tag k → c ≡ k
+unfolding symbol-of
+tag-is s c k = by (ltb c 32)
+  where
+    by : (b : Bool) → elim b as (λ (x : Bool). Symbol) [ true ↦ tag c | false ↦ token (cell-token s c) ] ≡ tag k → c ≡ k
+    by true e = cc
+    by false e = let z : _≡_ {A = ℕ} 0 1 = cc in absurd (omega arith)
+
+token-is : (s : List ℕ) (c : ℕ) (t : Token) → symbol-of s c ≡ token t → cell-token s c ≡ t
+unfolding symbol-of
+token-is s c t = by (ltb c 32)
+  where
+    by : (b : Bool) → elim b as (λ (x : Bool). Symbol) [ true ↦ tag c | false ↦ token (cell-token s c) ] ≡ token t → cell-token s c ≡ t
+    by true e = let z : _≡_ {A = ℕ} 0 1 = cc in absurd (omega arith)
+    by false e = cc
+
+pub name-is : (s : List ℕ) (c : ℕ) (x : List ℕ) → symbol-of s c ≡ token (name x) → name-at s c ≡ x
+unfolding cell-token name-at
+name-is s c x e = by (ltb c first-numeral) (ltb c first-name) (token-is s c (name x) e)
+  where
+    by : (a b : Bool)
+        → elim a as (λ (y : Bool). Token) [ true ↦ sign (written c) | false ↦ elim b as (λ (y : Bool). Token) [ true ↦ numeral (c - first-numeral) | false ↦ name (name-at s c) ] ] ≡ name x
+        → name-at s c ≡ x
+    by true b f = let z : _≡_ {A = ℕ} 0 1 = cc in absurd (omega arith)
+    by false true f = let z : _≡_ {A = ℕ} 0 1 = cc in absurd (omega arith)
+    by false false f = cc
+
+pub record NumeralCell (c v : ℕ) : Type 0 where
+  pub least : first-numeral ≤ c
+  pub most : c < first-name
+  pub value : v ≡ c - first-numeral
+
+pub numeral-is : (s : List ℕ) (c v : ℕ) → symbol-of s c ≡ token (numeral v) → NumeralCell c v
+unfolding cell-token name-at
+numeral-is s c v e = by (ltb c first-numeral) refl (ltb c first-name) refl (token-is s c (numeral v) e)
+  where
+    by : (a : Bool) → ltb c first-numeral ≡ a → (b : Bool) → ltb c first-name ≡ b
+        → elim a as (λ (y : Bool). Token) [ true ↦ sign (written c) | false ↦ elim b as (λ (y : Bool). Token) [ true ↦ numeral (c - first-numeral) | false ↦ name (name-at s c) ] ] ≡ numeral v
+        → NumeralCell c v
+    by true p b q f = let z : _≡_ {A = ℕ} 0 1 = cc in absurd (omega arith)
+    by false p true q f = record { least = ltb-false c first-numeral p; most = ltb-true c first-name q; value = cc }
+    by false p false q f = let z : _≡_ {A = ℕ} 0 1 = cc in absurd (omega arith)
+
+-- a tag and a token
+pub record Pair (s raw : List ℕ) (at k : ℕ) (t : Token) (l : List Symbol) : Type 0 where
+  pub inside : at + 2 ≤ length raw
+  pub tag-cell : getD raw at 0 ≡ k
+  pub token-cell : symbol-of s (getD raw (at + 1) 0) ≡ token t
+  pub behind : drop (at + 2) (symbols s raw) ≡ l
+
+pub pair : (s raw : List ℕ) (at k : ℕ) (t : Token) (l : List Symbol) → drop at (symbols s raw) ≡ tag k ∷ token t ∷ l → Pair s raw at k t l
+pair s raw at k t l e =
+    let a = next s raw at (tag k) (token t ∷ l) e in
+    let b = next s raw (at + 1) (token t) l (a .behind) in
+    let i = b .inside in
+    let q : at + 2 ≡ at + 1 + 1 = omega arith in
+    record {
+      inside = omega arith;
+      tag-cell = tag-is s (getD raw at 0) k (a .is);
+      token-cell = b .is;
+      behind = ap (λ i. drop i (symbols s raw)) q ∙ b .behind;
+    }
+
+pub first-tag : (s raw : List ℕ) (at k : ℕ) (l : List Symbol) → drop at (symbols s raw) ≡ tag k ∷ l → getD raw at 0 ≡ k
+first-tag s raw at k l e = tag-is s (getD raw at 0) k (next s raw at (tag k) l e .is)
+
+-- a cell that is not 0 stands within the list
+pub live : (raw : List ℕ) (at : ℕ) → 0 < getD raw at 0 → at < length raw
+live raw at h = by (decLt at (length raw))
+  where
+    by : Dec (at < length raw) → at < length raw
+    by (yes l) = l
+    by (no l) = let z = List·getD-eq-default raw 0 {n = at} (omega arith) in absurd (omega arith)

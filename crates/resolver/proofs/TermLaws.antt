@@ -1,0 +1,217 @@
+-- The walk down a process term: some cells were written, and one term is left. One law for each way that the loop goes on or ends.
+use mathlib.Core.Path.{_≡_, sym, ap, _∙_, subst}
+use mathlib.Core.Bool.{Bool, false}
+use mathlib.Core.List.{List, [], _∷_, _++_, map}
+use mathlib.Core.Option.{Option, none, some}
+use Prim.Native.Nat.{ℕ, suc, _+_, _≤_, _<_}
+use native.Mathlib.Omega.{arith}
+use lib.ListN.{length, take, drop, getD}
+use lib.Seq.{take-take}
+use Rattle.pcrl.specs.Tree.{Name, Choice, Part}
+use Rattle.pcrl.specs.Names.{Names}
+use Rattle.parser.specs.Cells.{Symbol, tag, enc-choice}
+use Rattle.names.specs.NameCells.{name-at, scope-at}
+use Rattle.resolver.specs.declared.Step.{Step}
+use Rattle.resolver.specs.declared.Fork.{Fork}
+use Rattle.resolver.specs.Raw.{Term, choice, part, enc-term, sum-depth, term-depth, symbols, tokens-of, kids-of}
+use Rattle.resolver.specs.Writing.{Writes}
+use Rattle.resolver.specs.Resolving.{Outcome, lost, took, Declared, term-cells, binder-cells, _⊕_, InScope, Binds, ResolvesConstant, ResolvesNamed, Forked, Forks, ResolvesTerm}
+use Rattle.resolver.proofs.Writing.{writes-nothing, writes-then}
+use Rattle.resolver.proofs.Symbols.{next}
+use Rattle.resolver.proofs.DataCells.{then-nothing, then-assoc, then-none, then-last, none-last}
+use Rattle.resolver.proofs.DataLaws.{became}
+use Rattle.resolver.proofs.ProcessCells.{sum-cells}
+use Rattle.resolver.proofs.NewLaws.{pushed, two-names}
+use Rattle.resolver.proofs.ForkLaws.{single-tokens}
+use Rattle.resolver.proofs.Terms.{View, single, plus, cond, then, delta, tau, bare, given, sum, seen}
+
+pub data Going (s raw : List ℕ) (N : Names) (room : ℕ) (whole : Option (List ℕ)) (rest : List Symbol) (w : ℕ) (o : List ℕ) (p m : ℕ) (r : Bool) (v : ℕ) (scope′ o′ : List ℕ) : Type 0 where
+  gone : length raw < p → whole ≡ none → Going s raw N room whole rest w o p m r v scope′ o′
+  going : (u : Term) (e : List ℕ) → drop p (symbols s raw) ≡ enc-term u ++ rest → m + term-depth u ≤ room → whole ≡ some e ⊕ term-cells N (scope-at s scope′ m) r u → Writes e w o v o′
+      → Going s raw N room whole rest w o p m r v scope′ o′
+
+same-scope : (s scope scope′ : List ℕ) (m : ℕ) → take m scope′ ≡ take m scope → scope-at s scope′ m ≡ scope-at s scope m
+unfolding scope-at
+same-scope s scope scope′ m e = ap (map (name-at s)) e
+
+module _ (s raw sorts funcs acts procs scope : List ℕ) (n at : ℕ) (after : Bool) (w : ℕ) (o : List ℕ) where
+  abbrev pub TermLeft : (p m : ℕ) → Bool → ℕ → List ℕ → List ℕ → Type 0
+  TermLeft p m r v scope′ o′ = (N : Names) (t : Term) (rest : List Symbol) → Declared s raw sorts funcs acts procs N
+      → drop at (symbols s raw) ≡ enc-term t ++ rest → n + term-depth t ≤ length scope
+      → Going s raw N (length scope) (term-cells N (scope-at s scope n) after t) rest w o p m r v scope′ o′
+
+  abbrev Resolves : Step → List ℕ → Type 0
+  Resolves r o′ = ResolvesTerm s raw sorts funcs acts procs scope n at after w o r o′
+
+  pub term-start : TermLeft at n after w scope o
+  term-start N t rest dec e d = going t [] e d (sym (then-nothing (term-cells N (scope-at s scope n) after t))) writes-nothing
+
+  module _ (p m : ℕ) (r : Bool) (v : ℕ) (scope₁ o₁ : List ℕ) (left : TermLeft p m r v scope₁ o₁) where
+    -- no cell is left
+    pub term-end : length raw ≤ p → (a : Step) → length raw < a .at → Resolves a o₁
+    term-end h a z N t rest dec e d = by (left N t rest dec e d)
+      where
+        by : Going s raw N (length scope) (term-cells N (scope-at s scope n) after t) rest w o p m r v scope₁ o₁ → Outcome raw (symbols s raw) rest w o (a .at) (a .w) o₁ (term-cells N (scope-at s scope n) after t)
+        by (gone y q) = became (sym q) (lost z)
+        by (going u g dr de q ws) = let i = seen s raw p u rest dr .inside in absurd (omega arith)
+
+    -- the last of the term was read
+    finished : p < length raw → (a : Step) (o₂ : List ℕ)
+        → ((N : Names) (u : Term) (rest : List Symbol) → Declared s raw sorts funcs acts procs N → drop p (symbols s raw) ≡ enc-term u ++ rest → Outcome raw (symbols s raw) rest v o₁ (a .at) (a .w) o₂ (term-cells N (scope-at s scope₁ m) r u))
+        → Resolves a o₂
+    finished h a o₂ f N t rest dec e d = by (left N t rest dec e d)
+      where
+        whole : Option (List ℕ)
+        whole = term-cells N (scope-at s scope n) after t
+
+        last : (g : List ℕ) (X : Option (List ℕ)) → whole ≡ some g ⊕ X → Writes g w o v o₁ → Outcome raw (symbols s raw) rest v o₁ (a .at) (a .w) o₂ X → Outcome raw (symbols s raw) rest w o (a .at) (a .w) o₂ whole
+        last g X q ws (lost z) = became (sym (q ∙ none-last g)) (lost z)
+        last g X q ws (took {e = k} z dr ws₁) = became (sym (q ∙ then-last g k)) (took z dr (writes-then ws ws₁))
+
+        by : Going s raw N (length scope) whole rest w o p m r v scope₁ o₁ → Outcome raw (symbols s raw) rest w o (a .at) (a .w) o₂ whole
+        by (gone y q) = absurd (omega arith)
+        by (going u g dr de q ws) = last g (term-cells N (scope-at s scope₁ m) r u) q ws (f N u rest dec dr)
+
+    pub term-named : p < length raw → 0 < tokens-of (getD raw p 0) → (getD raw p 0 ≡ 16 → ⊥) → (a : Step) (o₂ : List ℕ) → ResolvesNamed s raw funcs acts procs scope₁ m p r v o₁ a o₂ → Resolves a o₂
+    term-named h k₁ k₂ a o₂ f = finished h a o₂ (λ N u rest dec dr. f N u rest (dec .funcs-are) (dec .acts-are) (dec .procs-are) dr k₁ k₂)
+
+    pub term-constant : p < length raw → tokens-of (getD raw p 0) ≡ 0 → kids-of (getD raw p 0) ≡ 0 → (a : Step) (o₂ : List ℕ) → ResolvesConstant raw p r v o₁ a o₂ → Resolves a o₂
+    term-constant h k₁ k₂ a o₂ f = finished h a o₂ (λ N u rest dec dr. f s N (scope-at s scope₁ m) u rest dr k₁ k₂)
+
+    -- one subterm
+    pub term-single : tokens-of (getD raw p 0) ≡ 0 → kids-of (getD raw p 0) ≡ 1 → p < length raw → TermLeft (p + 1) m r v scope₁ o₁
+    unfolding tokens-of kids-of
+    term-single k₁ k₂ h N t rest dec e d = by (left N t rest dec e d)
+      where
+        whole : Option (List ℕ)
+        whole = term-cells N (scope-at s scope n) after t
+
+        on : (u : Term) (k : ℕ) → View u k → getD raw p 0 ≡ k → (g : List ℕ) → drop p (symbols s raw) ≡ enc-term u ++ rest → m + term-depth u ≤ length scope
+            → whole ≡ some g ⊕ term-cells N (scope-at s scope₁ m) r u → Writes g w o v o₁ → Going s raw N (length scope) whole rest w o (p + 1) m r v scope₁ o₁
+        on u k (single u′ u₁ k′ y) q g dr de x ws =
+            let z = y .depth in
+            going u₁ g (next s raw p (tag k) (enc-term u₁ ++ rest) (dr ∙ ap (λ l. l ++ rest) (y .opened)) .behind) (omega arith) (x ∙ ap (λ c. some g ⊕ c) (y .cells N (scope-at s scope₁ m) r)) ws
+        on u k (plus c₁ c₂) q g dr de x ws = let z = ap kids-of q in absurd (omega arith)
+        on u k (cond p₁ c p₂) q g dr de x ws = let z = ap kids-of q in absurd (omega arith)
+        on u k (then p₁ p₂) q g dr de x ws = let z = ap kids-of q in absurd (omega arith)
+        on u k delta q g dr de x ws = let z = ap kids-of q in absurd (omega arith)
+        on u k tau q g dr de x ws = let z = ap kids-of q in absurd (omega arith)
+        on u k (bare x₁) q g dr de x ws = let z = ap kids-of q in absurd (omega arith)
+        on u k (given x₁ ds) q g dr de x ws = let z = ap tokens-of q in absurd (omega arith)
+        on u k (sum x₁ D c) q g dr de x ws = let z = ap tokens-of q in absurd (omega arith)
+
+        by : Going s raw N (length scope) whole rest w o p m r v scope₁ o₁ → Going s raw N (length scope) whole rest w o (p + 1) m r v scope₁ o₁
+        by (gone y q) = absurd (omega arith)
+        by (going u g dr de q ws) = let z = seen s raw p u rest dr in on u (z .tag-of) (z .view) (z .cell) g dr de q ws
+
+    -- ---- a sum
+    module _ (k : getD raw p 0 ≡ 16) (h : p < length raw) (same : length scope₁ ≡ length scope) (b : Step) (o₂ : List ℕ) (binds : Binds s raw sorts funcs acts procs scope₁ m p r v o₁ b o₂) where
+      -- the term is a sum
+      by-sum : (P : Option (List ℕ) → Type 0) (N : Names) (t : Term) (rest : List Symbol) → Declared s raw sorts funcs acts procs N
+          → Going s raw N (length scope) (term-cells N (scope-at s scope n) after t) rest w o p m r v scope₁ o₁
+          → ((x D : Name) (q : Choice) (g : List ℕ) → drop p (symbols s raw) ≡ enc-term (part (Part.sum x D q)) ++ rest → m + suc (sum-depth q) ≤ length scope
+          → Writes g w o v o₁ → Outcome raw (symbols s raw) (enc-choice q ++ rest) v o₁ (b .at) (b .w) o₂ (binder-cells N (scope-at s scope₁ m) r x D)
+          → P (some g ⊕ (binder-cells N (scope-at s scope₁ m) r x D ⊕ term-cells N (scope-at s scope₁ m ++ (x ∷ [])) false (choice q))))
+          → P (term-cells N (scope-at s scope n) after t)
+      unfolding enc-term enc-choice term-depth sum-depth tokens-of
+      by-sum P N t rest dec (gone y q) f = absurd (omega arith)
+      by-sum P N t rest dec (going u g dr de q ws) f = let z = seen s raw p u rest dr in on u (z .tag-of) (z .view) (z .cell) dr de q
+        where
+          on : (u : Term) (j : ℕ) → View u j → getD raw p 0 ≡ j → drop p (symbols s raw) ≡ enc-term u ++ rest → m + term-depth u ≤ length scope
+              → term-cells N (scope-at s scope n) after t ≡ some g ⊕ term-cells N (scope-at s scope₁ m) r u → P (term-cells N (scope-at s scope n) after t)
+          on u j (single u′ u₁ j′ y) y₁ dr de x = let z = single-tokens (y .is) in let z₁ = ap tokens-of y₁ in let z₂ = ap tokens-of k in absurd (omega arith)
+          on u j (plus c₁ c₂) y dr de x = absurd (omega arith)
+          on u j (cond p₁ c p₂) y dr de x = absurd (omega arith)
+          on u j (then p₁ p₂) y dr de x = absurd (omega arith)
+          on u j delta y dr de x = absurd (omega arith)
+          on u j tau y dr de x = absurd (omega arith)
+          on u j (bare x₁) y dr de x = absurd (omega arith)
+          on u j (given x₁ ds) y dr de x = absurd (omega arith)
+          on u j (sum x₁ D c) y dr de x =
+              subst P (sym (x ∙ ap (λ l. some g ⊕ l) (sum-cells N (scope-at s scope₁ m) r x₁ D c))) (f x₁ D c g dr de ws (binds N x₁ D (enc-choice c ++ rest) dec dr (omega arith)))
+
+      pub binder-lost : length raw < b .at → Resolves b o₂
+      binder-lost z N t rest dec e d =
+          by-sum (λ c. Outcome raw (symbols s raw) rest w o (b .at) (b .w) o₂ c) N t rest dec (left N t rest dec e d)
+          (λ x D q g dr de ws x₁. on g (binder-cells N (scope-at s scope₁ m) r x D) (term-cells N (scope-at s scope₁ m ++ (x ∷ [])) false (choice q)) (enc-choice q ++ rest) x₁)
+        where
+          on : (g : List ℕ) (X Y : Option (List ℕ)) (l : List Symbol) → Outcome raw (symbols s raw) l v o₁ (b .at) (b .w) o₂ X → Outcome raw (symbols s raw) rest w o (b .at) (b .w) o₂ (some g ⊕ (X ⊕ Y))
+          on g X Y l (lost y) = became (sym (then-none g Y)) (lost z)
+          on g X Y l (took y dr ws) = absurd (omega arith)
+
+      pub term-binder : (scope₂ : List ℕ) → InScope raw scope₁ m p b scope₂ → b .at ≤ length raw → TermLeft (b .at) (m + 1) false (b .w) scope₂ o₂
+      unfolding enc-term enc-choice term-depth
+      term-binder scope₂ pushes z N t rest dec e d =
+          by-sum (λ c. Going s raw N (length scope) c rest w o (b .at) (m + 1) false (b .w) scope₂ o₂) N t rest dec (left N t rest dec e d)
+          (λ x D q g dr de ws x₁. on x q g de ws (binder-cells N (scope-at s scope₁ m) r x D) (scope-is x D q dr) x₁)
+        where
+          scope-is : (x D : Name) (q : Choice) → drop p (symbols s raw) ≡ enc-term (part (Part.sum x D q)) ++ rest → scope-at s scope₂ (m + 1) ≡ scope-at s scope₁ m ++ (x ∷ [])
+          scope-is x D q dr =
+              let i = pushes z in
+              ap (λ (l : List ℕ). scope-at s l (m + 1)) (i .1) ∙ pushed s scope₁ m (getD raw (p + 1) 0) (i .0)
+              ∙ ap (λ (y : Name). scope-at s scope₁ m ++ (y ∷ [])) (two-names s raw p x D (enc-choice q ++ rest) dr .variable)
+
+          on : (x : Name) (q : Choice) (g : List ℕ) → m + suc (sum-depth q) ≤ length scope → Writes g w o v o₁ → (X : Option (List ℕ)) → scope-at s scope₂ (m + 1) ≡ scope-at s scope₁ m ++ (x ∷ [])
+              → Outcome raw (symbols s raw) (enc-choice q ++ rest) v o₁ (b .at) (b .w) o₂ X
+              → Going s raw N (length scope) (some g ⊕ (X ⊕ term-cells N (scope-at s scope₁ m ++ (x ∷ [])) false (choice q))) rest w o (b .at) (m + 1) false (b .w) scope₂ o₂
+          on x q g de ws X sc (lost y) = absurd (omega arith)
+          on x q g de ws X sc (took {e = f} y dr ws₁) =
+              going (choice q) (g ++ f) dr (omega arith)
+              (then-assoc g f (term-cells N (scope-at s scope₁ m ++ (x ∷ [])) false (choice q)) ∙ ap (λ (l : List Name). some (g ++ f) ⊕ term-cells N l false (choice q)) (sym sc))
+              (writes-then ws ws₁)
+
+    -- ---- two subterms
+    module _ (k : 1 < kids-of (getD raw p 0)) (h : p < length raw) (same : length scope₁ ≡ length scope) (f : Fork) (o₂ : List ℕ) (forks : Forks s raw funcs scope₁ m p r v o₁ f o₂)
+        (a : Step) (o₃ : List ℕ) (resolves : ResolvesTerm s raw sorts funcs acts procs scope₁ m (p + 1) (f .left) (f .w) o₂ a o₃) where
+      -- the first part's cells, if they were written
+      first-part : (N : Names) (u : Term) (rest : List Symbol) → Declared s raw sorts funcs acts procs N → m + term-depth u ≤ length scope
+          → (x : Forked s raw N (scope-at s scope₁ m) p r u rest v o₁ f o₂) → Outcome raw (symbols s raw) (x .between) (f .w) o₂ (a .at) (a .w) o₃ (term-cells N (scope-at s scope₁ m) (f .left) (x .first))
+      first-part N u rest dec de x = let z = x .first-depth in resolves N (x .first) (x .between) dec (x .first-at) (omega arith)
+
+      pub fork-lost : length raw < a .at → Resolves a o₃
+      fork-lost z N t rest dec e d = by (left N t rest dec e d)
+        where
+          whole : Option (List ℕ)
+          whole = term-cells N (scope-at s scope n) after t
+
+          on : (g : List ℕ) (H F R : Option (List ℕ)) (l l₁ : List Symbol) → whole ≡ some g ⊕ (H ⊕ (F ⊕ R)) → Outcome raw (symbols s raw) l v o₁ (f .at) (f .w) o₂ H → Outcome raw (symbols s raw) l₁ (f .w) o₂ (a .at) (a .w) o₃ F
+              → Outcome raw (symbols s raw) rest w o (a .at) (a .w) o₃ whole
+          on g H F R l l₁ q (lost y) y₁ = became (sym (q ∙ then-none g (F ⊕ R))) (lost z)
+          on g H F R l l₁ q (took {e = i} y dr ws) (lost y₁) = became (sym (q ∙ then-assoc g i (none ⊕ R) ∙ then-none (g ++ i) R)) (lost z)
+          on g H F R l l₁ q (took y dr ws) (took y₁ dr₁ ws₁) = absurd (omega arith)
+
+          by : Going s raw N (length scope) whole rest w o p m r v scope₁ o₁ → Outcome raw (symbols s raw) rest w o (a .at) (a .w) o₃ whole
+          by (gone y q) = absurd (omega arith)
+          by (going u g dr de q ws) =
+              let x = forks N u rest (dec .funcs-are) dr k in
+              on g (x .head) (term-cells N (scope-at s scope₁ m) (f .left) (x .first)) (term-cells N (scope-at s scope₁ m) (f .right) (x .second)) (enc-term (x .second) ++ rest) (x .between)
+              (q ∙ ap (λ c. some g ⊕ c) (x .cells)) (x .outcome) (first-part N u rest dec de x)
+
+      pub term-fork : a .at ≤ length raw → (scope₂ : List ℕ) → take m scope₂ ≡ take m scope₁ → TermLeft (f .at) m (f .right) (a .w) scope₂ o₃
+      term-fork z scope₂ kept N t rest dec e d = by (left N t rest dec e d)
+        where
+          whole : Option (List ℕ)
+          whole = term-cells N (scope-at s scope n) after t
+
+          on : (g : List ℕ) (H F : Option (List ℕ)) (u : Term) (l : List Symbol) → m + term-depth u ≤ length scope → Writes g w o v o₁ → whole ≡ some g ⊕ (H ⊕ (F ⊕ term-cells N (scope-at s scope₂ m) (f .right) u))
+              → Outcome raw (symbols s raw) (enc-term u ++ rest) v o₁ (f .at) (f .w) o₂ H → Outcome raw (symbols s raw) l (f .w) o₂ (a .at) (a .w) o₃ F
+              → Going s raw N (length scope) whole rest w o (f .at) m (f .right) (a .w) scope₂ o₃
+          on g H F u l de ws q (lost y) y₁ = gone y (q ∙ then-none g (F ⊕ term-cells N (scope-at s scope₂ m) (f .right) u))
+          on g H F u l de ws q (took {e = i} y dr ws₁) (lost y₁) = absurd (omega arith)
+          on g H F u l de ws q (took {e = i} y dr ws₁) (took {e = j} y₁ dr₁ ws₂) =
+              going u ((g ++ i) ++ j) dr de
+              (q ∙ then-assoc g i (some j ⊕ term-cells N (scope-at s scope₂ m) (f .right) u) ∙ then-assoc (g ++ i) j (term-cells N (scope-at s scope₂ m) (f .right) u))
+              (writes-then (writes-then ws ws₁) ws₂)
+
+          by : Going s raw N (length scope) whole rest w o p m r v scope₁ o₁ → Going s raw N (length scope) whole rest w o (f .at) m (f .right) (a .w) scope₂ o₃
+          by (gone y q) = absurd (omega arith)
+          by (going u g dr de q ws) =
+              let x = forks N u rest (dec .funcs-are) dr k in
+              let y = x .second-depth in
+              on g (x .head) (term-cells N (scope-at s scope₁ m) (f .left) (x .first)) (x .second) (x .between) (omega arith) ws
+              (q ∙ ap (λ c. some g ⊕ c) (x .cells) ∙ ap (λ (l : List Name). some g ⊕ (x .head ⊕ (term-cells N (scope-at s scope₁ m) (f .left) (x .first) ⊕ term-cells N l (f .right) (x .second)))) (sym (same-scope s scope₁ scope₂ m kept)))
+              (x .outcome) (first-part N u rest dec de x)
+
+-- what was kept of m names is kept of n of them
+pub kept-on : (n m : ℕ) (a b c : List ℕ) → n ≤ m → take m a ≡ take m b → take n b ≡ take n c → take n a ≡ take n c
+kept-on n m a b c h p q = sym (take-take n m a h) ∙ ap (take n) p ∙ take-take n m b h ∙ q

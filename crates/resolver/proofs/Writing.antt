@@ -1,0 +1,57 @@
+-- Cells written one after another, and a cell put in place of one written before.
+use mathlib.Core.Path.{refl, sym, ap, _∙_}
+use mathlib.Core.List.{List, [], _∷_, _++_, append-assoc, append-nil}
+use Prim.Native.Nat.{ℕ, suc, _+_, _≤_}
+use native.Mathlib.Numerals.{add-one}
+use native.Mathlib.Omega.{arith}
+use lib.ListN.{length, take, set, length-append, length-set}
+use lib.Seq.{length-take-le, take-suc-set, take-set-lt, set-at}
+use Rattle.resolver.specs.Writing.{Put, Written, Writes}
+
+pub writes-nothing : {w : ℕ} {o : List ℕ} → Writes [] w o w o
+writes-nothing {w} {o} = record { with-room = λ h. record { next = omega arith; same = refl; cells = sym (append-nil (take w o)) } }
+
+-- one behind the other
+pub writes-then : {e g : List ℕ} {w w₁ w₂ : ℕ} {o o₁ o₂ : List ℕ} → Writes e w o w₁ o₁ → Writes g w₁ o₁ w₂ o₂ → Writes (e ++ g) w o w₂ o₂
+writes-then {e} {g} {w} {w₁} {w₂} {o} {o₁} {o₂} a b = record { with-room = both }
+  where
+    both : w + length (e ++ g) ≤ length o → Written (e ++ g) w o w₂ o₂
+    both h =
+        let l = length-append e g in
+        let x = a .with-room (omega arith) in
+        let p = x .same in
+        let q = x .next in
+        let y = b .with-room (omega arith) in
+        let n = y .next in
+        record {
+          next = omega arith;
+          same = y .same ∙ x .same;
+          cells = y .cells ∙ ap (λ k. k ++ g) (x .cells) ∙ append-assoc (take w o) e g;
+        }
+
+-- one cell
+pub writes-cell : {v w w′ : ℕ} {o o′ : List ℕ} → Put o w v w′ o′ → Writes (v ∷ []) w o w′ o′
+writes-cell {v} {w} {w′} {o} {o′} p = record { with-room = put }
+  where
+    put : w + 1 ≤ length o → Written (v ∷ []) w o w′ o′
+    put h =
+        let n = p .next (omega arith) in
+        record {
+          next = n;
+          same = ap length (p .cells) ∙ length-set o w v;
+          cells = ap (λ k. take k o′) (n ∙ add-one w) ∙ ap (λ l. take (suc w) l) (p .cells) ∙ take-suc-set o w v (omega arith);
+        }
+
+-- another cell in the first one's place
+pub writes-instead : {x : ℕ} {e : List ℕ} {v w w₁ w′ : ℕ} {o o₁ o′ : List ℕ} → Writes (x ∷ e) w o w₁ o₁ → Put o₁ w v w′ o′ → Writes (v ∷ e) w o w₁ o′
+writes-instead {x} {e} {v} {w} {w₁} {w′} {o} {o₁} {o′} a p = record { with-room = put }
+  where
+    put : w + suc (length e) ≤ length o → Written (v ∷ e) w o w₁ o′
+    put h =
+        let b = a .with-room h in
+        let n = b .next in
+        record {
+          next = n;
+          same = ap length (p .cells) ∙ length-set o₁ w v ∙ b .same;
+          cells = ap (λ l. take w₁ l) (p .cells) ∙ take-set-lt w₁ o₁ w v (omega arith) ∙ ap (λ l. set l w v) (b .cells) ∙ set-at (take w o) x e v w (length-take-le w o (omega arith));
+        }

@@ -1,0 +1,71 @@
+-- The raw tree as a reader of its cells sees it: choices, conditionals, sequences and parts are one kind of term,
+-- and behind each tag stand so many tokens and so many subterms.
+use mathlib.Core.Path.{_≡_}
+use mathlib.Core.List.{List, [], _∷_, _++_, map}
+use mathlib.Core.Option.{Option}
+use Prim.Native.Nat.{ℕ, suc, max}
+use lib.ListN.{drop, getD}
+use Rattle.pcrl.specs.Tree.{Name, Choice, only, plus, Conditional, plain, cond, Sequence, last, then, Part, delta, tau, named, sum, group}
+use Rattle.pcrl.specs.Sheet.{Proc}
+use Rattle.pcrl.specs.Names.{Names, resolve-choice, resolve-conditional, resolve-sequence, resolve-part}
+use Rattle.parser.specs.Cells.{Symbol, symbol-of, enc-choice, enc-conditional, enc-sequence, enc-part}
+
+pub data Term : Type 0 where
+  choice : Choice → Term
+  conditional : Conditional → Term
+  sequence : Sequence → Term
+  part : Part → Term
+
+unfoldable pub enc-term : Term → List Symbol
+enc-term (choice c) = enc-choice c
+enc-term (conditional c) = enc-conditional c
+enc-term (sequence p) = enc-sequence p
+enc-term (part p) = enc-part p
+
+unfoldable pub resolve-term : Names → List Name → Term → Option Proc
+resolve-term N scope (choice c) = resolve-choice N scope c
+resolve-term N scope (conditional c) = resolve-conditional N scope c
+resolve-term N scope (sequence p) = resolve-sequence N scope p
+resolve-term N scope (part p) = resolve-part N scope p
+
+-- how many sums stand in one another
+unfoldable mutual
+  pub sum-depth : Choice → ℕ
+  sum-depth (only c) = conditional-depth c
+  sum-depth (plus c d) = max (conditional-depth c) (sum-depth d)
+
+  pub conditional-depth : Conditional → ℕ
+  conditional-depth (plain p) = sequence-depth p
+  conditional-depth (cond p c q) = max (sequence-depth p) (sequence-depth q)
+
+  pub sequence-depth : Sequence → ℕ
+  sequence-depth (last p) = part-depth p
+  sequence-depth (then p q) = max (part-depth p) (sequence-depth q)
+
+  pub part-depth : Part → ℕ
+  part-depth delta = 0
+  part-depth tau = 0
+  part-depth (named x ds) = 0
+  part-depth (sum v D p) = suc (sum-depth p)
+  part-depth (group p) = sum-depth p
+
+unfoldable pub term-depth : Term → ℕ
+term-depth (choice c) = sum-depth c
+term-depth (conditional c) = conditional-depth c
+term-depth (sequence p) = sequence-depth p
+term-depth (part p) = part-depth p
+
+-- what the cells stand for, where s are the sheet's bytes
+unfoldable pub symbols : List ℕ → List ℕ → List Symbol
+symbols s raw = map (symbol-of s) raw
+
+-- behind a tag: how many tokens, then how many subterms
+unfoldable pub tokens-of : ℕ → ℕ
+tokens-of k = getD (0 ∷ 1 ∷ 1 ∷ 1 ∷ 0 ∷ 0 ∷ 0 ∷ 0 ∷ 0 ∷ 0 ∷ 0 ∷ 0 ∷ 0 ∷ 0 ∷ 1 ∷ 1 ∷ 2 ∷ 0 ∷ []) k 0
+
+unfoldable pub kids-of : ℕ → ℕ
+kids-of k = getD (0 ∷ 0 ∷ 0 ∷ 1 ∷ 1 ∷ 2 ∷ 1 ∷ 2 ∷ 1 ∷ 3 ∷ 1 ∷ 2 ∷ 0 ∷ 0 ∷ 0 ∷ 1 ∷ 1 ∷ 1 ∷ []) k 0
+
+-- r is the place behind the term at `at`
+abbrev pub Skips : List ℕ → ℕ → ℕ → Type 0
+Skips raw at r = (s : List ℕ) (t : Term) (rest : List Symbol) → drop at (symbols s raw) ≡ enc-term t ++ rest → drop r (symbols s raw) ≡ rest

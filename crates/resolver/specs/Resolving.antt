@@ -1,0 +1,188 @@
+-- What the resolver answers: for every raw term that stands at a place of the cells, and every list of names that the scope
+-- and the places of the declared names stand for, the cells of the resolved term, or a place past the end.
+use mathlib.Core.Path.{_≡_}
+use mathlib.Core.List.{List, [], _∷_, _++_}
+use mathlib.Core.Bool.{Bool, true, false}
+use mathlib.Core.Option.{Option, none, some}
+use Prim.Native.Nat.{ℕ, suc, _+_, _*_, _≤_, _<_, min}
+use lib.ListN.{length, drop, getD, set}
+use Rattle.pcrl.specs.Text.{bytes}
+use Rattle.pcrl.specs.Limits.{max-sorts, max-functions, max-actions, max-processes}
+use Rattle.pcrl.specs.Maybe.{_>>=_, _>>_, provided}
+use Rattle.pcrl.specs.Tree.{Name, RawData, RawDatas, Choice, InitLine}
+use Rattle.pcrl.specs.Sheet.{Data, Proc, call}
+use Rattle.pcrl.specs.Names.{Names, number-of, new-variable, resolve-data, resolve-datas, resolve-given, resolve-choice, resolve-init}
+use Rattle.pcrl.specs.Tokens.{name}
+use Rattle.parser.specs.Cells.{Symbol, tag, token, sum-tag, enc-call, enc-choice, enc-init}
+use Rattle.parser.specs.Cells.{enc-data as raw-data, enc-datas as raw-datas}
+use Rattle.nodes.specs.Scoped.{max-scope}
+use Rattle.nodes.specs.Layout.{cell-limit, enc-data, enc-arguments, enc-datas, after-mark, one-if, atom-kind, sum-kind, call-kind, variable-tag, enc}
+use Rattle.names.specs.NameCells.{name-at, names-at, scope-at}
+use Rattle.resolver.specs.declared.Step.{Step}
+use Rattle.resolver.specs.declared.Run.{Run}
+use Rattle.resolver.specs.declared.Found.{Found}
+use Rattle.resolver.specs.declared.Fork.{Fork}
+use Rattle.resolver.specs.declared.Resolved.{Resolved}
+use Rattle.resolver.specs.Raw.{Term, enc-term, resolve-term, term-depth, sum-depth, symbols, tokens-of, kids-of}
+use Rattle.resolver.specs.Writing.{Writes}
+
+-- The next place is not before `at`, or it is past the end of n cells.
+abbrev pub Ahead : ℕ → ℕ → ℕ → Type 0
+Ahead n at next = min at (suc n) ≤ next
+
+-- Where there is a value its cells were written and `next` stands before the rest; else `next` is past the end.
+pub data Outcome (raw : List ℕ) (symbols rest : List Symbol) (w : ℕ) (o : List ℕ) (next w′ : ℕ) (o′ : List ℕ) : Option (List ℕ) → Type 0 where
+  lost : length raw < next → Outcome raw symbols rest w o next w′ o′ none
+  took : {e : List ℕ} → next ≤ length raw → drop next symbols ≡ rest → Writes e w o w′ o′ → Outcome raw symbols rest w o next w′ o′ (some e)
+
+-- the lines at these places declare the names
+pub record Declared (s raw sorts funcs acts procs : List ℕ) (N : Names) : Type 0 where
+  pub sorts-are : N .sorts ≡ bytes "Bool" ∷ names-at s raw sorts (length sorts)
+  pub funcs-are : N .funcs ≡ names-at s raw funcs (length funcs)
+  pub acts-are : N .acts ≡ names-at s raw acts (length acts)
+  pub procs-are : N .procs ≡ names-at s raw procs (length procs)
+
+-- so few that numbers fit their cells
+pub record Few (raw funcs scope : List ℕ) (n : ℕ) : Type 0 where
+  pub raw-few : length raw < cell-limit
+  pub funcs-few : length funcs ≤ max-functions
+  pub scope-few : length scope ≤ max-scope
+  pub in-scope : n ≤ length scope
+
+pub record AllFew (raw sorts funcs acts procs scope : List ℕ) (n : ℕ) : Type 0 where
+  pub raw-few : length raw < cell-limit
+  pub sorts-few : length sorts ≤ max-sorts
+  pub funcs-few : length funcs ≤ max-functions
+  pub acts-few : length acts ≤ max-actions
+  pub procs-few : length procs ≤ max-processes
+  pub scope-few : length scope ≤ max-scope
+  pub in-scope : n ≤ length scope
+
+module _ (N : Names) (scope : List Name) where
+  -- the cells of what is resolved
+  unfoldable pub data-cells : RawData → Option (List ℕ)
+  data-cells d = do
+    e ← resolve-data N scope d
+    some (enc-data e)
+
+  unfoldable pub datas-cells : RawDatas → Option (List ℕ)
+  datas-cells ds = do
+    es ← resolve-datas N scope ds
+    some (enc-arguments es)
+
+  -- a node for a name and what is given to it
+  unfoldable pub given-cells : ℕ → ℕ → Option RawDatas → Option (List ℕ)
+  given-cells first number ds = do
+    es ← resolve-given N scope ds
+    some (first ∷ number ∷ length es ∷ enc-datas es)
+
+  unfoldable pub term-cells : Bool → Term → Option (List ℕ)
+  term-cells after t = do
+    p ← resolve-term N scope t
+    some (enc after p)
+
+  -- the sum of a variable, up to its term
+  unfoldable pub binder-cells : Bool → Name → Name → Option (List ℕ)
+  binder-cells after v D = do
+    provided (new-variable N scope v)
+    E ← number-of D (N .sorts)
+    some ((after-mark * one-if after + sum-kind) ∷ E ∷ 1 ∷ (4 * length scope + variable-tag) ∷ [])
+
+unfoldable pub count-of : RawDatas → ℕ
+count-of (RawDatas.one d) = 1
+count-of (RawDatas.more d ds) = suc (count-of ds)
+
+-- one behind the other
+unfoldable pub _⊕_ : Option (List ℕ) → Option (List ℕ) → Option (List ℕ)
+a ⊕ b = do
+  e ← a
+  g ← b
+  some (e ++ g)
+
+infixr 60 _⊕_
+abbrev pub ResolvesData : (s raw funcs scope : List ℕ) (n at w : ℕ) (o : List ℕ) → Step → List ℕ → Type 0
+ResolvesData s raw funcs scope n at w o r o′ = (N : Names) (d : RawData) (rest : List Symbol) → N .funcs ≡ names-at s raw funcs (length funcs)
+    → drop at (symbols s raw) ≡ raw-data d ++ rest → Outcome raw (symbols s raw) rest w o (r .at) (r .w) o′ (data-cells N (scope-at s scope n) d)
+
+abbrev pub ResolvesDatas : (s raw funcs scope : List ℕ) (n at w : ℕ) (o : List ℕ) → Run → List ℕ → Type 0
+ResolvesDatas s raw funcs scope n at w o r o′ = (N : Names) (ds : RawDatas) (rest : List Symbol) → N .funcs ≡ names-at s raw funcs (length funcs)
+    → drop at (symbols s raw) ≡ raw-datas ds ++ rest
+    → Outcome raw (symbols s raw) rest w o (r .at) (r .w) o′ (datas-cells N (scope-at s scope n) ds) × (r .at ≤ length raw → (r .count ≡ count-of ds) × (r .count < cell-limit))
+
+abbrev pub ResolvesGiven : (s raw funcs scope : List ℕ) (n at first number w : ℕ) (o : List ℕ) → Step → List ℕ → Type 0
+ResolvesGiven s raw funcs scope n at first number w o r o′ = (N : Names) (x : Name) (ds : Option RawDatas) (rest : List Symbol)
+    → N .funcs ≡ names-at s raw funcs (length funcs)
+    → drop at (symbols s raw) ≡ enc-call x ds ++ rest → Outcome raw (symbols s raw) rest w o (r .at) (r .w) o′ (given-cells N (scope-at s scope n) first number ds)
+
+-- an action's number, or else a process's
+unfoldable pub Naming : Bool → Option ℕ → Option ℕ → Found → Type 0
+Naming after (some a) k r = (r .known ≡ true) × (r .first ≡ after-mark * one-if after + atom-kind) × (r .number ≡ a + 1)
+Naming after none (some k) r = (r .known ≡ true) × (r .first ≡ call-kind) × (r .number ≡ k)
+Naming after none none r = r .known ≡ false
+
+-- a variable that may come into scope
+abbrev pub SaysNew : (s raw sorts funcs acts procs scope : List ℕ) (n x : ℕ) → Bool → Type 0
+SaysNew s raw sorts funcs acts procs scope n x r = (N : Names) → Declared s raw sorts funcs acts procs N → r ≡ new-variable N (scope-at s scope n) (name-at s x)
+
+-- the node of a sum, up to its term; if it is written, the variable is in scope
+abbrev pub Binds : (s raw sorts funcs acts procs scope : List ℕ) (n at : ℕ) → Bool → (w : ℕ) (o : List ℕ) → Step → List ℕ → Type 0
+Binds s raw sorts funcs acts procs scope n at after w o r o′ = (N : Names) (x D : Name) (rest : List Symbol) → Declared s raw sorts funcs acts procs N
+    → drop at (symbols s raw) ≡ tag sum-tag ∷ token (name x) ∷ token (name D) ∷ rest → n < length scope
+    → Outcome raw (symbols s raw) rest w o (r .at) (r .w) o′ (binder-cells N (scope-at s scope n) after x D)
+
+abbrev pub InScope : (raw scope : List ℕ) (n at : ℕ) → Step → List ℕ → Type 0
+InScope raw scope n at r scope′ = r .at ≤ length raw → (n < length scope) × (scope′ ≡ set scope n (getD raw (at + 1) 0))
+
+-- delta or tau
+abbrev pub ResolvesConstant : (raw : List ℕ) (at : ℕ) → Bool → (w : ℕ) (o : List ℕ) → Step → List ℕ → Type 0
+ResolvesConstant raw at after w o r o′ = (s : List ℕ) (N : Names) (scope : List Name) (t : Term) (rest : List Symbol) → drop at (symbols s raw) ≡ enc-term t ++ rest
+    → tokens-of (getD raw at 0) ≡ 0 → kids-of (getD raw at 0) ≡ 0 → Outcome raw (symbols s raw) rest w o (r .at) (r .w) o′ (term-cells N scope after t)
+
+-- a name, with or without data
+abbrev pub ResolvesNamed : (s raw funcs acts procs scope : List ℕ) (n at : ℕ) → Bool → (w : ℕ) (o : List ℕ) → Step → List ℕ → Type 0
+ResolvesNamed s raw funcs acts procs scope n at after w o r o′ = (N : Names) (t : Term) (rest : List Symbol)
+    → N .funcs ≡ names-at s raw funcs (length funcs) → N .acts ≡ names-at s raw acts (length acts) → N .procs ≡ names-at s raw procs (length procs)
+    → drop at (symbols s raw) ≡ enc-term t ++ rest → 0 < tokens-of (getD raw at 0) → (getD raw at 0 ≡ sum-tag → ⊥)
+    → Outcome raw (symbols s raw) rest w o (r .at) (r .w) o′ (term-cells N (scope-at s scope n) after t)
+
+-- A term of two parts: its cells are those of its head, of the first and of the second.
+pub record Forked (s raw : List ℕ) (N : Names) (scope : List Name) (at : ℕ) (after : Bool) (t : Term) (rest : List Symbol) (w : ℕ) (o : List ℕ) (r : Fork) (o′ : List ℕ) : Type 0 where
+  pub first : Term
+  pub second : Term
+  pub between : List Symbol
+  pub head : Option (List ℕ)
+  pub first-at : drop (at + 1) (symbols s raw) ≡ enc-term first ++ between
+  pub first-depth : term-depth first ≤ term-depth t
+  pub second-depth : term-depth second ≤ term-depth t
+  pub cells : term-cells N scope after t ≡ head ⊕ (term-cells N scope (r .left) first ⊕ term-cells N scope (r .right) second)
+  pub outcome : Outcome raw (symbols s raw) (enc-term second ++ rest) w o (r .at) (r .w) o′ head
+
+abbrev pub Forks : (s raw funcs scope : List ℕ) (n at : ℕ) → Bool → (w : ℕ) (o : List ℕ) → Fork → List ℕ → Type 0
+Forks s raw funcs scope n at after w o r o′ = (N : Names) (t : Term) (rest : List Symbol) → N .funcs ≡ names-at s raw funcs (length funcs)
+    → drop at (symbols s raw) ≡ enc-term t ++ rest → 1 < kids-of (getD raw at 0) → Forked s raw N (scope-at s scope n) at after t rest w o r o′
+
+module _ (s raw sorts funcs acts procs scope : List ℕ) (n : ℕ) where
+  abbrev pub ResolvesTerm : (at : ℕ) → Bool → ℕ → List ℕ → Step → List ℕ → Type 0
+  ResolvesTerm at after w o r o′ = (N : Names) (t : Term) (rest : List Symbol) → Declared s raw sorts funcs acts procs N
+      → drop at (symbols s raw) ≡ enc-term t ++ rest → n + term-depth t ≤ length scope
+      → Outcome raw (symbols s raw) rest w o (r .at) (r .w) o′ (term-cells N (scope-at s scope n) after t)
+
+-- ---- what the layers above are told
+-- Resolved or not. If so: the place behind the raw term, and the term's cells behind those before w, if there was room.
+unfoldable pub Answers : List Symbol → List Symbol → ℕ → List ℕ → Option Proc → Resolved → List ℕ → Type 0
+Answers symbols rest w o none r o′ = r .ok ≡ false
+Answers symbols rest w o (some p) r o′ = (r .ok ≡ true) × (drop (r .next) symbols ≡ rest) × Writes (enc false p) w o (r .w) o′
+
+-- for every choice that stands at `at`
+abbrev pub ResolvesRight : (s raw sorts funcs acts procs scope : List ℕ) (n at w : ℕ) (o : List ℕ) → Resolved → List ℕ → Type 0
+ResolvesRight s raw sorts funcs acts procs scope n at w o r o′ = (N : Names) (t : Choice) (rest : List Symbol) → Declared s raw sorts funcs acts procs N
+    → drop at (symbols s raw) ≡ enc-choice t ++ rest → n + sum-depth t ≤ length scope → Answers (symbols s raw) rest w o (resolve-choice N (scope-at s scope n) t) r o′
+
+abbrev pub called : Option (ℕ × List Data) → Option Proc
+called none = none
+called (some s) = some (call (s .0) (s .1))
+
+-- for every line of init that stands at `at`
+abbrev pub ResolvesInit : (s raw funcs procs : List ℕ) (at w : ℕ) (o : List ℕ) → Resolved → List ℕ → Type 0
+ResolvesInit s raw funcs procs at w o r o′ = (N : Names) (l : InitLine) (rest : List Symbol) → N .funcs ≡ names-at s raw funcs (length funcs) → N .procs ≡ names-at s raw procs (length procs)
+    → drop at (symbols s raw) ≡ enc-init l ++ rest → Answers (symbols s raw) rest w o (called (resolve-init N l)) r o′

@@ -1,0 +1,106 @@
+// Cells read and written. Nothing asks for room: a cell past the end is not written.
+ghost use mathlib.Core.Path.{_≡_};
+ghost use mathlib.Core.List.{[], _∷_};
+ghost use Prim.Native.Nat.{_+_, _*_, _<_, _≤_};
+ghost use lib.ListN.{length};
+ghost use Rattle.nodes.specs.Layout.{cell-limit, after-mark, one-if};
+ghost use Rattle.resolver.specs.Raw.{kids-of, tokens-of, Skips};
+ghost use Rattle.resolver.specs.Writing.{Put, Writes};
+use crate::Step;
+use names::find::cell;
+
+const CELL_LIMIT: usize = 65536;
+
+const AFTER: u16 = nodes::AFTER as u16;
+
+// The tags of terms are below this.
+const TAGS: u16 = 18;
+
+// How many tokens and how many subterms stand behind each tag (crate parser, Cells).
+const TOKENS: [u8; 18] = [0, 1, 1, 1, 0, 0, 0, 0, 0, 0, 0, 0, 0, 0, 1, 1, 2, 0];
+
+const KIDS: [u8; 18] = [0, 0, 0, 1, 1, 2, 1, 2, 1, 3, 1, 2, 0, 0, 0, 1, 1, 1];
+
+// Writes a cell; the next free one.
+pub fn put(out: &mut [u16], w: usize, v: u16) -> usize
+    ensures { λ r. ⌜ Put (now (out .entry)) w v r (now (out .exit)) ⌝ }
+{
+    if w < out.len() {
+        out[w] = v;
+        w + 1
+    } else {
+        w
+    }
+}
+
+// The first three cells of a node.
+pub fn node(out: &mut [u16], w: usize, first: u16, number: u16, count: u16) -> usize
+    ensures { λ r. ⌜ Writes (first ∷ number ∷ count ∷ []) w (now (out .entry)) r (now (out .exit)) ⌝ }
+{
+    let a = put(out, w, first);
+    let b = put(out, a, number);
+    put(out, b, count)
+}
+
+// A number as a cell.
+pub fn short(n: usize) -> u16
+    ensures { λ r. ⌜ (n < cell-limit → r ≡ n) ⌝ }
+{
+    if n < CELL_LIMIT { n as u16 } else { 0 }
+}
+
+// A name is not as it must be: past the end.
+pub fn lost(raw: &[u16], w: usize) -> Step
+    ensures { λ r. ⌜ length (now (raw .entry)) < r .at ⌝ }
+{
+    Step {
+        at: raw.len() + 1,
+        w: w,
+    }
+}
+
+// The first cell of a node that gets a new equation if it stands after a first part.
+pub fn marked(after: bool, kind: u16) -> u16
+    requires { ⌜ kind < 16 ⌝ }
+    ensures { λ r. ⌜ r ≡ after-mark * one-if after + kind ⌝ }
+{
+    if after { AFTER + kind } else { kind }
+}
+
+// How many tokens stand behind a tag.
+pub fn tokens(k: u16) -> u8
+    ensures { λ r. ⌜ (r ≡ tokens-of k) × (r < 3) ⌝ }
+{
+    if k < TAGS { TOKENS[k as usize] } else { 0 }
+}
+
+// How many subterms stand behind a tag and its tokens.
+pub fn kids(k: u16) -> u8
+    ensures { λ r. ⌜ (r ≡ kids-of k) × (r < 4) ⌝ }
+{
+    if k < TAGS { KIDS[k as usize] } else { 0 }
+}
+
+fn wide(b: u8) -> usize
+    ensures { λ r. ⌜ r ≡ b ⌝ }
+{
+    b as usize
+}
+
+// The place behind the raw term at `at`.
+pub fn skip(raw: &[u16], at: usize) -> usize
+    ensures on { λ r. ⌜ at ≤ r ⌝ }
+    ensures skips { λ r. ⌜ Skips (now (raw .entry)) at r ⌝ }
+{
+    let mut p = at;
+    let mut need: usize = 1;
+    while need > 0 {
+        if p >= raw.len() {
+            return p;
+        }
+        let k = cell(raw, p);
+        need = need - 1 + wide(kids(k));
+        p = p + 1 + wide(tokens(k));
+    }
+    p
+}

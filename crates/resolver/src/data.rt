@@ -1,0 +1,144 @@
+// "In data a name without brackets is a variable in scope, one with brackets a function."
+ghost use Prim.Native.Nat.{_+_, _<_};
+ghost use lib.ListN.{length};
+ghost use Rattle.resolver.specs.Resolving.{Ahead, Few, ResolvesData, ResolvesDatas, ResolvesGiven};
+use crate::Run;
+use crate::Step;
+use crate::cells::lost;
+use crate::cells::put;
+use crate::cells::short;
+use names::find::cell;
+use names::find::number_of;
+use names::find::scope_number;
+use parser::codes::APPLY_TAG;
+use parser::codes::BARE_TAG;
+use parser::codes::FIRST_NAME;
+use parser::codes::FIRST_NUMERAL;
+use parser::codes::GIVEN_TAG;
+use parser::codes::MORE_TAG;
+use parser::codes::ONE_TAG;
+use parser::codes::VALUE_TAG;
+use parser::codes::VARIABLE_TAG;
+
+pub fn data_term(
+    s: &[u8],
+    raw: &[u16],
+    funcs: &[u16],
+    scope: &[u16],
+    n: usize,
+    at: usize,
+    out: &mut [u16],
+    w: usize,
+) -> Step
+    requires { ⌜ Few (now raw) (now funcs) (now scope) n ⌝ }
+    ensures ahead { λ r. ⌜ Ahead (length (now (raw .entry))) at (r .at) ⌝ }
+    ensures data { λ r. ⌜ ResolvesData (now (s .entry)) (now (raw .entry)) (now (funcs .entry)) (now (scope .entry)) n at w (now (out .entry)) r (now (out .exit)) ⌝ }
+{
+    let k = cell(raw, at);
+    if k == VALUE_TAG {
+        let c = cell(raw, at + 1);
+        if c < FIRST_NUMERAL {
+            return lost(raw, w);
+        }
+        if c >= FIRST_NAME {
+            return lost(raw, w);
+        }
+        return Step {
+            at: at + 2,
+            w: put(out, w, (c - FIRST_NUMERAL) * 4),
+        };
+    }
+    if k == VARIABLE_TAG {
+        let i = scope_number(s, scope, n, cell(raw, at + 1));
+        if i >= n {
+            return lost(raw, w);
+        }
+        return Step {
+            at: at + 2,
+            w: put(out, w, short(4 * i + 1)),
+        };
+    }
+    if k != APPLY_TAG {
+        return lost(raw, w);
+    }
+    let f = number_of(s, raw, funcs, funcs.len(), cell(raw, at + 1));
+    if f >= funcs.len() {
+        return lost(raw, w);
+    }
+    let v = put(out, w, short(4 * f + 2));
+    let d = put(out, v, 0);
+    let l = data_list(s, raw, funcs, scope, n, at + 2, out, d);
+    put(out, v, short(l.count));
+    Step { at: l.at, w: l.w }
+}
+
+pub fn data_list(
+    s: &[u8],
+    raw: &[u16],
+    funcs: &[u16],
+    scope: &[u16],
+    n: usize,
+    at: usize,
+    out: &mut [u16],
+    w: usize,
+) -> Run
+    requires { ⌜ Few (now raw) (now funcs) (now scope) n ⌝ }
+    ensures ahead { λ r. ⌜ Ahead (length (now (raw .entry))) at (r .at) ⌝ }
+    ensures data { λ r. ⌜ ResolvesDatas (now (s .entry)) (now (raw .entry)) (now (funcs .entry)) (now (scope .entry)) n at w (now (out .entry)) r (now (out .exit)) ⌝ }
+{
+    let mut p = at;
+    let mut v = w;
+    let mut count: usize = 0;
+    while cell(raw, p) == MORE_TAG {
+        let a = data_term(s, raw, funcs, scope, n, p + 1, out, v);
+        p = a.at;
+        v = a.w;
+        count += 1;
+    }
+    if cell(raw, p) != ONE_TAG {
+        let l = lost(raw, v);
+        return Run {
+            at: l.at,
+            w: v,
+            count: count,
+        };
+    }
+    let a = data_term(s, raw, funcs, scope, n, p + 1, out, v);
+    Run {
+        at: a.at,
+        w: a.w,
+        count: count + 1,
+    }
+}
+
+// A node for a name at `at`, with its first cell and number, and the data given to the name.
+pub fn given(
+    s: &[u8],
+    raw: &[u16],
+    funcs: &[u16],
+    scope: &[u16],
+    n: usize,
+    at: usize,
+    first: u16,
+    number: u16,
+    out: &mut [u16],
+    w: usize,
+) -> Step
+    requires { ⌜ Few (now raw) (now funcs) (now scope) n ⌝ }
+    ensures ahead { λ r. ⌜ Ahead (length (now (raw .entry))) at (r .at) ⌝ }
+    ensures data { λ r. ⌜ ResolvesGiven (now (s .entry)) (now (raw .entry)) (now (funcs .entry)) (now (scope .entry)) n at first number w (now (out .entry)) r (now (out .exit)) ⌝ }
+{
+    let k = cell(raw, at);
+    let a = put(out, w, first);
+    let b = put(out, a, number);
+    let v = put(out, b, 0);
+    if k == BARE_TAG {
+        return Step { at: at + 2, w: v };
+    }
+    if k != GIVEN_TAG {
+        return lost(raw, w);
+    }
+    let l = data_list(s, raw, funcs, scope, n, at + 2, out, v);
+    put(out, b, short(l.count));
+    Step { at: l.at, w: l.w }
+}

@@ -1,0 +1,40 @@
+// Question 7 on right sides and init: names become numbers, and the resolved term is written in cells (crate nodes, Layout).
+pub mod cells; // cells read and written
+pub mod data; // data terms
+pub mod process; // process terms
+pub mod entry; // a right side, init
+
+// A place among the cells of the raw tree and the next free cell. A place past the end: some name is not as it must be.
+pub struct Step {
+    pub at: usize,
+    pub w: usize,
+}
+
+// The same, and how many data terms there were.
+pub struct Run {
+    pub at: usize,
+    pub w: usize,
+    pub count: usize,
+}
+
+// The first cell and the number of a node for a name, if the name is known.
+pub struct Found {
+    pub known: bool,
+    pub first: u16,
+    pub number: u16,
+}
+
+// A node of two subterms: where the second stands, the next free cell, and which of them stand after a first part.
+pub struct Fork {
+    pub at: usize,
+    pub w: usize,
+    pub left: bool,
+    pub right: bool,
+}
+
+// Whether all names were as they must be, the place behind the term, and the next free cell.
+pub struct Resolved {
+    pub ok: bool,
+    pub next: usize,
+    pub w: usize,
+}
