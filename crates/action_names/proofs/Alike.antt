@@ -6,7 +6,7 @@ use Prim.Native.Nat.{ℕ, suc, _<_, _≤_}
 use lib.ListN.{length, getD, take, drop, drop-of-length-le}
 use lib.Seq.{take-suc, take-all, drop-cons}
 use Rattle.pcrl.specs.Tests.{same?, among, distinct}
-use Rattle.terms.specs.Stands.{Says}
+use Rattle.laws.specs.Says.{Says}
 
 -- BYTE BY BYTE
 

@@ -13,7 +13,8 @@ ghost use Rattle.pcrl.specs.Tokens.{words};
 ghost use Rattle.pcrl.specs.Reader.{one, counted};
 ghost use Rattle.pcrl.specs.Right.{free-name};
 ghost use Rattle.pcrl.specs.Decode.{read-name};
-ghost use Rattle.terms.specs.Stands.{Says, list-at};
+ghost use Rattle.laws.specs.Says.{Says};
+ghost use Rattle.terms.specs.Stands.{list-at};
 ghost use Rattle.terms.specs.Ends.{rests, ended};
 
 // "the whole run at most 16 characters"

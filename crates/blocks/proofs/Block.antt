@@ -4,14 +4,10 @@ use mathlib.Core.List.{List, _++_, append-assoc, append-nil}
 use Prim.Native.Nat.{ℕ, _+_, _-_, _≤_}
 use native.Mathlib.Omega.{arith}
 use borrow.Rule.Slice.PartMut.{putMid}
-use lib.ListN.{length, take, drop, replicate, length-append, length-drop, length-replicate, drop-of-length-le}
-use lib.Seq.{length-take-le, take-at}
+use lib.ListN.{length, take, drop, replicate, length-append, length-replicate, drop-of-length-le}
+use lib.Seq.{take-at}
 use Rattle.pcrl.specs.Blocks.{block-bytes, block-stream, low-first, high-first, crc, block-body, block}
-use Rattle.blocks.proofs.Fronts.{Front, front-more, front-length}
-
--- a part is as long as it says
-part-length : (a e : ℕ) (ys : List ℕ) → a ≤ e → e ≤ length ys → length (take (e - a) (drop a ys)) ≡ e - a
-part-length a e ys l h = length-take-le (e - a) (drop a ys) (simp length-drop (omega arith))
+use Rattle.blocks.proofs.Fronts.{Front, front-more, front-length, length-part}
 
 module _ (xs st h s z t : List ℕ) (number count x : ℕ) (len : length xs ≡ block-bytes) (fits : length st ≤ block-stream) where
   abbrev at : ℕ
@@ -40,11 +36,11 @@ module _ (xs st h s z t : List ℕ) (number count x : ℕ) (len : length xs ≡ 
       let h4 : length h ≡ 4 = ap length eh in
       let f₁ : Front xs h ys₁ = rw h4 in
       let l₁ : length ys₁ ≡ 512 = front-length xs h ys₁ f₁ (omega arith) ∙ len in
-      let es′ : s ≡ st = es ∙ ap (λ (l : List ℕ). st ++ l) (drop-of-length-le (take (at - 4) (drop 4 ys₁)) {i = length st} (omega (arith, part-length 4 at ys₁ (omega arith) (omega arith)))) ∙ append-nil st in
+      let es′ : s ≡ st = es ∙ ap (λ (l : List ℕ). st ++ l) (drop-of-length-le (take (at - 4) (drop 4 ys₁)) {i = length st} (omega (arith, length-part 4 (at - 4) ys₁ (omega arith)))) ∙ append-nil st in
       let f₂ : Front xs (h ++ s) ys₂ = front-more xs h s ys₁ 4 (at - 4) f₁ h4 (omega (arith, ap length es′)) in
       let l₂ : length (h ++ s) ≡ at = omega (arith, length-append h s, ap length es′) in
       let l₂′ : length ys₂ ≡ 512 = front-length xs (h ++ s) ys₂ f₂ (omega arith) ∙ len in
-      let ez′ : z ≡ replicate (510 - at) 0 = ez ∙ ap (λ (k : ℕ). replicate k 0) (part-length at 510 ys₂ (omega arith) (omega arith)) in
+      let ez′ : z ≡ replicate (510 - at) 0 = ez ∙ ap (λ (k : ℕ). replicate k 0) (length-part at (510 - at) ys₂ (omega arith)) in
       let lz : length z ≡ 510 - at = ap length ez′ ∙ length-replicate (510 - at) 0 in
       let f₃ : Front xs ((h ++ s) ++ z) ys₃ = front-more xs (h ++ s) z ys₂ at (510 - at) f₂ l₂ lz in
       let l₃ : length ((h ++ s) ++ z) ≡ 510 = omega (arith, length-append (h ++ s) z, l₂, lz) in

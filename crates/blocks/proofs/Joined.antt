@@ -1,23 +1,17 @@
 -- Parts of one length, written one after another over the front of a list.
 use mathlib.Core.Path.{_≡_, refl, sym, ap, _∙_}
-use mathlib.Core.List.{List, [], _++_, append-assoc, append-nil}
+use mathlib.Core.List.{List, _++_, append-assoc, append-nil}
 use Prim.Native.Nat.{ℕ, zero, suc, _+_, _-_, _*_, _≤_, _<_}
 use native.Mathlib.Nat.{le-trans, mul-le-mul-right}
 use native.Mathlib.Numerals.{add-one}
 use native.Mathlib.Omega.{arith}
 use lib.ListN.{length, take, drop}
-use Rattle.pcrl.specs.Reader.{all}
-use Rattle.pcrl.specs.Parts.{tabulate}
 use Rattle.pcrl.specs.Blocks.{joined}
-use Rattle.codec.specs.Cut.{joined-suc, length-joined}
+use Rattle.codec.specs.Cut.{joined-zero, joined-suc, length-joined}
 use Rattle.blocks.proofs.Fronts.{Front, front-more, front-length}
 
-pub joined-none : (f : ℕ → List ℕ) → joined zero f ≡ []
-unfolding joined all tabulate
-joined-none f = refl
-
 joined-last : (n : ℕ) (f : ℕ → List ℕ) → joined (suc n) f ≡ joined n f ++ f n
-joined-last zero f = joined-suc zero f ∙ ap (λ (l : List ℕ). f zero ++ l) (joined-none (λ i. f (suc i))) ∙ append-nil (f zero) ∙ ap (λ (l : List ℕ). l ++ f zero) (sym (joined-none f))
+joined-last zero f = joined-suc zero f ∙ ap (λ (l : List ℕ). f zero ++ l) (joined-zero (λ i. f (suc i))) ∙ append-nil (f zero) ∙ ap (λ (l : List ℕ). l ++ f zero) (sym (joined-zero f))
 joined-last (suc n) f =
     joined-suc (suc n) f
     ∙ ap (λ (l : List ℕ). f zero ++ l) (joined-last n (λ i. f (suc i)))
@@ -29,7 +23,7 @@ abbrev pub Laid : ℕ → (ℕ → List ℕ) → List ℕ → List ℕ → ℕ �
 Laid n f xs ys i = (i ≤ n) × (length ys ≡ length xs) × Front xs (joined i f) ys
 
 pub laid-none : (n : ℕ) (f : ℕ → List ℕ) (xs : List ℕ) → Laid n f xs xs 0
-laid-none n f xs = (omega arith, refl, rw (joined-none f))
+laid-none n f xs = (omega arith, refl, rw (joined-zero f))
 
 pub laid-all : (n : ℕ) (f : ℕ → List ℕ) (xs ys : List ℕ) (i : ℕ) → n ≤ i → Laid n f xs ys i → Front xs (joined n f) ys
 laid-all n f xs ys i h laid = let e : n ≡ i = omega arith in rw e (laid .2)

@@ -2,7 +2,6 @@ pub mod Xor
 pub mod Register
 pub mod Shifted
 pub mod Check
-pub mod Telling
 pub mod Fronts
 pub mod Joined
 pub mod Block

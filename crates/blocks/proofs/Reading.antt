@@ -7,22 +7,21 @@ use native.Mathlib.Omega.{arith}
 use borrow.Author.Count.{below-more}
 use lib.ListN.{length, take, drop, drop-of-length-le}
 use lib.Seq.{take-at}
-use Rattle.pcrl.specs.Limits.{max-stream}
 use Rattle.pcrl.specs.Result.{refused, accepted}
 use Rattle.pcrl.specs.Blocks.{block-bytes, block-stream, block, RightLength, right-length?, block-count, block-at, stream-at, RightBlock, RightBlocks, right-blocks?, stream-of}
 use Rattle.pcrl.specs.Answers.{stream-read}
-use Rattle.codec.specs.Questions.{question-passes, question-fails}
+use Rattle.laws.specs.Questions.{question-passes, question-fails}
+use Rattle.laws.specs.Says.{Says, said-yes, said-no}
 use Rattle.codec.specs.Cut.{every-tabulate, every-tabulated, length-joined}
 use Rattle.codec.specs.FileOfStream.{length-stream-at}
 use Rattle.blocks.specs.declared.Opened.{Opened}
-use Rattle.blocks.specs.Answers.{Tells, Hands, Opens}
-use Rattle.blocks.proofs.Telling.{told, told-not}
+use Rattle.blocks.specs.Answers.{Hands, Opens}
 use Rattle.blocks.proofs.Fronts.{cut, cut-is, length-cut, length-part}
 use Rattle.blocks.proofs.Joined.{Laid, laid-none, laid-more, laid-all}
 
 -- ONE BLOCK
 
-tells-right : (f b : List ℕ) (i n : ℕ) (r : Bool) → b ≡ block-at f i → n ≡ block-count f → Tells r (b ≡ block i n (take block-stream (drop 4 b))) → Tells r (RightBlock f i)
+tells-right : (f b : List ℕ) (i n : ℕ) (r : Bool) → b ≡ block-at f i → n ≡ block-count f → Says r (b ≡ block i n (take block-stream (drop 4 b))) → Says r (RightBlock f i)
 unfolding RightBlock stream-at
 tells-right f b i n r eb en t = rw (eb, en) at t
 
@@ -39,7 +38,7 @@ Read f out₀ out i = Laid (length f / 512) (stream-at f) out₀ out i × ((j : 
 pub read-none : (f out : List ℕ) → Read f out out 0
 read-none f out = (laid-none (length f / 512) (stream-at f) out, λ j h. absurd (omega arith))
 
-module _ (f out₀ out : List ℕ) (i : ℕ) (right : RightLength f) (room : max-stream ≤ length out₀) (h : i < length f / 512) (before : Read f out₀ out i) where
+module _ (f out₀ out : List ℕ) (i : ℕ) (right : RightLength f) (room : length f / 512 * 506 ≤ length out₀) (h : i < length f / 512) (before : Read f out₀ out i) where
   -- the block as code cuts it, and its stream bytes
   abbrev it : List ℕ
   it = cut 512 i f
@@ -70,8 +69,8 @@ module _ (f out₀ out : List ℕ) (i : ℕ) (right : RightLength f) (room : max
   unfolding stream-at
   its-stream-is = ap (λ (l : List ℕ). take 506 (drop 4 l)) it-is
 
-  module _ (r : Bool) (t : Tells r (it ≡ block i (length f / 512) its-stream)) where
-    right? : Tells r (RightBlock f i)
+  module _ (r : Bool) (t : Says r (it ≡ block i (length f / 512) its-stream)) where
+    right? : Says r (RightBlock f i)
     unfolding block-count
     right? = tells-right f it i (length f / 512) r it-is refl t
 
@@ -81,12 +80,12 @@ module _ (f out₀ out : List ℕ) (i : ℕ) (right : RightLength f) (room : max
     unfolding RightLength block-count
     read-more new er e =
         let place : new ≡ stream-at f i = copied its-stream (cut 506 i out) new (omega (arith, length-its-stream, length-place)) e ∙ its-stream-is in
-        (laid-more (length f / 512) 506 (stream-at f) (length-stream-at f right) out₀ out new i (omega arith) h (before .0) place, below-more (RightBlock f) i (before .1) (told r right? er))
+        (laid-more (length f / 512) 506 (stream-at f) (length-stream-at f right) out₀ out new i (omega arith) h (before .0) place, below-more (RightBlock f) i (before .1) (said-yes r right? er))
 
     -- Block i is wrong.
     pub read-wrong : (out′ : List ℕ) → r ≡ false → Hands false f out₀ out′
     unfolding Hands RightBlocks block-count
-    read-wrong out′ er = λ all. told-not r right? er (every-tabulated (RightBlock f) (block-count f) (λ i. i) all i h)
+    read-wrong out′ er = λ all. said-no r right? er (every-tabulated (RightBlock f) (block-count f) (λ i. i) all i h)
 
 -- All blocks are right.
 pub read-all : (f out₀ out : List ℕ) (i : ℕ) → length f / 512 ≤ i → Read f out₀ out i → Hands true f out₀ out

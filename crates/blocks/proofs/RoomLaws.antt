@@ -7,7 +7,7 @@ use lib.ListN.{length, drop}
 use Rattle.pcrl.specs.Result.{Result, refused, accepted}
 use Rattle.pcrl.specs.Blocks.{block-bytes, blocks-for, file-of-stream, Room, room?}
 use Rattle.pcrl.specs.Answers.{stream-filed, output-after}
-use Rattle.codec.specs.Questions.{question-passes, question-fails}
+use Rattle.laws.specs.Questions.{question-passes, question-fails}
 use Rattle.codec.specs.FileOfStream.{length-file}
 use Rattle.blocks.specs.declared.Filed.the-variants.{Refused, Bytes}
 use Rattle.blocks.specs.Answers.{filed-answer}

@@ -1,11 +1,12 @@
 -- The two tables of the check: all of their entries computed at once, and what that says of each.
 use mathlib.Core.Path.{_≡_, refl, ap, _∙_}
 use mathlib.Core.List.{List, [], _∷_}
-use Prim.Native.Nat.{ℕ, zero, suc, _*_, _<_}
+use Prim.Native.Nat.{ℕ, _*_, _<_}
 use native.Mathlib.Omega.{arith}
 use lib.ListN.{getD}
 use Rattle.pcrl.specs.Parts.{tabulate}
 use Rattle.pcrl.specs.Blocks.{crc-bit}
+use Rattle.laws.specs.Lists.{getD-tabulate}
 use Rattle.blocks.proofs.Register.{shifted}
 
 unfoldable pub once : List ℕ
@@ -24,15 +25,9 @@ twice-computed : twice ≡ tabulate 256 (λ i. shifted (shifted (i * 256)))
 unfolding twice tabulate crc-bit
 twice-computed = refl
 
-getD-tabulate : (n : ℕ) (f : ℕ → ℕ) (k : ℕ) → k < n → getD (tabulate n f) k 0 ≡ f k
-unfolding tabulate
-getD-tabulate zero f k h = absurd (omega arith)
-getD-tabulate (suc n) f zero h = refl
-getD-tabulate (suc n) f (suc k) h = getD-tabulate n (λ i. f (suc i)) k (omega arith)
-
 -- Entry k is what eight shifts make of a register with byte k at its top, and what sixteen make of it.
 pub once-entry : (k : ℕ) → k < 256 → getD once k 0 ≡ shifted (k * 256)
-once-entry k h = ap (λ (l : List ℕ). getD l k 0) once-computed ∙ getD-tabulate 256 (λ i. shifted (i * 256)) k h
+once-entry k h = ap (λ (l : List ℕ). getD l k 0) once-computed ∙ getD-tabulate 256 (λ i. shifted (i * 256)) k 0 h
 
 pub twice-entry : (k : ℕ) → k < 256 → getD twice k 0 ≡ shifted (shifted (k * 256))
-twice-entry k h = ap (λ (l : List ℕ). getD l k 0) twice-computed ∙ getD-tabulate 256 (λ i. shifted (shifted (i * 256))) k h
+twice-entry k h = ap (λ (l : List ℕ). getD l k 0) twice-computed ∙ getD-tabulate 256 (λ i. shifted (shifted (i * 256))) k 0 h

@@ -20,11 +20,6 @@ unfoldable pub Opens : Result (List ℕ) → Opened → List ℕ → Type 0
 Opens (refused n) r out = r .refused ≡ n
 Opens (accepted s) r out = (r .refused ≡ 0) × (r .count ≡ length s) × (take (r .count) out ≡ s)
 
--- b says whether P holds
-unfoldable pub Tells : Bool → Type 0 → Type 0
-Tells true P = P
-Tells false P = ¬ P
-
 -- b says whether the blocks are right; where they are, the stream stands over the front of the lent bytes
 unfoldable pub Hands : Bool → List ℕ → List ℕ → List ℕ → Type 0
 Hands true file out out′ = RightBlocks file × (out′ ≡ stream-of file ++ drop (length (stream-of file)) out)

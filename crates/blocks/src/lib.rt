@@ -3,13 +3,14 @@ pub mod crc;
 
 ghost use mathlib.Core.Path.{_≡_};
 ghost use mathlib.Core.List.{_++_};
-ghost use Prim.Native.Nat.{_+_, _*_, _%_, _≤_, _<_, min};
+ghost use Prim.Native.Nat.{_+_, _*_, _/_, _%_, _≤_, _<_, min};
 ghost use lib.ListN.{length, take, drop, replicate};
 ghost use Rattle.pcrl.specs.Limits.{max-stream};
 ghost use Rattle.pcrl.specs.Tests.{Between};
 ghost use Rattle.pcrl.specs.Blocks.{block-bytes, block-stream, low-first, high-first, block as block-of, blocks-for, file-of-stream, max-file, RightLength};
 ghost use Rattle.pcrl.specs.Answers.{stream-filed, output-after, stream-read};
-ghost use Rattle.blocks.specs.Answers.{filed-answer, Tells, Hands, Opens};
+ghost use Rattle.laws.specs.Says.{Says};
+ghost use Rattle.blocks.specs.Answers.{filed-answer, Hands, Opens};
 
 // "Each 512 bytes: number and block count, two bytes each; 506 stream bytes; CRC-16"
 const BLOCK: usize = 512;
@@ -146,7 +147,7 @@ fn pair(low: u8, high: u8) -> u16
 // Is it the block that is written with its own stream bytes?
 fn right_block(block: &[u8], number: usize, count: usize) -> bool
     requires { ⌜ (length (now block) ≡ block-bytes) × (number < 65536) × (count < 65536) ⌝ }
-    ensures { λ r. ⌜ Tells r (now (block .entry) ≡ block-of number count (take block-stream (drop 4 (now (block .entry))))) ⌝ }
+    ensures { λ r. ⌜ Says r (now (block .entry) ≡ block-of number count (take block-stream (drop 4 (now (block .entry))))) ⌝ }
 {
     if pair(block[0], block[1]) as usize != number {
         return false;
@@ -160,7 +161,7 @@ fn right_block(block: &[u8], number: usize, count: usize) -> bool
 // 13: "each block's number, block count and check right?"
 // The stream is copied out of the blocks once, since stepping reads it at many places.
 fn read_blocks(file: &[u8], out: &mut [u8]) -> bool
-    requires { ⌜ RightLength (now file) × (max-stream ≤ length (now out)) ⌝ }
+    requires { ⌜ RightLength (now file) × (length (now file) / block-bytes * block-stream ≤ length (now out)) ⌝ }
     ensures { λ r. ⌜ Hands r (now (file .entry)) (now (out .entry)) (now (out .exit)) ⌝ }
 {
     let count = file.len() / BLOCK;
@@ -182,7 +183,7 @@ fn read_blocks(file: &[u8], out: &mut [u8]) -> bool
 
 // "length 512 to 65,536 and a multiple of 512?"
 fn right_length(n: usize) -> bool
-    ensures { λ r. ⌜ Tells r (Between block-bytes max-file n × (n % block-bytes ≡ 0)) ⌝ }
+    ensures { λ r. ⌜ Says r (Between block-bytes max-file n × (n % block-bytes ≡ 0)) ⌝ }
 {
     if n < BLOCK {
         return false;
@@ -195,7 +196,7 @@ fn right_length(n: usize) -> bool
 
 // Questions 12 and 13, put to any bytes; of a file that is too long none is read.
 pub fn read_file(file: &[u8], out: &mut [u8]) -> Opened
-    requires { ⌜ max-stream ≤ length (now out) ⌝ }
+    requires { ⌜ min (length (now file) / block-bytes * block-stream) max-stream ≤ length (now out) ⌝ }
     ensures { λ r. ⌜ Opens (stream-read (now (file .entry))) r (now (out .exit)) ⌝ }
 {
     if !right_length(file.len()) {

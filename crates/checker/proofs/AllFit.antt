@@ -7,6 +7,7 @@ use native.Mathlib.Omega.{arith}
 use lib.ListN.{length, drop, length-append}
 use Rattle.pcrl.specs.Tests.{Each, Every}
 use Rattle.pcrl.specs.Sheet.{Data, val, var, app, Datas, nil, cons, list-of, func}
+use Rattle.laws.specs.Says.{said-yes, said-no, says-as, says-both}
 use Rattle.nodes.specs.declared.Outline.{Outline}
 use Rattle.nodes.specs.declared.Datum.{Datum}
 use Rattle.nodes.specs.Layout.{function-tag, enc-data, enc-datas}
@@ -18,7 +19,6 @@ use Rattle.nodes.proofs.Data.{datas-inside}
 use Rattle.checker.specs.Fits.{Fits, ArgumentsFit, Inside}
 use Rattle.checker.specs.Known.{Around}
 use Rattle.checker.specs.Sorts.{EachFitsAt, ArgumentsFitAt, AllFitAt, ArgumentsAt}
-use Rattle.checker.proofs.Answers.{says-true, says-false, says-as, says-both}
 use Rattle.checker.proofs.DataSorts.{arguments-fit, fit-arguments, inside-open, open-inside, scoped-kids}
 
 -- ---- one node
@@ -94,7 +94,7 @@ module _ (cells scope sizes funcs : List ℕ) (n : Outline) (at count : ℕ) whe
           go : (es : List Data) → length es ≡ need → drop p cells ≡ enc-datas es ++ rest → Every (ScopedData (w .level)) es → Every (Inside (w .sig) (w .vars)) es → ⊥
           go [] a b c f = omega arith
           go (y ∷ es) a b c f =
-              says-false r (ArgumentsFit (w .sig) (w .vars) y) (fit w y es rest (c .0) (vw y es rest b)) z (inside-open (w .sig) (w .vars) y es f .0)
+              said-no r (fit w y es rest (c .0) (vw y es rest b)) z (inside-open (w .sig) (w .vars) y es f .0)
 
       pub all-step : r ≡ true → AllLeft (x .next) (need - 1 + x .kids)
       unfolding Every
@@ -108,7 +108,7 @@ module _ (cells scope sizes funcs : List ℕ) (n : Outline) (at count : ℕ) whe
           go [] a b c f g = absurd (omega arith)
           go (y ∷ es) a b c f g =
               let o = vw y es rest b in
-              let h = says-true r (ArgumentsFit (w .sig) (w .vars) y) (fit w y es rest (c .0) o) z in (
+              let h = said-yes r (fit w y es rest (c .0) o) z in (
                 data-kids y ++ es,
                 rw (length-append (data-kids y) es, ← o .kids-is) (omega arith),
                 o .next-is,
@@ -121,9 +121,9 @@ module _ (cells scope sizes funcs : List ℕ) (n : Outline) (at count : ℕ) whe
 module _ (cells scope sizes funcs : List ℕ) (n : Outline) (at count : ℕ) (row : List ℕ) (start : ℕ) (r : Bool) (each : EachFitsAt cells scope sizes funcs n at count row start r) where
   pub arguments-unfit : r ≡ false → ArgumentsAt cells scope sizes funcs n at count row start false
   arguments-unfit z w ds Ds rest sc l s e k =
-      says-false r (Each (Fits (w .sig) (w .vars)) ds Ds) (each w ds Ds rest sc l s e) z (arguments-fit (w .sig) (w .vars) ds Ds k .0)
+      said-no r (each w ds Ds rest sc l s e) z (arguments-fit (w .sig) (w .vars) ds Ds k .0)
 
   pub arguments-all : r ≡ true → (q : Bool) → AllFitAt cells scope sizes funcs n at count q → ArgumentsAt cells scope sizes funcs n at count row start q
   arguments-all z q all w ds Ds rest sc l s e =
-      let h = says-true r (Each (Fits (w .sig) (w .vars)) ds Ds) (each w ds Ds rest sc l s e) z in
+      let h = said-yes r (each w ds Ds rest sc l s e) z in
       says-as q (λ k. fit-arguments (w .sig) (w .vars) ds Ds h k) (λ k. arguments-fit (w .sig) (w .vars) ds Ds k .1) (all w ds rest sc l e)

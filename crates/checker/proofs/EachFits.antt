@@ -12,6 +12,7 @@ use lib.Seq.{drop-cons}
 use Rattle.pcrl.specs.Tests.{Each, Every}
 use Rattle.pcrl.specs.Sheet.{Data, val, var, app, Sig, size, func}
 use Rattle.laws.specs.Each.{each-length}
+use Rattle.laws.specs.Says.{Says, said-yes, said-no, says-as, says-both, says-lt, says-eq}
 use Rattle.nodes.specs.declared.Outline.{Outline}
 use Rattle.nodes.specs.declared.Datum.{Datum}
 use Rattle.nodes.specs.Layout.{value-tag, variable-tag, enc-data, enc-datas}
@@ -20,11 +21,9 @@ use Rattle.nodes.specs.Scoped.{ScopedData}
 use Rattle.nodes.specs.Held.{SortsAt, func-width}
 use Rattle.nodes.specs.Views.{DataViews, SkipsData}
 use Rattle.nodes.proofs.Data.{datas-inside}
-use Rattle.checker.specs.Says.{Says}
 use Rattle.checker.specs.Fits.{Fits}
 use Rattle.checker.specs.Known.{KnownSizes, Around}
 use Rattle.checker.specs.Sorts.{FitsAt, EachFitsAt}
-use Rattle.checker.proofs.Answers.{says-true, says-false, says-as, says-both, says-lt, says-eq}
 
 -- ---- sizes
 pub size-inside : (S : Sig) (sizes : List ℕ) (m D : ℕ) → KnownSizes S sizes m → D < m → getD sizes D 0 ≡ size S D
@@ -115,7 +114,7 @@ module _ (cells scope sizes funcs : List ℕ) (n : Outline) (at count : ℕ) (ro
           go : (es : List Data) → length es + i ≡ count → drop p cells ≡ enc-datas es ++ rest → Every (ScopedData (w .level)) es → Each (Fits (w .sig) (w .vars)) es (drop i Ds) → ⊥
           go [] a b c f = omega arith
           go (x ∷ es) a b c f =
-              says-false r (Fits (w .sig) (w .vars) x sort) (fit w x es rest (c .0) b) z
+              said-no r (fit w x es rest (c .0) b) z
               (subst (Each (Fits (w .sig) (w .vars)) (x ∷ es)) (next-sort Ds s inside sort is) f .0)
 
       pub each-step : r ≡ true → (p′ : ℕ) → SkipsData cells p 1 p′ → EachLeft p′ (i + 1)
@@ -132,7 +131,7 @@ module _ (cells scope sizes funcs : List ℕ) (n : Outline) (at count : ℕ) (ro
           go [] a b c f g = absurd (omega arith)
           go (x ∷ es) a b c f g =
               let q = next-sort Ds s inside sort is in
-              let h = says-true r (F x sort) (fit w x es rest (c .0) b) z in (
+              let h = said-yes r (fit w x es rest (c .0) b) z in (
                 es,
                 omega arith,
                 sk (x ∷ []) (enc-datas es ++ rest) refl (b ∙ append-assoc (enc-data x) (enc-datas es) rest ∙ ap (λ (m : List ℕ). m ++ (enc-datas es ++ rest)) (sym (append-nil (enc-data x)))),

@@ -12,13 +12,12 @@ use Rattle.pcrl.specs.Tests.{Every}
 use Rattle.pcrl.specs.Sheet.{Sig, size, func, no-func}
 use Rattle.pcrl.specs.Sorts.{volume, Complete}
 use Rattle.laws.specs.Every.{every-at, at-every}
+use Rattle.laws.specs.Says.{Says, said-yes, said-no, says-both}
 use Rattle.nodes.specs.declared.Outline.{Outline}
 use Rattle.nodes.specs.Held.{SortsAt, HeldSig, func-width}
 use Rattle.nodes.proofs.Cells.{read-cell}
-use Rattle.checker.specs.Says.{Says}
 use Rattle.checker.specs.Known.{KnownSizes}
 use Rattle.checker.specs.Sorts.{VolumeIs, AllBelow, CompleteSays, FunctionsSay}
-use Rattle.checker.proofs.Answers.{says-true, says-false, says-both}
 
 -- ---- how many values
 pub product-small : (a b : ℕ) → a < 256 → b < 256 → a * b < 65536
@@ -129,13 +128,13 @@ module _ (funcs values places sizes : List ℕ) (n : Outline) where
     unfolding func
     functions-failed z S acts h = λ k.
         let c = h .func-count in
-        says-false r (Complete S (func S f)) (says S (known-sizes S sizes funcs values places acts n h) (func S f) (h .func-at f inside)) z
+        said-no r (says S (known-sizes S sizes funcs values places acts n h) (func S f) (h .func-at f inside)) z
         (every-at (Complete S) (S .funcs) no-func f k (omega arith))
 
     pub functions-more : r ≡ true → CompleteSoFar f → CompleteSoFar (f + 1)
     functions-more z before S acts h =
         below-next (λ i. Complete S (func S i)) f (before S acts h)
-        (says-true r (Complete S (func S f)) (says S (known-sizes S sizes funcs values places acts n h) (func S f) (h .func-at f inside)) z)
+        (said-yes r (says S (known-sizes S sizes funcs values places acts n h) (func S f) (h .func-at f inside)) z)
 
   pub functions-done : (f : ℕ) → n .funcs ≤ f → CompleteSoFar f → FunctionsSay funcs values places sizes n true
   unfolding func

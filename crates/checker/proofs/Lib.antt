@@ -1,7 +1,6 @@
 pub mod Sets
 pub mod Heads
 pub mod Rounds
-pub mod Answers
 pub mod DataSorts
 pub mod EachFits
 pub mod AllFit

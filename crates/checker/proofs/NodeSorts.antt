@@ -9,6 +9,7 @@ use lib.ListN.{length, getD, set}
 use Rattle.pcrl.specs.Tests.{Each, Every}
 use Rattle.pcrl.specs.Sheet.{Data, tau, action, Proc, delta, atom, alt, cond, sum, seq, call, Sheet, takes-of, params, no-action, no-process}
 use Rattle.pcrl.specs.Sorts.{Scope, Bool-sort, HasSort, Arguments, IsAct}
+use Rattle.laws.specs.Says.{Says, said-yes, said-no, says-as, says-both, says-lt}
 use Rattle.nodes.specs.declared.Outline.{Outline}
 use Rattle.nodes.specs.declared.Node.{Node}
 use Rattle.nodes.specs.Layout.{sum-kind, atom-kind, cond-kind, call-kind, act-number, enc-data, enc-datas, encs, Item}
@@ -17,11 +18,8 @@ use Rattle.nodes.specs.Scoped.{max-scope, Scoped}
 use Rattle.nodes.specs.Held.{SortsAt, act-width, proc-width}
 use Rattle.nodes.specs.Views.{Opened}
 use Rattle.nodes.proofs.Cells.{read-cell}
-use Rattle.checker.specs.Says.{Says}
-use Rattle.checker.specs.Fits.{Fits}
 use Rattle.checker.specs.Known.{KnownSheet, InScope, Around}
 use Rattle.checker.specs.Sorts.{FitsAt, AllFitAt, ArgumentsAt, NodeSorted, AtomSays, CallSays, CondSays, NodeSays, Bound, Binds}
-use Rattle.checker.proofs.Answers.{says-true, says-false, says-as, says-both, says-lt}
 use Rattle.checker.proofs.DataSorts.{sort-fits, fits-sort}
 
 abbrev around : (H : Sheet) (scope sizes funcs acts procs : List ℕ) (n : Outline) → KnownSheet H sizes funcs acts procs n → (Γ : Scope) (m : ℕ) → InScope Γ m scope → Around scope sizes funcs n
@@ -78,13 +76,13 @@ module _ (cells scope sizes funcs acts procs : List ℕ) (n : Outline) (d : Node
     pub no-condition : r ≡ false → CondSays cells scope sizes funcs acts procs n d false
     unfolding node-datas
     no-condition z H k Γ m i b c p q xs rest sc o =
-        λ x. says-false r (Fits (H .sig) Γ c Bool-sort) (fit (around H scope sizes funcs acts procs n k Γ m i) c [] _ sc (o .terms-are)) z (sort-fits (H .sig) Γ c Bool-sort x .0)
+        λ x. said-no r (fit (around H scope sizes funcs acts procs n k Γ m i) c [] _ sc (o .terms-are)) z (sort-fits (H .sig) Γ c Bool-sort x .0)
 
     pub condition-right : r ≡ true → (s : Bool) → AllFitAt cells scope sizes funcs n (d .terms) (d .datas) s → CondSays cells scope sizes funcs acts procs n d s
     unfolding node-datas Every
     condition-right z s all H k Γ m i b c p q xs rest sc o =
         let w = around H scope sizes funcs acts procs n k Γ m i in
-        let f = says-true r (Fits (H .sig) Γ c Bool-sort) (fit w c [] _ sc (o .terms-are)) z in
+        let f = said-yes r (fit w c [] _ sc (o .terms-are)) z in
         says-as s (λ x. fits-sort (H .sig) Γ c Bool-sort f (x .0)) (λ x. (sort-fits (H .sig) Γ c Bool-sort x .1, tt)) (all w (c ∷ []) _ (sc, tt) (sym (o .datas-is)) (o .terms-are))
 
   -- ---- any node

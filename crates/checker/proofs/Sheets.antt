@@ -7,17 +7,15 @@ use Prim.Native.Nat.{ℕ, _+_, _*_, _<_, _≤_}
 use native.Mathlib.Omega.{arith}
 use lib.ListN.{length, getD, getElem?, set}
 use lib.Seq.{getD-set-same, getD-set-other}
-use Rattle.pcrl.specs.Tests.{Every}
 use Rattle.pcrl.specs.Sheet.{call, Process, Sheet, no-process}
-use Rattle.pcrl.specs.Sorts.{closed, Sorted, Complete, RightlySorted}
+use Rattle.pcrl.specs.Sorts.{closed, Sorted, RightlySorted}
 use Rattle.laws.specs.Lists.{getElem?-below}
 use Rattle.laws.specs.Every.{every-at, at-every}
+use Rattle.laws.specs.Says.{Says, said-yes, said-no, says-as}
 use Rattle.nodes.specs.declared.Outline.{Outline}
 use Rattle.nodes.specs.Held.{HeldSig, HeldProcs, proc-width}
-use Rattle.checker.specs.Says.{Says}
 use Rattle.checker.specs.Known.{KnownSheet}
 use Rattle.checker.specs.Sorts.{TermSays, ParamsInScope, ProcessesSay, FunctionsSay, SheetSays}
-use Rattle.checker.proofs.Answers.{says-true, says-false, says-as}
 use Rattle.checker.proofs.FunctionValues.{below-next, known-sizes}
 
 -- ---- parameters
@@ -69,13 +67,13 @@ module _ (cells starts sizes funcs acts procs : List ℕ) (n : Outline) where
     pub processes-failed : r ≡ false → ProcessesSay cells starts sizes funcs acts procs n false
     processes-failed z H kn h = λ all.
         let c = h .proc-count in
-        says-false r (Sorted H (getElem? (getD (H .procs) k no-process .params)) (getD (H .procs) k no-process .right)) (process-says H kn h) z
+        said-no r (process-says H kn h) z
         (every-at (λ (p : Process). Sorted H (getElem? (p .params)) (p .right)) (H .procs) no-process k all (omega arith))
 
     pub processes-more : r ≡ true → RightSoFar k → RightSoFar (k + 1)
     processes-more z before H kn h =
         below-next (λ i. Sorted H (getElem? (getD (H .procs) i no-process .params)) (getD (H .procs) i no-process .right)) k (before H kn h)
-        (says-true r (Sorted H (getElem? (getD (H .procs) k no-process .params)) (getD (H .procs) k no-process .right)) (process-says H kn h) z)
+        (said-yes r (process-says H kn h) z)
 
   pub processes-done : (k : ℕ) → n .procs ≤ k → RightSoFar k → ProcessesSay cells starts sizes funcs acts procs n true
   processes-done k e all H kn h =
@@ -86,13 +84,13 @@ module _ (cells starts sizes funcs acts procs : List ℕ) (n : Outline) where
 module _ (sizes funcs values places acts procs cells starts : List ℕ) (n : Outline) (r : Bool) (functions : FunctionsSay funcs values places sizes n r) where
   pub functions-wrong : r ≡ false → SheetSays sizes funcs values places acts procs cells starts n false
   unfolding RightlySorted
-  functions-wrong z H h = λ k. says-false r (Every (Complete (H .sig)) (H .sig .funcs)) (functions (H .sig) acts (h .signature)) z (k .0)
+  functions-wrong z H h = λ k. said-no r (functions (H .sig) acts (h .signature)) z (k .0)
 
   module _ (right : r ≡ true) (q : Bool) (processes : ProcessesSay cells starts sizes funcs acts procs n q) where
     pub processes-wrong : q ≡ false → SheetSays sizes funcs values places acts procs cells starts n false
     unfolding RightlySorted
     processes-wrong z H h = λ k.
-        says-false q (Every (λ (p : Process). Sorted H (getElem? (p .params)) (p .right)) (H .procs))
+        said-no q
         (processes H (known-of H sizes funcs values places acts procs cells starts n (h .signature) (h .processes)) (h .processes)) z (k .1 .0)
 
     -- init stands where no variable is in scope
@@ -100,8 +98,8 @@ module _ (sizes funcs values places acts procs cells starts : List ℕ) (n : Out
     unfolding RightlySorted
     init-says z scope s says H h =
         let kn = known-of H sizes funcs values places acts procs cells starts n (h .signature) (h .processes) in
-        let a = says-true r (Every (Complete (H .sig)) (H .sig .funcs)) (functions (H .sig) acts (h .signature)) right in
-        let b = says-true q (Every (λ (p : Process). Sorted H (getElem? (p .params)) (p .right)) (H .procs)) (processes H kn (h .processes)) z in
+        let a = said-yes r (functions (H .sig) acts (h .signature)) right in
+        let b = said-yes q (processes H kn (h .processes)) z in
         let at = h .processes .init-at in
         says-as s (λ k. (a, (b, k))) (λ k. k .1 .1)
         (says H kn closed 0 (λ i l. absurd (omega arith)) false (call (H .start .0) (H .start .1)) (at .0) (h .processes .init-scoped) (at .1))

@@ -14,6 +14,7 @@ use lib.Seq.{getD-set-same, getD-set-other}
 use Rattle.pcrl.specs.Tests.{Every}
 use Rattle.pcrl.specs.Sheet.{Proc, delta, atom, alt, cond, sum, seq, call, Sheet}
 use Rattle.pcrl.specs.Sorts.{Scope, binding, Sorted}
+use Rattle.laws.specs.Says.{said-yes, said-no}
 use Rattle.nodes.specs.declared.Outline.{Outline}
 use Rattle.nodes.specs.declared.Node.{Node}
 use Rattle.nodes.specs.Layout.{Item, enc, encs}
@@ -23,7 +24,6 @@ use Rattle.nodes.specs.Views.{Views}
 use Rattle.nodes.proofs.Nodes.{one-item, items-end}
 use Rattle.checker.specs.Known.{KnownSheet, InScope}
 use Rattle.checker.specs.Sorts.{NodeSorted, NodeSays, Bound, Binds, TermSays}
-use Rattle.checker.proofs.Answers.{says-true, says-false}
 
 -- a term that is left, with the variables in its scope and how many they are
 pub record Pending : Type 0 where
@@ -169,7 +169,7 @@ module _ (cells start sizes funcs acts procs : List ℕ) (n : Outline) (at : ℕ
           go : (xs : List Pending) → length xs ≡ need → drop p cells ≡ encs (map item xs) ++ rest → Ready (n .procs) scope xs → AllSorted H xs → ⊥
           go [] a f g h = omega arith
           go (x ∷ xs) a f g h =
-              says-false r (NodeSorted H (x .vars) (x .term))
+              said-no r
               (says H kn (x .vars) (x .level) (g .0 .1) (x .after) (x .term) (map item xs) rest (g .0 .0) (vw (x .after) (x .term) (map item xs) rest f)) z
               (open-sorted H (x .after) (x .term) (x .vars) (x .level) xs (h .0) (h .1) .0)
 
@@ -188,7 +188,7 @@ module _ (cells start sizes funcs acts procs : List ℕ) (n : Outline) (at : ℕ
               let many : length (map item (ks ++ xs)) ≡ length (ks ++ xs) = length-map (ks ++ xs) item in
               let all : length (map item xs) ≡ length xs = length-map xs item in
               let more : length (node-kids (x .after) (x .term) ++ map item xs) ≡ length (node-kids (x .after) (x .term)) + length (map item xs) = length-append (node-kids (x .after) (x .term)) (map item xs) in
-              let h = says-true r (NodeSorted H (x .vars) (x .term)) (says H kn (x .vars) (x .level) (g .0 .1) (x .after) (x .term) (map item xs) rest (g .0 .0) o) z in (
+              let h = said-yes r (says H kn (x .vars) (x .level) (g .0 .1) (x .after) (x .term) (map item xs) rest (g .0 .0) o) z in (
                 ks ++ xs,
                 omega (arith, ap length it, o .kids-is),
                 o .next-is ∙ ap (λ (ys : List Item). encs ys ++ rest) (sym it),

@@ -1,5 +1,4 @@
 pub mod Circles
-pub mod Says
 pub mod Fits
 pub mod Known
 pub mod Sorts

@@ -8,6 +8,7 @@ use Rattle.pcrl.specs.Limits.{frame-width, max-arity}
 use Rattle.pcrl.specs.Tests.{Each, Every}
 use Rattle.pcrl.specs.Sheet.{Data, Act, Proc, delta, atom, alt, cond, sum, seq, call, Func, Sig, Process, Sheet, takes-of, params}
 use Rattle.pcrl.specs.Sorts.{Scope, Bool-sort, HasSort, Arguments, IsAct, Sorted, volume, Complete, RightlySorted}
+use Rattle.laws.specs.Says.{Says}
 use Rattle.nodes.specs.declared.Outline.{Outline}
 use Rattle.nodes.specs.declared.Datum.{Datum}
 use Rattle.nodes.specs.declared.Node.{Node}
@@ -15,7 +16,6 @@ use Rattle.nodes.specs.Layout.{enc-datas, Item, enc}
 use Rattle.nodes.specs.Scoped.{max-scope, ScopedData, Scoped}
 use Rattle.nodes.specs.Held.{SortsAt, FuncAt, HeldSig, HeldProcs, Held}
 use Rattle.nodes.specs.Views.{OpenedData, Opened}
-use Rattle.checker.specs.Says.{Says}
 use Rattle.checker.specs.Fits.{Fits, ArgumentsFit, Inside}
 use Rattle.checker.specs.Known.{KnownSizes, KnownSheet, InScope, Around}
 

@@ -31,7 +31,7 @@ all-tabulate (suc n) f g = ap (λ (l : List ℕ). f (g zero) ++ l) (all-tabulate
 
 -- JOINED
 
-joined-zero : (f : ℕ → List ℕ) → joined zero f ≡ []
+pub joined-zero : (f : ℕ → List ℕ) → joined zero f ≡ []
 unfolding joined all tabulate
 joined-zero f = refl
 

@@ -9,7 +9,6 @@ pub mod Padding
 pub mod Crc
 pub mod BlockLaws
 pub mod FileOfStream
-pub mod Questions
 pub mod FileLaws
 pub mod FileBytes
 pub mod Examples

@@ -1,8 +1,11 @@
 pub mod Tests
+pub mod Says
 pub mod Lists
 pub mod Every
 pub mod Each
 pub mod Any
+pub mod Optional
+pub mod Numbers
 pub mod Readers
 pub mod Questions
 pub mod Computing

@@ -5,7 +5,7 @@ use mathlib.Core.Logic.{_⊎_, inl, inr}
 use mathlib.Core.Option.{none, some}
 use Prim.Native.Nat.{ℕ, zero, suc, _<_, _≤_}
 use native.Mathlib.Omega.{arith}
-use lib.ListN.{length, getElem?, getD, length-append}
+use lib.ListN.{length, getElem?, getD, drop, length-append}
 use Rattle.pcrl.specs.Parts.{tabulate}
 
 pub length-snoc : {A : Type 0} (l : List A) (a : A) → length (l ++ (a ∷ [])) ≡ suc (length l)
@@ -16,6 +16,11 @@ length-snoc l a = simp length-append (omega arith)
 pub map-twice : {A B C : Type 0} (f : B → C) (g : A → B) (h : A → C) → ((a : A) → f (g a) ≡ h a) → (l : List A) → map f (map g l) ≡ map h l
 map-twice f g h e [] = refl
 map-twice f g h e (a ∷ l) = cc (e a, map-twice f g h e l)
+
+pub map-drop : {A B : Type 0} (f : A → B) (i : ℕ) (l : List A) → drop i (map f l) ≡ map f (drop i l)
+map-drop f zero l = refl
+map-drop f (suc i) [] = refl
+map-drop f (suc i) (a ∷ l) = map-drop f i l
 
 pub getD-map : {A B : Type 0} (f : A → B) (l : List A) (i : ℕ) (a : A) (b : B) → i < length l → getD (map f l) i b ≡ f (getD l i a)
 getD-map f [] i a b h = absurd (omega arith)

@@ -18,6 +18,8 @@ use Rattle.pcrl.specs.Tests.{and, or, same?, among, Every}
 use Rattle.pcrl.specs.Bytes.{separator, letter, digit, name-byte, short?, printable?}
 use Rattle.pcrl.specs.Tokens.{Token, name, numeral, sign, words, marks, run, front, Lexeme, name-of, value-of, numeral-of, mark-of, first-token, before, followed, tokens-behind, tokens, shallow?}
 use Rattle.pcrl.specs.Answers.{tokens-read}
+use Rattle.laws.specs.Lists.{map-drop}
+use Rattle.laws.specs.Every.{every-at, map-every}
 use Rattle.lexer.specs.Cells.{first-name, cell-token, Lexes}
 use Rattle.lexer.specs.declared.Lexed.{Lexed}
 use Rattle.lexer.proofs.Runs.{drop-at, run-fits, length-front}
@@ -146,15 +148,7 @@ usable s c short h = go (ltb c first-name) refl
         record { below = omega arith; inside = λ k. omega arith }
 
 every-of-map : (f : ℕ → Token) (l : List ℕ) (i : ℕ) → Every Solid (map f l) → i < length l → Solid (f (getD l i 0))
-unfolding Every
-every-of-map f [] i h k = absurd (omega arith)
-every-of-map f (c ∷ l) zero h k = h .0
-every-of-map f (c ∷ l) (suc i) h k = every-of-map f l i (h .1) (omega arith)
-
-drop-map : (f : ℕ → Token) (l : List ℕ) (i : ℕ) → drop i (map f l) ≡ map f (drop i l)
-drop-map f l zero = refl
-drop-map f [] (suc i) = refl
-drop-map f (c ∷ l) (suc i) = drop-map f l i
+every-of-map f l i h k = every-at (λ c. Solid (f c)) l 0 i (map-every (λ c. Solid (f c)) Solid f (λ c x. x) l h) k
 
 -- ---- the two answers
 pub record Accepted (s : List ℕ) (r : Lexed) (out : List ℕ) : Type 0 where
@@ -187,8 +181,8 @@ module _ (s out : List ℕ) (r : Lexed) where
         room = room;
         usable = λ i h. usable s (getD out i 0) short (subst (λ (c : ℕ). Solid (cell-token s c)) (cell i h) (every-of-map (cell-token s) (take (r .count) out) i (subst⁻¹ (Every Solid) m solid) (omega arith)));
         next = λ i h.
-            ap (drop i) (sym m) ∙ drop-map (cell-token s) (take (r .count) out) i ∙ ap (map (cell-token s)) (drop-at (take (r .count) out) i (omega arith))
-            ∙ ap₂ (λ (c : ℕ) (w : List Token). cell-token s c ∷ w) (cell i h) (sym (drop-map (cell-token s) (take (r .count) out) (i + 1)) ∙ ap (drop (i + 1)) m);
+            ap (drop i) (sym m) ∙ map-drop (cell-token s) i (take (r .count) out) ∙ ap (map (cell-token s)) (drop-at (take (r .count) out) i (omega arith))
+            ∙ ap₂ (λ (c : ℕ) (w : List Token). cell-token s c ∷ w) (cell i h) (sym (map-drop (cell-token s) (i + 1) (take (r .count) out)) ∙ ap (drop (i + 1)) m);
         end = λ i h. drop-of-length-le ts {i = i} (omega arith);
       }
 

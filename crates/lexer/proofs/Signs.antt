@@ -13,33 +13,18 @@ use borrow.Author.Tests.{eqb-true, eqb-false}
 use Rattle.pcrl.specs.Text.{bytes}
 use Rattle.pcrl.specs.Tests.{and, or, negated, same?, among, Every}
 use Rattle.pcrl.specs.Tokens.{sign, words, mark-of}
-use Rattle.lexer.specs.Classes.{sign-cell, Decides}
+use Rattle.laws.specs.Tests.{where-yes, where-no}
+use Rattle.lexer.specs.Classes.{sign-cell}
 use Rattle.lexer.specs.Cells.{first-word}
 
 pub never : {A : Type 0} → false ≡ true → A
 never e = absurd (subst T (sym e) tt)
 
-pub decided : (P : Type 0) (r : Bool) → Decides P r → r ≡ true → P
-decided P true d e = d
-decided P false d e = never e
-
-pub refuted : (P : Type 0) (r : Bool) → Decides P r → r ≡ false → P → ⊥
-refuted P true d e = never (sym e)
-refuted P false d e = d
-
 -- ---- a sign among some
-if-same : {A B : Type 0} (d : Dec A) (x y : B) → A → (elim d as (λ _. B) [ yes e ↦ x | no k ↦ y ]) ≡ x
-if-same (yes e) x y a = refl
-if-same (no k) x y a = absurd (k a)
-
-if-other : {A B : Type 0} (d : Dec A) (x y : B) → (A → ⊥) → (elim d as (λ _. B) [ yes e ↦ x | no k ↦ y ]) ≡ y
-if-other (yes e) x y n = absurd (n e)
-if-other (no k) x y n = refl
-
 pub sign-cell-none : (c : ℕ) (vs : List (List ℕ)) (w : List ℕ) → Every (λ v. w ≡ v → ⊥) vs → sign-cell c vs w ≡ 0
 unfolding sign-cell Every
 sign-cell-none c [] w h = refl
-sign-cell-none c (v ∷ vs) w h = if-other (same? w v) c (sign-cell (suc c) vs w) (h .0) ∙ sign-cell-none (suc c) vs w (h .1)
+sign-cell-none c (v ∷ vs) w h = where-no (same? w v) (h .0) c (sign-cell (suc c) vs w) ∙ sign-cell-none (suc c) vs w (h .1)
 
 -- w is one of the signs, and its cell is as far from c as its place from the first
 pub record Found (c : ℕ) (vs : List (List ℕ)) (w : List ℕ) : Type 0 where
@@ -60,23 +45,23 @@ look-up-step c v vs w (yes e) f =
     inl (record {
       place = 0;
       inside = omega arith;
-      cell = if-same (same? w v) c (sign-cell (suc c) vs w) e ∙ sym (add-zero c);
+      cell = where-yes (same? w v) e c (sign-cell (suc c) vs w) ∙ sym (add-zero c);
       here = sym e;
-      known = if-same (same? w v) true (among w vs) e;
+      known = where-yes (same? w v) e true (among w vs);
     })
 look-up-step c v vs w (no h) (inl f) =
     let q : suc c + f .place ≡ c + suc (f .place) = omega arith in
     inl (record {
       place = suc (f .place);
       inside = omega (arith, f .inside);
-      cell = if-other (same? w v) c (sign-cell (suc c) vs w) h ∙ f .cell ∙ q;
+      cell = where-no (same? w v) h c (sign-cell (suc c) vs w) ∙ f .cell ∙ q;
       here = f .here;
-      known = if-other (same? w v) true (among w vs) h ∙ f .known;
+      known = where-no (same? w v) h true (among w vs) ∙ f .known;
     })
 look-up-step c v vs w (no h) (inr m) =
     inr (record {
-      cell = if-other (same? w v) c (sign-cell (suc c) vs w) h ∙ m .cell;
-      unknown = if-other (same? w v) true (among w vs) h ∙ m .unknown;
+      cell = where-no (same? w v) h c (sign-cell (suc c) vs w) ∙ m .cell;
+      unknown = where-no (same? w v) h true (among w vs) ∙ m .unknown;
     })
 
 pub look-up : (c : ℕ) (vs : List (List ℕ)) (w : List ℕ) → Found c vs w ⊎ Missing c vs w
@@ -109,11 +94,11 @@ module _ (w : List ℕ) where
 -- ---- the mark that bytes begin with
 mark-miss : (m : List ℕ) (ms : List (List ℕ)) (s : List ℕ) → (m ≡ take (length m) s → ⊥) → mark-of (m ∷ ms) s ≡ mark-of ms s
 unfolding mark-of
-mark-miss m ms s h = if-other (same? m (take (length m) s)) (some (sign m, length m)) (mark-of ms s) h
+mark-miss m ms s h = where-no (same? m (take (length m) s)) h (some (sign m, length m)) (mark-of ms s)
 
 mark-hit : (m : List ℕ) (ms : List (List ℕ)) (s : List ℕ) → m ≡ take (length m) s → mark-of (m ∷ ms) s ≡ some (sign m, length m)
 unfolding mark-of
-mark-hit m ms s e = if-same (same? m (take (length m) s)) (some (sign m, length m)) (mark-of ms s) e
+mark-hit m ms s e = where-yes (same? m (take (length m) s)) e (some (sign m, length m)) (mark-of ms s)
 
 -- no mark begins with b
 abbrev pub unlike : ℕ → List (List ℕ) → Bool
@@ -174,7 +159,7 @@ module _ (a x : ℕ) (l : List ℕ) where
   pair-step k j vs ms (yes e) ih h =
       mark-hit (k ∷ j ∷ []) (vs ++ ms) (a ∷ x ∷ l) (sym e) ∙ ap (λ (w : List ℕ). some (sign w, 2)) (sym e)
   pair-step k j vs ms (no n) ih h =
-      mark-miss (k ∷ j ∷ []) (vs ++ ms) (a ∷ x ∷ l) (λ e. n (sym e)) ∙ ih (sym (if-other (same? (a ∷ x ∷ []) (k ∷ j ∷ [])) true (among (a ∷ x ∷ []) vs) n) ∙ h)
+      mark-miss (k ∷ j ∷ []) (vs ++ ms) (a ∷ x ∷ l) (λ e. n (sym e)) ∙ ih (sym (where-no (same? (a ∷ x ∷ []) (k ∷ j ∷ [])) n true (among (a ∷ x ∷ []) vs)) ∙ h)
 
   pub pair-mark : (vs ms : List (List ℕ)) → T (pairs vs) → among (a ∷ x ∷ []) vs ≡ true → mark-of (vs ++ ms) (a ∷ x ∷ l) ≡ some (sign (a ∷ x ∷ []), 2)
   unfolding among
@@ -187,9 +172,9 @@ module _ (a x : ℕ) (l : List ℕ) where
   no-pair-step : (k j : ℕ) (vs ms : List (List ℕ)) (d : Dec (a ∷ x ∷ [] ≡ k ∷ j ∷ [])) → (among (a ∷ x ∷ []) vs ≡ false → mark-of (vs ++ ms) (a ∷ x ∷ l) ≡ mark-of ms (a ∷ x ∷ l))
       → among (a ∷ x ∷ []) ((k ∷ j ∷ []) ∷ vs) ≡ false → mark-of ((k ∷ j ∷ []) ∷ vs ++ ms) (a ∷ x ∷ l) ≡ mark-of ms (a ∷ x ∷ l)
   unfolding among
-  no-pair-step k j vs ms (yes e) ih h = never (sym h ∙ if-same (same? (a ∷ x ∷ []) (k ∷ j ∷ [])) true (among (a ∷ x ∷ []) vs) e)
+  no-pair-step k j vs ms (yes e) ih h = never (sym h ∙ where-yes (same? (a ∷ x ∷ []) (k ∷ j ∷ [])) e true (among (a ∷ x ∷ []) vs))
   no-pair-step k j vs ms (no n) ih h =
-      mark-miss (k ∷ j ∷ []) (vs ++ ms) (a ∷ x ∷ l) (λ e. n (sym e)) ∙ ih (sym (if-other (same? (a ∷ x ∷ []) (k ∷ j ∷ [])) true (among (a ∷ x ∷ []) vs) n) ∙ h)
+      mark-miss (k ∷ j ∷ []) (vs ++ ms) (a ∷ x ∷ l) (λ e. n (sym e)) ∙ ih (sym (where-no (same? (a ∷ x ∷ []) (k ∷ j ∷ [])) n true (among (a ∷ x ∷ []) vs)) ∙ h)
 
   pub no-pair-mark : (vs ms : List (List ℕ)) → T (pairs vs) → among (a ∷ x ∷ []) vs ≡ false → mark-of (vs ++ ms) (a ∷ x ∷ l) ≡ mark-of ms (a ∷ x ∷ l)
   unfolding among

@@ -38,11 +38,6 @@ class-of b = class-by (separator b) (digit b) (letter b) (eqb b (byte "_")) (alo
 abbrev pub in-classes : ℕ → ℕ → ℕ → Bool
 in-classes lo hi b = within lo hi (class-of b)
 
--- a Bool that says whether P holds
-abbrev pub Decides : Type 0 → Bool → Type 0
-Decides P true = P
-Decides P false = P → ⊥
-
 -- the cell of the first of some signs that is w, where theirs count from c; 0 if it is none of them
 unfoldable pub sign-cell : ℕ → List (List ℕ) → List ℕ → ℕ
 sign-cell c [] w = 0

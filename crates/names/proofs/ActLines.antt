@@ -15,7 +15,7 @@ use Rattle.pcrl.specs.Maybe.{for-each}
 use Rattle.pcrl.specs.Names.{Names, sorts-of, resolve-act}
 use Rattle.grammar.specs.Print.{FormedAct}
 use Rattle.laws.specs.Each.{each-length}
-use Rattle.theory.specs.Resolved.{sorts-declared}
+use Rattle.laws.specs.Numbers.{sorts-declared}
 use Rattle.parser.specs.Cells.{Symbol, tag, token, act-tag, enc-act, enc-items, enc-name}
 use Rattle.nodes.specs.Held.{act-width, SortsAt, ActAt}
 use Rattle.names.specs.Standing.{symbols, At, LinesAt}

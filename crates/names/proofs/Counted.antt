@@ -10,9 +10,9 @@ use Rattle.pcrl.specs.Limits.{max-size, frame-width}
 use Rattle.pcrl.specs.Tests.{Between, Every}
 use Rattle.pcrl.specs.Tree.{SortLine, ProcLine, RawSheet}
 use Rattle.pcrl.specs.Counts.{Counted}
+use Rattle.laws.specs.Says.{Says}
 use Rattle.parser.specs.declared.Lines.{Lines}
 use Rattle.parser.specs.Cells.{enc-sort, enc-proc}
-use Rattle.names.specs.NameCells.{Says}
 use Rattle.names.specs.Standing.{At, LinesAt, Standing}
 use Rattle.names.specs.Items.{numeral-at, item-count}
 use Rattle.names.proofs.Rooms.{Rooms}

@@ -11,7 +11,7 @@ use Rattle.pcrl.specs.Tree.{FuncLine}
 use Rattle.pcrl.specs.Tokens.{name}
 use Rattle.pcrl.specs.Names.{Names, number-of, sorts-of, resolve-func}
 use Rattle.grammar.specs.Print.{FormedFunc}
-use Rattle.theory.specs.Resolved.{sorts-declared}
+use Rattle.laws.specs.Numbers.{sorts-declared}
 use Rattle.parser.specs.Cells.{Symbol, tag, token, func-tag, enc-func, enc-items, enc-name, enc-numeral}
 use Rattle.nodes.specs.Held.{SortsAt}
 use Rattle.names.specs.declared.Row.{Row}

@@ -1,4 +1,3 @@
-pub mod Says
 pub mod Runs
 pub mod Lists
 pub mod Numbers

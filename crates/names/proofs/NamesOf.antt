@@ -16,7 +16,7 @@ use Rattle.pcrl.specs.Sheet.{Func, Action, no-func, no-action, func}
 use Rattle.pcrl.specs.Maybe.{for-each}
 use Rattle.pcrl.specs.Names.{names-of, declared, sizes-of, resolve-func, resolve-act}
 use Rattle.laws.specs.Each.{each-map, each-length, each-with, each-flip}
-use Rattle.theory.specs.Optional.{each-given}
+use Rattle.laws.specs.Optional.{each-given}
 use Rattle.parser.specs.Cells.{Symbol, tag, token, sort-tag, func-tag, act-tag, proc-tag, enc-sort, enc-func, enc-act, enc-proc, enc-items, enc-name, enc-numeral, enc-param, enc-choice}
 use Rattle.nodes.specs.declared.Outline.{Outline}
 use Rattle.nodes.specs.Held.{FuncAt, ActAt, HeldSig}

@@ -11,7 +11,7 @@ use Rattle.pcrl.specs.Tests.{same?}
 use Rattle.pcrl.specs.Tree.{Name}
 use Rattle.pcrl.specs.Names.{number-of}
 use Rattle.pcrl.specs.Maybe.{_>>=_}
-use Rattle.theory.specs.Resolved.{number-below}
+use Rattle.laws.specs.Numbers.{number-below}
 use Rattle.names.specs.NameCells.{or-count}
 use Rattle.names.proofs.Lists.{mapped-length, mapped-at}
 

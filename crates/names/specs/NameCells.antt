@@ -1,6 +1,6 @@
 -- A name's cell stands for the run of name bytes at its place in the sheet. Declared names are found through the places of their lines.
 use mathlib.Core.List.{List, map}
-use mathlib.Core.Bool.{Bool, true, false}
+use mathlib.Core.Bool.{true, false}
 use mathlib.Core.Option.{Option, none, some}
 use Prim.Native.Nat.{ℕ, _+_, _-_, min}
 use lib.ListN.{take, drop, getD}
@@ -9,11 +9,6 @@ use Rattle.pcrl.specs.Bytes.{name-byte}
 use Rattle.pcrl.specs.Tokens.{front}
 use Rattle.pcrl.specs.Tree.{Name}
 use Rattle.lexer.specs.Cells.{first-name}
-
--- a Bool that says whether P holds
-abbrev pub Says : Bool → Type 0 → Type 0
-Says true P = P
-Says false P = P → ⊥
 
 -- the name of a cell, where s are the sheet's bytes
 unfoldable pub name-at : List ℕ → ℕ → Name

@@ -6,7 +6,7 @@ ghost use Rattle.pcrl.specs.Limits.{max-size, frame-width};
 ghost use Rattle.pcrl.specs.Tests.{Between, Every};
 ghost use Rattle.pcrl.specs.Tree.{RawSheet};
 ghost use Rattle.pcrl.specs.Counts.{Counted};
-ghost use Rattle.names.specs.NameCells.{Says};
+ghost use Rattle.laws.specs.Says.{Says};
 ghost use Rattle.names.specs.Standing.{Standing};
 ghost use Rattle.names.specs.Items.{far, param-step, numeral-at, item-count};
 use crate::find::cell;

@@ -5,9 +5,10 @@ ghost use Prim.Native.Nat.{suc, _+_, _-_, _≤_, _<_};
 ghost use lib.ListN.{length, getD};
 ghost use Rattle.pcrl.specs.Text.{bytes};
 ghost use Rattle.pcrl.specs.Names.{number-of};
+ghost use Rattle.laws.specs.Says.{Says};
 ghost use Rattle.lexer.specs.Cells.{first-name};
 ghost use Rattle.nodes.specs.Layout.{cell-limit};
-ghost use Rattle.names.specs.NameCells.{Says, name-at, names-at, scope-at, or-count, shown};
+ghost use Rattle.names.specs.NameCells.{name-at, names-at, scope-at, or-count, shown};
 use lexer::FIRST_NAME;
 
 // A cell, 0 past the end.

@@ -198,6 +198,7 @@ pub fn param_row(
 ) -> Params
     requires { ⌜ (length (now sorts) < max-sorts) × (n ≤ length (now names)) × (at < far) × (p + frame-width < length (now rows)) × (frame-width ≤ length (now scope)) ⌝ }
     ensures kept { λ r. ⌜ Kept p (now (rows .entry)) (now (rows .exit)) ⌝ }
+    ensures few { λ r. ⌜ r .count ≤ frame-width ⌝ }
     ensures params { λ r. ⌜ ParamsRead (now (s .entry)) (now (cells .entry)) (now (sorts .entry)) (now (names .entry)) n at (now (rows .exit)) p (now (scope .exit)) r ⌝ }
 {
     let m = items(cells, PARAM_STEP, at, FRAME_WIDTH);

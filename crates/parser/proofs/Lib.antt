@@ -8,7 +8,7 @@ mod LineLaws
 mod InitLaws
 mod InitRead
 mod RunLaws
-mod Room
+pub mod Room
 mod Places
 mod SheetLaws
 mod ParseLaws

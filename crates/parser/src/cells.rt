@@ -81,7 +81,7 @@ pub fn numeral(toks: &[u16], at: usize, out: &mut [u16], w: usize) -> Step
     }
 }
 
-// A place as a cell.
+// A number as a cell.
 pub fn short(w: usize) -> u16
     ensures { λ r. ⌜ (w < 65536 → r ≡ w) ⌝ }
 {

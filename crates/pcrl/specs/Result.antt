@@ -20,3 +20,8 @@ question-of n (some a) rest = rest a
 unfoldable pub after : {A B : Type 0} → Result A → (A → Result B) → Result B
 after (refused n) rest = refused n
 after (accepted a) rest = rest a
+
+-- the answer as one number: that of the question that failed, or 0
+unfoldable pub refusal : {A : Type 0} → Result A → ℕ
+refusal (refused n) = n
+refusal (accepted a) = 0

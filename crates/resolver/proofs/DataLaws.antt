@@ -10,15 +10,17 @@ use Rattle.pcrl.specs.Tree.{Name, RawData, RawDatas}
 use Rattle.pcrl.specs.Names.{Names, number-of, resolve-data}
 use Rattle.parser.specs.Cells.{Symbol, tag}
 use Rattle.parser.specs.Cells.{enc-data as raw-data, enc-datas as raw-datas}
+use Rattle.parser.specs.Reading.{Put}
 use Rattle.nodes.specs.Layout.{cell-limit, enc-data}
 use Rattle.names.specs.NameCells.{or-count, name-at, names-at, scope-at}
+use Rattle.names.specs.Standing.{symbols}
+use Rattle.names.proofs.Symbols.{name-of-cell}
 use Rattle.resolver.specs.declared.Step.{Step}
 use Rattle.resolver.specs.declared.Run.{Run}
-use Rattle.resolver.specs.Raw.{symbols}
-use Rattle.resolver.specs.Writing.{Put, Writes}
+use Rattle.resolver.specs.Writing.{Writes}
 use Rattle.resolver.specs.Resolving.{Outcome, lost, took, data-cells, datas-cells, count-of, _⊕_, ResolvesData, ResolvesDatas}
 use Rattle.resolver.proofs.Writing.{writes-nothing, writes-then, writes-cell, writes-instead}
-use Rattle.resolver.proofs.Symbols.{pair, first-tag, next, live, name-is, NumeralCell, numeral-is}
+use Rattle.resolver.proofs.Symbols.{pair, first-tag, next, live, NumeralCell, numeral-is}
 use Rattle.resolver.proofs.Lookup.{known, unknown, names-many, scope-many}
 use Rattle.resolver.proofs.DataCells.{then-nothing, then-assoc, then-none, then-last, none-last, variable-unknown, variable-known, apply-unknown, apply-known, datas-one, datas-more}
 
@@ -53,7 +55,7 @@ module _ (s raw funcs scope : List ℕ) (n at w : ℕ) (o : List ℕ) where
     variable-lost r o′ l h N (RawData.value v) rest f e = let q = first-tag s raw at 1 _ e in absurd (omega arith)
     variable-lost r o′ l h N (RawData.variable x) rest f e =
         let p = pair s raw at 2 (name x) rest e in
-        let y : name-at s c ≡ x = ap (name-at s) ec ∙ name-is s (getD raw (at + 1) 0) x (p .token-cell) in
+        let y : name-at s c ≡ x = ap (name-at s) ec ∙ name-of-cell s (getD raw (at + 1) 0) x (p .token-cell) in
         let u = subst (λ (z : Name). number-of z (scope-at s scope n) ≡ none) y (unknown (name-at s c) (scope-at s scope n) i n (scope-many s scope n few) found h) in
         became (sym (variable-unknown N (scope-at s scope n) x u)) (lost l)
     variable-lost r o′ l h N (RawData.apply x ds) rest f e = let q = first-tag s raw at 3 _ e in absurd (omega arith)
@@ -63,7 +65,7 @@ module _ (s raw funcs scope : List ℕ) (n at w : ℕ) (o : List ℕ) where
     variable-took a w′ o′ h ea put N (RawData.value v) rest f e = let q = first-tag s raw at 1 _ e in absurd (omega arith)
     variable-took a w′ o′ h ea put N (RawData.variable x) rest f e =
         let p = pair s raw at 2 (name x) rest e in
-        let y : name-at s c ≡ x = ap (name-at s) ec ∙ name-is s (getD raw (at + 1) 0) x (p .token-cell) in
+        let y : name-at s c ≡ x = ap (name-at s) ec ∙ name-of-cell s (getD raw (at + 1) 0) x (p .token-cell) in
         let u = subst (λ (z : Name). number-of z (scope-at s scope n) ≡ some i) y (known (name-at s c) (scope-at s scope n) i n (scope-many s scope n few) found h) in
         became (ap (λ (j : ℕ). some (j ∷ [])) ea ∙ sym (variable-known N (scope-at s scope n) x i u)) (took (p .inside) (p .behind) (writes-cell put))
     variable-took a w′ o′ h ea put N (RawData.apply x ds) rest f e = let q = first-tag s raw at 3 _ e in absurd (omega arith)
@@ -76,7 +78,7 @@ module _ (s raw funcs scope : List ℕ) (n at w : ℕ) (o : List ℕ) where
     apply-lost r o′ l h N (RawData.variable x) rest f e = let q = first-tag s raw at 2 _ e in absurd (omega arith)
     apply-lost r o′ l h N (RawData.apply x ds) rest f e =
         let p = pair s raw at 3 (name x) _ e in
-        let y : name-at s c ≡ x = ap (name-at s) ec ∙ name-is s (getD raw (at + 1) 0) x (p .token-cell) in
+        let y : name-at s c ≡ x = ap (name-at s) ec ∙ name-of-cell s (getD raw (at + 1) 0) x (p .token-cell) in
         let u = unknown (name-at s c) (names-at s raw funcs (length funcs)) i (length funcs) (names-many s raw funcs) found h in
         became (sym (apply-unknown N (scope-at s scope n) x ds (cc))) (lost l)
 
@@ -88,7 +90,7 @@ module _ (s raw funcs scope : List ℕ) (n at w : ℕ) (o : List ℕ) where
     apply-took a w₁ w₂ w₃ b l o₁ o₂ o₃ o′ h ea put₁ put₂ list short put₃ N (RawData.variable x) rest f e = let q = first-tag s raw at 2 _ e in absurd (omega arith)
     apply-took a w₁ w₂ w₃ b l o₁ o₂ o₃ o′ h ea put₁ put₂ list short put₃ N (RawData.apply x ds) rest f e =
         let p = pair s raw at 3 (name x) (raw-datas ds ++ rest) e in
-        let y : name-at s c ≡ x = ap (name-at s) ec ∙ name-is s (getD raw (at + 1) 0) x (p .token-cell) in
+        let y : name-at s c ≡ x = ap (name-at s) ec ∙ name-of-cell s (getD raw (at + 1) 0) x (p .token-cell) in
         let u = known (name-at s c) (names-at s raw funcs (length funcs)) i (length funcs) (names-many s raw funcs) found h in
         let d = list N ds rest f (p .behind) in
         became (sym (apply-known N (scope-at s scope n) x ds i (cc))) (filled ds (datas-cells N (scope-at s scope n) ds) rest (d .0) (λ z. short (d .1 z .1) ∙ d .1 z .0))

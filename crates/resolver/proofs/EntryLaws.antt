@@ -16,12 +16,14 @@ use Rattle.pcrl.specs.Names.{Names, number-of, resolve-given, resolve-init}
 use Rattle.parser.specs.Cells.{Symbol, tag, init-tag, enc-call, enc-init}
 use Rattle.nodes.specs.Layout.{enc-datas, enc}
 use Rattle.names.specs.NameCells.{or-count, name-at, names-at, scope-at}
+use Rattle.names.specs.Standing.{symbols}
+use Rattle.names.proofs.Symbols.{name-of-cell}
 use Rattle.resolver.specs.declared.Step.{Step}
 use Rattle.resolver.specs.declared.Resolved.{Resolved}
-use Rattle.resolver.specs.Raw.{choice, enc-term, resolve-term, term-depth, symbols}
+use Rattle.resolver.specs.Raw.{choice, enc-term, resolve-term, term-depth}
 use Rattle.resolver.specs.Writing.{Writes}
 use Rattle.resolver.specs.Resolving.{Outcome, lost, took, given-cells, term-cells, ResolvesGiven, ResolvesTerm, Answers, ResolvesRight, called, ResolvesInit}
-use Rattle.resolver.proofs.Symbols.{next, pair, name-is}
+use Rattle.resolver.proofs.Symbols.{next, pair}
 use Rattle.resolver.proofs.Lookup.{known, unknown, names-many}
 
 -- the answer by the place
@@ -55,10 +57,10 @@ module _ (s raw funcs procs : List ℕ) (at w : ℕ) (o : List ℕ) (c k : ℕ) 
       by : (ds : Option RawDatas) → drop (at + 1) (symbols s raw) ≡ enc-call (l .name) ds ++ rest → name-at s (getD raw (at + 2) 0) ≡ l .name
       by none d =
           let q : at + 2 ≡ at + 1 + 1 = omega arith in
-          ap (λ i. name-at s (getD raw i 0)) q ∙ name-is s (getD raw (at + 1 + 1) 0) (l .name) (pair s raw (at + 1) 14 (name (l .name)) rest d .token-cell)
+          ap (λ i. name-at s (getD raw i 0)) q ∙ name-of-cell s (getD raw (at + 1 + 1) 0) (l .name) (pair s raw (at + 1) 14 (name (l .name)) rest d .token-cell)
       by (some ds) d =
           let q : at + 2 ≡ at + 1 + 1 = omega arith in
-          ap (λ i. name-at s (getD raw i 0)) q ∙ name-is s (getD raw (at + 1 + 1) 0) (l .name) (pair s raw (at + 1) 15 (name (l .name)) _ d .token-cell)
+          ap (λ i. name-at s (getD raw i 0)) q ∙ name-of-cell s (getD raw (at + 1 + 1) 0) (l .name) (pair s raw (at + 1) 15 (name (l .name)) _ d .token-cell)
 
   pub init-unknown : length procs ≤ k → (r : Resolved) (o′ : List ℕ) → r .ok ≡ false → ResolvesInit s raw funcs procs at w o r o′
   unfolding resolve-init Answers

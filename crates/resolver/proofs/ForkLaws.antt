@@ -11,8 +11,9 @@ use Rattle.parser.specs.Cells.{Symbol, tag, enc-choice}
 use Rattle.parser.specs.Cells.{enc-data as raw-data}
 use Rattle.nodes.specs.Layout.{enc-datas, after-mark, one-if, delta-kind, atom-kind, alt-kind, cond-kind, seq-kind, act-number, enc}
 use Rattle.names.specs.NameCells.{scope-at}
+use Rattle.names.specs.Standing.{symbols}
 use Rattle.resolver.specs.declared.Step.{Step}
-use Rattle.resolver.specs.Raw.{Term, choice, conditional, sequence, part, enc-term, resolve-term, sum-depth, term-depth, symbols, tokens-of, kids-of, Skips}
+use Rattle.resolver.specs.Raw.{Term, choice, conditional, sequence, part, enc-term, resolve-term, sum-depth, term-depth, tokens-of, kids-of, Skips}
 use Rattle.resolver.specs.Writing.{Writes}
 use Rattle.resolver.specs.Resolving.{Outcome, lost, took, data-cells, term-cells, _⊕_, ResolvesData, ResolvesConstant, Forked, Forks}
 use Rattle.resolver.proofs.Writing.{writes-then}

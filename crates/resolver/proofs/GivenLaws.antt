@@ -9,12 +9,12 @@ use Rattle.pcrl.specs.Tokens.{name}
 use Rattle.pcrl.specs.Names.{resolve-given}
 use Rattle.parser.specs.Cells.{enc-call}
 use Rattle.parser.specs.Cells.{enc-datas as raw-datas}
+use Rattle.parser.specs.Reading.{Put}
 use Rattle.nodes.specs.Layout.{cell-limit, enc-datas}
 use Rattle.names.specs.NameCells.{scope-at}
+use Rattle.names.specs.Standing.{symbols}
 use Rattle.resolver.specs.declared.Step.{Step}
 use Rattle.resolver.specs.declared.Run.{Run}
-use Rattle.resolver.specs.Raw.{symbols}
-use Rattle.resolver.specs.Writing.{Put}
 use Rattle.resolver.specs.Resolving.{Outcome, lost, took, datas-cells, given-cells, count-of, _⊕_, ResolvesDatas, ResolvesGiven}
 use Rattle.resolver.proofs.Writing.{writes-then, writes-cell, writes-instead}
 use Rattle.resolver.proofs.Symbols.{pair, first-tag}

@@ -13,8 +13,10 @@ use Rattle.pcrl.specs.Tests.{and}
 use Rattle.pcrl.specs.Tokens.{name, numeral}
 use Rattle.pcrl.specs.Tree.{RawData, RawDatas, Choice, Conditional, Sequence, Part}
 use Rattle.parser.specs.Cells.{Symbol, tag, token, enc-data, enc-datas, enc-call, enc-choice, value-tag, variable-tag, apply-tag, one-tag, more-tag, only-tag, plus-tag, plain-tag, cond-tag, last-tag, then-tag, delta-tag, tau-tag, bare-tag, given-tag, sum-tag, group-tag}
-use Rattle.resolver.specs.Raw.{Term, choice, conditional, sequence, part, enc-term, symbols, tokens-of, kids-of, Skips}
-use Rattle.resolver.proofs.Symbols.{next, tag-is}
+use Rattle.names.specs.Standing.{symbols}
+use Rattle.names.proofs.Symbols.{tag-cell}
+use Rattle.resolver.specs.Raw.{Term, choice, conditional, sequence, part, enc-term, tokens-of, kids-of, Skips}
+use Rattle.resolver.proofs.Symbols.{next}
 
 -- ---- the table's numbers are small
 all-below : ℕ → List ℕ → Bool
@@ -167,7 +169,7 @@ skip-step raw at p need h h₀ need′ p′ en ep s t rest e = by (h s t rest e 
     by (x ∷ xs) m d =
         let o = open-item x xs in
         let n = next s raw p (tag (item-tag x)) ((item-tokens x ++ all-symbols (item-kids x ++ xs)) ++ rest) (d ∙ ap (λ l. l ++ rest) (o .opened)) in
-        let k : getD raw p 0 ≡ item-tag x = tag-is s (getD raw p 0) (item-tag x) (n .is) in
+        let k : getD raw p 0 ≡ item-tag x = tag-cell s (getD raw p 0) (item-tag x) (n .is) in
         let q : tokens-of (getD raw p 0) ≡ length (item-tokens x) = ap tokens-of k ∙ sym (o .tokens-are) in
         let u : kids-of (getD raw p 0) ≡ length (item-kids x) = ap kids-of k ∙ sym (o .kids-are) in
         let f : p′ ≡ p + 1 + length (item-tokens x) = omega arith in

@@ -10,7 +10,7 @@ use Rattle.pcrl.specs.Maybe.{_>>=_}
 use Rattle.pcrl.specs.Tests.{same?}
 use Rattle.pcrl.specs.Tree.{Name}
 use Rattle.pcrl.specs.Names.{number-of}
-use Rattle.resolver.specs.InScope.{number-below}
+use Rattle.laws.specs.Numbers.{number-below}
 use Rattle.names.specs.NameCells.{or-count, name-at, names-at, scope-at}
 
 module _ (x : Name) (l : List Name) (r m : ℕ) (many : length l ≡ m) (found : r ≡ or-count m (number-of x l)) where

@@ -12,11 +12,13 @@ use Rattle.pcrl.specs.Names.{number-of}
 use Rattle.parser.specs.Cells.{Symbol, enc-call, enc-choice}
 use Rattle.nodes.specs.Layout.{after-mark, one-if, atom-kind, call-kind}
 use Rattle.names.specs.NameCells.{name-at, names-at, scope-at}
+use Rattle.names.specs.Standing.{symbols}
+use Rattle.names.proofs.Symbols.{name-of-cell}
 use Rattle.resolver.specs.declared.Step.{Step}
 use Rattle.resolver.specs.declared.Found.{Found}
-use Rattle.resolver.specs.Raw.{Term, part, enc-term, symbols, tokens-of}
+use Rattle.resolver.specs.Raw.{Term, part, enc-term, tokens-of}
 use Rattle.resolver.specs.Resolving.{Outcome, lost, given-cells, term-cells, Naming, ResolvesGiven, ResolvesNamed}
-use Rattle.resolver.proofs.Symbols.{pair, name-is}
+use Rattle.resolver.proofs.Symbols.{pair}
 use Rattle.resolver.proofs.DataLaws.{became}
 use Rattle.resolver.proofs.ProcessCells.{action-cells, process-cells, unnamed-cells}
 use Rattle.resolver.proofs.Terms.{SingleTag, only-tag, plain-tag, last-tag, group-tag, View, single, plus, cond, then, delta, tau, bare, given, sum, seen}
@@ -52,8 +54,8 @@ module _ (s raw funcs acts procs scope : List ℕ) (n at : ℕ) (after : Bool) (
   by-name P t k rest (then p q₁) q h h′ e f = let z = ap tokens-of q in absurd (omega arith)
   by-name P t k rest delta q h h′ e f = let z = ap tokens-of q in absurd (omega arith)
   by-name P t k rest tau q h h′ e f = let z = ap tokens-of q in absurd (omega arith)
-  by-name P t k rest (bare x) q h h′ e f = f x none (name-is s (getD raw (at + 1) 0) x (pair s raw at 14 (name x) _ e .token-cell)) e
-  by-name P t k rest (given x ds) q h h′ e f = f x (some ds) (name-is s (getD raw (at + 1) 0) x (pair s raw at 15 (name x) _ e .token-cell)) e
+  by-name P t k rest (bare x) q h h′ e f = f x none (name-of-cell s (getD raw (at + 1) 0) x (pair s raw at 14 (name x) _ e .token-cell)) e
+  by-name P t k rest (given x ds) q h h′ e f = f x (some ds) (name-of-cell s (getD raw (at + 1) 0) x (pair s raw at 15 (name x) _ e .token-cell)) e
   by-name P t k rest (sum v D p) q h h′ e f = absurd (h′ q)
 
   module _ (c : ℕ) (ec : c ≡ getD raw (at + 1) 0) (f : Found)

@@ -18,14 +18,16 @@ use Rattle.pcrl.specs.Tokens.{name}
 use Rattle.pcrl.specs.Tree.{Name}
 use Rattle.pcrl.specs.Names.{Names, number-of, declared, new-variable}
 use Rattle.parser.specs.Cells.{Symbol, tag, token, sum-tag}
+use Rattle.parser.specs.Reading.{Put}
 use Rattle.nodes.specs.Layout.{after-mark, one-if, sum-kind, variable-tag}
 use Rattle.names.specs.NameCells.{or-count, name-at, names-at, scope-at}
+use Rattle.names.specs.Standing.{symbols}
+use Rattle.names.proofs.Symbols.{name-of-cell}
 use Rattle.resolver.specs.declared.Step.{Step}
-use Rattle.resolver.specs.Raw.{symbols}
-use Rattle.resolver.specs.Writing.{Put, Writes}
+use Rattle.resolver.specs.Writing.{Writes}
 use Rattle.resolver.specs.Resolving.{lost, took, Declared, binder-cells, SaysNew, Binds}
 use Rattle.resolver.proofs.Writing.{writes-then, writes-cell}
-use Rattle.resolver.proofs.Symbols.{next, pair, name-is}
+use Rattle.resolver.proofs.Symbols.{next, pair}
 use Rattle.resolver.proofs.Lookup.{known, unknown, names-many, scope-many}
 use Rattle.resolver.proofs.DataLaws.{became}
 
@@ -167,8 +169,8 @@ two-names s raw at x D rest e =
     let q : at + 3 ≡ at + 2 + 1 = omega arith in
     record {
       inside = omega arith;
-      variable = name-is s (getD raw (at + 1) 0) x (p .token-cell);
-      sort = name-is s (getD raw (at + 2) 0) D (n .is);
+      variable = name-of-cell s (getD raw (at + 1) 0) x (p .token-cell);
+      sort = name-of-cell s (getD raw (at + 2) 0) D (n .is);
       behind = ap (λ i. drop i (symbols s raw)) q ∙ n .behind;
     }
 

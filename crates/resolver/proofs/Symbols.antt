@@ -2,7 +2,7 @@
 use mathlib.Core.Path.{_≡_, refl, sym, ap, _∙_}
 use mathlib.Core.Bool.{Bool, true, false}
 use mathlib.Core.List.{List, [], _∷_, map}
-use Prim.Native.Nat.{ℕ, zero, suc, _+_, _-_, _≤_, _<_}
+use Prim.Native.Nat.{ℕ, suc, _+_, _-_, _≤_, _<_}
 use native.Mathlib.Decide.{decLt}
 use native.Mathlib.Numerals.{add-one}
 use native.Mathlib.Omega.{arith}
@@ -11,15 +11,12 @@ use lib.Dec.{ltb}
 use lib.ListN.{length, drop, getD, drop-of-length-le, length-map, List·getD-eq-default}
 use lib.Seq.{drop-cons}
 use Rattle.pcrl.specs.Tokens.{Token, name, numeral, sign}
+use Rattle.laws.specs.Lists.{map-drop}
 use Rattle.lexer.specs.Cells.{cell-token, written, first-name, first-numeral}
 use Rattle.parser.specs.Cells.{Symbol, tag, token, symbol-of}
 use Rattle.names.specs.NameCells.{name-at}
-use Rattle.resolver.specs.Raw.{symbols}
-
-pub map-drop : {A B : Type 0} (f : A → B) (i : ℕ) (l : List A) → drop i (map f l) ≡ map f (drop i l)
-map-drop f zero l = refl
-map-drop f (suc i) [] = refl
-map-drop f (suc i) (x ∷ l) = map-drop f i l
+use Rattle.names.specs.Standing.{symbols}
+use Rattle.names.proofs.Symbols.{tag-cell}
 
 -- a symbol stands at `at`, and others behind it
 pub record Next (s raw : List ℕ) (at : ℕ) (y : Symbol) (l : List Symbol) : Type 0 where
@@ -41,14 +38,6 @@ next s raw at y l e = by (decLt at (length raw))
         let q : _≡_ {A = ℕ} 0 1 = cc in
         absurd (omega arith)
 
-pub tag-is : (s : List ℕ) (c k : ℕ) → symbol-of s c ≡ tag k → c ≡ k
-unfolding symbol-of
-tag-is s c k = by (ltb c 32)
-  where
-    by : (b : Bool) → elim b as (λ (x : Bool). Symbol) [ true ↦ tag c | false ↦ token (cell-token s c) ] ≡ tag k → c ≡ k
-    by true e = cc
-    by false e = let z : _≡_ {A = ℕ} 0 1 = cc in absurd (omega arith)
-
 token-is : (s : List ℕ) (c : ℕ) (t : Token) → symbol-of s c ≡ token t → cell-token s c ≡ t
 unfolding symbol-of
 token-is s c t = by (ltb c 32)
@@ -56,17 +45,6 @@ token-is s c t = by (ltb c 32)
     by : (b : Bool) → elim b as (λ (x : Bool). Symbol) [ true ↦ tag c | false ↦ token (cell-token s c) ] ≡ token t → cell-token s c ≡ t
     by true e = let z : _≡_ {A = ℕ} 0 1 = cc in absurd (omega arith)
     by false e = cc
-
-pub name-is : (s : List ℕ) (c : ℕ) (x : List ℕ) → symbol-of s c ≡ token (name x) → name-at s c ≡ x
-unfolding cell-token name-at
-name-is s c x e = by (ltb c first-numeral) (ltb c first-name) (token-is s c (name x) e)
-  where
-    by : (a b : Bool)
-        → elim a as (λ (y : Bool). Token) [ true ↦ sign (written c) | false ↦ elim b as (λ (y : Bool). Token) [ true ↦ numeral (c - first-numeral) | false ↦ name (name-at s c) ] ] ≡ name x
-        → name-at s c ≡ x
-    by true b f = let z : _≡_ {A = ℕ} 0 1 = cc in absurd (omega arith)
-    by false true f = let z : _≡_ {A = ℕ} 0 1 = cc in absurd (omega arith)
-    by false false f = cc
 
 pub record NumeralCell (c v : ℕ) : Type 0 where
   pub least : first-numeral ≤ c
@@ -99,13 +77,13 @@ pair s raw at k t l e =
     let q : at + 2 ≡ at + 1 + 1 = omega arith in
     record {
       inside = omega arith;
-      tag-cell = tag-is s (getD raw at 0) k (a .is);
+      tag-cell = tag-cell s (getD raw at 0) k (a .is);
       token-cell = b .is;
       behind = ap (λ i. drop i (symbols s raw)) q ∙ b .behind;
     }
 
 pub first-tag : (s raw : List ℕ) (at k : ℕ) (l : List Symbol) → drop at (symbols s raw) ≡ tag k ∷ l → getD raw at 0 ≡ k
-first-tag s raw at k l e = tag-is s (getD raw at 0) k (next s raw at (tag k) l e .is)
+first-tag s raw at k l e = tag-cell s (getD raw at 0) k (next s raw at (tag k) l e .is)
 
 -- a cell that is not 0 stands within the list
 pub live : (raw : List ℕ) (at : ℕ) → 0 < getD raw at 0 → at < length raw

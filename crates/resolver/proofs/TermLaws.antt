@@ -11,9 +11,10 @@ use Rattle.pcrl.specs.Tree.{Name, Choice, Part}
 use Rattle.pcrl.specs.Names.{Names}
 use Rattle.parser.specs.Cells.{Symbol, tag, enc-choice}
 use Rattle.names.specs.NameCells.{name-at, scope-at}
+use Rattle.names.specs.Standing.{symbols}
 use Rattle.resolver.specs.declared.Step.{Step}
 use Rattle.resolver.specs.declared.Fork.{Fork}
-use Rattle.resolver.specs.Raw.{Term, choice, part, enc-term, sum-depth, term-depth, symbols, tokens-of, kids-of}
+use Rattle.resolver.specs.Raw.{Term, choice, part, enc-term, sum-depth, term-depth, tokens-of, kids-of}
 use Rattle.resolver.specs.Writing.{Writes}
 use Rattle.resolver.specs.Resolving.{Outcome, lost, took, Declared, term-cells, binder-cells, _⊕_, InScope, Binds, ResolvesConstant, ResolvesNamed, Forked, Forks, ResolvesTerm}
 use Rattle.resolver.proofs.Writing.{writes-nothing, writes-then}

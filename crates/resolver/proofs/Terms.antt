@@ -8,9 +8,11 @@ use lib.ListN.{length, drop, getD}
 use Rattle.pcrl.specs.Tree.{Name, RawData, RawDatas, Choice, Conditional, Sequence, Part}
 use Rattle.pcrl.specs.Names.{Names, resolve-choice}
 use Rattle.parser.specs.Cells.{Symbol, tag, enc-call, enc-choice}
-use Rattle.resolver.specs.Raw.{Term, choice, conditional, sequence, part, enc-term, resolve-term, sum-depth, term-depth, symbols}
+use Rattle.names.specs.Standing.{symbols}
+use Rattle.names.proofs.Symbols.{tag-cell}
+use Rattle.resolver.specs.Raw.{Term, choice, conditional, sequence, part, enc-term, resolve-term, sum-depth, term-depth}
 use Rattle.resolver.specs.Resolving.{term-cells}
-use Rattle.resolver.proofs.Symbols.{next, tag-is}
+use Rattle.resolver.proofs.Symbols.{next}
 
 -- the tags of terms with one subterm
 pub data SingleTag : ℕ → Type 0 where
@@ -73,4 +75,4 @@ pub seen : (s raw : List ℕ) (at : ℕ) (t : Term) (rest : List Symbol) → dro
 seen s raw at t rest e =
     let f = first t in
     let n = next s raw at (tag (f .tag-of)) (f .rest ++ rest) (e ∙ ap (λ l. l ++ rest) (f .opened)) in
-    record { tag-of = f .tag-of; view = f .view; inside = n .inside; cell = tag-is s (getD raw at 0) (f .tag-of) (n .is) }
+    record { tag-of = f .tag-of; view = f .view; inside = n .inside; cell = tag-cell s (getD raw at 0) (f .tag-of) (n .is) }

@@ -6,7 +6,8 @@ use native.Mathlib.Numerals.{add-one}
 use native.Mathlib.Omega.{arith}
 use lib.ListN.{length, take, set, length-append, length-set}
 use lib.Seq.{length-take-le, take-suc-set, take-set-lt, set-at}
-use Rattle.resolver.specs.Writing.{Put, Written, Writes}
+use Rattle.parser.specs.Reading.{Put}
+use Rattle.resolver.specs.Writing.{Written, Writes}
 
 pub writes-nothing : {w : ℕ} {o : List ℕ} → Writes [] w o w o
 writes-nothing {w} {o} = record { with-room = λ h. record { next = omega arith; same = refl; cells = sym (append-nil (take w o)) } }

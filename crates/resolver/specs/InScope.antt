@@ -6,25 +6,14 @@ use mathlib.Core.Option.{Option, none, some, Option·some-injective}
 use Prim.Native.Nat.{ℕ, suc, _+_, _≤_, _<_}
 use native.Mathlib.Omega.{arith}
 use lib.ListN.{length, length-append}
-use Rattle.pcrl.specs.Maybe.{_>>=_}
-use Rattle.pcrl.specs.Tests.{Every, same?}
+use Rattle.pcrl.specs.Tests.{Every}
 use Rattle.pcrl.specs.Tree.{Name, RawData, RawDatas, Choice, Conditional, Sequence, Part, ProcLine, InitLine}
 use Rattle.pcrl.specs.Sheet.{Data, Datas, list-of, Act, Proc, Process}
 use Rattle.pcrl.specs.Names.{Names, number-of, new-variable, resolve-data, resolve-datas, resolve-given, named, resolve-choice, resolve-conditional, resolve-sequence, resolve-part, resolve-params, resolve-proc, resolve-init}
+use Rattle.laws.specs.Optional.{first-given, test-passed}
+use Rattle.laws.specs.Numbers.{number-below}
 use Rattle.nodes.specs.Scoped.{max-scope, ScopedData, ScopedArguments, Scoped}
-use Rattle.theory.specs.Optional.{first-given, test-passed}
 use Rattle.resolver.specs.Raw.{sum-depth, conditional-depth, sequence-depth, part-depth}
-
--- a name's number is below the length
-pub number-below : (x : Name) (l : List Name) (i : ℕ) → number-of x l ≡ some i → i < length l
-unfolding number-of
-number-below x [] i e = let z : _≡_ {A = ℕ} 0 1 = cc in absurd (omega arith)
-number-below x (y ∷ l) i e = by (same? x y) e (λ j. number-below x l j)
-  where
-    by : (d : Dec (x ≡ y)) → elim d as (λ (z : Dec (x ≡ y)). Option ℕ) [ yes e ↦ some 0 | no h ↦ _>>=_ (number-of x l) (λ n. some (suc n)) ] ≡ some i
-        → ((j : ℕ) → number-of x l ≡ some j → j < length l) → i < suc (length l)
-    by (yes q) e h = let z : 0 ≡ i = cc in omega arith
-    by (no q) e h = first-given (number-of x l) (λ n. some (suc n)) i e (λ j p r. let z : suc j ≡ i = cc in let k = h j p in omega arith)
 
 module _ (N : Names) where
   mutual

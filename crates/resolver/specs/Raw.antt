@@ -1,14 +1,15 @@
 -- The raw tree as a reader of its cells sees it: choices, conditionals, sequences and parts are one kind of term,
 -- and behind each tag stand so many tokens and so many subterms.
 use mathlib.Core.Path.{_≡_}
-use mathlib.Core.List.{List, [], _∷_, _++_, map}
+use mathlib.Core.List.{List, [], _∷_, _++_}
 use mathlib.Core.Option.{Option}
 use Prim.Native.Nat.{ℕ, suc, max}
 use lib.ListN.{drop, getD}
 use Rattle.pcrl.specs.Tree.{Name, Choice, only, plus, Conditional, plain, cond, Sequence, last, then, Part, delta, tau, named, sum, group}
 use Rattle.pcrl.specs.Sheet.{Proc}
 use Rattle.pcrl.specs.Names.{Names, resolve-choice, resolve-conditional, resolve-sequence, resolve-part}
-use Rattle.parser.specs.Cells.{Symbol, symbol-of, enc-choice, enc-conditional, enc-sequence, enc-part}
+use Rattle.parser.specs.Cells.{Symbol, enc-choice, enc-conditional, enc-sequence, enc-part}
+use Rattle.names.specs.Standing.{symbols}
 
 pub data Term : Type 0 where
   choice : Choice → Term
@@ -54,10 +55,6 @@ term-depth (choice c) = sum-depth c
 term-depth (conditional c) = conditional-depth c
 term-depth (sequence p) = sequence-depth p
 term-depth (part p) = part-depth p
-
--- what the cells stand for, where s are the sheet's bytes
-unfoldable pub symbols : List ℕ → List ℕ → List Symbol
-symbols s raw = map (symbol-of s) raw
 
 -- behind a tag: how many tokens, then how many subterms
 unfoldable pub tokens-of : ℕ → ℕ

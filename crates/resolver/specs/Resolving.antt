@@ -18,12 +18,13 @@ use Rattle.parser.specs.Cells.{enc-data as raw-data, enc-datas as raw-datas}
 use Rattle.nodes.specs.Scoped.{max-scope}
 use Rattle.nodes.specs.Layout.{cell-limit, enc-data, enc-arguments, enc-datas, after-mark, one-if, atom-kind, sum-kind, call-kind, variable-tag, enc}
 use Rattle.names.specs.NameCells.{name-at, names-at, scope-at}
+use Rattle.names.specs.Standing.{symbols}
 use Rattle.resolver.specs.declared.Step.{Step}
 use Rattle.resolver.specs.declared.Run.{Run}
 use Rattle.resolver.specs.declared.Found.{Found}
 use Rattle.resolver.specs.declared.Fork.{Fork}
 use Rattle.resolver.specs.declared.Resolved.{Resolved}
-use Rattle.resolver.specs.Raw.{Term, enc-term, resolve-term, term-depth, sum-depth, symbols, tokens-of, kids-of}
+use Rattle.resolver.specs.Raw.{Term, enc-term, resolve-term, term-depth, sum-depth, tokens-of, kids-of}
 use Rattle.resolver.specs.Writing.{Writes}
 
 -- The next place is not before `at`, or it is past the end of n cells.

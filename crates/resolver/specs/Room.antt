@@ -12,7 +12,7 @@ use Rattle.pcrl.specs.Names.{Names, number-of, new-variable, resolve-data, reso
 use Rattle.parser.specs.Cells.{enc-call, enc-choice, enc-conditional, enc-sequence, enc-part, enc-init}
 use Rattle.parser.specs.Cells.{enc-data as raw-data, enc-datas as raw-datas}
 use Rattle.nodes.specs.Layout.{enc-data, enc-arguments, enc-datas, enc}
-use Rattle.theory.specs.Optional.{first-given, test-passed}
+use Rattle.laws.specs.Optional.{first-given, test-passed}
 
 -- arguments are data terms, one after another
 pub arguments-are : (es : Datas) → enc-datas (list-of es) ≡ enc-arguments es

@@ -1,13 +1,8 @@
 -- Cells written one after another into an array, from a place on, if there is room.
 use mathlib.Core.Path.{_≡_}
 use mathlib.Core.List.{List, _++_}
-use Prim.Native.Nat.{ℕ, _+_, _≤_, _<_}
-use lib.ListN.{length, take, set}
-
--- A cell was written at w, if there is one; w′ is the next free one.
-pub record Put (o : List ℕ) (w v w′ : ℕ) (o′ : List ℕ) : Type 0 where
-  pub next : w < length o → w′ ≡ w + 1
-  pub cells : o′ ≡ set o w v
+use Prim.Native.Nat.{ℕ, _+_, _≤_}
+use lib.ListN.{length, take}
 
 -- Behind those before w the cells of e were written, up to w′.
 pub record Written (e : List ℕ) (w : ℕ) (o : List ℕ) (w′ : ℕ) (o′ : List ℕ) : Type 0 where

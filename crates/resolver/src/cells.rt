@@ -3,13 +3,12 @@ ghost use mathlib.Core.Path.{_≡_};
 ghost use mathlib.Core.List.{[], _∷_};
 ghost use Prim.Native.Nat.{_+_, _*_, _<_, _≤_};
 ghost use lib.ListN.{length};
-ghost use Rattle.nodes.specs.Layout.{cell-limit, after-mark, one-if};
+ghost use Rattle.nodes.specs.Layout.{after-mark, one-if};
 ghost use Rattle.resolver.specs.Raw.{kids-of, tokens-of, Skips};
-ghost use Rattle.resolver.specs.Writing.{Put, Writes};
+ghost use Rattle.resolver.specs.Writing.{Writes};
 use crate::Step;
 use names::find::cell;
-
-const CELL_LIMIT: usize = 65536;
+use parser::cells::put;
 
 const AFTER: u16 = nodes::AFTER as u16;
 
@@ -21,18 +20,6 @@ const TOKENS: [u8; 18] = [0, 1, 1, 1, 0, 0, 0, 0, 0, 0, 0, 0, 0, 0, 1, 1, 2, 0];
 
 const KIDS: [u8; 18] = [0, 0, 0, 1, 1, 2, 1, 2, 1, 3, 1, 2, 0, 0, 0, 1, 1, 1];
 
-// Writes a cell; the next free one.
-pub fn put(out: &mut [u16], w: usize, v: u16) -> usize
-    ensures { λ r. ⌜ Put (now (out .entry)) w v r (now (out .exit)) ⌝ }
-{
-    if w < out.len() {
-        out[w] = v;
-        w + 1
-    } else {
-        w
-    }
-}
-
 // The first three cells of a node.
 pub fn node(out: &mut [u16], w: usize, first: u16, number: u16, count: u16) -> usize
     ensures { λ r. ⌜ Writes (first ∷ number ∷ count ∷ []) w (now (out .entry)) r (now (out .exit)) ⌝ }
@@ -40,13 +27,6 @@ pub fn node(out: &mut [u16], w: usize, first: u16, number: u16, count: u16) -> u
     let a = put(out, w, first);
     let b = put(out, a, number);
     put(out, b, count)
-}
-
-// A number as a cell.
-pub fn short(n: usize) -> u16
-    ensures { λ r. ⌜ (n < cell-limit → r ≡ n) ⌝ }
-{
-    if n < CELL_LIMIT { n as u16 } else { 0 }
 }
 
 // A name is not as it must be: past the end.

@@ -5,11 +5,11 @@ ghost use Rattle.resolver.specs.Resolving.{Ahead, Few, ResolvesData, Res
 use crate::Run;
 use crate::Step;
 use crate::cells::lost;
-use crate::cells::put;
-use crate::cells::short;
 use names::find::cell;
 use names::find::number_of;
 use names::find::scope_number;
+use parser::cells::put;
+use parser::cells::short;
 use parser::codes::APPLY_TAG;
 use parser::codes::BARE_TAG;
 use parser::codes::FIRST_NAME;

@@ -6,11 +6,11 @@ ghost use Rattle.pcrl.specs.Limits.{max-functions, max-processes};
 ghost use Rattle.nodes.specs.Layout.{cell-limit};
 ghost use Rattle.resolver.specs.Resolving.{AllFew, ResolvesRight, ResolvesInit};
 use crate::Resolved;
-use crate::cells::short;
 use crate::data::given;
 use crate::process::term;
 use names::find::cell;
 use names::find::number_of;
+use parser::cells::short;
 
 const CALL: u16 = nodes::CALL as u16;
 

@@ -13,8 +13,8 @@ use Rattle.pcrl.specs.Table.{Equation, Table, params-of}
 use Rattle.pcrl.specs.Stream.{encode-numbers, encode-func, encode-action, encode}
 use Rattle.pcrl.specs.Decode.{decode}
 use Rattle.pcrl.specs.Blocks.{block-stream, blocks-for, Filled, filled?, table-in, table-read}
+use Rattle.laws.specs.Says.{Says}
 use Rattle.codec.specs.StreamLaws.{encode-decode}
-use Rattle.terms.specs.Stands.{Says}
 use Rattle.terms.proofs.Places.{as-many}
 use Rattle.tables.specs.declared.Tabled.{Tabled}
 use Rattle.tables.specs.Indexed.{PartsAt, Indexed, TableRead, Decoded}

@@ -6,7 +6,7 @@ ghost use lib.ListN.{length, take, drop};
 ghost use Rattle.pcrl.specs.Limits.{max-functions, max-actions, max-equations, max-stream};
 ghost use Rattle.pcrl.specs.Tests.{Every};
 ghost use Rattle.pcrl.specs.Blocks.{block-stream, blocks-for, table-read};
-ghost use Rattle.terms.specs.Stands.{Says};
+ghost use Rattle.laws.specs.Says.{Says};
 ghost use Rattle.tables.specs.Indexed.{TableRead, Decoded};
 
 // "255 summands in all"

@@ -2,45 +2,23 @@
 use mathlib.Core.Path.{_≡_, refl, sym, ap, _∙_}
 use mathlib.Core.List.{List, [], _∷_}
 use mathlib.Core.Bool.{Bool, true, false}
-use mathlib.Core.Option.{none, some}
-use Prim.Native.Nat.{ℕ, zero, suc, _+_, _-_, _<_, _≤_}
+use mathlib.Core.Option.{some}
+use Prim.Native.Nat.{ℕ, _+_, _-_, _<_, _≤_}
 use native.Mathlib.Omega.{arith}
 use lib.Dec.{ltb, eqb}
-use lib.ListN.{length, getD, getElem?}
-use borrow.Author.Tests.{ltb-true, ltb-false, eqb-true, eqb-false}
+use lib.ListN.{length, getD}
+use borrow.Author.Tests.{ltb-true, ltb-false}
 use Rattle.pcrl.specs.Limits.{max-arity}
 use Rattle.pcrl.specs.Tests.{Between}
 use Rattle.pcrl.specs.Sheet.{Sig, Func, no-func, size, func}
 use Rattle.pcrl.specs.Stream.{variable-code, function-code, encode-func}
 use Rattle.pcrl.specs.Decode.{variable, function, node-of, Fits, wants}
+use Rattle.laws.specs.Lists.{getElem?-below, getElem?-past}
 use Rattle.laws.specs.Every.{every-at}
+use Rattle.laws.specs.Says.{Says, says-as, says-lt, says-eq}
 use Rattle.codec.specs.TermLaws as terms
-use Rattle.terms.specs.Stands.{Says, Stands, KnownData}
+use Rattle.terms.specs.Stands.{Stands, KnownData}
 use Rattle.terms.proofs.Places.{stands-there, as-many, arity-at, takes-at, gives-at}
-
--- A TEST'S ANSWER
-
-pub says-lt : (a b : ℕ) (P : Type 0) → (a < b → P) → (P → a < b) → Says (ltb a b) P
-says-lt a b P f g = go (ltb a b) refl
-  where
-    go : (t : Bool) → ltb a b ≡ t → Says t P
-    go true e = f (ltb-true a b e)
-    go false e = λ p. let h = g p in let k = ltb-false a b e in omega arith
-
-pub says-eq : (a b : ℕ) (P : Type 0) → (a ≡ b → P) → (P → a ≡ b) → Says (eqb a b) P
-says-eq a b P f g = go (eqb a b) refl
-  where
-    go : (t : Bool) → eqb a b ≡ t → Says t P
-    go true e = f (eqb-true a b e)
-    go false e = λ p. eqb-false a b e (g p)
-
-pub says-yes : (t : Bool) (P : Type 0) → Says t P → t ≡ true → P
-says-yes true P h e = h
-says-yes false P h e = absurd (let z : _≡_ {A = ℕ} 0 1 = cc in omega arith)
-
-pub says-no : (t : Bool) (P : Type 0) → Says t P → t ≡ false → ¬ P
-says-no true P h e = absurd (let z : _≡_ {A = ℕ} 0 1 = cc in omega arith)
-says-no false P h e = h
 
 -- A BYTE'S NODE
 
@@ -49,16 +27,6 @@ node-variable b i e h = ap node-of e ∙ terms.node-variable i h
 
 node-function : (b f : ℕ) → b ≡ function-code + f → node-of b ≡ function f
 node-function b f e = ap node-of e ∙ terms.node-function f
-
-elem-at : (Γ : List ℕ) (i : ℕ) → i < length Γ → getElem? Γ i ≡ some (getD Γ i 0)
-elem-at [] i h = absurd (omega arith)
-elem-at (x ∷ Γ) zero h = refl
-elem-at (x ∷ Γ) (suc i) h = elem-at Γ i (omega arith)
-
-elem-none : (Γ : List ℕ) (i : ℕ) → length Γ ≤ i → getElem? Γ i ≡ none
-elem-none [] i h = refl
-elem-none (x ∷ Γ) zero h = absurd (omega arith)
-elem-none (x ∷ Γ) (suc i) h = elem-none Γ i (omega arith)
 
 -- THE ANSWERS OF `fits`
 
@@ -69,16 +37,16 @@ size-is S s sizes funcs known d i x z e = e ∙ ap (λ (j : ℕ). getD sizes j 0
 module _ (S : Sig) (Γ : List ℕ) (b d : ℕ) where
   pub fits-value : (x : ℕ) → x ≡ size S d → b < variable-code → Says (ltb b x) (Fits S Γ d (node-of b))
   unfolding Fits
-  fits-value x z h = rw (terms.node-value b h) (says-lt b x _ (λ l. rw z at l) (λ l. rw (← z) at l))
+  fits-value x z h = rw (terms.node-value b h) (says-as (ltb b x) (λ l. rw z at l) (λ l. rw (← z) at l) (says-lt b x))
 
   pub fits-variable : (x : ℕ) → x ≡ getD Γ (b - variable-code) 0 → variable-code ≤ b → b < function-code → b - variable-code < length Γ → Says (eqb x d) (Fits S Γ d (node-of b))
   unfolding Fits
   fits-variable x e l h k =
-      rw (node-variable b (b - variable-code) (omega arith) (omega arith), elem-at Γ (b - variable-code) k) (says-eq x d _ (λ q. ap some (sym e ∙ q)) (λ q. let z : getD Γ (b - variable-code) 0 ≡ d = cc in e ∙ z))
+      rw (node-variable b (b - variable-code) (omega arith) (omega arith), getElem?-below Γ (b - variable-code) 0 k) (says-as (eqb x d) (λ q. ap some (sym e ∙ q)) (λ q. let z : getD Γ (b - variable-code) 0 ≡ d = cc in e ∙ z) (says-eq x d))
 
   pub no-variable : variable-code ≤ b → b < function-code → length Γ ≤ b - variable-code → ¬ Fits S Γ d (node-of b)
   unfolding Fits
-  no-variable l h k = rw (node-variable b (b - variable-code) (omega arith) (omega arith), elem-none Γ (b - variable-code) k) (λ q. let z : _≡_ {A = ℕ} 0 1 = cc in omega arith)
+  no-variable l h k = rw (node-variable b (b - variable-code) (omega arith) (omega arith), getElem?-past Γ (b - variable-code) k) (λ q. let z : _≡_ {A = ℕ} 0 1 = cc in omega arith)
 
 -- a function by its place
 module _ (S : Sig) (s sizes funcs : List ℕ) (known : KnownData S s sizes funcs) (f : ℕ) where
@@ -97,7 +65,7 @@ module _ (S : Sig) (s sizes funcs : List ℕ) (known : KnownData S s sizes funcs
         let z : x ≡ func S f .gives = e ∙ gives-at s (getD funcs f 0) (func S f) (function-stands h) in
         let q = as-many encode-func s (S .funcs) funcs (known .stand) in
         let l : f < length (S .funcs) = omega arith in
-        rw (node-function b f is) (says-eq x d _ (λ y. (l, sym z ∙ y)) (λ y. z ∙ y .1))
+        rw (node-function b f is) (says-as (eqb x d) (λ y. (l, sym z ∙ y)) (λ y. z ∙ y .1) (says-eq x d))
 
     pub no-function : length funcs ≤ f → ¬ Fits S Γ d (node-of b)
     unfolding Fits

@@ -1,7 +1,6 @@
 -- What is known of a table by where its parts stand in the stream: one notion, an encoding that stands at a place.
 use mathlib.Core.Path.{_≡_}
 use mathlib.Core.List.{List, _++_}
-use mathlib.Core.Bool.{Bool, true, false}
 use Prim.Native.Nat.{ℕ, _+_}
 use lib.ListN.{length, getD, take, drop}
 use Rattle.pcrl.specs.Limits.{max-arity}
@@ -34,8 +33,3 @@ KnownActs S s acts = Standing encode-action s (S .acts) acts
 -- where the parameters of each equation stand
 abbrev pub KnownParams : List (List ℕ) → List ℕ → List ℕ → Type 0
 KnownParams Ps s params = Standing encode-numbers s Ps params
-
--- a test's answer
-abbrev pub Says : Bool → Type 0 → Type 0
-Says true P = P
-Says false P = ¬ P

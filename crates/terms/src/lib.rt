@@ -7,7 +7,8 @@ ghost use lib.ListN.{length, getD, drop};
 ghost use Rattle.pcrl.specs.Sheet.{Sig};
 ghost use Rattle.pcrl.specs.Reader.{each};
 ghost use Rattle.pcrl.specs.Decode.{node-of, Fits, wants, read-term};
-ghost use Rattle.terms.specs.Stands.{Says, KnownData, list-at};
+ghost use Rattle.laws.specs.Says.{Says};
+ghost use Rattle.terms.specs.Stands.{KnownData, list-at};
 ghost use Rattle.terms.specs.Ends.{rests, ended, stack, top, below};
 ghost use Rattle.terms.specs.Numbers.{read-list, ListEnds};
 

@@ -2,7 +2,6 @@ pub mod Standing
 pub mod EqualityLaws
 pub mod Segments
 pub mod Questions
-pub mod Optional
 pub mod Distinct
 pub mod Resolved
 pub mod Numbering

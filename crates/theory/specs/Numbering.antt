@@ -8,8 +8,8 @@ use lib.ListN.{length, length-append}
 use Rattle.pcrl.specs.Tree.{Name, Choice, Conditional, Sequence, Part, ProcLine}
 use Rattle.pcrl.specs.Sheet.{Data, Act, Proc, Process}
 use Rattle.pcrl.specs.Names.{Names, number-of, new-variable, resolve-data, resolve-given, named, resolve-choice, resolve-conditional, resolve-sequence, resolve-part, resolve-params, resolve-proc}
+use Rattle.laws.specs.Optional.{first-given, test-passed}
 use Rattle.theory.specs.Standing.{Numbered}
-use Rattle.theory.specs.Optional.{first-given, test-passed}
 use Rattle.theory.specs.Resolved.{Declared, params-from}
 
 module _ (N : Names) where

@@ -1,19 +1,18 @@
 -- What a resolved sheet has from its raw sheet, line by line: `resolve` taken apart, and numbers below the number of names.
 use mathlib.Core.Path.{_≡_, refl, subst}
 use mathlib.Core.List.{List, [], _∷_, _++_}
-use mathlib.Core.Option.{Option, some, Option·none-ne-some}
-use Prim.Native.Nat.{ℕ, suc, _+_, _<_}
+use mathlib.Core.Option.{some}
+use Prim.Native.Nat.{ℕ, _+_, _<_}
 use native.Mathlib.Omega.{arith}
 use lib.Dec.{T}
 use lib.ListN.{length, length-append}
-use Rattle.pcrl.specs.Tests.{same?, distinct, Every, Each}
+use Rattle.pcrl.specs.Tests.{distinct, Every, Each}
 use Rattle.pcrl.specs.Tree.{Name, FuncLine, ActLine, ProcLine, RawSheet}
 use Rattle.pcrl.specs.Sheet.{Func, Action, Process, Sheet}
-use Rattle.pcrl.specs.Maybe.{_>>=_, for-each}
+use Rattle.pcrl.specs.Maybe.{for-each}
 use Rattle.pcrl.specs.Names.{Names, names-of, number-of, declared, new-variable, sorts-of, resolve-func, resolve-act, resolve-params, resolve-proc, resolve-init, sizes-of, resolve}
-use Rattle.laws.specs.Every.{every-of-all}
-use Rattle.laws.specs.Each.{each-every, each-length}
-use Rattle.theory.specs.Optional.{first-given, test-passed, each-given}
+use Rattle.laws.specs.Optional.{first-given, test-passed, each-given}
+use Rattle.laws.specs.Numbers.{number-below, sorts-declared}
 
 -- The lines of a sheet H that was resolved from R.
 pub record Resolved (R : RawSheet) (H : Sheet) : Type 0 where
@@ -44,29 +43,9 @@ resolved-lines R H e =
       start = h₅;
     })))))
 
--- NUMBERS OF NAMES
-
-first-or-below : {P : Type 0} (d : Dec P) (o : Option ℕ) (n i : ℕ) → ((j : ℕ) → o ≡ some j → j < n)
-    → elim d [ yes e ↦ some 0 | no h ↦ _>>=_ o (λ j. some (suc j)) ] ≡ some i → i < suc n
-first-or-below (yes h) o n i f e = let z : 0 ≡ i = cc in omega arith
-first-or-below (no h) o n i f e = first-given o _ i e (λ j e₁ e₂. let w = f j e₁ in let z : suc j ≡ i = cc in omega arith)
-
--- A name's number is below the number of names.
-pub number-below : (x : Name) (l : List Name) (i : ℕ) → number-of x l ≡ some i → i < length l
-unfolding number-of
-number-below x [] i e = absurd (Option·none-ne-some i e)
-number-below x (y ∷ l) i e = first-or-below (same? x y) (number-of x l) (length l) i (λ j. number-below x l j) e
-
 module _ (N : Names) where
   abbrev pub Declared : List ℕ → Type 0
   Declared Ds = Every (λ D. D < length (N .sorts)) Ds
-
-  -- Sorts that are named are there.
-  pub sorts-declared : (xs : List Name) (Ds : List ℕ) → sorts-of N xs ≡ some Ds → (length xs ≡ length Ds) × Declared Ds
-  unfolding sorts-of
-  sorts-declared xs Ds e =
-      let h = each-given (λ D. number-of D (N .sorts)) xs Ds e in
-      (each-length _ xs Ds h, each-every _ (λ x. Unit {0}) _ (λ x D k _. number-below x (N .sorts) D k) xs Ds h (every-of-all _ (λ x. tt) xs))
 
   -- what a function line becomes
   pub record FuncFrom (l : FuncLine) (g : Func) : Type 0 where
@@ -81,7 +60,7 @@ module _ (N : Names) where
       first-given (number-of (l .gives) (N .sorts)) _ g e₁ (λ D h₂ e₂.
       let K : Func = record { takes = Ds; gives = D; values = l .values } in
       let z : K ≡ g = cc in
-      let (a, b) = sorts-declared (l .takes) Ds h₁ in
+      let (a, b) = sorts-declared N (l .takes) Ds h₁ in
       subst (FuncFrom l) z (record { arity = a; takes = b; gives = number-below (l .gives) (N .sorts) D h₂ })))
 
   pub record ActionFrom (l : ActLine) (a : Action) : Type 0 where
@@ -95,7 +74,7 @@ module _ (N : Names) where
       first-given (sorts-of N (l .takes)) _ a e (λ Ds h₁ e₁.
       let K : Action = record { name = l .name; takes = Ds } in
       let z : K ≡ a = cc in
-      let (b, c) = sorts-declared (l .takes) Ds h₁ in
+      let (b, c) = sorts-declared N (l .takes) Ds h₁ in
       subst (ActionFrom l) z (record { name = refl; arity = b; takes = c }))
 
   -- Parameters: as many sorts as are written, all of them there, and as many names more in scope.

@@ -6,14 +6,14 @@ use mathlib.Core.Option.{Option, some}
 use Prim.Native.Nat.{ℕ}
 use native.Mathlib.Omega.{arith}
 use lib.ListN.{length, take}
-use Rattle.pcrl.specs.Result.{Result, accepted}
+use Rattle.pcrl.specs.Result.{Result, accepted, refusal}
 use Rattle.pcrl.specs.Table.{Table}
 use Rattle.pcrl.specs.Stream.{encode}
 use Rattle.pcrl.specs.Right.{RightTable}
 use Rattle.pcrl.specs.Blocks.{file-of-stream, file-of, table-read}
 use Rattle.pcrl.specs.Answers.{stream-filed, output-after, stream-read, table-checked}
+use Rattle.laws.specs.Questions.{after-passed, question-of-passed}
 use Rattle.codec.specs.FileLaws.{read-written}
-use Rattle.codec.specs.Questions.{after-passed, question-of-passed}
 use Rattle.blocks.specs.declared.Filed.{Filed}
 use Rattle.blocks.specs.declared.Filed.the-variants.{Bytes}
 use Rattle.blocks.specs.declared.Opened.{Opened}
@@ -21,7 +21,6 @@ use Rattle.blocks.specs.Answers.{filed-answer, Opens}
 use Rattle.blocks.proofs.RoundTrip.{written-file}
 use Rattle.tables.specs.declared.Tabled.{Tabled}
 use Rattle.tables.specs.Indexed.{Indexed, TableRead}
-use Rattle.wizbratel.specs.Refusal.{refusal}
 
 -- `w` and `out′` are what `write_file` answers and leaves for a right table's stream: the n bytes written are that table's file.
 pub file-written : (T : Table) (out out′ : List ℕ) (w : Filed) (n : ℕ)

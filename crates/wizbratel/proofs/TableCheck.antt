@@ -6,7 +6,7 @@ use mathlib.Core.Option.{Option, none, some}
 use Prim.Native.Nat.{ℕ, _≤_}
 use native.Mathlib.Omega.{arith}
 use lib.ListN.{length, take}
-use Rattle.pcrl.specs.Result.{Result, refused, accepted, question-of, after}
+use Rattle.pcrl.specs.Result.{Result, refused, accepted, question-of, after, refusal}
 use Rattle.pcrl.specs.Table.{Table}
 use Rattle.pcrl.specs.Blocks.{table-read}
 use Rattle.pcrl.specs.Answers.{stream-read, table-checked}
@@ -15,7 +15,6 @@ use Rattle.blocks.specs.Answers.{Opens}
 use Rattle.blocks.proofs.RoundTrip.{opens-accepted, opens-refused}
 use Rattle.tables.specs.declared.Tabled.{Tabled}
 use Rattle.tables.specs.Indexed.{TableRead}
-use Rattle.wizbratel.specs.Refusal.{refusal}
 
 clash : true ≡ false → ⊥
 clash e = let z : _≡_ {A = ℕ} 0 1 = cc in omega arith

@@ -9,7 +9,7 @@ use Rattle.action_names.proofs.Alike.{found-among, none-among, passed-a
 use Rattle.pcrl.specs.Tests.{among}
 use Rattle.pcrl.specs.Tokens.{before}
 use Rattle.pcrl.specs.Values.{place}
-use Rattle.terms.proofs.Nodes.{says-no, says-yes}
+use Rattle.laws.specs.Says.{said-yes, said-no}
 use Rattle.terms.proofs.Stack.{places}
 use Rattle.terms.specs.Stands.{list-at}
 use Rattle.action_names.proofs.among.Statement.{statement}
@@ -34,7 +34,7 @@ same-requires : tie.Need-same-requires Inv-loop μ-loop
 same-requires c κs = search needs
 
 returns : tie.Need-returns Inv-loop μ-loop
-returns c = sym (c .before .before .before .before .before .loop .inv ∙ found-among (list-at (c .before .before .before .before .before .before .before .before .before .args .s .now)) (c .before .before .before .before .before .before .before .before .before .args .places .now) (c .before .before .before .before .before .loop .k) (c .before .before .before .before .before .before .before .before .before .args .name .now) (c .before .before .list-at .result .now) (omega arith) (c .before .before .list-at .ensures ∙ ap (λ (p : ℕ). list-at (c .before .before .before .before .before .before .before .before .before .args .s .now) p) (c .before .before .before .place .ensures .0)) (says-yes (c .before .same .result) ((c .before .before .before .before .before .before .before .before .before .args .name .now) ≡ (c .before .before .list-at .result .now)) (c .before .same .ensures) (c .if1 .taken)))
+returns c = sym (c .before .before .before .before .before .loop .inv ∙ found-among (list-at (c .before .before .before .before .before .before .before .before .before .args .s .now)) (c .before .before .before .before .before .before .before .before .before .args .places .now) (c .before .before .before .before .before .loop .k) (c .before .before .before .before .before .before .before .before .before .args .name .now) (c .before .before .list-at .result .now) (omega arith) (c .before .before .list-at .ensures ∙ ap (λ (p : ℕ). list-at (c .before .before .before .before .before .before .before .before .before .args .s .now) p) (c .before .before .before .place .ensures .0)) (said-yes (c .before .same .result) (c .before .same .ensures) (c .if1 .taken)))
 
 add-k : tie.Need-add-k Inv-loop μ-loop
 add-k c = omega arith
@@ -43,7 +43,7 @@ loop-less : tie.Need-loop-less Inv-loop μ-loop
 loop-less c = omega arith
 
 loop-again : tie.Need-loop-again Inv-loop μ-loop
-loop-again c = c .before .before .before .before .before .loop .inv ∙ passed-among (list-at (c .before .before .before .before .before .before .before .before .before .args .s .now)) (c .before .before .before .before .before .before .before .before .before .args .places .now) (c .before .before .before .before .before .loop .k) (c .before .before .before .before .before .before .before .before .before .args .name .now) (c .before .before .list-at .result .now) ((c .before .before .before .before .before .loop .k) + 1) (omega arith) (omega arith) (c .before .before .list-at .ensures ∙ ap (λ (p : ℕ). list-at (c .before .before .before .before .before .before .before .before .before .args .s .now) p) (c .before .before .before .place .ensures .0)) (says-no (c .before .same .result) ((c .before .before .before .before .before .before .before .before .before .args .name .now) ≡ (c .before .before .list-at .result .now)) (c .before .same .ensures) (c .if1 .left))
+loop-again c = c .before .before .before .before .before .loop .inv ∙ passed-among (list-at (c .before .before .before .before .before .before .before .before .before .args .s .now)) (c .before .before .before .before .before .before .before .before .before .args .places .now) (c .before .before .before .before .before .loop .k) (c .before .before .before .before .before .before .before .before .before .args .name .now) (c .before .before .list-at .result .now) ((c .before .before .before .before .before .loop .k) + 1) (omega arith) (omega arith) (c .before .before .list-at .ensures ∙ ap (λ (p : ℕ). list-at (c .before .before .before .before .before .before .before .before .before .args .s .now) p) (c .before .before .before .place .ensures .0)) (said-no (c .before .same .result) (c .before .same .ensures) (c .if1 .left))
 
 returns-2 : tie.Need-returns-2 Inv-loop μ-loop
 returns-2 c = sym (c .before .loop .inv ∙ none-among (list-at (c .before .before .before .before .before .args .s .now)) (c .before .before .before .before .before .args .places .now) (c .before .loop .k) (c .before .before .before .before .before .args .name .now) (omega arith))

@@ -5,8 +5,7 @@ use native.Mathlib.Omega.{arith}
 use borrow.Author.Tests.{eqb-true, eqb-false}
 use lib.ListN.{take, getD}
 use Rattle.pcrl.specs.Blocks.{crc}
-use Rattle.blocks.specs.Answers.{Tells}
-use Rattle.blocks.proofs.Telling.{tells}
+use Rattle.laws.specs.Says.{says}
 use Rattle.blocks.proofs.RightBlock.{right-number, right-count, right-check, right-block}
 use borrow.Author.Needs.{needs}
 use Rattle.blocks.proofs.right_block.Statement.{statement}
@@ -25,7 +24,6 @@ cast-if1 : tie.Need-cast-if1
 cast-if1 c = search needs
 
 returns : tie.Need-returns
-unfolding Tells
 returns c =
     let start = c .before .before .before .before .before in
     let a = start .args in
@@ -44,7 +42,6 @@ cast-if2 : tie.Need-cast-if2
 cast-if2 c = search needs
 
 returns-2 : tie.Need-returns-2
-unfolding Tells
 returns-2 c =
     let start = c .before .before .before .before .before .before .before .before .before in
     let a = start .args in
@@ -83,7 +80,7 @@ returns-3 c =
     let number = sym (c .before .before .before .before .before .before .before .before .before .before .pair .ensures) ∙ c .before .before .before .before .before .before .before .before .before .if1 .left in
     let count = sym (c .before .before .before .before .before .before .pair2 .ensures) ∙ c .before .before .before .before .before .if2 .left in
     let small : crc (take 510 b) < 65536 = omega arith in
-    tells _
+    says _
     (λ e. right-block b (a .number) (a .count) len bytes number count (sym x ∙ eqb-true _ _ e ∙ read))
     (λ e k. eqb-false _ _ e (x ∙ right-check b (a .number) (a .count) len k small ∙ sym read))
 

@@ -2,14 +2,14 @@
 use mathlib.Core.Path.{_∙_, _≡_, refl}
 use Prim.Native.Nat.{_+_, _-_, _≤_}
 use native.Mathlib.Omega.{arith}
-use lib.ListN.{drop, getD, length}
+use lib.ListN.{drop, length}
 use borrow.Author.Tests.{not-false, not-true}
 use borrow.Author.Needs.{needs}
-use Rattle.pcrl.specs.Decode.{Fits, node-of, read-term, read-terms}
+use Rattle.pcrl.specs.Decode.{read-term, read-terms}
 use Rattle.pcrl.specs.Result.{after}
 use Rattle.pcrl.specs.Sheet.{Sig}
+use Rattle.laws.specs.Says.{said-yes, said-no}
 use Rattle.terms.proofs.Loop.{none-wanted, term-bad, term-end, term-good, term-spent, term-start}
-use Rattle.terms.proofs.Nodes.{says-no, says-yes}
 use Rattle.terms.proofs.Places.{before}
 use Rattle.terms.proofs.Stack.{emptied, filled}
 use Rattle.terms.specs.Ends.{rests, stack, top}
@@ -44,7 +44,7 @@ fits-requires c κs = search needs
 
 returns-3 : tie.Need-returns-3 Inv-loop μ-loop
 returns-3 c = λ S k. c .before .before .before .before .before .before .before .before .loop .inv .4 S k
-    ∙ term-bad S (c .before .before .before .before .before .before .before .before .before .before .before .before .before .args .scope .now) (stack (c .before .before .before .before .before .before .before .before .loop .w)) (c .before .before .before .before .before .before .before .before .before .before .before .before .before .args .s .now) (c .before .before .before .before .before .before .before .before .loop .i) (c .before .before .before .before .before .before .before .before .loop .left) (filled ((c .before .before .before .before .before .before .before .before .loop .w) .sorts) ((c .before .before .before .before .before .before .before .before .loop .w) .top) (c .before .before .before .before .before .before .before .before .loop .inv .3) (c .before .before .before .before .before .before .if1 .taken)) (c .before .before .before .before .if3 .left) (rw (c .before .before .head .ensures) at (says-no (c .before .fits2 .result) (Fits S (c .before .before .before .before .before .before .before .before .before .before .before .before .before .args .scope .now) (c .before .before .head .result) (node-of (getD (c .before .before .before .before .before .before .before .before .before .before .before .before .before .args .s .now) (c .before .before .before .before .before .before .before .before .loop .i) 0))) (c .before .fits2 .ensures S k) (not-true _ (c .if4 .taken))))
+    ∙ term-bad S (c .before .before .before .before .before .before .before .before .before .before .before .before .before .args .scope .now) (stack (c .before .before .before .before .before .before .before .before .loop .w)) (c .before .before .before .before .before .before .before .before .before .before .before .before .before .args .s .now) (c .before .before .before .before .before .before .before .before .loop .i) (c .before .before .before .before .before .before .before .before .loop .left) (filled ((c .before .before .before .before .before .before .before .before .loop .w) .sorts) ((c .before .before .before .before .before .before .before .before .loop .w) .top) (c .before .before .before .before .before .before .before .before .loop .inv .3) (c .before .before .before .before .before .before .if1 .taken)) (c .before .before .before .before .if3 .left) (rw (c .before .before .head .ensures) at (said-no (c .before .fits2 .result) (c .before .fits2 .ensures S k) (not-true _ (c .if4 .taken))))
 
 after-requires : tie.Need-after-requires Inv-loop μ-loop
 after-requires c κs = (omega arith, omega arith)
@@ -65,7 +65,7 @@ loop-again c = let m = c .after .ensures .1 in (
   omega arith,
   m .2,
   λ S k.
-      let y = says-yes (c .before .before .fits2 .result) (Fits S (c .before .before .before .before .before .before .before .before .before .before .before .before .before .before .args .scope .now) (c .before .before .before .head .result) (node-of (getD (c .before .before .before .before .before .before .before .before .before .before .before .before .before .before .args .s .now) (c .before .before .before .before .before .before .before .before .before .loop .i) 0))) (c .before .before .fits2 .ensures S k) (not-false _ (c .before .if4 .left)) in
+      let y = said-yes (c .before .before .fits2 .result) (c .before .before .fits2 .ensures S k) (not-false _ (c .before .if4 .left)) in
       let y′ = rw (c .before .before .before .head .ensures) at y in
       c .before .before .before .before .before .before .before .before .before .loop .inv .4 S k
       ∙ term-good S (c .before .before .before .before .before .before .before .before .before .before .before .before .before .before .args .scope .now) (stack (c .before .before .before .before .before .before .before .before .before .loop .w)) (c .before .before .before .before .before .before .before .before .before .before .before .before .before .before .args .s .now) (c .before .before .before .before .before .before .before .before .before .loop .i) (c .before .before .before .before .before .before .before .before .before .loop .left) (filled ((c .before .before .before .before .before .before .before .before .before .loop .w) .sorts) ((c .before .before .before .before .before .before .before .before .before .loop .w) .top) (c .before .before .before .before .before .before .before .before .before .loop .inv .3) (c .before .before .before .before .before .before .before .if1 .taken)) (stack (c .after .result)) ((c .before .before .before .before .before .before .before .before .before .loop .i) + 1) ((c .before .before .before .before .before .before .before .before .before .loop .left) - 1) (c .before .before .before .before .before .if3 .left) (omega arith) (omega arith) y′ (c .after .ensures .0 S (c .before .before .before .before .before .before .before .before .before .before .before .before .before .before .args .scope .now) (c .before .before .before .before .before .before .before .before .before .before .before .before .before .before .args .sizes .now) _ k y),

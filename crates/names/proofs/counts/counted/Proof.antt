@@ -6,7 +6,7 @@ use mathlib.Core.Path.{_≡_, ap}
 use mathlib.Core.Logic.{inl, inr}
 use Prim.Native.Nat.{ℕ, _-_}
 use lib.ListN.{take}
-use Rattle.names.proofs.Says.{said-yes, said-no}
+use Rattle.laws.specs.Says.{said-yes, said-no}
 use Rattle.names.proofs.Rooms.{rooms}
 use Rattle.names.proofs.Counted.{too-many, sizes-wrong, counted-says}
 use borrow.Author.Needs.{needs}

@@ -3,8 +3,8 @@ use mathlib.Core.Path.{_∙_, sym, ap}
 use Prim.Native.Nat.{_+_, _-_, _≤_}
 use native.Mathlib.Omega.{arith}
 use lib.ListN.{getD}
+use Rattle.laws.specs.Says.{said-yes, said-no}
 use Rattle.names.specs.NameCells.{name-at, declared-at, names-at}
-use Rattle.names.proofs.Says.{said-yes, said-no}
 use Rattle.names.proofs.Numbers.{Passed, search-starts, search-finds, search-goes, search-ends}
 use Rattle.names.proofs.find.number_of.Statement.{statement}
 use Rattle.names.proofs.find.number_of.Tie as tie

@@ -1,8 +1,8 @@
 -- The names in scope are gone through in order: those passed are others.
 use Prim.Native.Nat.{_-_, _≤_}
 use native.Mathlib.Omega.{arith}
+use Rattle.laws.specs.Says.{said-yes, said-no}
 use Rattle.names.specs.NameCells.{name-at, scope-at}
-use Rattle.names.proofs.Says.{said-yes, said-no}
 use Rattle.names.proofs.Numbers.{Passed, search-starts, search-finds, search-goes, search-ends}
 use Rattle.names.proofs.find.scope_number.Statement.{statement}
 use Rattle.names.proofs.find.scope_number.Tie as tie

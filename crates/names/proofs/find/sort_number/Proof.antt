@@ -1,8 +1,8 @@
 -- Bool stands before the sorts that lines declare.
 use native.Mathlib.Omega.{arith}
 use Rattle.pcrl.specs.Text.{bytes}
+use Rattle.laws.specs.Says.{said-yes, said-no}
 use Rattle.names.specs.NameCells.{name-at, names-at}
-use Rattle.names.proofs.Says.{said-yes, said-no}
 use Rattle.names.proofs.Numbers.{found-first, elsewhere}
 use borrow.Author.Needs.{needs}
 use Rattle.names.proofs.find.sort_number.Statement.{statement}

@@ -6,8 +6,8 @@ use native.Mathlib.Omega.{arith}
 use lib.ListN.{drop, getD, drop-of-length-le}
 use Rattle.pcrl.specs.Text.{bytes}
 use Rattle.pcrl.specs.Tests.{among, distinct}
+use Rattle.laws.specs.Says.{said-yes, said-no}
 use Rattle.names.specs.NameCells.{name-at, scope-at}
-use Rattle.names.proofs.Says.{said-yes, said-no}
 use Rattle.names.proofs.Lists.{mapped-length, mapped-next}
 use Rattle.names.proofs.Among.{taken-twice, there-twice, new-passed}
 use Rattle.names.proofs.fresh.all_new.Statement.{statement}

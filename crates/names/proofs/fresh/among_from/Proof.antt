@@ -4,8 +4,8 @@ use Prim.Native.Nat.{_+_, _-_}
 use native.Mathlib.Omega.{arith}
 use lib.ListN.{drop, getD, drop-of-length-le}
 use Rattle.pcrl.specs.Tests.{among}
+use Rattle.laws.specs.Says.{said-yes, said-no}
 use Rattle.names.specs.NameCells.{name-at, scope-at}
-use Rattle.names.proofs.Says.{said-yes, said-no}
 use Rattle.names.proofs.Lists.{mapped-length, mapped-next}
 use Rattle.names.proofs.Among.{among-found, among-passed}
 use Rattle.names.proofs.fresh.among_from.Statement.{statement}

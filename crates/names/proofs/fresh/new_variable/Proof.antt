@@ -3,8 +3,8 @@ use mathlib.Core.Path.{sym, _∙_}
 use mathlib.Core.Bool.{true, false}
 use Rattle.pcrl.specs.Text.{bytes}
 use Rattle.pcrl.specs.Tests.{negated, among}
+use Rattle.laws.specs.Says.{said-yes, said-no}
 use Rattle.names.specs.NameCells.{name-at, scope-at}
-use Rattle.names.proofs.Says.{said-yes, said-no}
 use Rattle.names.proofs.Among.{new-none, new-taken, new-scope}
 use Rattle.names.proofs.fresh.new_variable.Statement.{statement}
 use Rattle.names.proofs.fresh.new_variable.Tie as tie

@@ -46,7 +46,7 @@ same-length-2 : tie.Need-same-length-2 Inv-loop μ-loop
 same-length-2 c = c .before .before .before .before .before .loop .inv .2
 
 returns : tie.Need-returns Inv-loop μ-loop
-returns c = (c .before .before .before .before .before .loop .inv .1, params-old (c .before .before .before .before .before .before .before .before .before .before .before .before .before .args .s .now) (c .before .before .before .before .before .before .before .before .before .before .before .before .before .args .cells .now) (c .before .before .before .before .before .before .before .before .before .before .before .before .before .args .sorts .now) (c .before .before .before .before .before .before .before .before .before .before .before .before .before .args .names .now) (c .before .before .before .before .before .before .before .before .before .before .before .before .before .args .n) (c .before .before .before .before .before .before .before .before .before .before .before .before .before .args .at) (c .before .before .before .before .before .before .before .before .before .before .before .before .before .args .p) (c .before .before .before .before .before .loop .rows) (c .before .before .before .before .before .loop .scope) (c .before .before .before .before .before .before .items .result) (c .before .before .before .before .before .loop .k) (c .before .before .before .cell .result) (c .before .new-variable .result) (c .before .before .before .before .before .loop .inv .3) (c .before .before .before .before .before .before .items .ensures .1) (c .before .before .before .before .loop-test .taken) (c .before .before .before .cell .ensures) (c .before .new-variable .ensures) (c .before .before .before .before .before .loop .rows) (c .before .before .before .before .before .loop .scope) _ (not-true _ (c .if1 .taken)) refl)
+returns c = (c .before .before .before .before .before .loop .inv .1, (omega (arith, c .before .before .before .before .before .loop .inv .0, c .before .before .before .before .before .before .items .ensures .0), params-old (c .before .before .before .before .before .before .before .before .before .before .before .before .before .args .s .now) (c .before .before .before .before .before .before .before .before .before .before .before .before .before .args .cells .now) (c .before .before .before .before .before .before .before .before .before .before .before .before .before .args .sorts .now) (c .before .before .before .before .before .before .before .before .before .before .before .before .before .args .names .now) (c .before .before .before .before .before .before .before .before .before .before .before .before .before .args .n) (c .before .before .before .before .before .before .before .before .before .before .before .before .before .args .at) (c .before .before .before .before .before .before .before .before .before .before .before .before .before .args .p) (c .before .before .before .before .before .loop .rows) (c .before .before .before .before .before .loop .scope) (c .before .before .before .before .before .before .items .result) (c .before .before .before .before .before .loop .k) (c .before .before .before .cell .result) (c .before .new-variable .result) (c .before .before .before .before .before .loop .inv .3) (c .before .before .before .before .before .before .items .ensures .1) (c .before .before .before .before .loop-test .taken) (c .before .before .before .cell .ensures) (c .before .new-variable .ensures) (c .before .before .before .before .before .loop .rows) (c .before .before .before .before .before .loop .scope) _ (not-true _ (c .if1 .taken)) refl))
 
 mul-cell-2 : tie.Need-mul-cell-2 Inv-loop μ-loop
 mul-cell-2 c = omega (arith, c .before .before .before .before .before .before .before .before .before .before .before .before .before .pre, c .before .before .before .before .before .before .items .ensures .0)
@@ -71,7 +71,7 @@ same-length-4 c = c .before .before .before .before .before .before .before .bef
 
 returns-2 : tie.Need-returns-2 Inv-loop μ-loop
 unfolding sorts-at
-returns-2 c = (c .before .before .before .before .before .before .before .before .loop .inv .1, params-no-sort (c .before .before .before .before .before .before .before .before .before .before .before .before .before .before .before .before .args .s .now) (c .before .before .before .before .before .before .before .before .before .before .before .before .before .before .before .before .args .cells .now) (c .before .before .before .before .before .before .before .before .before .before .before .before .before .before .before .before .args .sorts .now) (c .before .before .before .before .before .before .before .before .before .before .before .before .before .before .before .before .args .names .now) (c .before .before .before .before .before .before .before .before .before .before .before .before .before .before .before .before .args .n) (c .before .before .before .before .before .before .before .before .before .before .before .before .before .before .before .before .args .at) (c .before .before .before .before .before .before .before .before .before .before .before .before .before .before .before .before .args .p) (c .before .before .before .before .before .before .before .before .loop .rows) (c .before .before .before .before .before .before .before .before .loop .scope) (c .before .before .before .before .before .before .before .before .before .items .result) (c .before .before .before .before .before .before .before .before .loop .k) (c .before .before .before .before .before .before .cell .result) (c .before .before .before .before .new-variable .result) (c .before .before .before .before .before .before .before .before .loop .inv .3) (c .before .before .before .before .before .before .before .before .before .items .ensures .1) (c .before .before .before .before .before .before .before .loop-test .taken) (c .before .before .before .before .before .before .cell .ensures) (c .before .before .before .before .new-variable .ensures) (suc (length (c .before .before .before .before .before .before .before .before .before .before .before .before .before .before .before .before .args .sorts .now))) (c .before .sort-number .result) (omega (arith, sorts-length (c .before .before .before .before .before .before .before .before .before .before .before .before .before .before .before .before .args .s .now) (c .before .before .before .before .before .before .before .before .before .before .before .before .before .before .before .before .args .cells .now) (c .before .before .before .before .before .before .before .before .before .before .before .before .before .before .before .before .args .sorts .now))) (not-false _ (c .before .before .before .if1 .left)) (c .before .sort-number .ensures .1 ∙ ap (λ (v : ℕ). or-count (suc (length (c .before .before .before .before .before .before .before .before .before .before .before .before .before .before .before .before .args .sorts .now))) (number-of (name-at (c .before .before .before .before .before .before .before .before .before .before .before .before .before .before .before .before .args .s .now) v) (sorts-at (c .before .before .before .before .before .before .before .before .before .before .before .before .before .before .before .before .args .s .now) (c .before .before .before .before .before .before .before .before .before .before .before .before .before .before .before .before .args .cells .now) (c .before .before .before .before .before .before .before .before .before .before .before .before .before .before .before .before .args .sorts .now)))) (c .before .before .cell2 .ensures)) (c .before .before .before .before .before .before .before .before .loop .rows) (c .before .before .before .before .before .before .before .before .loop .scope) _ (c .if2 .taken) refl)
+returns-2 c = (c .before .before .before .before .before .before .before .before .loop .inv .1, (omega (arith, c .before .before .before .before .before .before .before .before .loop .inv .0, c .before .before .before .before .before .before .before .before .before .items .ensures .0), params-no-sort (c .before .before .before .before .before .before .before .before .before .before .before .before .before .before .before .before .args .s .now) (c .before .before .before .before .before .before .before .before .before .before .before .before .before .before .before .before .args .cells .now) (c .before .before .before .before .before .before .before .before .before .before .before .before .before .before .before .before .args .sorts .now) (c .before .before .before .before .before .before .before .before .before .before .before .before .before .before .before .before .args .names .now) (c .before .before .before .before .before .before .before .before .before .before .before .before .before .before .before .before .args .n) (c .before .before .before .before .before .before .before .before .before .before .before .before .before .before .before .before .args .at) (c .before .before .before .before .before .before .before .before .before .before .before .before .before .before .before .before .args .p) (c .before .before .before .before .before .before .before .before .loop .rows) (c .before .before .before .before .before .before .before .before .loop .scope) (c .before .before .before .before .before .before .before .before .before .items .result) (c .before .before .before .before .before .before .before .before .loop .k) (c .before .before .before .before .before .before .cell .result) (c .before .before .before .before .new-variable .result) (c .before .before .before .before .before .before .before .before .loop .inv .3) (c .before .before .before .before .before .before .before .before .before .items .ensures .1) (c .before .before .before .before .before .before .before .loop-test .taken) (c .before .before .before .before .before .before .cell .ensures) (c .before .before .before .before .new-variable .ensures) (suc (length (c .before .before .before .before .before .before .before .before .before .before .before .before .before .before .before .before .args .sorts .now))) (c .before .sort-number .result) (omega (arith, sorts-length (c .before .before .before .before .before .before .before .before .before .before .before .before .before .before .before .before .args .s .now) (c .before .before .before .before .before .before .before .before .before .before .before .before .before .before .before .before .args .cells .now) (c .before .before .before .before .before .before .before .before .before .before .before .before .before .before .before .before .args .sorts .now))) (not-false _ (c .before .before .before .if1 .left)) (c .before .sort-number .ensures .1 ∙ ap (λ (v : ℕ). or-count (suc (length (c .before .before .before .before .before .before .before .before .before .before .before .before .before .before .before .before .args .sorts .now))) (number-of (name-at (c .before .before .before .before .before .before .before .before .before .before .before .before .before .before .before .before .args .s .now) v) (sorts-at (c .before .before .before .before .before .before .before .before .before .before .before .before .before .before .before .before .args .s .now) (c .before .before .before .before .before .before .before .before .before .before .before .before .before .before .before .before .args .cells .now) (c .before .before .before .before .before .before .before .before .before .before .before .before .before .before .before .before .args .sorts .now)))) (c .before .before .cell2 .ensures)) (c .before .before .before .before .before .before .before .before .loop .rows) (c .before .before .before .before .before .before .before .before .loop .scope) _ (c .if2 .taken) refl))
 
 mul-scope : tie.Need-mul-scope Inv-loop μ-loop
 mul-scope c = omega (arith, c .before .before .before .before .before .before .before .before .before .before .before .before .before .before .before .before .pre, c .before .before .before .before .before .before .before .before .before .items .ensures .0, c .before .before .before .before .before .before .before .before .loop .inv .2)
@@ -131,7 +131,10 @@ returns-3 : tie.Need-returns-3 Inv-loop μ-loop
 returns-3 c =
     let z : c .before .loop .k ≡ c .before .before .items .result = omega arith in (
       kept-set (c .before .before .before .before .before .before .before .before .before .args .p) (c .before .before .before .before .before .before .before .before .before .args .rows .now) (c .before .loop .rows) (c .before .before .before .before .before .before .before .before .before .args .p) (c .before .before .items .result) (c .before .loop .inv .1) (omega arith),
-      params-end (c .before .before .before .before .before .before .before .before .before .args .s .now) (c .before .before .before .before .before .before .before .before .before .args .cells .now) (c .before .before .before .before .before .before .before .before .before .args .sorts .now) (c .before .before .before .before .before .before .before .before .before .args .names .now) (c .before .before .before .before .before .before .before .before .before .args .n) (c .before .before .before .before .before .before .before .before .before .args .at) (c .before .before .before .before .before .before .before .before .before .args .p) (c .before .loop .rows) (c .before .loop .scope) (c .before .loop .k) (c .before .before .items .result) _ (c .before .before .items .ensures .1) z (omega (arith, c .before .before .before .before .before .before .before .before .before .pre, c .before .loop .inv .1 .same)) (c .before .loop .inv .3) refl refl refl,
+      (
+        c .before .before .items .ensures .0,
+        params-end (c .before .before .before .before .before .before .before .before .before .args .s .now) (c .before .before .before .before .before .before .before .before .before .args .cells .now) (c .before .before .before .before .before .before .before .before .before .args .sorts .now) (c .before .before .before .before .before .before .before .before .before .args .names .now) (c .before .before .before .before .before .before .before .before .before .args .n) (c .before .before .before .before .before .before .before .before .before .args .at) (c .before .before .before .before .before .before .before .before .before .args .p) (c .before .loop .rows) (c .before .loop .scope) (c .before .loop .k) (c .before .before .items .result) _ (c .before .before .items .ensures .1) z (omega (arith, c .before .before .before .before .before .before .before .before .before .pre, c .before .loop .inv .1 .same)) (c .before .loop .inv .3) refl refl refl,
+      ),
     )
 
 pub param-row-spec : {M : Type 1} → statement M

@@ -18,8 +18,8 @@ use Rattle.names.proofs.find.cell.Reads as cell-reads
 use Rattle.names.proofs.find.number_of.Reads as number-of-reads
 use Rattle.names.proofs.find.scope_number.Reads as scope-number-reads
 use Rattle.resolver.proofs.cells.lost.Reads as lost-reads
-use Rattle.resolver.proofs.cells.put.Reads as put-reads
-use Rattle.resolver.proofs.cells.short.Reads as short-reads
+use Rattle.parser.proofs.cells.put.Reads as put-reads
+use Rattle.parser.proofs.cells.short.Reads as short-reads
 use Rattle.resolver.proofs.data.+data_list+data_term.{statement}
 use Rattle.resolver.proofs.data.+data_list+data_term.Tie.{close}
 

@@ -1,0 +1,43 @@
+-- `lexer::token::long_mark_at`: what `long_mark` found of the two bytes is the mark that the definition finds.
+use mathlib.Core.List.{[], _∷_}
+use mathlib.Core.Path.{_∙_, ap₂}
+use Prim.Native.Nat.{ℕ}
+use native.Mathlib.Omega.{arith}
+use borrow.Author.Needs.{needs}
+use Rattle.lexer.specs.Cells.{first-long-mark, long-marks}
+use Rattle.lexer.specs.Classes.{sign-cell}
+use Rattle.lexer.proofs.FirstToken.{reads-no-pair, reads-pair, pair-fits}
+use Rattle.lexer.proofs.token.long_mark_at.Statement.{statement}
+use Rattle.lexer.proofs.token.long_mark_at.Tie as tie
+
+byte-at-requires : tie.Need-byte-at-requires
+byte-at-requires c κs = search needs
+
+add-byte-at : tie.Need-add-byte-at
+add-byte-at c = search needs
+
+byte-at-requires-2 : tie.Need-byte-at-requires-2
+byte-at-requires-2 c κs = search needs
+
+long-mark-requires : tie.Need-long-mark-requires
+long-mark-requires c κs = search needs
+
+returns : tie.Need-returns
+returns c = let a = c .before .before .before .before .before .args in (
+  omega arith,
+  reads-no-pair (a .s .now) (a .at) (c .before .long-mark .result) (omega arith) (omega (arith, c .before .before .before .before .shared-slice-known .given (a .at))) (c .before .before .before .before .before .pre .1)
+      (c .before .long-mark .ensures ∙ ap₂ (λ (x y : ℕ). sign-cell first-long-mark long-marks (x ∷ y ∷ [])) (c .before .before .before .byte-at .ensures) (c .before .before .byte-at2 .ensures))
+      (c .if1 .taken),
+)
+
+returns-2 : tie.Need-returns-2
+returns-2 c = let a = c .before .before .before .before .before .args in
+    let e = c .before .long-mark .ensures ∙ ap₂ (λ (x y : ℕ). sign-cell first-long-mark long-marks (x ∷ y ∷ [])) (c .before .before .before .byte-at .ensures) (c .before .before .byte-at2 .ensures) in (
+      pair-fits (a .s .now) (a .at) (c .before .long-mark .result) (omega arith) (omega (arith, c .before .before .before .before .shared-slice-known .given (a .at))) (c .before .before .before .before .before .pre .1) e (c .if1 .left),
+      reads-pair (a .s .now) (a .at) (c .before .long-mark .result) (omega arith) (omega (arith, c .before .before .before .before .shared-slice-known .given (a .at))) (c .before .before .before .before .before .pre .1) e (c .if1 .left),
+    )
+
+pub long-mark-at-spec : {M : Type 1} → statement M
+long-mark-at-spec =
+    tie.close
+    (tie.spec byte-at-requires add-byte-at byte-at-requires-2 long-mark-requires returns returns-2)

@@ -1,0 +1,66 @@
+-- `lexer::token::name_at`: classes 2 to 4 are the bytes of a name, and the part of the sheet is their run.
+use native.Mathlib.Omega.{arith}
+use borrow.Author.Needs.{needs}
+use Rattle.lexer.specs.Classes.{in-classes}
+use Rattle.lexer.proofs.Reading.{run-fit, reads-long, reads-word, reads-name}
+use Rattle.lexer.proofs.Runs.{run-fits}
+use Rattle.lexer.proofs.token.name_at.Statement.{statement}
+use Rattle.lexer.proofs.token.name_at.Tie as tie
+
+run-requires : tie.Need-run-requires
+run-requires c κs = search needs
+
+returns : tie.Need-returns
+returns c = let a = c .before .before .before .args in (
+  run-fit 2 4 (a .s .now) (a .at) (c .before .run .result) 0 (c .before .run .ensures) (omega arith) (omega arith) (omega arith),
+  reads-long (a .s .now) (a .at) (c .before .run .result) (c .before .run .ensures) (omega arith),
+)
+
+add-word : tie.Need-add-word
+add-word c = search needs
+
+sub-word : tie.Need-sub-word
+sub-word c = search needs
+
+part-word-start : tie.Need-part-word-start
+part-word-start c = search needs
+
+part-word-end : tie.Need-part-word-end
+part-word-end c = omega (arith, run-fits (in-classes 2 4) (c .before .before .before .args .s .now) (c .before .before .before .args .at))
+
+word-requires : tie.Need-word-requires
+word-requires c κs = search needs
+
+cast-t12 : tie.Need-cast-t12
+cast-t12 c = search needs
+
+add-t13 : tie.Need-add-t13
+add-t13 c = search needs
+
+returns-2 : tie.Need-returns-2
+returns-2 c = let a = c .before .before .before .before .before .before .args in (
+  run-fit 2 4 (a .s .now) (a .at) (c .before .before .before .before .run .result) _ (c .before .before .before .before .run .ensures) (omega arith) (omega arith) (omega arith),
+  reads-name (a .s .now) (a .at) (c .before .before .before .before .run .result) (c .before .before .before .before .run .ensures) (omega arith) (c .before .word .result) (c .before .word .ensures) (c .if2 .taken),
+)
+
+returns-3 : tie.Need-returns-3
+returns-3 c = let a = c .before .before .before .before .before .before .args in (
+  run-fit 2 4 (a .s .now) (a .at) (c .before .before .before .before .run .result) (c .before .word .result) (c .before .before .before .before .run .ensures) (omega arith) (omega arith) (omega arith),
+  reads-word (a .s .now) (a .at) (c .before .before .before .before .run .result) (c .before .before .before .before .run .ensures) (omega arith) (c .before .word .result) (c .before .word .ensures) (c .if2 .left),
+)
+
+pub name-at-spec : {M : Type 1} → statement M
+name-at-spec =
+    tie.close
+    (tie.spec
+    run-requires
+    returns
+    add-word
+    sub-word
+    part-word-start
+    part-word-end
+    word-requires
+    cast-t12
+    add-t13
+    returns-2
+    returns-3)

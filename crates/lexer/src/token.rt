@@ -1,0 +1,208 @@
+// One token, by the class of its first byte.
+ghost use mathlib.Core.Path.{_≡_};
+ghost use mathlib.Core.List.{List, [], _∷_};
+ghost use Prim.Native.Nat.{ℕ, _+_, _-_, _≤_, _<_};
+ghost use lib.ListN.{length, drop, getD};
+ghost use Rattle.pcrl.specs.Limits.{max-bytes};
+ghost use Rattle.pcrl.specs.Bytes as B;
+ghost use Rattle.pcrl.specs.Tokens as T;
+ghost use Rattle.lexer.specs.Classes.{class-of, sign-cell, capped};
+ghost use Rattle.lexer.specs.Cells.{first-word, first-long-mark, long-marks, Reads, Fits};
+use crate::ACT;
+use crate::ARROW;
+use crate::DELTA;
+use crate::ELSE;
+use crate::FIRST_NAME;
+use crate::FIRST_NUMERAL;
+use crate::FUNC;
+use crate::INIT;
+use crate::NO_TOKEN;
+use crate::PROC;
+use crate::SORT;
+use crate::SUM;
+use crate::TAU;
+use crate::THEN;
+use crate::Taken;
+use crate::bytes::DIGIT;
+use crate::bytes::LEAD;
+use crate::bytes::LETTER;
+use crate::bytes::MARK;
+use crate::bytes::UNDERSCORE;
+use crate::bytes::byte_at;
+use crate::bytes::class;
+use crate::bytes::run;
+use crate::bytes::same;
+use crate::bytes::wide;
+
+const MAX_NAME: usize = 16;
+
+const MAX_NUMERAL: u16 = 255;
+
+const SHORTEST_WORD: usize = 3;
+
+const LONGEST_WORD: usize = 5;
+
+// The cell of a word, or 0.
+fn word(t: &[u8]) -> u16
+    ensures { λ r. ⌜ r ≡ sign-cell first-word T.words (now (t .entry)) ⌝ }
+{
+    if t.len() < SHORTEST_WORD {
+        return NO_TOKEN;
+    }
+    if LONGEST_WORD < t.len() {
+        return NO_TOKEN;
+    }
+    if same(t, b"sort") {
+        return SORT;
+    }
+    if same(t, b"func") {
+        return FUNC;
+    }
+    if same(t, b"act") {
+        return ACT;
+    }
+    if same(t, b"proc") {
+        return PROC;
+    }
+    if same(t, b"init") {
+        return INIT;
+    }
+    if same(t, b"sum") {
+        return SUM;
+    }
+    if same(t, b"delta") {
+        return DELTA;
+    }
+    if same(t, b"tau") {
+        return TAU;
+    }
+    NO_TOKEN
+}
+
+// The name or word at `at`, where a letter stands.
+fn name_at(s: &[u8], at: usize) -> Taken
+    requires { ⌜ (at < length (now s)) × (length (now s) ≤ max-bytes) × (class-of (getD (now s) at 0) ≡ 3) ⌝ }
+    ensures { λ r. ⌜ Fits (length (now (s .entry))) at r ⌝ }
+    ensures { λ r. ⌜ Reads (now (s .entry)) (T.name-of (T.front B.name-byte (drop at (now (s .entry))))) r ⌝ }
+{
+    let n = run(s, at, DIGIT, UNDERSCORE);
+    if MAX_NAME < n {
+        return Taken {
+            cell: NO_TOKEN,
+            len: n,
+        };
+    }
+    let w = word(&s[at..at + n]);
+    if w == NO_TOKEN {
+        Taken {
+            cell: FIRST_NAME + at as u16,
+            len: n,
+        }
+    } else {
+        Taken { cell: w, len: n }
+    }
+}
+
+fn digit_value(b: u8) -> u16
+    ensures { λ r. ⌜ r ≡ b - 48 ⌝ }
+{
+    if b < b'0' { 0 } else { wide(b - b'0') }
+}
+
+// The number that digits spell, or 256 where it is above 255.
+fn value_of(t: &[u8]) -> u16
+    ensures { λ r. ⌜ r ≡ capped (T.value-of 0 (now (t .entry))) ⌝ }
+{
+    let mut v: u16 = 0;
+    let mut i = 0;
+    while i < t.len() {
+        v = v * 10 + digit_value(t[i]);
+        if MAX_NUMERAL < v {
+            return MAX_NUMERAL + 1;
+        }
+        i += 1;
+    }
+    v
+}
+
+// The cell of the numeral that digits spell, or 0: no leading zero but in 0 itself.
+fn numeral(t: &[u8]) -> u16
+    ensures { λ r. ⌜ ((s : List ℕ) → Reads s (T.numeral-of (now (t .entry))) (record { cell = r; len = length (now (t .entry)) })) ⌝ }
+{
+    if t.len() != 1 {
+        if byte_at(t, 0) <= b'0' {
+            return NO_TOKEN;
+        }
+    }
+    let v = value_of(t);
+    if MAX_NUMERAL < v {
+        NO_TOKEN
+    } else {
+        FIRST_NUMERAL + v
+    }
+}
+
+// The numeral at `at`, where a digit stands.
+fn numeral_at(s: &[u8], at: usize) -> Taken
+    requires { ⌜ (at < length (now s)) × (class-of (getD (now s) at 0) ≡ 2) ⌝ }
+    ensures { λ r. ⌜ Fits (length (now (s .entry))) at r ⌝ }
+    ensures { λ r. ⌜ Reads (now (s .entry)) (T.numeral-of (T.front B.digit (drop at (now (s .entry))))) r ⌝ }
+{
+    let n = run(s, at, DIGIT, DIGIT);
+    Taken {
+        cell: numeral(&s[at..at + n]),
+        len: n,
+    }
+}
+
+// The cell of the mark of two bytes, or 0.
+fn long_mark(a: u8, b: u8) -> u16
+    ensures { λ r. ⌜ r ≡ sign-cell first-long-mark long-marks (a ∷ b ∷ []) ⌝ }
+{
+    match a {
+        b'-' => if b == b'>' { ARROW } else { NO_TOKEN },
+        b'<' => if b == b'|' { THEN } else { NO_TOKEN },
+        b'|' => if b == b'>' { ELSE } else { NO_TOKEN },
+        _ => NO_TOKEN,
+    }
+}
+
+// The mark of two bytes at `at`, where its first byte stands.
+fn long_mark_at(s: &[u8], at: usize) -> Taken
+    requires { ⌜ (at < length (now s)) × (class-of (getD (now s) at 0) ≡ 6) ⌝ }
+    ensures { λ r. ⌜ Fits (length (now (s .entry))) at r ⌝ }
+    ensures { λ r. ⌜ Reads (now (s .entry)) (T.mark-of T.marks (drop at (now (s .entry)))) r ⌝ }
+{
+    let m = long_mark(byte_at(s, at), byte_at(s, at + 1));
+    if m == NO_TOKEN {
+        Taken {
+            cell: NO_TOKEN,
+            len: 1,
+        }
+    } else {
+        Taken { cell: m, len: 2 }
+    }
+}
+
+// The token at `at`, by the class of its first byte.
+pub fn token_at(s: &[u8], at: usize) -> Taken
+    requires { ⌜ (at < length (now s)) × (length (now s) ≤ max-bytes) ⌝ }
+    ensures { λ r. ⌜ Fits (length (now (s .entry))) at r ⌝ }
+    ensures { λ r. ⌜ Reads (now (s .entry)) (T.first-token (getD (now (s .entry)) at 0) (drop (at + 1) (now (s .entry)))) r ⌝ }
+{
+    let b = s[at];
+    let k = class(b);
+    match k {
+        LETTER => name_at(s, at),
+        DIGIT => numeral_at(s, at),
+        MARK => Taken {
+            cell: wide(b),
+            len: 1,
+        },
+        LEAD => long_mark_at(s, at),
+        _ => Taken {
+            cell: NO_TOKEN,
+            len: 1,
+        },
+    }
+}

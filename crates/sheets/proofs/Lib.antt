@@ -1,0 +1,9 @@
+pub mod Asked
+pub mod SignatureLaws
+pub mod Placed
+pub mod ProcessLaws
+pub mod ProcessesLaws
+pub mod SheetLaws
+pub mod FoundLaws
+pub mod JudgeLaws
+pub mod ReadingLaws

@@ -1,0 +1,100 @@
+-- One process: its parameters stand behind its name and its right side behind them, which is resolved with the parameters in scope.
+use mathlib.Core.Path.{_≡_, refl, _∙_, ap, subst}
+use mathlib.Core.List.{List, [], _∷_, _++_, append-assoc}
+use mathlib.Core.Bool.{Bool, true, false}
+use mathlib.Core.Option.{Option, none, some}
+use Prim.Native.Nat.{ℕ, _+_, _*_, _≤_}
+use native.Mathlib.Omega.{arith}
+use lib.ListN.{length, drop, length-append}
+use Rattle.pcrl.specs.Text.{bytes}
+use Rattle.pcrl.specs.Limits.{max-open, frame-width}
+use Rattle.pcrl.specs.Maybe.{_>>=_}
+use Rattle.pcrl.specs.Tokens.{name}
+use Rattle.pcrl.specs.Tree.{Name, ProcLine}
+use Rattle.pcrl.specs.Sheet.{Proc}
+use Rattle.pcrl.specs.Names.{Names, declared, resolve-choice, resolve-params, resolve-proc}
+use Rattle.parser.specs.Cells.{Symbol, tag, token, proc-tag, enc-items, enc-param, enc-choice, enc-proc}
+use Rattle.nodes.specs.Scoped.{max-scope}
+use Rattle.names.specs.declared.Params.{Params}
+use Rattle.names.specs.NameCells.{scope-at}
+use Rattle.names.specs.Standing.{symbols}
+use Rattle.names.specs.Rows.{Answers, sorts-at, ParamRow, ParamsRead}
+use Rattle.names.proofs.Items.{behind}
+use Rattle.names.proofs.Kept.{answered-no, answered-yes}
+use Rattle.resolver.specs.declared.Resolved.{Resolved as Side}
+use Rattle.resolver.specs.Raw.{sum-depth}
+use Rattle.resolver.specs.Resolving.{Declared, ResolvesRight}
+use Rattle.resolver.specs.Resolving.{Answers as SideAnswers}
+use Rattle.resolver.specs.InScope.{process-scoped}
+use Rattle.resolver.specs.Room.{choice-room}
+use Rattle.sheets.specs.Resolving.{ProcessRow, ProcessRead}
+
+-- a name of the parameters is not as it must be
+params-missing : (N : Names) (l : ProcLine) → resolve-params N [] (l .params) ≡ none → resolve-proc N l ≡ none
+unfolding resolve-proc
+params-missing N l e = rw e
+
+-- the parameters are known
+params-there : (N : Names) (l : ProcLine) (x : List Name × List ℕ) → resolve-params N [] (l .params) ≡ some x
+    → resolve-proc N l ≡ _>>=_ (resolve-choice N (x .0) (l .right)) (λ t. some (record { params = x .1; right = t }))
+unfolding resolve-proc
+params-there N l x e = rw e
+
+-- the right side takes fewer cells than the line
+right-shorter : (l : ProcLine) → length (enc-choice (l .right)) ≤ length (enc-proc l)
+unfolding enc-proc
+right-shorter l = omega (arith, length-append (enc-items enc-param (l .params)) (enc-choice (l .right)))
+
+module _ (s raw sorts funcs acts procs names : List ℕ) (n at : ℕ) (rows : List ℕ) (p : ℕ) (scope : List ℕ) (a : Params) (read : ParamsRead s raw sorts names n (at + 2) rows p scope a) where
+  -- the parameters behind the tag and the name
+  params-at : (l : ProcLine) (rest : List Symbol) → drop at (symbols s raw) ≡ enc-proc l ++ rest
+      → drop (at + 2) (symbols s raw) ≡ enc-items enc-param (l .params) ++ (enc-choice (l .right) ++ rest)
+  unfolding enc-proc
+  params-at l rest e =
+      let items = enc-items enc-param (l .params) in
+      behind s raw at (at + 2) (tag proc-tag ∷ token (name (l .name)) ∷ []) (items ++ (enc-choice (l .right) ++ rest)) refl
+      (e ∙ ap (λ (m : List Symbol). tag proc-tag ∷ token (name (l .name)) ∷ m) (append-assoc items (enc-choice (l .right)) rest))
+
+  -- what is answered of the parameters of a line that stands there
+  abbrev Row : List Symbol → List Name × List ℕ → Type 0
+  Row rest x = ParamRow s x (symbols s raw) rest rows p scope a
+
+  row-of : (N : Names) (l : ProcLine) (rest : List Symbol) → Declared s raw sorts funcs acts procs N → declared N ≡ bytes "Bool" ∷ scope-at s names n
+      → drop at (symbols s raw) ≡ enc-proc l ++ rest → length (l .params) ≤ frame-width
+      → Answers (Row (enc-choice (l .right) ++ rest)) (resolve-params N [] (l .params)) (a .ok)
+  unfolding sorts-at
+  row-of N l rest d ns e few = read N (l .params) (enc-choice (l .right) ++ rest) (d .sorts-are) ns (params-at l rest e) few
+
+  -- a parameter is not as it must be
+  pub params-lost : (w : ℕ) (o : List ℕ) (r : Side) (o′ : List ℕ) → a .ok ≡ false → r .ok ≡ false → ProcessRead s raw sorts funcs acts procs names n at rows p w o r o′
+  params-lost w o r o′ lost z N l rest d ns e few deep =
+      rw (params-missing N l (answered-no (Row (enc-choice (l .right) ++ rest)) (resolve-params N [] (l .params)) (a .ok) (row-of N l rest d ns e few) lost)) z
+
+  module _ (w : ℕ) (o : List ℕ) (r : Side) (o′ : List ℕ) where
+    -- the answer of the right side is that of the process
+    right-answered : (N : Names) (l : ProcLine) (rest rest′ : List Symbol) (x : List Name × List ℕ) → Row rest′ x → length (x .1) ≤ frame-width → sum-depth (l .right) ≤ max-open
+        → resolve-params N [] (l .params) ≡ some x → SideAnswers (symbols s raw) rest w o (resolve-choice N (x .0) (l .right)) r o′
+        → Answers (λ q. ProcessRow (length (N .procs)) q rows p w o (r .w) o′ (3 * length (enc-proc l))) (resolve-proc N l) (r .ok)
+    unfolding SideAnswers
+    right-answered N l rest rest′ x row few deep e h = go (resolve-choice N (x .0) (l .right)) refl h
+      where
+        go : (t : Option Proc) → resolve-choice N (x .0) (l .right) ≡ t → SideAnswers (symbols s raw) rest w o t r o′
+            → Answers (λ q. ProcessRow (length (N .procs)) q rows p w o (r .w) o′ (3 * length (enc-proc l))) (resolve-proc N l) (r .ok)
+        go none f h = let none-there : resolve-proc N l ≡ none = params-there N l x e ∙ (rw f) in rw none-there h
+        go (some t) f h =
+            let there : resolve-proc N l ≡ some (record { params = x .1; right = t }) = params-there N l x e ∙ (rw f) in
+            let room = choice-room N false (x .0) (l .right) t f in
+            let shorter = right-shorter l in
+            let scoped = process-scoped N l (record { params = x .1; right = t }) there (omega arith) in
+            rw there (h .0, record { few = few; params = row .sorts; scoped = scoped; right = h .2; size = omega arith })
+
+    -- THE PARAMETERS, AND THE RIGHT SIDE WITH THEM IN SCOPE.
+    pub process-read : a .ok ≡ true → a .count ≤ frame-width → length scope ≡ max-scope → ResolvesRight s raw sorts funcs acts procs scope (a .count) (a .at) w o r o′
+        → ProcessRead s raw sorts funcs acts procs names n at rows p w o r o′
+    unfolding symbols
+    process-read known few wide right N l rest d ns e many deep =
+        let (x, q, row) = answered-yes (Row (enc-choice (l .right) ++ rest)) (resolve-params N [] (l .params)) (a .ok) (row-of N l rest d ns e many) known in
+        let same = row .many in
+        let side = right N (l .right) rest d (row .next) (omega arith) in
+        right-answered N l rest (enc-choice (l .right) ++ rest) x row (omega arith) deep q
+        (subst (λ (scope : List Name). SideAnswers (symbols s raw) rest w o (resolve-choice N scope (l .right)) r o′) (row .scoped) side)

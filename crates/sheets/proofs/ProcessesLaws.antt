@@ -1,0 +1,130 @@
+-- The processes one after another: those done keep their rows and their cells, and each new one stands behind them.
+use mathlib.Core.Path.{_≡_, _∙_, ap}
+use mathlib.Core.List.{List, _∷_, _++_}
+use mathlib.Core.Bool.{Bool, true, false}
+use Prim.Native.Nat.{ℕ, _+_, _*_, _≤_, _<_}
+use native.Mathlib.Omega.{arith}
+use lib.ListN.{length, take, drop, getD, set, length-append, length-set}
+use lib.Seq.{getD-set-same, getD-set-other}
+use Rattle.pcrl.specs.Text.{bytes}
+use Rattle.pcrl.specs.Limits.{max-open, frame-width}
+use Rattle.pcrl.specs.Tests.{Every}
+use Rattle.pcrl.specs.Reader.{all}
+use Rattle.pcrl.specs.Tree.{ProcLine}
+use Rattle.pcrl.specs.Sheet.{Process, no-process}
+use Rattle.pcrl.specs.Names.{Names, declared, resolve-proc}
+use Rattle.laws.specs.Each.{each-length}
+use Rattle.parser.specs.Cells.{enc-proc}
+use Rattle.nodes.specs.Layout.{cell-limit, enc}
+use Rattle.nodes.specs.Held.{proc-width, ProcAt}
+use Rattle.names.specs.NameCells.{scope-at}
+use Rattle.names.specs.Standing.{At, LinesAt}
+use Rattle.names.specs.Rows.{Kept}
+use Rattle.names.proofs.Kept.{sorts-kept, answered-no, answered-yes, each-next, every-at}
+use Rattle.names.proofs.Filled.{Gone, gone-none, gone-stops, gone-goes, gone-ends}
+use Rattle.resolver.specs.declared.Resolved.{Resolved as Side}
+use Rattle.resolver.specs.Raw.{sum-depth}
+use Rattle.resolver.specs.Resolving.{Declared}
+use Rattle.sheets.specs.declared.ProcRows.{ProcRows}
+use Rattle.sheets.specs.Resolving.{ProcessRow, ProcessRead, ProcessesHeld, ProcessesRead}
+use Rattle.sheets.proofs.Placed.{term-kept, term-written}
+
+-- the most cells that the right sides of some lines take
+abbrev pub room : List ProcLine → ℕ
+room ls = 3 * length (all enc-proc ls)
+
+-- the arrays keep their lengths, and nothing is missing so far
+pub record Stays (out₀ rows out starts : List ℕ) (ok : Bool) : Type 0 where
+  pub cells-same : length out ≡ length out₀
+  pub rows-many : length rows ≡ 80
+  pub starts-many : length starts ≡ 16
+  pub well : ok ≡ true
+
+pub stays-on : (out₀ rows rows′ out out′ starts : List ℕ) (k v : ℕ) (ok : Bool) → Stays out₀ rows out starts ok → length rows′ ≡ length rows → length out′ ≡ length out
+    → Stays out₀ rows′ out′ (set starts k v) ok
+stays-on out₀ rows rows′ out out′ starts k v ok h e g = record {
+  cells-same = g ∙ h .cells-same;
+  rows-many = e ∙ h .rows-many;
+  starts-many = length-set starts k v ∙ h .starts-many;
+  well = h .well;
+}
+
+module _ (s raw sorts funcs acts procs names : List ℕ) (n : ℕ) where
+  -- the first k lines have their rows and their cells before w, and there is room for the rest
+  pub record ProcsOf (N : Names) (ls : List ProcLine) (rows out starts : List ℕ) (w k : ℕ) : Type 0 where
+    pub gone : Gone (resolve-proc N) no-process (λ q j. ProcAt (length (N .procs)) q rows (take w out) starts j) ls k
+    pub left : w + room (drop k ls) ≤ room ls
+
+  abbrev pub ProcsGone : (rows out starts : List ℕ) (w k : ℕ) → Type 0
+  ProcsGone rows out starts w k =
+      (N : Names) (ls : List ProcLine) → Declared s raw sorts funcs acts procs N → declared N ≡ bytes "Bool" ∷ scope-at s names n → LinesAt enc-proc s raw procs ls
+      → Every (λ (l : ProcLine). length (l .params) ≤ frame-width) ls → Every (λ (l : ProcLine). sum-depth (l .right) ≤ max-open) ls → room ls ≤ length out
+      → ProcsOf N ls rows out starts w k
+
+  pub procs-start : (rows out starts : List ℕ) → ProcsGone rows out starts 0 0
+  procs-start rows out starts N ls d ns l f t b =
+      record { gone = gone-none (resolve-proc N) no-process (λ q j. ProcAt (length (N .procs)) q rows (take 0 out) starts j) ls; left = omega arith }
+
+  -- all lines are done
+  pub procs-end : (rows out starts : List ℕ) (w k : ℕ) (ok : Bool) → length procs ≤ k → ProcsGone rows out starts w k → ok ≡ true
+      → ProcessesRead s raw sorts funcs acts procs names n (record { ok = ok; procs = rows; starts = starts; w = w }) out
+  procs-end rows out starts w k ok h g o N ls d ns l f t b =
+      let G = g N ls d ns l f t b in
+      let left = G .left in
+      gone-ends (resolve-proc N) no-process (λ q j. ProcAt (length (N .procs)) q rows (take w out) starts j)
+      (ProcessesHeld (length (N .procs)) (record { ok = ok; procs = rows; starts = starts; w = w }) out (room ls)) ls k ok (G .gone)
+      (omega (arith, each-length (λ p l. At s raw (enc-proc l) p) procs ls l)) o
+      (λ bs m x. record { each = λ j i. x j (omega arith); size = omega arith })
+
+  -- the line at k, of which a process was read or not
+  module _ (rows rows′ out out′ starts : List ℕ) (w k at : ℕ) (r : Side) (h : k < length procs) (same : length out′ ≡ length out) (place : at ≡ getD procs k 0) (g : ProcsGone rows out starts w k)
+      (a : ProcessRead s raw sorts funcs acts procs names n at rows′ (5 * k) w out r out′) where
+    pub procs-stop : (R : ProcRows) → r .ok ≡ false → R .ok ≡ false → ProcessesRead s raw sorts funcs acts procs names n R out′
+    procs-stop R lost z N ls d ns l f t b =
+        let (x, e, here) = each-next (λ p l. At s raw (enc-proc l) p) procs ls k l h in
+        let few = every-at _ ls k x (drop (k + 1) ls) f e in
+        let deep = every-at _ ls k x (drop (k + 1) ls) t e in
+        gone-stops (resolve-proc N) no-process (λ q j. ProcAt (length (N .procs)) q rows (take w out) starts j) (ProcessesHeld (length (N .procs)) R out′ (room ls)) ls (drop (k + 1) ls) k x (R .ok)
+        (g N ls d ns l f t (omega arith) .gone) e (answered-no _ (resolve-proc N x) (r .ok) (a N x (here .0) d ns (rw place (here .1)) few deep) lost) z
+
+    module _ (v : ℕ) (few-starts : k < length starts) (few-cells : length out < cell-limit) (start : w < cell-limit → v ≡ w) (kept : Kept (5 * k) rows rows′) where
+      -- a process that is done keeps its row and its cells
+      done-kept : (m : ℕ) (e : List ℕ) → take (r .w) out′ ≡ take w out ++ e → (q : Process) (j : ℕ) → j < k → ProcAt m q rows (take w out) starts j → ProcAt m q rows′ (take (r .w) out′) (set starts k v) j
+      done-kept m e c q j i p =
+          let few = p .few in
+          let s₀ : getD (set starts k v) j 0 ≡ getD starts j 0 = getD-set-other starts k j v 0 (λ z. omega arith) in
+          record {
+            few = few;
+            params = sorts-kept (5 * k) rows rows′ (q .params) (proc-width * j) kept (omega arith) (p .params);
+            right = rw (s₀, c) (term-kept (q .right) (getD starts j 0) (take w out) e (p .right));
+            scoped = p .scoped;
+          }
+
+      -- ONE MORE PROCESS.
+      pub procs-go : r .ok ≡ true → ProcsGone rows′ out′ (set starts k v) (r .w) (k + 1)
+      unfolding all
+      procs-go o N ls d ns l f t b =
+          let (x, e, here) = each-next (λ p l. At s raw (enc-proc l) p) procs ls k l h in
+          let few = every-at _ ls k x (drop (k + 1) ls) f e in
+          let deep = every-at _ ls k x (drop (k + 1) ls) t e in
+          let G = g N ls d ns l f t (omega arith) in
+          let m = length (N .procs) in
+          let (q, known, row) = answered-yes (λ q. ProcessRow m q rows′ (5 * k) w out (r .w) out′ (3 * length (enc-proc x))) (resolve-proc N x) (r .ok) (a N x (here .0) d ns (rw place (here .1)) few deep) o in
+          let more : length (all enc-proc (drop k ls)) ≡ length (enc-proc x) + length (all enc-proc (drop (k + 1) ls))
+          = ap (λ (ms : List ProcLine). length (all enc-proc ms)) e ∙ length-append (enc-proc x) (all enc-proc (drop (k + 1) ls)) in
+          let left = G .left in
+          let size = row .size in
+          let written = row .right .with-room (omega arith) in
+          let end = written .next in
+          let s₀ : getD (set starts k v) k 0 ≡ w = getD-set-same starts k v 0 few-starts ∙ start (omega arith) in
+          record {
+            gone = gone-goes (resolve-proc N) no-process (λ q j. ProcAt m q rows (take w out) starts j) (λ q j. ProcAt m q rows′ (take (r .w) out′) (set starts k v) j) ls k x q (G .gone) e known
+                (done-kept m (enc false (q .right)) (written .cells))
+                (record {
+                  few = row .few;
+                  params = row .params;
+                  right = rw (s₀, written .cells) (term-written (q .right) w out (omega arith));
+                  scoped = row .scoped;
+                });
+            left = omega arith;
+          }

@@ -1,0 +1,146 @@
+-- Question 7 on the whole sheet: names new, signature, processes and init, each answered by its part.
+use mathlib.Core.Path.{_≡_, refl, sym, _∙_, ap, subst, subst⁻¹}
+use mathlib.Core.List.{List, _∷_, _++_}
+use mathlib.Core.Bool.{Bool, false}
+use mathlib.Core.Option.{Option, none, some}
+use Prim.Native.Nat.{ℕ, _+_, _*_, _≤_}
+use native.Mathlib.Omega.{arith}
+use lib.ListN.{length, take, drop, getD, length-map}
+use Rattle.pcrl.specs.Text.{bytes}
+use Rattle.pcrl.specs.Tests.{and, distinct}
+use Rattle.pcrl.specs.Reader.{all}
+use Rattle.pcrl.specs.Maybe.{_>>=_, for-each}
+use Rattle.pcrl.specs.Tree.{RawSheet, ProcLine}
+use Rattle.pcrl.specs.Sheet.{Data, call, Process, Func, Action, Sig, Sheet, no-process}
+use Rattle.pcrl.specs.Counts.{Counted}
+use Rattle.pcrl.specs.Names.{names-of, declared, sizes-of, resolve-func, resolve-act, resolve-proc, resolve-init, resolve}
+use Rattle.laws.specs.Each.{each-length}
+use Rattle.laws.specs.Optional.{each-given}
+use Rattle.parser.specs.Cells.{Symbol, enc-proc, enc-init}
+use Rattle.nodes.specs.declared.Outline.{Outline}
+use Rattle.nodes.specs.Layout.{enc}
+use Rattle.nodes.specs.Scoped.{Scoped}
+use Rattle.nodes.specs.Held.{ProcAt, HeldProcs, Held}
+use Rattle.names.specs.NameCells.{names-at, scope-at}
+use Rattle.names.specs.Standing.{At, symbols}
+use Rattle.names.specs.Rows.{Answers, sorts-at}
+use Rattle.names.proofs.NamesOf.{sorts-are, funcs-are, acts-are, procs-are, declared-are}
+use Rattle.resolver.specs.Writing.{Writes}
+use Rattle.resolver.specs.Resolving.{Declared, ResolvesInit, called, Answers as Resolves-to}
+use Rattle.resolver.specs.Room.{init-room}
+use Rattle.resolver.specs.InScope.{init-scoped}
+use Rattle.resolver.specs.declared.Resolved.{Resolved as Side}
+use Rattle.sheets.specs.declared.SigRows.{SigRows}
+use Rattle.sheets.specs.declared.ProcRows.{ProcRows}
+use Rattle.sheets.specs.declared.Rows.{Rows}
+use Rattle.sheets.specs.Resolving.{FewLines, LinesStand, HoldsSignature, SignatureRead, resolve-signature, ProcessesHeld, ProcessesRead, arrays, LinesResolve}
+use Rattle.sheets.proofs.Asked.{answers-then, answers-last, answers-test}
+use Rattle.sheets.proofs.Placed.{proc-kept, written-whole, written-at}
+
+-- the signature first
+signature-then : {B : Type 0} (R : RawSheet) (k : Sig → Option B)
+    → _>>=_ (resolve-signature R) k ≡ _>>=_ (for-each (resolve-func (names-of R)) (R .funcs)) (λ fs. _>>=_ (for-each (resolve-act (names-of R)) (R .acts)) (λ as′. k (record { sorts = sizes-of R; funcs = fs; acts = as′ })))
+unfolding resolve-signature
+signature-then {B} R k = go (for-each (resolve-func (names-of R)) (R .funcs)) (for-each (resolve-act (names-of R)) (R .acts))
+  where
+    go : (f : Option (List Func)) (a : Option (List Action))
+        → _>>=_ (_>>=_ f (λ fs. _>>=_ a (λ as′. some (record { sorts = sizes-of R; funcs = fs; acts = as′ })))) k
+        ≡ _>>=_ f (λ fs. _>>=_ a (λ as′. k (record { sorts = sizes-of R; funcs = fs; acts = as′ })))
+    go none a = refl
+    go (some fs) none = refl
+    go (some fs) (some as′) = refl
+
+-- what was written of init
+init-answers : (m rest : List Symbol) (w : ℕ) (o : List ℕ) (i : Option (ℕ × List Data)) (r : Side) (o′ : List ℕ) → Resolves-to m rest w o (called i) r o′
+    → Answers (λ (x : ℕ × List Data). Writes (enc false (call (x .0) (x .1))) w o (r .w) o′) i (r .ok)
+unfolding Resolves-to
+init-answers m rest w o none r o′ h = h
+init-answers m rest w o (some x) r o′ h = (h .0, h .2)
+
+-- the rows of the whole sheet
+abbrev pub rows-of : (sorts funcs acts procs : List ℕ) → SigRows → ProcRows → Rows
+rows-of sorts funcs acts procs a b = record {
+  sizes = a .sizes;
+  funcs = a .funcs;
+  places = a .places;
+  acts = a .acts;
+  procs = b .procs;
+  starts = b .starts;
+  outline = record { sorts = length sorts + 1; funcs = length funcs; acts = length acts; procs = length procs; init = b .w };
+}
+
+module _ (s raw sorts funcs acts procs : List ℕ) (R : RawSheet) (stand : LinesStand s raw sorts funcs acts procs R) where
+  -- the names that the lines declare
+  lines-declare : Declared s raw sorts funcs acts procs (names-of R)
+  unfolding sorts-at
+  lines-declare = record {
+    sorts-are = sorts-are s raw R sorts funcs acts procs (stand .sorts-at) (stand .funcs-at) (stand .acts-at) (stand .procs-at);
+    funcs-are = funcs-are s raw R sorts funcs acts procs (stand .sorts-at) (stand .funcs-at) (stand .acts-at) (stand .procs-at);
+    acts-are = acts-are s raw R sorts funcs acts procs (stand .sorts-at) (stand .funcs-at) (stand .acts-at) (stand .procs-at);
+    procs-are = procs-are s raw R sorts funcs acts procs (stand .sorts-at) (stand .funcs-at) (stand .acts-at) (stand .procs-at);
+  }
+
+  -- as many processes as there are lines
+  lines-many : length (R .procs) ≡ length procs
+  lines-many = sym (each-length (λ p (l : ProcLine). At s raw (enc-proc l) p) procs (R .procs) (stand .procs-at))
+
+  names-many : length (names-of R .procs) ≡ length procs
+  unfolding names-of
+  names-many = length-map (R .procs) (λ (l : ProcLine). l .name) ∙ lines-many
+
+  -- PROCESSES AND INIT ARE HELD, init behind the right sides
+  procs-held : (S : Sig) (ps : List Process) (x : ℕ × List Data) (b : ProcRows) (o o′ : List ℕ) (most w′ : ℕ) (n : Outline) → n .procs ≡ length procs → n .init ≡ b .w → FewLines raw sorts funcs acts procs
+      → for-each (resolve-proc (names-of R)) (R .procs) ≡ some ps → ProcessesHeld (length (names-of R .procs)) b o most ps → resolve-init (names-of R) (R .start) ≡ some x
+      → Writes (enc false (call (x .0) (x .1))) (b .w) o w′ o′ → most + 3 * length (enc-init (R .start)) ≤ length o
+      → HeldProcs (record { sig = S; procs = ps; start = x }) (b .procs) o′ (b .starts) n
+  procs-held S ps x b o o′ most w′ n np ni few pe held xe wr room =
+      let many = each-length (λ (l : ProcLine) (q : Process). resolve-proc (names-of R) l ≡ some q) (R .procs) ps (each-given (resolve-proc (names-of R)) (R .procs) ps pe) in
+      let lines = lines-many in
+      let names = names-many in
+      let size = held .size in
+      let call-room = init-room (names-of R) (R .start) (x .0) (x .1) xe in
+      let written = wr .with-room (omega arith) in
+      let same : length (names-of R .procs) ≡ n .procs = names ∙ sym np in
+      record {
+        proc-count = omega arith;
+        few-procs = omega (arith, few .procs-few);
+        proc-at = λ k h.
+            subst (λ (m : ℕ). ProcAt m (getD ps k no-process) (b .procs) o′ (b .starts) k) same
+            (subst (λ (c : List ℕ). ProcAt (length (names-of R .procs)) (getD ps k no-process) (b .procs) c (b .starts) k) (written-whole written)
+            (proc-kept (length (names-of R .procs)) (getD ps k no-process) (b .procs) (take (b .w) o) _ (b .starts) k (held .each k (omega arith))));
+        init-at = (drop w′ o′, ap (λ (p : ℕ). drop p o′) ni ∙ written-at (omega arith) written);
+        init-scoped = subst (λ (m : ℕ). Scoped m 0 (call (x .0) (x .1))) same (init-scoped (names-of R) (R .start) (x .0) (x .1) xe);
+      }
+
+-- they hold a sheet
+abbrev Holds : Rows → (values cells : List ℕ) → Sheet → Type 0
+Holds rows values cells H = Held H (arrays rows values cells) (rows .outline)
+
+-- THE WHOLE SHEET
+pub lines-resolve : (s raw sorts funcs acts procs : List ℕ) (at : ℕ) (values o o′ names : List ℕ) (n : ℕ) (fresh : Bool) (a : SigRows) (b : ProcRows) (c : Side) (ok : Bool)
+    → FewLines raw sorts funcs acts procs → length o′ ≡ length o
+    → scope-at s names n ≡ names-at s raw sorts (length sorts) ++ (names-at s raw funcs (length funcs) ++ (names-at s raw acts (length acts) ++ names-at s raw procs (length procs)))
+    → fresh ≡ distinct (bytes "Bool" ∷ scope-at s names n) → SignatureRead s raw sorts funcs acts values a → ProcessesRead s raw sorts funcs acts procs names n b o
+    → ResolvesInit s raw funcs procs at (b .w) o c o′ → ok ≡ and fresh (and (a .ok) (and (b .ok) (c .ok)))
+    → LinesResolve s raw sorts funcs acts procs at values o′ (record { ok = ok; rows = rows-of sorts funcs acts procs a b })
+unfolding resolve symbols Counted arrays
+lines-resolve s raw sorts funcs acts procs at values o o′ names n fresh a b c ok few same scoped new sig procs-read init-read e R stand init-at m counted bounded values-room cells-room =
+    let rows : Rows = rows-of sorts funcs acts procs a b in
+    let D = lines-declare s raw sorts funcs acts procs R stand in
+    let known : declared (names-of R) ≡ bytes "Bool" ∷ scope-at s names n = declared-are s raw R sorts funcs acts procs (stand .sorts-at) (stand .funcs-at) (stand .acts-at) (stand .procs-at) names n scoped in
+    let cells = bounded .cells-few in
+    let both = bounded .processes-few in
+    let f = sig R m (stand .sorts-at) (stand .funcs-at) (stand .acts-at) counted bounded values-room in
+    let g = procs-read (names-of R) (R .procs) D known (stand .procs-at) (counted .1 .1 .1 .1 .1) (bounded .sums-shallow) (omega arith) in
+    let h = init-answers (symbols s raw) (init-at .0) (b .w) o (resolve-init (names-of R) (R .start)) c o′ (init-read (names-of R) (R .start) (init-at .0) (D .funcs-are) (D .procs-are) (init-at .1)) in
+    subst⁻¹ (λ (t : Bool). Answers (Holds rows values o′) (resolve R) t) e
+    (answers-test (Holds rows values o′) (distinct (declared (names-of R))) _ fresh _ (new ∙ ap distinct (sym known))
+    (subst (λ (q : Option Sheet). Answers (Holds rows values o′) q (and (a .ok) (and (b .ok) (c .ok)))) (signature-then R _)
+    (answers-then (Holds rows values o′) (HoldsSignature sorts funcs acts values a) (resolve-signature R)
+    (λ S. _>>=_ (for-each (resolve-proc (names-of R)) (R .procs)) (λ ps. _>>=_ (resolve-init (names-of R) (R .start)) (λ x. some (record { sig = S; procs = ps; start = x })))) (a .ok) _ f
+    (λ S se held. answers-then (Holds rows values o′) (ProcessesHeld (length (names-of R .procs)) b o (3 * length (all enc-proc (R .procs)))) (for-each (resolve-proc (names-of R)) (R .procs)) _ (b .ok) (c .ok) g
+    (λ ps pe pheld. answers-last (Holds rows values o′) (λ (x : ℕ × List Data). Writes (enc false (call (x .0) (x .1))) (b .w) o (c .w) o′) (resolve-init (names-of R) (R .start)) _ (c .ok) h
+    (λ x xe w. record {
+      signature = held (rows .outline) refl refl refl;
+      processes = procs-held s raw sorts funcs acts procs R stand S ps x b o o′ (3 * length (all enc-proc (R .procs))) (c .w) (rows .outline) refl refl few pe pheld xe w (omega arith);
+    }))))))

@@ -1,0 +1,6 @@
+pub mod Rising
+pub mod Depth
+pub mod FuncValues
+pub mod Bounded
+pub mod Resolving
+pub mod Reading

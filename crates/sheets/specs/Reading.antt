@@ -1,0 +1,37 @@
+-- What is answered to a sheet's bytes: the number of the first question that fails, or 0 and the resolved sheet in arrays.
+use mathlib.Core.Path.{_≡_}
+use mathlib.Core.List.{List}
+use Prim.Native.Nat.{ℕ, _*_, _≤_, _<_, min}
+use lib.ListN.{length}
+use Rattle.pcrl.specs.Limits.{max-bytes}
+use Rattle.pcrl.specs.Result.{Result, refused, accepted, question, refusal}
+use Rattle.pcrl.specs.Tests.{T?}
+use Rattle.pcrl.specs.Sheet.{Sheet}
+use Rattle.pcrl.specs.Sorts.{rightly-sorted?}
+use Rattle.pcrl.specs.Circles.{guarded}
+use Rattle.nodes.specs.Layout.{cell-limit}
+use Rattle.nodes.specs.Held.{Held}
+use Rattle.sheets.specs.declared.Rows.{Rows}
+use Rattle.sheets.specs.declared.Answer.{Answer}
+use Rattle.sheets.specs.Resolving.{arrays}
+
+-- room for the tokens of a sheet, for its tree, and for what it resolves to
+pub record Room (sheet toks raw values cells : List ℕ) : Type 0 where
+  pub tokens-room : min (length sheet) max-bytes ≤ length toks
+  pub tree-room : 3 * length toks ≤ length raw
+  pub tree-few : length raw < cell-limit
+  pub values-room : length toks ≤ length values
+  pub values-few : length values < cell-limit
+  pub cells-room : 9 * length toks ≤ length cells
+  pub cells-few : length cells < cell-limit
+
+-- questions 8 and 9 of a resolved sheet
+unfoldable pub judged : Sheet → Result Sheet
+judged H = question 8 (rightly-sorted? H) (λ _. question 9 (T? (guarded H)) (λ _. accepted H))
+
+abbrev pub Judges : Rows → (values cells : List ℕ) → ℕ → Type 0
+Judges rows values cells r = (H : Sheet) → Held H (arrays rows values cells) (rows .outline) → r ≡ refusal (judged H)
+
+unfoldable pub Reads : Result Sheet → Answer → (values cells : List ℕ) → Type 0
+Reads (refused n) r values cells = r .refused ≡ n
+Reads (accepted H) r values cells = (r .refused ≡ 0) × Held H (arrays (r .rows) values cells) (r .rows .outline)

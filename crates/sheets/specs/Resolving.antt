@@ -1,0 +1,129 @@
+-- What the parts of question 7 answer, for every raw sheet whose lines stand in the cells.
+use mathlib.Core.Path.{_≡_}
+use mathlib.Core.List.{List, [], _∷_, _++_}
+use mathlib.Core.Bool.{Bool, true, false}
+use mathlib.Core.Option.{Option, none, some}
+use Prim.Native.Nat.{ℕ, _+_, _*_, _≤_, _<_}
+use lib.ListN.{length, take, drop}
+use Rattle.pcrl.specs.Text.{bytes}
+use Rattle.pcrl.specs.Limits.{max-open, max-sorts, max-functions, max-actions, max-processes, frame-width}
+use Rattle.pcrl.specs.Tests.{Every}
+use Rattle.pcrl.specs.Reader.{all}
+use Rattle.pcrl.specs.Maybe.{_>>=_, for-each}
+use Rattle.pcrl.specs.Tree.{ProcLine, RawSheet}
+use Rattle.pcrl.specs.Sheet.{Process, Sig, no-process}
+use Rattle.pcrl.specs.Counts.{Counted}
+use Rattle.pcrl.specs.Names.{Names, names-of, declared, sizes-of, resolve-func, resolve-act, resolve-proc, resolve}
+use Rattle.parser.specs.Cells.{Symbol, enc-sort, enc-func, enc-act, enc-proc, enc-init}
+use Rattle.parser.specs.declared.Lines.{Lines}
+use Rattle.nodes.specs.declared.Outline.{Outline}
+use Rattle.nodes.specs.Layout.{cell-limit, enc}
+use Rattle.nodes.specs.Scoped.{Scoped}
+use Rattle.nodes.specs.Held.{SortsAt, ProcAt, HeldSig, Arrays, Held}
+use Rattle.names.specs.NameCells.{scope-at}
+use Rattle.names.specs.Standing.{symbols, At, LinesAt, Standing}
+use Rattle.names.specs.Rows.{Answers, InRows}
+use Rattle.resolver.specs.Raw.{sum-depth}
+use Rattle.resolver.specs.Writing.{Writes}
+use Rattle.resolver.specs.Resolving.{Declared}
+use Rattle.resolver.specs.declared.Resolved.{Resolved as Side}
+use Rattle.sheets.specs.declared.SigRows.{SigRows}
+use Rattle.sheets.specs.declared.ProcRows.{ProcRows}
+use Rattle.sheets.specs.declared.Rows.{Rows}
+use Rattle.sheets.specs.declared.Resolved.{Resolved}
+use Rattle.sheets.specs.Bounded.{Bounded}
+
+-- so few lines that their numbers fit; so few cells that a place fits a cell
+pub record FewLines (raw sorts funcs acts procs : List ℕ) : Type 0 where
+  pub raw-few : length raw < cell-limit
+  pub sorts-few : length sorts < max-sorts
+  pub funcs-few : length funcs ≤ max-functions
+  pub acts-few : length acts ≤ max-actions
+  pub procs-few : length procs ≤ max-processes
+
+-- the lines of each kind stand at their places
+pub record LinesStand (s raw sorts funcs acts procs : List ℕ) (R : RawSheet) : Type 0 where
+  pub sorts-at : LinesAt enc-sort s raw sorts (R .sorts)
+  pub funcs-at : LinesAt enc-func s raw funcs (R .funcs)
+  pub acts-at : LinesAt enc-act s raw acts (R .acts)
+  pub procs-at : LinesAt enc-proc s raw procs (R .procs)
+
+-- ---- sorts, functions and actions
+-- the signature of a raw sheet, if every name in it is known
+unfoldable pub resolve-signature : RawSheet → Option Sig
+resolve-signature R = do
+  fs ← for-each (resolve-func (names-of R)) (R .funcs)
+  as′ ← for-each (resolve-act (names-of R)) (R .acts)
+  some (record { sorts = sizes-of R; funcs = fs; acts = as′ })
+
+-- the rows hold it, in the outline of any sheet that has so many sorts, functions and actions
+abbrev pub HoldsSignature : (sorts funcs acts values : List ℕ) → SigRows → Sig → Type 0
+HoldsSignature sorts funcs acts values r S =
+    (n : Outline) → n .sorts ≡ length sorts + 1 → n .funcs ≡ length funcs → n .acts ≡ length acts → HeldSig S (r .sizes) (r .funcs) values (r .places) (r .acts) n
+
+abbrev pub SignatureRead : (s raw sorts funcs acts values : List ℕ) → SigRows → Type 0
+SignatureRead s raw sorts funcs acts values r =
+    (R : RawSheet) (n : ℕ) → LinesAt enc-sort s raw sorts (R .sorts) → LinesAt enc-func s raw funcs (R .funcs) → LinesAt enc-act s raw acts (R .acts)
+    → Counted R → Bounded R n → n ≤ length values → Answers (HoldsSignature sorts funcs acts values r) (resolve-signature R) (r .ok)
+
+-- ---- processes
+-- a process of a sheet with m of them: its row at p, and the cells of its right side behind w, at most so many
+pub record ProcessRow (m : ℕ) (q : Process) (rows : List ℕ) (p : ℕ) (w : ℕ) (o : List ℕ) (w′ : ℕ) (o′ : List ℕ) (most : ℕ) : Type 0 where
+  pub few : length (q .params) ≤ frame-width
+  pub params : SortsAt (q .params) rows p
+  pub scoped : Scoped m (length (q .params)) (q .right)
+  pub right : Writes (enc false (q .right)) w o w′ o′
+  pub size : length (enc false (q .right)) ≤ most
+
+-- for every process line that stands at `at`
+abbrev pub ProcessRead : (s raw sorts funcs acts procs names : List ℕ) (n at : ℕ) (rows : List ℕ) (p w : ℕ) (o : List ℕ) → Side → List ℕ → Type 0
+ProcessRead s raw sorts funcs acts procs names n at rows p w o r o′ =
+    (N : Names) (l : ProcLine) (rest : List Symbol) → Declared s raw sorts funcs acts procs N → declared N ≡ bytes "Bool" ∷ scope-at s names n
+    → drop at (symbols s raw) ≡ enc-proc l ++ rest → length (l .params) ≤ frame-width → sum-depth (l .right) ≤ max-open
+    → Answers (λ q. ProcessRow (length (N .procs)) q rows p w o (r .w) o′ (3 * length (enc-proc l))) (resolve-proc N l) (r .ok)
+
+-- all of them: each has its row, and its right side stands among the first w cells
+pub record ProcessesHeld (m : ℕ) (r : ProcRows) (cells : List ℕ) (most : ℕ) (ps : List Process) : Type 0 where
+  pub each : InRows no-process (λ q k. ProcAt m q (r .procs) (take (r .w) cells) (r .starts) k) ps
+  pub size : r .w ≤ most
+
+abbrev pub ProcessesRead : (s raw sorts funcs acts procs names : List ℕ) (n : ℕ) → ProcRows → List ℕ → Type 0
+ProcessesRead s raw sorts funcs acts procs names n r o′ =
+    (N : Names) (ls : List ProcLine) → Declared s raw sorts funcs acts procs N → declared N ≡ bytes "Bool" ∷ scope-at s names n → LinesAt enc-proc s raw procs ls
+    → Every (λ (l : ProcLine). length (l .params) ≤ frame-width) ls → Every (λ (l : ProcLine). sum-depth (l .right) ≤ max-open) ls → 3 * length (all enc-proc ls) ≤ length o′
+    → Answers (ProcessesHeld (length (N .procs)) r o′ (3 * length (all enc-proc ls))) (for-each (resolve-proc N) ls) (r .ok)
+
+-- ---- the whole sheet
+-- the arrays of a sheet that was read
+unfoldable pub arrays : Rows → List ℕ → List ℕ → Arrays
+arrays r values cells = record {
+  sizes = r .sizes;
+  funcs = r .funcs;
+  values = values;
+  places = r .places;
+  acts = r .acts;
+  procs = r .procs;
+  cells = cells;
+  starts = r .starts;
+}
+
+-- n tokens: room for their values and for the cells of their terms
+abbrev pub Resolves : RawSheet → (values o : List ℕ) → Resolved → Type 0
+Resolves R values o r =
+    (n : ℕ) → Counted R → Bounded R n → n ≤ length values → 9 * n ≤ length o → Answers (λ H. Held H (arrays (r .rows) values o) (r .rows .outline)) (resolve R) (r .ok)
+
+abbrev pub LinesResolve : (s raw sorts funcs acts procs : List ℕ) (at : ℕ) (values o : List ℕ) → Resolved → Type 0
+LinesResolve s raw sorts funcs acts procs at values o r =
+    (R : RawSheet) → LinesStand s raw sorts funcs acts procs R → At s raw (enc-init (R .start)) at → Resolves R values o r
+
+-- the same of lines that the parser found
+pub record FewFound (L : Lines) (raw : List ℕ) : Type 0 where
+  pub raw-few : length raw < cell-limit
+  pub sorts-few : L .«sort_count» < max-sorts
+  pub funcs-few : L .«func_count» ≤ max-functions
+  pub acts-few : L .«act_count» ≤ max-actions
+  pub procs-few : L .«proc_count» ≤ max-processes
+  pub init-inside : L .init < length raw
+
+abbrev pub FoundResolve : (s raw : List ℕ) → Lines → (values o : List ℕ) → Resolved → Type 0
+FoundResolve s raw L values o r = (R : RawSheet) → Standing s raw L R → At s raw (enc-init (R .start)) (L .init) → Resolves R values o r

@@ -1,0 +1,110 @@
+// Question 7 on the lines of processes.
+ghost use Prim.Native.Nat.{_+_, _≤_, _<_};
+ghost use lib.ListN.{length};
+ghost use Rattle.pcrl.specs.Limits.{frame-width};
+ghost use Rattle.nodes.specs.Layout.{cell-limit};
+ghost use Rattle.names.specs.Rows.{Kept};
+ghost use Rattle.sheets.specs.Resolving.{FewLines, ProcessRead, ProcessesRead};
+use crate::ProcRows;
+use names::find::place;
+use names::rows::param_row;
+use nodes::PROC_ROW;
+use parser::cells::short;
+use resolver::Resolved;
+use resolver::entry::right_side;
+
+// The process whose line stands at `at`: the row of its parameters at p, the cells of its right side behind w.
+fn process(
+    s: &[u8],
+    raw: &[u16],
+    sorts: &[u16],
+    funcs: &[u16],
+    acts: &[u16],
+    procs: &[u16],
+    names: &[u16],
+    n: usize,
+    at: usize,
+    rows: &mut [u8],
+    p: usize,
+    out: &mut [u16],
+    w: usize,
+) -> Resolved
+    requires { ⌜ FewLines (now raw) (now sorts) (now funcs) (now acts) (now procs) × (n ≤ length (now names)) × (at < cell-limit) × (p + frame-width < length (now rows)) ⌝ }
+    ensures kept { λ r. ⌜ Kept p (now (rows .entry)) (now (rows .exit)) ⌝ }
+    ensures process { λ r. ⌜ ProcessRead (now (s .entry)) (now (raw .entry)) (now (sorts .entry)) (now (funcs .entry)) (now (acts .entry)) (now (procs .entry)) (now (names .entry)) n at (now (rows .exit)) p w (now (out .entry)) r (now (out .exit)) ⌝ }
+{
+    let mut scope = [0u16; 32];
+    let a = param_row(s, raw, sorts, names, n, at + 2, rows, p, &mut scope);
+    if !a.ok {
+        return Resolved {
+            ok: false,
+            next: at,
+            w: w,
+        };
+    }
+    right_side(
+        s,
+        raw,
+        sorts,
+        funcs,
+        acts,
+        procs,
+        &mut scope,
+        a.count,
+        a.at,
+        out,
+        w,
+    )
+}
+
+// All processes, one after another.
+pub fn processes(
+    s: &[u8],
+    raw: &[u16],
+    sorts: &[u16],
+    funcs: &[u16],
+    acts: &[u16],
+    procs: &[u16],
+    names: &[u16],
+    n: usize,
+    out: &mut [u16],
+) -> ProcRows
+    requires { ⌜ FewLines (now raw) (now sorts) (now funcs) (now acts) (now procs) × (n ≤ length (now names)) × (length (now out) < cell-limit) ⌝ }
+    ensures { λ r. ⌜ ProcessesRead (now (s .entry)) (now (raw .entry)) (now (sorts .entry)) (now (funcs .entry)) (now (acts .entry)) (now (procs .entry)) (now (names .entry)) n r (now (out .exit)) ⌝ }
+{
+    let mut rows = [0u8; 80];
+    let mut starts = [0u16; 16];
+    let mut ok = true;
+    let mut w: usize = 0;
+    let mut k: usize = 0;
+    while k < procs.len() {
+        starts[k] = short(w);
+        let r = process(
+            s,
+            raw,
+            sorts,
+            funcs,
+            acts,
+            procs,
+            names,
+            n,
+            place(procs[k]),
+            &mut rows,
+            PROC_ROW * k,
+            out,
+            w,
+        );
+        if !r.ok {
+            ok = false;
+            break;
+        }
+        w = r.w;
+        k += 1;
+    }
+    ProcRows {
+        ok: ok,
+        procs: rows,
+        starts: starts,
+        w: w,
+    }
+}

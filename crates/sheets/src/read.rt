@@ -1,0 +1,111 @@
+// Questions 1 to 9, each put to the whole sheet before the next.
+ghost use mathlib.Core.Path.{_≡_};
+ghost use Rattle.pcrl.specs.Answers.{sheet-read};
+ghost use Rattle.sheets.specs.Reading.{Room, Judges, Reads};
+use crate::Answer;
+use crate::Rows;
+use crate::resolve::resolve;
+use checker::circles::guarded_sheet;
+use checker::sorts::rightly_sorted;
+use lexer::lex;
+use names::counts::counted;
+use nodes::Outline;
+use parser::parse;
+
+const NO_SHEET: u8 = 5;
+
+const TOO_MANY: u8 = 6;
+
+const NO_NAME: u8 = 7;
+
+const NOT_SORTED: u8 = 8;
+
+const NOT_GUARDED: u8 = 9;
+
+// Refused before there are rows.
+fn refusal(n: u8) -> Answer
+    ensures { λ r. ⌜ r .refused ≡ n ⌝ }
+{
+    Answer {
+        refused: n,
+        rows: Rows {
+            sizes: [0u8; 8],
+            funcs: [0u8; 64],
+            places: [0u16; 17],
+            acts: [0u8; 96],
+            procs: [0u8; 80],
+            starts: [0u16; 16],
+            outline: Outline {
+                sorts: 0,
+                funcs: 0,
+                acts: 0,
+                procs: 0,
+                init: 0,
+            },
+        },
+    }
+}
+
+// Questions 8 and 9 on the sheet that is held.
+fn judge(rows: Rows, values: &[u8], cells: &[u16]) -> u8
+    ensures { λ r. ⌜ Judges rows (now (values .entry)) (now (cells .entry)) r ⌝ }
+{
+    let sizes = rows.sizes;
+    let funcs = rows.funcs;
+    let places = rows.places;
+    let acts = rows.acts;
+    let procs = rows.procs;
+    let starts = rows.starts;
+    if !rightly_sorted(
+        &sizes,
+        &funcs,
+        values,
+        &places,
+        &acts,
+        &procs,
+        cells,
+        &starts,
+        rows.outline,
+    ) {
+        return NOT_SORTED;
+    }
+    if !guarded_sheet(cells, &starts, rows.outline) {
+        return NOT_GUARDED;
+    }
+    0
+}
+
+// Check a sheet: the resolved sheet is left in the rows, the values and the cells. The tokens and the raw tree are kept for nothing.
+pub fn read_sheet(
+    sheet: &[u8],
+    toks: &mut [u16],
+    raw: &mut [u16],
+    values: &mut [u8],
+    cells: &mut [u16],
+) -> Answer
+    requires { ⌜ Room (now sheet) (now toks) (now raw) (now values) (now cells) ⌝ }
+    ensures { λ r. ⌜ Reads (sheet-read (now (sheet .entry))) r (now (values .exit)) (now (cells .exit)) ⌝ }
+{
+    let l = lex(sheet, toks);
+    if l.refused != 0 {
+        return refusal(l.refused);
+    }
+    let n = l.count;
+    let t = parse(&toks[0..n], raw);
+    if !t.ok {
+        return refusal(NO_SHEET);
+    }
+    let lines = t.lines;
+    if !counted(raw, lines) {
+        return refusal(TOO_MANY);
+    }
+    let h = resolve(sheet, raw, lines, values, cells);
+    if !h.ok {
+        return refusal(NO_NAME);
+    }
+    let rows = h.rows;
+    Answer {
+        refused: judge(rows, values, cells),
+        rows: rows,
+    }
+}
