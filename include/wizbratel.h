@@ -13,6 +13,10 @@
 extern "C" {
 #endif
 
+/* Questions 1 to 9 of a sheet: the number of the first that fails, or 0. Question 10, the limits of
+ * the sheet's table, is not asked. */
+uint8_t wizbratel_check_sheet(const uint8_t *bytes, size_t length);
+
 /* Questions 12 to 14 of a table file: the number of the first that fails, or 0. */
 uint8_t wizbratel_check_table(const uint8_t *bytes, size_t length);
 

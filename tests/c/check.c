@@ -1,5 +1,6 @@
-/* Calls the library from C: a file of zeros is refused by 13, no file at all by 12. */
+/* Calls the library from C: sheets and table files that are accepted, and some that are refused. */
 #include <stdio.h>
+#include <string.h>
 
 #include "wizbratel.h"
 
@@ -12,19 +13,59 @@ static void expect(const char *what, int got, int wanted) {
     }
 }
 
+/* A text without its closing zero. */
+static void sheet(const char *text, int wanted) {
+    expect(text, wizbratel_check_sheet((const uint8_t *)text, strlen(text)), wanted);
+}
+
+/* A sheet for each answer but 1 and 2, which `lengths` tries. */
+static void sheets(void) {
+    sheet("act a;proc X=a.X;init X;", 0);
+    sheet("sort D 2;act in:D;act out:D;proc B=sum(d:D,in(d).out(d).B);init B;", 0);
+    sheet("act a;proc X=a.X.X.X.X.X.X.X.X.X;init X;", 0); /* fails only question 10 */
+    sheet("act 00;proc X=a;init X;", 3);
+    sheet("act a;proc X=(((((((((((((((((a)))))))))))))))));init X;", 4);
+    sheet("act a;proc X=a.X;init X", 5);
+    sheet("sort D 17;proc X=tau;init X;", 6);
+    sheet("act a;proc X=b;init X;", 7);
+    sheet("act a:Bool;proc X=a(2);init X;", 8);
+    sheet("act a;proc X=X<|0|>a;init X;", 9);
+}
+
+/* `act a;proc X=a.X;init X;` with blanks behind it, to this many of the 4,097 bytes. */
+static void lengths(void) {
+    static uint8_t bytes[4097];
+    memset(bytes, ' ', sizeof bytes);
+    memcpy(bytes, "act a;proc X=a.X;init X;", 24);
+    expect("no bytes of a sheet", wizbratel_check_sheet(bytes, 0), 5);
+    expect("4,096 bytes", wizbratel_check_sheet(bytes, 4096), 0);
+    expect("4,097 bytes", wizbratel_check_sheet(bytes, 4097), 1);
+    bytes[4095] = 0;
+    expect("a zero", wizbratel_check_sheet(bytes, 4096), 2);
+    expect("a zero behind the sheet", wizbratel_check_sheet(bytes, 4095), 0);
+}
+
+/* 16 brackets deep everywhere: the deepest that the stack has to hold. */
+static void deepest(void) {
+    static const char part[] = "+((((((((((((((((a))))))))))))))))";
+    static char text[4096] = "act a;proc X=a";
+    for (int i = 0; i < 115; i++)
+        strcat(text, part);
+    strcat(text, ";init X;");
+    expect("deepest", wizbratel_check_sheet((const uint8_t *)text, strlen(text)), 0);
+}
+
 /* The file of document 01's worked sheet, `act a;proc X=a.X;init X;`: one block. */
 static void worked(uint8_t file[512]) {
     static const uint8_t stream[] = {1, 2, 0, 1, 1, 0x61, 0, 1, 0, 1, 0, 0, 0, 1, 0, 0};
-    for (int i = 0; i < 512; i++)
-        file[i] = 0;
+    memset(file, 0, 512);
     file[2] = 1;
-    for (size_t i = 0; i < sizeof stream; i++)
-        file[4 + i] = stream[i];
+    memcpy(file + 4, stream, sizeof stream);
     file[510] = 0xAC;
     file[511] = 0x85;
 }
 
-int main(void) {
+static void tables(void) {
     static uint8_t zeros[512], file[512];
     worked(file);
     expect("nothing", wizbratel_check_table(zeros, 0), 12);
@@ -33,6 +74,13 @@ int main(void) {
     file[510] = 0x85;
     file[511] = 0xAC;
     expect("the check low byte first", wizbratel_check_table(file, 512), 13);
+}
+
+int main(void) {
+    sheets();
+    lengths();
+    deepest();
+    tables();
     if (!failed)
         puts("c: ok");
     return failed;

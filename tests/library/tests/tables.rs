@@ -1,10 +1,7 @@
 //! Table files put to the proved library and to the other reader: vectors, files made of sheets, and mutants of them.
 
-#[path = "../../reader/tests/common/mod.rs"]
-mod common;
-
-use common::random::Random;
-use library::check_table;
+use library::common::random::Random;
+use library::{check_table, common};
 
 /// Both say the same of a file.
 fn same(file: &[u8], what: &str) -> u8 {

@@ -2,15 +2,11 @@
 
 mod common;
 
-use common::{repeated, verdict};
+use common::{boundaries, numbered, repeated, verdict};
 
 /// The verdicts on the sheets of these two numbers.
 fn both(numbers: [usize; 2], sheet: impl Fn(usize) -> String) -> [u8; 2] {
     numbers.map(|number| verdict(&sheet(number)))
-}
-
-fn numbered(count: usize, line: impl Fn(usize) -> String) -> String {
-    (0..count).map(line).collect()
 }
 
 /// Data with this many nodes, from 1 to 32, over the variable `v`.
@@ -25,82 +21,11 @@ fn data(nodes: usize) -> String {
 const FUNCTIONS: &str = "func f:Bool->Bool=1,0;func g:Bool#Bool->Bool=0,1,1,0;";
 
 #[test]
-fn bytes_of_a_sheet() {
-    let sheet = |length| format!("{:length$}", "act a;proc X=a;init X;");
-    assert_eq!(both([4096, 4097], sheet), [0, 1]);
-}
-
-#[test]
-fn bytes_outside_ascii() {
-    for byte in 0..=255u8 {
-        let sheet = [b"act a;proc X=a;init X;".as_slice(), &[byte]].concat();
-        let inside = (0x20..=0x7e).contains(&byte) || byte == 0x0a;
-        let refused = reader::make_table(&sheet).err() == Some(2);
-        assert_eq!(refused, !inside, "{byte}");
+fn questions_1_to_9() {
+    for case in boundaries::sheets() {
+        let answer = reader::make_table(&case.sheet).err().unwrap_or(0);
+        assert_eq!(answer, case.wanted, "{}", case.what);
     }
-}
-
-#[test]
-fn characters_of_a_name_and_values_of_a_numeral() {
-    let name = |length| format!("act {};proc X=tau;init X;", "n".repeat(length));
-    assert_eq!(both([16, 17], name), [0, 3]);
-    let size = |size| format!("sort D {size};proc X=tau;init X;");
-    assert_eq!(both([255, 256], size), [6, 3]);
-}
-
-#[test]
-fn open_brackets() {
-    let sheet = |count| {
-        let (open, close) = ("(".repeat(count), ")".repeat(count));
-        format!("act a;proc X={open}a{close};init X;")
-    };
-    assert_eq!(both([16, 17], sheet), [0, 4]);
-}
-
-#[test]
-fn sorts_and_their_sizes() {
-    let sorts = |count| numbered(count, |i| format!("sort D{i} 2;")) + "proc X=tau;init X;";
-    assert_eq!(both([7, 8], sorts), [0, 6]);
-    let size = |size| format!("sort D {size};proc X=tau;init X;");
-    assert_eq!(both([0, 1], size), [6, 0]);
-    assert_eq!(both([16, 17], size), [0, 6]);
-}
-
-#[test]
-fn functions_actions_processes_parameters() {
-    let rest = "proc X=tau;init X;";
-    let functions = |count| numbered(count, |i| format!("func f{i}:Bool->Bool=0,1;")) + rest;
-    assert_eq!(both([16, 17], functions), [0, 6]);
-    let actions = |count| numbered(count, |i| format!("act a{i};")) + rest;
-    assert_eq!(both([32, 33], actions), [0, 6]);
-    let processes = |count| numbered(count, |i| format!("proc X{i}=tau;")) + "init X0;";
-    assert_eq!(both([16, 17], processes), [0, 6]);
-    let parameters = |count: usize| {
-        let names: Vec<String> = (0..count).map(|i| format!("p{i}:Bool")).collect();
-        let (names, data) = (names.join(","), repeated("0", count, ","));
-        format!("proc X({names})=tau;init X({data});")
-    };
-    assert_eq!(both([4, 5], parameters), [0, 6]);
-}
-
-#[test]
-fn function_values() {
-    let unary = |count| {
-        format!(
-            "func f:Bool->Bool={};proc X=tau;init X;",
-            repeated("1", count, ",")
-        )
-    };
-    assert_eq!(both([1, 2], unary), [8, 0]);
-    assert_eq!(both([2, 3], unary), [0, 8]);
-    let binary = |count| {
-        let values = repeated("15", count, ",");
-        format!("sort D 16;func f:D#D->D={values};proc X=tau;init X;")
-    };
-    assert_eq!(both([255, 256], binary), [8, 0]);
-    assert_eq!(both([256, 257], binary), [0, 8]);
-    let value = |value| format!("sort D 3;func f:Bool->D=0,{value};proc X=tau;init X;");
-    assert_eq!(both([2, 3], value), [0, 8]);
 }
 
 #[test]

@@ -1,4 +1,4 @@
-//! Small sheets by a seed: right in form, names and sorts, and without circles at the head.
+//! Small sheets by a seed: right in form, names and sorts, and without circles at the head unless these are asked for.
 
 use super::random::Random;
 
@@ -17,6 +17,7 @@ struct Writer {
     processes: Vec<(String, Vec<usize>)>,
     scope: Vec<(String, usize)>,
     sums: usize,
+    circles: bool,
     text: String,
 }
 
@@ -25,6 +26,15 @@ const DEPTH: usize = 3;
 
 /// The sheet of a seed.
 pub fn sheet(seed: u64) -> String {
+    written(seed, false)
+}
+
+/// The sheet of a seed in which any process may stand at any head.
+pub fn with_circles(seed: u64) -> String {
+    written(seed, true)
+}
+
+fn written(seed: u64, circles: bool) -> String {
     let mut writer = Writer {
         random: Random::new(seed),
         sizes: vec![2],
@@ -33,6 +43,7 @@ pub fn sheet(seed: u64) -> String {
         processes: Vec::new(),
         scope: Vec::new(),
         sums: 0,
+        circles,
         text: String::new(),
     };
     writer.declarations();
@@ -151,8 +162,9 @@ impl Writer {
         name + &self.bracketed(&sorts)
     }
 
-    /// At the head only later processes are called, so that there is no circle.
+    /// Where there is to be no circle, only later processes are called at the head.
     fn call(&mut self, head_of: Option<usize>) -> String {
+        let head_of = head_of.filter(|_| !self.circles);
         let from = head_of.map_or(0, |number| number + 1);
         if from == self.processes.len() {
             return self.action();

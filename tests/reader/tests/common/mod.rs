@@ -2,13 +2,35 @@
 
 #![allow(dead_code)]
 
+pub mod boundaries;
 pub mod generate;
 pub mod json;
+pub mod mutate;
 pub mod random;
+pub mod worst;
 
 use std::time::{Duration, Instant};
 
 use reader::{Frame, Table};
+
+/// A sheet, what it tries, and the number of the question that it fails, or 0 if it is accepted.
+#[derive(Clone)]
+pub struct Case {
+    pub what: String,
+    pub sheet: Vec<u8>,
+    pub wanted: u8,
+}
+
+impl Case {
+    pub fn new(what: &str, sheet: impl Into<Vec<u8>>, wanted: u8) -> Self {
+        let (what, sheet) = (what.to_string(), sheet.into());
+        Case {
+            what,
+            sheet,
+            wanted,
+        }
+    }
+}
 
 /// All vectors of a file in `tests/vectors`.
 pub fn vectors(file: &str) -> Vec<json::Json> {
@@ -43,6 +65,11 @@ pub fn lent(used: &[Frame]) -> Vec<Frame> {
 /// The text as often as given, with the joint between.
 pub fn repeated(text: &str, times: usize, joint: &str) -> String {
     vec![text; times].join(joint)
+}
+
+/// The lines of the numbers below the count.
+pub fn numbered(count: usize, line: impl Fn(usize) -> String) -> String {
+    (0..count).map(line).collect()
 }
 
 /// Runs the work on a stack of 1 MiB, and asserts that it ends within the time.
