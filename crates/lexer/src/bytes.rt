@@ -60,11 +60,21 @@ pub fn run(s: &[u8], at: usize, lo: u8, hi: u8) -> usize
     end - at
 }
 
-// The place behind the separators at `at`.
-pub fn skip(s: &[u8], at: usize) -> usize
-    ensures { λ r. ⌜ r ≡ at + T.run B.separator (drop at (now (s .entry))) ⌝ }
-{
-    at + run(s, at, SEPARATOR, SEPARATOR)
+// A place in the sheet.
+pub struct Cursor {
+    pub at: usize,
+}
+
+impl Cursor {
+    // Past the separators.
+    pub fn skip(self, s: &[u8]) -> Cursor
+        ensures { λ r. ⌜ r .at ≡ self .at + T.run B.separator (drop (self .at) (now (s .entry))) ⌝ }
+    {
+        let at = self.at;
+        Cursor {
+            at: at + run(s, at, SEPARATOR, SEPARATOR),
+        }
+    }
 }
 
 pub fn same(a: &[u8], b: &[u8]) -> bool

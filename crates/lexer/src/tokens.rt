@@ -7,7 +7,7 @@ ghost use Rattle.pcrl.specs.Tokens as T;
 ghost use Rattle.lexer.specs.Cells.{Lexes};
 use crate::Lexed;
 use crate::NO_TOKEN;
-use crate::bytes::skip;
+use crate::bytes::Cursor;
 use crate::token::token_at;
 
 // One after another, into the front of out.
@@ -19,7 +19,7 @@ pub fn tokens(sheet: &[u8], out: &mut [u16]) -> Lexed
     let mut at = 0;
     let mut n: usize = 0;
     loop {
-        let p = skip(sheet, at);
+        let p = Cursor { at }.skip(sheet).at;
         if sheet.len() <= p {
             return Lexed {
                 refused: 0,

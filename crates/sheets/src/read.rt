@@ -75,7 +75,7 @@ fn judge(rows: Rows, values: &[u8], cells: &[u16]) -> u8
     0
 }
 
-// Check a sheet: the resolved sheet is left in the rows, the values and the cells. The tokens and the raw tree are kept for nothing.
+// Check a sheet: the resolved sheet is left in the rows, the values and the cells. What is left of the tokens and the raw tree is not needed afterwards.
 pub fn read_sheet(
     sheet: &[u8],
     toks: &mut [u16],

@@ -27,7 +27,7 @@ same-length : tie.Need-same-length Inv-loop μ-loop
 same-length c = c .before .before .loop .inv .2
 
 returns : tie.Need-returns Inv-loop μ-loop
-returns c = (omega arith, all-written (c .before .before .before .before .before .args .sheet .now) (c .before .before .loop .out) (c .before .before .loop .at) (c .before .before .loop .n) (c .before .skip .result) (c .before .before .loop .inv .3) (c .before .skip .ensures) (omega arith) (omega arith))
+returns c = (omega arith, all-written (c .before .before .before .before .before .args .sheet .now) (c .before .before .loop .out) (c .before .before .loop .at) (c .before .before .loop .n) (c .before .skip .result .at) (c .before .before .loop .inv .3) (c .before .skip .ensures) (omega arith) (omega arith))
 
 token-at-requires : tie.Need-token-at-requires Inv-loop μ-loop
 token-at-requires c κs = (omega arith, omega arith)
@@ -36,7 +36,7 @@ same-length-2 : tie.Need-same-length-2 Inv-loop μ-loop
 same-length-2 c = c .before .before .before .before .before .loop .inv .2
 
 returns-2 : tie.Need-returns-2 Inv-loop μ-loop
-returns-2 c = (omega arith, none-written (c .before .before .before .before .before .before .before .before .args .sheet .now) (c .before .before .before .before .before .loop .out) (c .before .before .before .before .before .loop .at) (c .before .before .before .before .before .loop .n) (c .before .before .before .before .skip .result) (c .before .before .before .before .before .loop .inv .3) (c .before .before .before .before .skip .ensures) (omega arith) (c .before .before .token-at .result) (c .before .before .token-at .ensures .1) (c .if2 .taken))
+returns-2 c = (omega arith, none-written (c .before .before .before .before .before .before .before .before .args .sheet .now) (c .before .before .before .before .before .loop .out) (c .before .before .before .before .before .loop .at) (c .before .before .before .before .before .loop .n) (c .before .before .before .before .skip .result .at) (c .before .before .before .before .before .loop .inv .3) (c .before .before .before .before .skip .ensures) (omega arith) (c .before .before .token-at .result) (c .before .before .token-at .ensures .1) (c .if2 .taken))
 
 mul-out : tie.Need-mul-out Inv-loop μ-loop
 mul-out c = omega arith
@@ -58,7 +58,7 @@ loop-again c = (
   omega arith,
   omega arith,
   simp length-set (c .before .before .before .before .before .before .loop .inv .2),
-  one-more (c .before .before .before .before .before .before .before .before .before .args .sheet .now) (c .before .before .before .before .before .before .loop .out) (c .before .before .before .before .before .before .loop .at) (c .before .before .before .before .before .before .loop .n) (c .before .before .before .before .before .skip .result) (c .before .before .before .before .before .before .loop .inv .3) (c .before .before .before .before .before .skip .ensures) (omega arith) (c .before .before .before .token-at .result) (c .before .before .before .token-at .ensures .1) (c .before .if2 .left) (c .before .before .before .token-at .ensures .0 .least) (omega arith),
+  one-more (c .before .before .before .before .before .before .before .before .before .args .sheet .now) (c .before .before .before .before .before .before .loop .out) (c .before .before .before .before .before .before .loop .at) (c .before .before .before .before .before .before .loop .n) (c .before .before .before .before .before .skip .result .at) (c .before .before .before .before .before .before .loop .inv .3) (c .before .before .before .before .before .skip .ensures) (omega arith) (c .before .before .before .token-at .result) (c .before .before .before .token-at .ensures .1) (c .before .if2 .left) (c .before .before .before .token-at .ensures .0 .least) (omega arith),
 )
 
 pub tokens-spec : {M : Type 1} → statement M
