@@ -95,6 +95,33 @@ alike-end s a b p q A e f = A .same (run-ends s p e ∙ sym (run-ends s q f))
 pub alike-not : (s : List ℕ) (a b p q : ℕ) → Alike s a b p q → (shown (getD s p 0) ≡ shown (getD s q 0) → ⊥) → name-at s a ≡ name-at s b → ⊥
 alike-not s a b p q A n k = n (shown-first s p ∙ (ap (λ (w : List ℕ). getD w 0 0) (A .only k) ∙ sym (shown-first s q)))
 
+-- a byte that is shown is itself
+shown-own : (b : ℕ) → (shown b ≡ 0 → ⊥) → shown b ≡ b
+unfolding shown
+shown-own b = go (name-byte b)
+  where
+    go : (t : Bool) → (_≡_ {A = ℕ} (elim t [ true ↦ b | false ↦ 0 ]) 0 → ⊥) → _≡_ {A = ℕ} (elim t [ true ↦ b | false ↦ 0 ]) b
+    go true n = refl
+    go false n = absurd (n refl)
+
+-- the bytes x and y at p and q, and what is shown of them
+module _ (s : List ℕ) (a b p q x y : ℕ) (A : Alike s a b p q) (ex : x ≡ getD s p 0) (ey : y ≡ getD s q 0) where
+  -- they differ, and the first is shown
+  pub apart-first : (x ≡ y → ⊥) → (shown x ≡ 0 → ⊥) → name-at s a ≡ name-at s b → ⊥
+  apart-first d n = alike-not s a b p q A (rw (← ex, ← ey) (λ e. d (sym (shown-own x n) ∙ (e ∙ shown-own y (λ z. n (e ∙ z))))))
+
+  -- only the second is shown
+  pub apart-second : shown x ≡ 0 → (shown y ≡ 0 → ⊥) → name-at s a ≡ name-at s b → ⊥
+  apart-second z n = alike-not s a b p q A (rw (← ex, ← ey) (λ e. n (sym e ∙ z)))
+
+  -- neither is
+  pub both-end : shown x ≡ 0 → shown y ≡ 0 → name-at s a ≡ name-at s b
+  both-end z w = alike-end s a b p q A (ap shown (sym ex) ∙ z) (ap shown (sym ey) ∙ w)
+
+  -- they are the same one, which is shown
+  pub both-go : (p′ q′ : ℕ) → x ≡ y → (shown x ≡ 0 → ⊥) → p′ ≡ p + 1 → q′ ≡ q + 1 → Alike s a b p′ q′
+  both-go p′ q′ e n pp qq = alike-on s a b p q p′ q′ A (ap shown (sym ex ∙ (e ∙ ey))) (λ z. n (ap shown ex ∙ z)) pp qq
+
 -- a byte of the run, or 0 right behind it
 run-behind : (s : List ℕ) (p x : ℕ) (w : List ℕ) → run-at s p ≡ x ∷ w → run-at s (suc p) ≡ w
 run-behind s p x w e = go (shown (getD s p 0)) (shows-at s p)

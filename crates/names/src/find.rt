@@ -10,6 +10,7 @@ ghost use Rattle.lexer.specs.Cells.{first-name};
 ghost use Rattle.nodes.specs.Layout.{cell-limit};
 ghost use Rattle.names.specs.NameCells.{name-at, names-at, scope-at, or-count, shown};
 use lexer::FIRST_NAME;
+use lexer::bytes::byte_at;
 
 // A cell, 0 past the end.
 pub fn cell(cells: &[u16], i: usize) -> u16
@@ -82,11 +83,19 @@ pub fn same_name(s: &[u8], a: u16, b: u16) -> bool
     let q = first_byte(b);
     let mut i: usize = 0;
     while i < s.len() {
-        let x = letter_at(s, p + i);
-        if x != letter_at(s, q + i) {
-            return false;
+        let x = byte_at(s, p + i);
+        let y = byte_at(s, q + i);
+        if x != y {
+            // the same only if both names have ended
+            if letter(x) != 0 {
+                return false;
+            }
+            if letter(y) != 0 {
+                return false;
+            }
+            return true;
         }
-        if x == 0 {
+        if letter(x) == 0 {
             return true;
         }
         i += 1;
