@@ -1,2 +1,1 @@
-pub mod TableCheck
 pub mod RoundTrip

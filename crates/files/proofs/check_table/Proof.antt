@@ -5,9 +5,9 @@ use Prim.Native.Nat.{_-_}
 use native.Mathlib.Omega.{arith}
 use lib.ListN.{take, length-take}
 use Rattle.blocks.proofs.RoundTrip.{opens-accepted, opens-refused}
-use Rattle.wizbratel.proofs.TableCheck.{no-stream, table-answer}
-use Rattle.wizbratel.proofs.check_table.Statement.{statement}
-use Rattle.wizbratel.proofs.check_table.Tie as tie
+use Rattle.files.proofs.TableCheck.{no-stream, table-answer}
+use Rattle.files.proofs.check_table.Statement.{statement}
+use Rattle.files.proofs.check_table.Tie as tie
 
 read-file-requires : tie.Need-read-file-requires
 read-file-requires c κs = search needs

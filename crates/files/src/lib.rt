@@ -1,0 +1,57 @@
+// Questions 12 to 14 of any bytes whatever. A short file takes a short array: to clear the long one would take longer than to read it.
+ghost use mathlib.Core.Path.{_≡_};
+ghost use Prim.Native.Nat.{_*_, _/_, _≤_, min};
+ghost use lib.ListN.{length};
+ghost use Rattle.pcrl.specs.Limits.{max-stream};
+ghost use Rattle.pcrl.specs.Result.{refusal};
+ghost use Rattle.pcrl.specs.Blocks.{block-bytes, block-stream};
+ghost use Rattle.pcrl.specs.Answers.{table-checked};
+
+// The longest stream of a file, and that of one of 8 blocks.
+const MAX_STREAM: usize = 64768;
+
+const SHORT_STREAM: usize = 4048;
+
+const SHORT_FILE: usize = 4096;
+
+// Question 14: "the stream of the layout .. within all limits, rightly sorted, fewest blocks, zeros after it?"
+const NO_TABLE: u8 = 14;
+
+// Where there is room for the file's stream.
+fn check_table(file: &[u8], stream: &mut [u8]) -> u8
+    requires { ⌜ (min (length (now file) / block-bytes * block-stream) max-stream ≤ length (now stream)) × (length (now stream) ≤ max-stream) ⌝ }
+    ensures { λ r. ⌜ r ≡ refusal (table-checked (now (file .entry))) ⌝ }
+{
+    let opened = blocks::read_file(file, stream);
+    if opened.refused != 0 {
+        return opened.refused;
+    }
+    let n = opened.count;
+    let table = tables::read_table(&stream[0..n]);
+    if table.ok { 0 } else { NO_TABLE }
+}
+
+fn check_short(file: &[u8]) -> u8
+    requires { ⌜ length (now file) ≤ 4096 ⌝ }
+    ensures { λ r. ⌜ r ≡ refusal (table-checked (now (file .entry))) ⌝ }
+{
+    let mut stream = [0u8; SHORT_STREAM];
+    check_table(file, &mut stream)
+}
+
+fn check_long(file: &[u8]) -> u8
+    ensures { λ r. ⌜ r ≡ refusal (table-checked (now (file .entry))) ⌝ }
+{
+    let mut stream = [0u8; MAX_STREAM];
+    check_table(file, &mut stream)
+}
+
+// The number of the first question that fails, or 0.
+pub fn check_file(file: &[u8]) -> u8
+    ensures { λ r. ⌜ r ≡ refusal (table-checked (now (file .entry))) ⌝ }
+{
+    if file.len() <= SHORT_FILE {
+        return check_short(file);
+    }
+    check_long(file)
+}
