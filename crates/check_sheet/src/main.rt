@@ -1,4 +1,4 @@
-// Reads a sheet from standard input and writes `accepted`, or `refused` and the number of the first of questions 1 to 9 that fails.
+// Reads a sheet from standard input and writes `accepted`, or `refused` and the number of the first of questions 1 to 10 that fails.
 use libc::STDIN_FILENO;
 use libc::STDOUT_FILENO;
 
@@ -6,7 +6,7 @@ fn main() {
     // more than the longest sheet: of a longer input the front is enough
     let mut sheet = io::large_buffer();
     let n = io::read_full(STDIN_FILENO, &mut sheet);
-    let r = sheets::check::check_sheet(&sheet[..n]);
+    let r = making::check_sheet(&sheet[..n]);
     if r == 0 {
         io::write_all(STDOUT_FILENO, b"accepted\n");
     } else {

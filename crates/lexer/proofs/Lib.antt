@@ -1,5 +1,5 @@
 mod Match
-mod Runs
+pub mod Runs
 mod EachByte
 mod Signs
 pub mod Cells

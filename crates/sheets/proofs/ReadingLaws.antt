@@ -33,7 +33,7 @@ use Rattle.names.specs.Standing.{Standing, At}
 use Rattle.names.proofs.Trees.{standing, further}
 use Rattle.sheets.specs.Bounded.{Bounded, bounded}
 use Rattle.sheets.specs.declared.Answer.{Answer}
-use Rattle.sheets.specs.Resolving.{FewFound, arrays}
+use Rattle.sheets.specs.Resolving.{FewFound, arrays, Named}
 use Rattle.sheets.specs.Reading.{judged, Reads}
 
 -- questions 6 to 9 of a raw sheet
@@ -125,9 +125,9 @@ with-sheet s R H e h f = e ∙ question-passes 6 (counted? R) _ (judged H) h (λ
 
 -- ---- the answer
 module _ (s : List ℕ) (a : Answer) (values cells : List ℕ) where
-  pub refused-by : (n : ℕ) → sheet-read s ≡ refused n → a .refused ≡ n → Reads (sheet-read s) a values cells
+  pub refused-by : (n : ℕ) → sheet-read s ≡ refused n → a .refused ≡ n → Reads (sheet-read s) s a values cells
   unfolding Reads
-  refused-by n e h = subst⁻¹ (λ (x : Result Sheet). Reads x a values cells) e h
+  refused-by n e h = subst⁻¹ (λ (x : Result Sheet). Reads x s a values cells) e h
 
   -- what is accepted by 8 and 9 is the sheet that they were put to
   judged-same : (H K : Sheet) → judged H ≡ accepted K → H ≡ K
@@ -136,13 +136,13 @@ module _ (s : List ℕ) (a : Answer) (values cells : List ℕ) where
       past-question 8 (rightly-sorted? H) _ K e (λ h₈ e₈.
       past-question 9 (T? (guarded H)) _ K e₈ (λ h₉ e₉. let z : H ≡ K = cc in z))
 
-  pub answered : (H : Sheet) → sheet-read s ≡ judged H → Held H (arrays (a .rows) values cells) (a .rows .outline) → a .refused ≡ refusal (judged H) → Reads (sheet-read s) a values cells
+  pub answered : (H : Sheet) → sheet-read s ≡ judged H → Held H (arrays (a .rows) values cells) (a .rows .outline) × Named s (a .rows) H → a .refused ≡ refusal (judged H) → Reads (sheet-read s) s a values cells
   unfolding Reads refusal
-  answered H e held k = subst⁻¹ (λ (x : Result Sheet). Reads x a values cells) e (go (judged H) refl k)
+  answered H e held k = subst⁻¹ (λ (x : Result Sheet). Reads x s a values cells) e (go (judged H) refl k)
     where
-      go : (x : Result Sheet) → judged H ≡ x → a .refused ≡ refusal x → Reads x a values cells
+      go : (x : Result Sheet) → judged H ≡ x → a .refused ≡ refusal x → Reads x s a values cells
       go (refused n) f m = m
-      go (accepted K) f m = (m, subst (λ (J : Sheet). Held J (arrays (a .rows) values cells) (a .rows .outline)) (judged-same H K f) held)
+      go (accepted K) f m = let same = subst (λ (J : Sheet). Held J (arrays (a .rows) values cells) (a .rows .outline) × Named s (a .rows) J) (judged-same H K f) held in (m, same .0, same .1)
 
 -- so few lines as are counted
 pub few-found : (s raw : List ℕ) (L : Lines) (R : RawSheet) → length raw < cell-limit → L .init < length raw → Standing s raw L R → Counted R → FewFound L raw
@@ -155,9 +155,3 @@ few-found s raw L R h i st k = record {
   procs-few = omega (arith, st .proc-count, k .1 .1 .1 .1 .0);
   init-inside = i;
 }
-
--- the number of an answer
-pub number-read : (x : Result Sheet) (a : Answer) (values cells : List ℕ) → Reads x a values cells → a .refused ≡ refusal x
-unfolding Reads refusal
-number-read (refused n) a values cells h = h
-number-read (accepted H) a values cells h = h .0

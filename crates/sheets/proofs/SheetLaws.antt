@@ -1,27 +1,29 @@
 -- Question 7 on the whole sheet: names new, signature, processes and init, each answered by its part.
 use mathlib.Core.Path.{_≡_, refl, sym, _∙_, ap, subst, subst⁻¹}
-use mathlib.Core.List.{List, _∷_, _++_}
+use mathlib.Core.List.{List, [], _∷_, _++_, map}
 use mathlib.Core.Bool.{Bool, false}
 use mathlib.Core.Option.{Option, none, some}
-use Prim.Native.Nat.{ℕ, _+_, _*_, _≤_}
+use Prim.Native.Nat.{ℕ, _+_, _-_, _*_, _≤_, _<_}
 use native.Mathlib.Omega.{arith}
-use lib.ListN.{length, take, drop, getD, length-map}
+use lib.ListN.{length, take, drop, getD, length-map, length-append, length-take, List·getD-append}
+use lib.Seq.{getD-take, getD-append-add, take-length}
 use Rattle.pcrl.specs.Text.{bytes}
 use Rattle.pcrl.specs.Tests.{and, distinct}
 use Rattle.pcrl.specs.Reader.{all}
 use Rattle.pcrl.specs.Maybe.{_>>=_, for-each}
-use Rattle.pcrl.specs.Tree.{RawSheet, ProcLine}
-use Rattle.pcrl.specs.Sheet.{Data, call, Process, Func, Action, Sig, Sheet, no-process}
+use Rattle.pcrl.specs.Tree.{Name, RawSheet, ActLine, ProcLine}
+use Rattle.pcrl.specs.Sheet.{Data, call, Process, Func, Action, Sig, Sheet, no-action, no-process}
 use Rattle.pcrl.specs.Counts.{Counted}
-use Rattle.pcrl.specs.Names.{names-of, declared, sizes-of, resolve-func, resolve-act, resolve-proc, resolve-init, resolve}
-use Rattle.laws.specs.Each.{each-length}
-use Rattle.laws.specs.Optional.{each-given}
+use Rattle.pcrl.specs.Names.{names-of, declared, sizes-of, sorts-of, resolve-func, resolve-act, resolve-proc, resolve-init, resolve}
+use Rattle.laws.specs.Lists.{getD-map}
+use Rattle.laws.specs.Each.{each-length, each-map}
+use Rattle.laws.specs.Optional.{first-given, each-given}
 use Rattle.parser.specs.Cells.{Symbol, enc-proc, enc-init}
 use Rattle.nodes.specs.declared.Outline.{Outline}
 use Rattle.nodes.specs.Layout.{enc}
 use Rattle.nodes.specs.Scoped.{Scoped}
 use Rattle.nodes.specs.Held.{ProcAt, HeldProcs, Held}
-use Rattle.names.specs.NameCells.{names-at, scope-at}
+use Rattle.names.specs.NameCells.{name-at, declared-at, names-at, scope-at}
 use Rattle.names.specs.Standing.{At, symbols}
 use Rattle.names.specs.Rows.{Answers, sorts-at}
 use Rattle.names.proofs.NamesOf.{sorts-are, funcs-are, acts-are, procs-are, declared-are}
@@ -33,7 +35,7 @@ use Rattle.resolver.specs.declared.Resolved.{Resolved as Side}
 use Rattle.sheets.specs.declared.SigRows.{SigRows}
 use Rattle.sheets.specs.declared.ProcRows.{ProcRows}
 use Rattle.sheets.specs.declared.Rows.{Rows}
-use Rattle.sheets.specs.Resolving.{FewLines, LinesStand, HoldsSignature, SignatureRead, resolve-signature, ProcessesHeld, ProcessesRead, arrays, LinesResolve}
+use Rattle.sheets.specs.Resolving.{FewLines, LinesStand, HoldsSignature, SignatureRead, resolve-signature, ProcessesHeld, ProcessesRead, arrays, Named, LinesResolve}
 use Rattle.sheets.proofs.Asked.{answers-then, answers-last, answers-test}
 use Rattle.sheets.proofs.Placed.{proc-kept, written-whole, written-at}
 
@@ -58,16 +60,34 @@ init-answers m rest w o none r o′ h = h
 init-answers m rest w o (some x) r o′ h = (h .0, h .2)
 
 -- the rows of the whole sheet
-abbrev pub rows-of : (sorts funcs acts procs : List ℕ) → SigRows → ProcRows → Rows
-rows-of sorts funcs acts procs a b = record {
+abbrev pub rows-of : (sorts funcs acts procs names : List ℕ) → SigRows → ProcRows → Rows
+rows-of sorts funcs acts procs names a b = record {
   sizes = a .sizes;
   funcs = a .funcs;
   places = a .places;
   acts = a .acts;
   procs = b .procs;
   starts = b .starts;
+  names = names;
   outline = record { sorts = length sorts + 1; funcs = length funcs; acts = length acts; procs = length procs; init = b .w };
 }
+
+-- the actions of a signature have the names of their lines
+signature-names : (R : RawSheet) (S : Sig) → resolve-signature R ≡ some S → names-of R .acts ≡ map (λ (a : Action). a .name) (S .acts)
+unfolding resolve-signature names-of resolve-act
+signature-names R S se =
+    first-given (for-each (resolve-func (names-of R)) (R .funcs)) _ S se (λ fs e₁ e₂.
+    first-given (for-each (resolve-act (names-of R)) (R .acts)) _ S e₂ (λ as′ e₃ e₄.
+    let whole : _≡_ {A = Sig} (record { sorts = sizes-of R; funcs = fs; acts = as′ }) S = cc in
+    each-map (λ (l : ActLine) (a : Action). resolve-act (names-of R) l ≡ some a) (λ (l : ActLine). l .name) (λ (a : Action). a .name)
+    (λ l a h. first-given (sorts-of (names-of R) (l .takes)) _ a h (λ Ds k m. let z : _≡_ {A = Action} (record { name = l .name; takes = Ds }) a = cc in ap (λ (b : Action). b .name) z))
+    (R .acts) as′ (each-given (resolve-act (names-of R)) (R .acts) as′ e₃)
+    ∙ ap (λ (T : Sig). map (λ (a : Action). a .name) (T .acts)) whole))
+
+-- as many names as lines
+names-many-at : (s raw places : List ℕ) → length (names-at s raw places (length places)) ≡ length places
+unfolding names-at
+names-many-at s raw places = length-map (take (length places) places) (declared-at s raw) ∙ ap length (take-length places)
 
 module _ (s raw sorts funcs acts procs : List ℕ) (R : RawSheet) (stand : LinesStand s raw sorts funcs acts procs R) where
   -- the names that the lines declare
@@ -112,9 +132,34 @@ module _ (s raw sorts funcs acts procs : List ℕ) (R : RawSheet) (stand : Lines
         init-scoped = subst (λ (m : ℕ). Scoped m 0 (call (x .0) (x .1))) same (init-scoped (names-of R) (R .start) (x .0) (x .1) xe);
       }
 
+  -- THE ACTIONS' NAMES stand behind those of the sorts and of the functions
+  actions-named : (names : List ℕ) (n : ℕ)
+      → scope-at s names n ≡ names-at s raw sorts (length sorts) ++ (names-at s raw funcs (length funcs) ++ (names-at s raw acts (length acts) ++ names-at s raw procs (length procs)))
+      → (S : Sig) → resolve-signature R ≡ some S → (i : ℕ) → i < length (S .acts) → name-at s (getD names (length sorts + 1 - 1 + length funcs + i) 0) ≡ getD (S .acts) i no-action .name
+  unfolding scope-at
+  actions-named names n e S se i h =
+      let named : names-at s raw acts (length acts) ≡ map (λ (a : Action). a .name) (S .acts) = sym (lines-declare .acts-are) ∙ signature-names R S se in
+      let k : ℕ = length sorts + 1 - 1 + length funcs + i in
+      let a = names-many-at s raw sorts in
+      let b = names-many-at s raw funcs in
+      let d = ap length named ∙ length-map (S .acts) (λ (a : Action). a .name) in
+      let place : k ≡ length (names-at s raw sorts (length sorts)) + (length (names-at s raw funcs (length funcs)) + i) = omega arith in
+      let size : length (map (name-at s) (take n names)) ≡ length (names-at s raw sorts (length sorts)) + (length (names-at s raw funcs (length funcs)) + (length (names-at s raw acts (length acts)) + length (names-at s raw procs (length procs)))) = ap length e ∙ simp length-append in
+      let inside : k < length (take n names) = omega (arith, length-map (take n names) (name-at s)) in
+      let below : k < n = omega (arith, length-take n names) in
+      ap (name-at s) (sym (getD-take n names k 0 below))
+      ∙ sym (getD-map (name-at s) (take n names) k 0 [] inside)
+      ∙ ap (λ (l : List Name). getD l k []) e
+      ∙ ap (λ (j : ℕ). getD (names-at s raw sorts (length sorts) ++ (names-at s raw funcs (length funcs) ++ (names-at s raw acts (length acts) ++ names-at s raw procs (length procs)))) j []) place
+      ∙ getD-append-add (names-at s raw sorts (length sorts)) _ (length (names-at s raw funcs (length funcs)) + i) []
+      ∙ getD-append-add (names-at s raw funcs (length funcs)) _ i []
+      ∙ List·getD-append (names-at s raw acts (length acts)) _ [] i (omega arith)
+      ∙ ap (λ (l : List Name). getD l i []) named
+      ∙ getD-map (λ (a : Action). a .name) (S .acts) i no-action [] h
+
 -- they hold a sheet
-abbrev Holds : Rows → (values cells : List ℕ) → Sheet → Type 0
-Holds rows values cells H = Held H (arrays rows values cells) (rows .outline)
+abbrev Holds : List ℕ → Rows → (values cells : List ℕ) → Sheet → Type 0
+Holds s rows values cells H = Held H (arrays rows values cells) (rows .outline) × Named s rows H
 
 -- THE WHOLE SHEET
 pub lines-resolve : (s raw sorts funcs acts procs : List ℕ) (at : ℕ) (values o o′ names : List ℕ) (n : ℕ) (fresh : Bool) (a : SigRows) (b : ProcRows) (c : Side) (ok : Bool)
@@ -122,10 +167,10 @@ pub lines-resolve : (s raw sorts funcs acts procs : List ℕ) (at : ℕ) (values
     → scope-at s names n ≡ names-at s raw sorts (length sorts) ++ (names-at s raw funcs (length funcs) ++ (names-at s raw acts (length acts) ++ names-at s raw procs (length procs)))
     → fresh ≡ distinct (bytes "Bool" ∷ scope-at s names n) → SignatureRead s raw sorts funcs acts values a → ProcessesRead s raw sorts funcs acts procs names n b o
     → ResolvesInit s raw funcs procs at (b .w) o c o′ → ok ≡ and fresh (and (a .ok) (and (b .ok) (c .ok)))
-    → LinesResolve s raw sorts funcs acts procs at values o′ (record { ok = ok; rows = rows-of sorts funcs acts procs a b })
+    → LinesResolve s raw sorts funcs acts procs at values o′ (record { ok = ok; rows = rows-of sorts funcs acts procs names a b })
 unfolding resolve symbols Counted arrays
 lines-resolve s raw sorts funcs acts procs at values o o′ names n fresh a b c ok few same scoped new sig procs-read init-read e R stand init-at m counted bounded values-room cells-room =
-    let rows : Rows = rows-of sorts funcs acts procs a b in
+    let rows : Rows = rows-of sorts funcs acts procs names a b in
     let D = lines-declare s raw sorts funcs acts procs R stand in
     let known : declared (names-of R) ≡ bytes "Bool" ∷ scope-at s names n = declared-are s raw R sorts funcs acts procs (stand .sorts-at) (stand .funcs-at) (stand .acts-at) (stand .procs-at) names n scoped in
     let cells = bounded .cells-few in
@@ -133,14 +178,17 @@ lines-resolve s raw sorts funcs acts procs at values o o′ names n fresh a b c 
     let f = sig R m (stand .sorts-at) (stand .funcs-at) (stand .acts-at) counted bounded values-room in
     let g = procs-read (names-of R) (R .procs) D known (stand .procs-at) (counted .1 .1 .1 .1 .1) (bounded .sums-shallow) (omega arith) in
     let h = init-answers (symbols s raw) (init-at .0) (b .w) o (resolve-init (names-of R) (R .start)) c o′ (init-read (names-of R) (R .start) (init-at .0) (D .funcs-are) (D .procs-are) (init-at .1)) in
-    subst⁻¹ (λ (t : Bool). Answers (Holds rows values o′) (resolve R) t) e
-    (answers-test (Holds rows values o′) (distinct (declared (names-of R))) _ fresh _ (new ∙ ap distinct (sym known))
-    (subst (λ (q : Option Sheet). Answers (Holds rows values o′) q (and (a .ok) (and (b .ok) (c .ok)))) (signature-then R _)
-    (answers-then (Holds rows values o′) (HoldsSignature sorts funcs acts values a) (resolve-signature R)
+    subst⁻¹ (λ (t : Bool). Answers (Holds s rows values o′) (resolve R) t) e
+    (answers-test (Holds s rows values o′) (distinct (declared (names-of R))) _ fresh _ (new ∙ ap distinct (sym known))
+    (subst (λ (q : Option Sheet). Answers (Holds s rows values o′) q (and (a .ok) (and (b .ok) (c .ok)))) (signature-then R _)
+    (answers-then (Holds s rows values o′) (HoldsSignature sorts funcs acts values a) (resolve-signature R)
     (λ S. _>>=_ (for-each (resolve-proc (names-of R)) (R .procs)) (λ ps. _>>=_ (resolve-init (names-of R) (R .start)) (λ x. some (record { sig = S; procs = ps; start = x })))) (a .ok) _ f
-    (λ S se held. answers-then (Holds rows values o′) (ProcessesHeld (length (names-of R .procs)) b o (3 * length (all enc-proc (R .procs)))) (for-each (resolve-proc (names-of R)) (R .procs)) _ (b .ok) (c .ok) g
-    (λ ps pe pheld. answers-last (Holds rows values o′) (λ (x : ℕ × List Data). Writes (enc false (call (x .0) (x .1))) (b .w) o (c .w) o′) (resolve-init (names-of R) (R .start)) _ (c .ok) h
-    (λ x xe w. record {
-      signature = held (rows .outline) refl refl refl;
-      processes = procs-held s raw sorts funcs acts procs R stand S ps x b o o′ (3 * length (all enc-proc (R .procs))) (c .w) (rows .outline) refl refl few pe pheld xe w (omega arith);
-    }))))))
+    (λ S se held. answers-then (Holds s rows values o′) (ProcessesHeld (length (names-of R .procs)) b o (3 * length (all enc-proc (R .procs)))) (for-each (resolve-proc (names-of R)) (R .procs)) _ (b .ok) (c .ok) g
+    (λ ps pe pheld. answers-last (Holds s rows values o′) (λ (x : ℕ × List Data). Writes (enc false (call (x .0) (x .1))) (b .w) o (c .w) o′) (resolve-init (names-of R) (R .start)) _ (c .ok) h
+    (λ x xe w. (
+      record {
+        signature = held (rows .outline) refl refl refl;
+        processes = procs-held s raw sorts funcs acts procs R stand S ps x b o o′ (3 * length (all enc-proc (R .procs))) (c .w) (rows .outline) refl refl few pe pheld xe w (omega arith);
+      },
+      actions-named s raw sorts funcs acts procs R stand names n scoped S se,
+    )))))))

@@ -13,7 +13,7 @@ use Rattle.nodes.specs.Layout.{cell-limit}
 use Rattle.nodes.specs.Held.{Held}
 use Rattle.sheets.specs.declared.Rows.{Rows}
 use Rattle.sheets.specs.declared.Answer.{Answer}
-use Rattle.sheets.specs.Resolving.{arrays}
+use Rattle.sheets.specs.Resolving.{arrays, Named}
 
 -- room for the tokens of a sheet, for its tree, and for what it resolves to
 pub record Room (sheet toks raw values cells : List ℕ) : Type 0 where
@@ -32,6 +32,7 @@ judged H = question 8 (rightly-sorted? H) (λ _. question 9 (T? (guarded H)) (λ
 abbrev pub Judges : Rows → (values cells : List ℕ) → ℕ → Type 0
 Judges rows values cells r = (H : Sheet) → Held H (arrays rows values cells) (rows .outline) → r ≡ refusal (judged H)
 
-unfoldable pub Reads : Result Sheet → Answer → (values cells : List ℕ) → Type 0
-Reads (refused n) r values cells = r .refused ≡ n
-Reads (accepted H) r values cells = (r .refused ≡ 0) × Held H (arrays (r .rows) values cells) (r .rows .outline)
+-- s: the sheet's bytes
+unfoldable pub Reads : Result Sheet → (s : List ℕ) → Answer → (values cells : List ℕ) → Type 0
+Reads (refused n) s r values cells = r .refused ≡ n
+Reads (accepted H) s r values cells = (r .refused ≡ 0) × Held H (arrays (r .rows) values cells) (r .rows .outline) × Named s (r .rows) H

@@ -3,15 +3,15 @@ use mathlib.Core.Path.{_≡_}
 use mathlib.Core.List.{List, [], _∷_, _++_}
 use mathlib.Core.Bool.{Bool, true, false}
 use mathlib.Core.Option.{Option, none, some}
-use Prim.Native.Nat.{ℕ, _+_, _*_, _≤_, _<_}
-use lib.ListN.{length, take, drop}
+use Prim.Native.Nat.{ℕ, _+_, _-_, _*_, _≤_, _<_}
+use lib.ListN.{length, take, drop, getD}
 use Rattle.pcrl.specs.Text.{bytes}
 use Rattle.pcrl.specs.Limits.{max-open, max-sorts, max-functions, max-actions, max-processes, frame-width}
 use Rattle.pcrl.specs.Tests.{Every}
 use Rattle.pcrl.specs.Reader.{all}
 use Rattle.pcrl.specs.Maybe.{_>>=_, for-each}
 use Rattle.pcrl.specs.Tree.{ProcLine, RawSheet}
-use Rattle.pcrl.specs.Sheet.{Process, Sig, no-process}
+use Rattle.pcrl.specs.Sheet.{Process, Sig, Sheet, no-action, no-process}
 use Rattle.pcrl.specs.Counts.{Counted}
 use Rattle.pcrl.specs.Names.{Names, names-of, declared, sizes-of, resolve-func, resolve-act, resolve-proc, resolve}
 use Rattle.parser.specs.Cells.{Symbol, enc-sort, enc-func, enc-act, enc-proc, enc-init}
@@ -20,7 +20,7 @@ use Rattle.nodes.specs.declared.Outline.{Outline}
 use Rattle.nodes.specs.Layout.{cell-limit, enc}
 use Rattle.nodes.specs.Scoped.{Scoped}
 use Rattle.nodes.specs.Held.{SortsAt, ProcAt, HeldSig, Arrays, Held}
-use Rattle.names.specs.NameCells.{scope-at}
+use Rattle.names.specs.NameCells.{name-at, scope-at}
 use Rattle.names.specs.Standing.{symbols, At, LinesAt, Standing}
 use Rattle.names.specs.Rows.{Answers, InRows}
 use Rattle.resolver.specs.Raw.{sum-depth}
@@ -107,14 +107,22 @@ arrays r values cells = record {
   starts = r .starts;
 }
 
+-- the place among the declared names of those of the actions
+abbrev pub first-action : Rows → ℕ
+first-action r = r .outline .sorts - 1 + r .outline .funcs
+
+-- the actions have the names of their cells, where s are the sheet's bytes
+abbrev pub Named : List ℕ → Rows → Sheet → Type 0
+Named s r H = (i : ℕ) → i < length (H .sig .acts) → name-at s (getD (r .names) (first-action r + i) 0) ≡ getD (H .sig .acts) i no-action .name
+
 -- n tokens: room for their values and for the cells of their terms
-abbrev pub Resolves : RawSheet → (values o : List ℕ) → Resolved → Type 0
-Resolves R values o r =
-    (n : ℕ) → Counted R → Bounded R n → n ≤ length values → 9 * n ≤ length o → Answers (λ H. Held H (arrays (r .rows) values o) (r .rows .outline)) (resolve R) (r .ok)
+abbrev pub Resolves : (s : List ℕ) → RawSheet → (values o : List ℕ) → Resolved → Type 0
+Resolves s R values o r =
+    (n : ℕ) → Counted R → Bounded R n → n ≤ length values → 9 * n ≤ length o → Answers (λ H. Held H (arrays (r .rows) values o) (r .rows .outline) × Named s (r .rows) H) (resolve R) (r .ok)
 
 abbrev pub LinesResolve : (s raw sorts funcs acts procs : List ℕ) (at : ℕ) (values o : List ℕ) → Resolved → Type 0
 LinesResolve s raw sorts funcs acts procs at values o r =
-    (R : RawSheet) → LinesStand s raw sorts funcs acts procs R → At s raw (enc-init (R .start)) at → Resolves R values o r
+    (R : RawSheet) → LinesStand s raw sorts funcs acts procs R → At s raw (enc-init (R .start)) at → Resolves s R values o r
 
 -- the same of lines that the parser found
 pub record FewFound (L : Lines) (raw : List ℕ) : Type 0 where
@@ -126,4 +134,4 @@ pub record FewFound (L : Lines) (raw : List ℕ) : Type 0 where
   pub init-inside : L .init < length raw
 
 abbrev pub FoundResolve : (s raw : List ℕ) → Lines → (values o : List ℕ) → Resolved → Type 0
-FoundResolve s raw L values o r = (R : RawSheet) → Standing s raw L R → At s raw (enc-init (R .start)) (L .init) → Resolves R values o r
+FoundResolve s raw L values o r = (R : RawSheet) → Standing s raw L R → At s raw (enc-init (R .start)) (L .init) → Resolves s R values o r

@@ -3,7 +3,6 @@ pub mod signature; // question 7 on the declarations
 pub mod processes; // question 7 on right sides
 pub mod resolve; // question 7 on the whole sheet
 pub mod read; // the questions in their order
-pub mod check; // the same of any bytes whatever
 
 ghost use mathlib.Core.Path.{_≡_};
 ghost use Rattle.pcrl.specs.Tests.{and};
@@ -34,6 +33,8 @@ pub struct Rows {
     pub acts: [u8; 96],
     pub procs: [u8; 80],
     pub starts: [u16; 16],
+    // the cells of the declared names, but for Bool: sorts, functions, actions, processes
+    pub names: [u16; 72],
     pub outline: Outline,
 }
 

@@ -35,6 +35,7 @@ fn refusal(n: u8) -> Answer
             acts: [0u8; 96],
             procs: [0u8; 80],
             starts: [0u16; 16],
+            names: [0u16; 72],
             outline: Outline {
                 sorts: 0,
                 funcs: 0,
@@ -84,7 +85,7 @@ pub fn read_sheet(
     cells: &mut [u16],
 ) -> Answer
     requires { ⌜ Room (now sheet) (now toks) (now raw) (now values) (now cells) ⌝ }
-    ensures { λ r. ⌜ Reads (sheet-read (now (sheet .entry))) r (now (values .exit)) (now (cells .exit)) ⌝ }
+    ensures { λ r. ⌜ Reads (sheet-read (now (sheet .entry))) (now (sheet .entry)) r (now (values .exit)) (now (cells .exit)) ⌝ }
 {
     let l = lex(sheet, toks);
     if l.refused != 0 {

@@ -52,6 +52,7 @@ fn resolve_lines(
             acts: act_bytes,
             procs: proc_bytes,
             starts: starts,
+            names: names,
             outline: Outline {
                 sorts: sorts.len() + 1,
                 funcs: funcs.len(),

@@ -159,7 +159,7 @@ returns-5 c =
     let count = said-yes (asked .result) (asked .ensures (start .args .sheet .now) (tree .sheet) (tree .lines)) (not-false _ (c .before .before .before .before .before .before .before .before .before .before .before .before .before .before .if3 .left)) in
     let few = accepted-cells (start .args .sheet .now) (lexed .last .1 .0) (lexed .result) (lexed .ensures) (c .before .before .before .before .before .before .before .before .before .before .before .before .before .before .before .before .before .before .before .before .before .before .before .before .before .before .if1 .left) .room in
     let (H, found, holds) = answered-yes _ _ (held .result .ok) (held .ensures (tree .sheet) (tree .lines) (tree .init) (lexed .result .count) count (tree .bounds) (omega (arith, room .values-room, lexed .kept .1 .0, few, held .kept .1 .1 .1 .0)) (omega (arith, room .cells-room, lexed .kept .1 .0, few, held .kept .1 .1 .1 .1 .0))) (not-false _ (c .before .before .before .before .if4 .left)) in
-    answered (start .args .sheet .now) _ _ _ H (with-sheet (start .args .sheet .now) (tree .sheet) H (tree .answer) count found) holds (c .judge .ensures H holds)
+    answered (start .args .sheet .now) _ _ _ H (with-sheet (start .args .sheet .now) (tree .sheet) H (tree .answer) count found) holds (c .judge .ensures H (holds .0))
 
 pub read-sheet-spec : {M : Type 1} → statement M
 read-sheet-spec =

@@ -46,8 +46,8 @@ both-requires-2 c κs = search needs
 both-requires-3 : tie.Need-both-requires-3
 both-requires-3 c κs = search needs
 
-add-t38 : tie.Need-add-t38
-add-t38 c =
+add-t39 : tie.Need-add-t39
+add-t39 c =
     let init = c .before .before .before .before .before .before .before .before .before .before .before in
     let processes = init .before .before .before .before in
     let signature = processes .before .before .before .before .before in
@@ -90,7 +90,7 @@ resolve-lines-spec =
     both-requires
     both-requires-2
     both-requires-3
-    add-t38
+    add-t39
     same-length
     same-length-2
     returns)

@@ -1,0 +1,45 @@
+-- What the counting of heads says, for every term whose cells stand at a place.
+use mathlib.Core.Path.{_≡_}
+use mathlib.Core.List.{List, _++_}
+use mathlib.Core.Bool.{Bool, true, false}
+use Prim.Native.Nat.{ℕ, _+_, _*_, _≤_, _<_}
+use lib.Dec.{eqb}
+use lib.ListN.{length, drop, getD}
+use Rattle.pcrl.specs.Sheet.{Data, Proc, Sheet, right}
+use Rattle.pcrl.specs.Parts.{first-new}
+use Rattle.pcrl.specs.Heads.{heads}
+use Rattle.nodes.specs.Layout.{enc, atom-kind, call-kind}
+use Rattle.counting.specs.declared.Counted.{Counted}
+use Rattle.counting.specs.Limits.{row-width, cut, row}
+use Rattle.counting.specs.Count.{count-by}
+use Rattle.counting.specs.Heads.{called}
+
+unfoldable pub pick : {A : Type 0} → Bool → A → A → A
+pick true x y = x
+pick false x y = y
+
+-- what a node counts by itself, from its cells
+unfoldable pub leaf-of : List ℕ → ℕ → ℕ → ℕ
+leaf-of K kind number = pick (eqb kind atom-kind) 1 (pick (eqb kind call-kind) (getD K number 0) 0)
+
+-- the heads of a term, where K has those of the processes
+abbrev pub Counts : List ℕ → List ℕ → ℕ → Counted → Type 0
+Counts cells K at r = (b : Bool) (p : Proc) (rest : List ℕ) → drop at cells ≡ enc b p ++ rest
+    → (r .heads ≡ cut (count-by (λ k. getD K k 0) p)) × (drop (r .next) cells ≡ rest)
+
+-- the right sides of a sheet's processes stand in the cells
+abbrev pub Placed : Sheet → List ℕ → List ℕ → Type 0
+Placed H cells starts = (k : ℕ) → k < length (H .procs) → (rest : List ℕ) × (drop (getD starts k 0) cells ≡ enc false (right H k) ++ rest)
+
+-- the rows 0 to f are right, and zeros stand behind them
+pub record Tallied (H : Sheet) (f : ℕ) (counts : List ℕ) : Type 0 where
+  pub rows : (g : ℕ) → g ≤ f → (k : ℕ) → k < row-width → getD counts (row-width * g + k) 0 ≡ cut (called H g k)
+  pub zeros : (j : ℕ) → row-width * (f + 1) ≤ j → getD counts j 0 ≡ 0
+
+-- what the counts mean: how many heads the right side of process k has, where f calls may be followed from it
+abbrev pub HeadsCounted : Sheet → ℕ → List ℕ → Type 0
+HeadsCounted H f K = (σ : List Data) (m c : ℕ) (k : ℕ) → getD K k 0 ≡ cut (length (heads H f σ m c (right H k)))
+
+-- the numbers of the first new equations of the processes, where all are below a byte's limit
+abbrev pub FirstNew : Sheet → List ℕ → Type 0
+FirstNew H firsts = (k : ℕ) → k < length (H .procs) → getD firsts k 0 ≡ first-new (length (H .procs)) (H .procs) k

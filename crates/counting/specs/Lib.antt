@@ -1,0 +1,4 @@
+pub mod Limits
+pub mod Count
+pub mod Heads
+pub mod Counting

@@ -1,0 +1,26 @@
+-- How far heads are counted, and how counts stand in rows.
+use Prim.Native.Nat.{ℕ, _+_, _*_, min}
+use mathlib.Core.List.{List}
+use lib.ListN.{take, drop}
+use Rattle.pcrl.specs.Limits.{max-processes}
+
+-- more heads than this are not told apart; a summand has at least four bytes, so they fill no stream
+abbrev pub most-heads : ℕ
+most-heads = 65535
+
+-- a row of counts for each number of calls that may still be followed, from none to one more than there are processes
+abbrev pub row-width : ℕ
+row-width = max-processes
+
+abbrev pub max-fuel : ℕ
+max-fuel = 17
+
+abbrev pub counts-room : ℕ
+counts-room = 288
+
+unfoldable pub cut : ℕ → ℕ
+cut x = min most-heads x
+
+-- the row that begins at `base`
+unfoldable pub row : ℕ → List ℕ → List ℕ
+row base counts = take row-width (drop base counts)

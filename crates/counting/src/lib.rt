@@ -1,0 +1,122 @@
+// Heads counted, without writing any.
+ghost use mathlib.Core.Path.{_≡_};
+ghost use Prim.Native.Nat.{ℕ, _+_, _*_, _≤_, _<_};
+ghost use lib.ListN.{length, getD};
+ghost use Rattle.pcrl.specs.Sheet.{Sheet};
+ghost use Rattle.nodes.specs.Layout.{cell-limit};
+ghost use Rattle.counting.specs.Limits.{most-heads, row-width, max-fuel, counts-room, cut, row};
+ghost use Rattle.counting.specs.Counting.{leaf-of, Counts, Placed, Tallied};
+
+pub const MOST: usize = 65535;
+
+// A row of counts for each number of calls that may be followed, as in Limits.
+pub const ROW: usize = 16;
+
+pub const ROOM: usize = 288;
+
+// How many heads a term has, and the place after it.
+pub struct Counted {
+    pub next: usize,
+    pub heads: usize,
+}
+
+// The counts of all processes, in rows.
+pub struct Tally {
+    pub at: [u16; ROOM],
+}
+
+fn add(a: usize, b: usize) -> usize
+    requires { ⌜ (a ≤ most-heads) × (b < cell-limit) ⌝ }
+    ensures { λ r. ⌜ (r ≡ cut (a + b)) × (r ≤ most-heads) ⌝ }
+{
+    let s = a + b;
+    if s < MOST { s } else { MOST }
+}
+
+// The count of process k in the row at base, 0 past the row's end.
+fn known(counts: &[u16], base: usize, k: usize) -> usize
+    requires { ⌜ base < cell-limit ⌝ }
+    ensures { λ r. ⌜ (r ≡ getD (row base (now (counts .entry))) k 0) × (r < cell-limit) ⌝ }
+{
+    if k < ROW {
+        nodes::cell(counts, base + k)
+    } else {
+        0
+    }
+}
+
+fn leaf(counts: &[u16], base: usize, kind: usize, number: usize) -> usize
+    requires { ⌜ base < cell-limit ⌝ }
+    ensures { λ r. ⌜ (r ≡ leaf-of (row base (now (counts .entry))) kind number) × (r < cell-limit) ⌝ }
+{
+    if kind == nodes::ATOM {
+        return 1;
+    }
+    if kind == nodes::CALL {
+        return known(counts, base, number);
+    }
+    0
+}
+
+// How many heads a term has, given those of each process: a loop over what is left of it.
+// Of a sequence the first part is counted and the rest is passed; only brackets go deeper.
+pub fn count(cells: &[u16], at: usize, counts: &[u16], base: usize) -> Counted
+    requires { ⌜ base < cell-limit ⌝ }
+    ensures { λ r. ⌜ (at ≤ r .next) × (r .heads ≤ most-heads) ⌝ }
+    ensures { λ r. ⌜ Counts (now (cells .entry)) (row base (now (counts .entry))) at r ⌝ }
+{
+    let mut p = at;
+    let mut need: usize = 1;
+    let mut n: usize = 0;
+    while need > 0 {
+        if p >= cells.len() {
+            return Counted { next: p, heads: n };
+        }
+        let d = nodes::node_at(cells, p);
+        if d.kind == nodes::SEQ {
+            let a = count(cells, d.next, counts, base);
+            let b = nodes::skip(cells, a.next);
+            n = add(n, a.heads);
+            need -= 1;
+            p = b.next;
+            continue;
+        }
+        n = add(n, leaf(counts, base, d.kind, d.number));
+        need = need - 1 + d.kids;
+        p = d.next;
+    }
+    Counted { next: p, heads: n }
+}
+
+// One row more: calls followed once more.
+fn round(cells: &[u16], starts: &[u16], n: usize, f: usize, old: Tally) -> Tally
+    requires { ⌜ (n ≤ row-width) × (f < max-fuel) × (length (old .at) ≡ counts-room) ⌝ }
+    ensures { λ r. ⌜ length (r .at) ≡ counts-room ⌝ }
+    ensures { λ r. ⌜ ((H : Sheet) → length (H .procs) ≡ n → Placed H (now (cells .entry)) (now (starts .entry)) → Tallied H f (old .at) → Tallied H (f + 1) (r .at)) ⌝ }
+{
+    let o = old.at;
+    let mut t = old.at;
+    let mut k: usize = 0;
+    while k < n {
+        let p = nodes::cell(starts, k);
+        let r = count(cells, p, &o, ROW * f);
+        t[ROW * (f + 1) + k] = r.heads as u16;
+        k += 1;
+    }
+    Tally { at: t }
+}
+
+// The rows 0 to `times`.
+pub fn rounds(cells: &[u16], starts: &[u16], n: usize, times: usize) -> Tally
+    requires { ⌜ (n ≤ row-width) × (times ≤ max-fuel) ⌝ }
+    ensures { λ r. ⌜ length (r .at) ≡ counts-room ⌝ }
+    ensures { λ r. ⌜ ((H : Sheet) → length (H .procs) ≡ n → Placed H (now (cells .entry)) (now (starts .entry)) → Tallied H times (r .at)) ⌝ }
+{
+    let mut t = Tally { at: [0u16; ROOM] };
+    let mut f: usize = 0;
+    while f < times {
+        t = round(cells, starts, n, f, t);
+        f += 1;
+    }
+    t
+}

@@ -1,0 +1,4 @@
+pub mod Putting
+pub mod Copied
+pub mod SignatureLaws
+pub mod Signed

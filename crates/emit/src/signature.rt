@@ -1,0 +1,142 @@
+// "count and sizes of sorts, Bool's 2 first; count of functions, each arity, sorts, result, values; count of actions, each name length, name, arity, sorts"
+ghost use mathlib.Core.Path.{_≡_};
+ghost use Prim.Native.Nat.{_-_, _<_};
+ghost use lib.ListN.{length, getD};
+ghost use Rattle.lexer.specs.Cells.{first-name};
+ghost use Rattle.nodes.specs.Layout.{cell-limit};
+ghost use Rattle.names.specs.NameCells.{name-at};
+ghost use Rattle.emit.specs.Putting.{Puts};
+ghost use Rattle.emit.specs.Bytes.{sorts-bytes, func-bytes, name-bytes, action-bytes, counted-bytes, PutsSig};
+use crate::bytes::copy;
+use crate::bytes::low;
+use crate::bytes::minus;
+use crate::bytes::put;
+use crate::bytes::put_row;
+use lexer::bytes::DIGIT;
+use lexer::bytes::UNDERSCORE;
+use lexer::bytes::byte_at;
+use lexer::bytes::run;
+use nodes::ACT_ROW;
+use nodes::FUNC_ROW;
+use nodes::Outline;
+use nodes::cell;
+
+// Of a function's row, the sort that it gives.
+const GIVES: usize = 3;
+
+// A name's cell is this and the place of its first byte (crate lexer, Cells).
+const FIRST_NAME: usize = 1024;
+
+fn put_sorts(sizes: &[u8], n: usize, out: &mut [u8], w: usize) -> usize
+    ensures { λ r. ⌜ Puts (sorts-bytes (now (sizes .entry)) n) w (now (out .entry)) r (now (out .exit)) ⌝ }
+{
+    let v = put(out, w, low(n));
+    copy(sizes, 0, n, out, v)
+}
+
+fn put_func(
+    funcs: &[u8],
+    values: &[u8],
+    places: &[u16],
+    i: usize,
+    out: &mut [u8],
+    w: usize,
+) -> usize
+    requires { ⌜ i < cell-limit ⌝ }
+    ensures { λ r. ⌜ Puts (func-bytes (now (funcs .entry)) (now (values .entry)) (now (places .entry)) i) w (now (out .entry)) r (now (out .exit)) ⌝ }
+{
+    let p = FUNC_ROW * i;
+    let a = put_row(funcs, p, out, w);
+    let b = put(out, a, byte_at(funcs, p + GIVES));
+    let from = cell(places, i);
+    copy(values, from, minus(cell(places, i + 1), from), out, b)
+}
+
+fn put_funcs(
+    funcs: &[u8],
+    values: &[u8],
+    places: &[u16],
+    n: usize,
+    out: &mut [u8],
+    w: usize,
+) -> usize
+    requires { ⌜ n < cell-limit ⌝ }
+    ensures { λ r. ⌜ Puts (counted-bytes n (func-bytes (now (funcs .entry)) (now (values .entry)) (now (places .entry)))) w (now (out .entry)) r (now (out .exit)) ⌝ }
+{
+    let mut v = put(out, w, low(n));
+    let mut i: usize = 0;
+    while i < n {
+        v = put_func(funcs, values, places, i, out, v);
+        i += 1;
+    }
+    v
+}
+
+// A name, by its cell.
+fn put_name(s: &[u8], c: usize, out: &mut [u8], w: usize) -> usize
+    ensures { λ r. ⌜ Puts (name-bytes (name-at (now (s .entry)) c)) w (now (out .entry)) r (now (out .exit)) ⌝ }
+{
+    let p = minus(c, FIRST_NAME);
+    let n = run(s, p, DIGIT, UNDERSCORE);
+    let v = put(out, w, low(n));
+    copy(s, p, n, out, v)
+}
+
+fn put_action(
+    s: &[u8],
+    acts: &[u8],
+    names: &[u16],
+    b: usize,
+    i: usize,
+    out: &mut [u8],
+    w: usize,
+) -> usize
+    requires { ⌜ (b < cell-limit) × (i < cell-limit) ⌝ }
+    ensures { λ r. ⌜ Puts (action-bytes (now (s .entry)) (now (acts .entry)) (now (names .entry)) b i) w (now (out .entry)) r (now (out .exit)) ⌝ }
+{
+    let v = put_name(s, cell(names, b + i), out, w);
+    put_row(acts, ACT_ROW * i, out, v)
+}
+
+fn put_actions(
+    s: &[u8],
+    acts: &[u8],
+    names: &[u16],
+    b: usize,
+    n: usize,
+    out: &mut [u8],
+    w: usize,
+) -> usize
+    requires { ⌜ (b < cell-limit) × (n < cell-limit) ⌝ }
+    ensures { λ r. ⌜ Puts (counted-bytes n (action-bytes (now (s .entry)) (now (acts .entry)) (now (names .entry)) b)) w (now (out .entry)) r (now (out .exit)) ⌝ }
+{
+    let mut v = put(out, w, low(n));
+    let mut i: usize = 0;
+    while i < n {
+        v = put_action(s, acts, names, b, i, out, v);
+        i += 1;
+    }
+    v
+}
+
+// The whole signature; the cells of the actions' names begin at place b of `names`.
+pub fn put_signature(
+    s: &[u8],
+    sizes: &[u8],
+    funcs: &[u8],
+    values: &[u8],
+    places: &[u16],
+    acts: &[u8],
+    names: &[u16],
+    b: usize,
+    n: Outline,
+    out: &mut [u8],
+    w: usize,
+) -> usize
+    requires { ⌜ (b < cell-limit) × (n .funcs < cell-limit) × (n .acts < cell-limit) ⌝ }
+    ensures { λ r. ⌜ PutsSig (now (s .entry)) (now (sizes .entry)) (now (funcs .entry)) (now (values .entry)) (now (places .entry)) (now (acts .entry)) (now (names .entry)) b n w (now (out .entry)) r (now (out .exit)) ⌝ }
+{
+    let x = put_sorts(sizes, n.sorts, out, w);
+    let y = put_funcs(funcs, values, places, n.funcs, out, x);
+    put_actions(s, acts, names, b, n.acts, out, y)
+}

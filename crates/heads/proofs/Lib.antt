@@ -1,0 +1,12 @@
+pub mod Unfold
+pub mod Sides
+pub mod Down
+pub mod Choice
+pub mod Sequence
+pub mod Following
+pub mod Pieces
+pub mod Weights
+pub mod Several
+pub mod Accepted
+pub mod Numbers
+pub mod Parameters

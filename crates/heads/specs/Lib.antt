@@ -1,0 +1,3 @@
+pub mod Spots
+pub mod Steps
+pub mod Writing

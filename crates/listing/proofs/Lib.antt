@@ -1,0 +1,4 @@
+pub mod Parts
+pub mod SourceLaws
+pub mod Posing
+pub mod Sums

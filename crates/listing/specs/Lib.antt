@@ -1,0 +1,2 @@
+pub mod Summands
+pub mod Listing

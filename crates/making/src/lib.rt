@@ -1,0 +1,217 @@
+// Make a table and check a sheet, from any bytes: questions 1 to 11.
+ghost use mathlib.Core.Path.{_≡_};
+ghost use Prim.Native.Nat.{_≤_};
+ghost use lib.ListN.{length};
+ghost use Rattle.pcrl.specs.Limits.{max-stream};
+ghost use Rattle.pcrl.specs.Answers.{table-made, file-made, output-after};
+ghost use Rattle.sheets.specs.Reading.{Room};
+ghost use Rattle.pcrl.specs.Result.{refusal};
+ghost use Rattle.making.specs.Making.{made-answer, Tries};
+use blocks::Filed;
+use blocks::write_file;
+use linear::write_table;
+use sheets::read::read_sheet;
+
+const NOT_WITHIN: u8 = 10;
+
+const NO_ROOM: u8 = 11;
+
+const MAX_STREAM: usize = 64768;
+
+// Arrays of three sizes, for sheets of so many bytes: to clear the long ones would take longer than to read a short sheet.
+const SHORT: usize = 64;
+
+const MIDDLE: usize = 512;
+
+const SHORT_ARRAYS: usize = 0;
+
+const MIDDLE_ARRAYS: usize = 1;
+
+const LONG_ARRAYS: usize = 2;
+
+// The number of the first question that fails, or 0 and how many bytes were written.
+pub struct Made {
+    pub refused: u8,
+    pub length: usize,
+}
+
+// The same, if it was found; else the stream's array was too short.
+pub struct Tried {
+    pub done: bool,
+    pub refused: u8,
+    pub length: usize,
+}
+
+// Questions 1 to 11 in their order, over arrays that are lent.
+fn make(
+    sheet: &[u8],
+    toks: &mut [u16],
+    raw: &mut [u16],
+    values: &mut [u8],
+    cells: &mut [u16],
+    stream: &mut [u8],
+    out: &mut [u8],
+) -> Tried
+    requires { ⌜ Room (now sheet) (now toks) (now raw) (now values) (now cells) × (length (now stream) ≤ max-stream) ⌝ }
+    ensures { λ r. ⌜ Tries (file-made (now (sheet .entry)) (length (now (out .entry)))) (length (now (stream .entry))) (now (out .entry)) r (now (out .exit)) ⌝ }
+{
+    let a = read_sheet(sheet, toks, raw, values, cells);
+    if a.refused != 0 {
+        return Tried {
+            done: true,
+            refused: a.refused,
+            length: 0,
+        };
+    }
+    let rows = a.rows;
+    let w = write_table(sheet, rows, values, cells, stream);
+    if !w.ok {
+        if stream.len() < MAX_STREAM {
+            return Tried {
+                done: false,
+                refused: 0,
+                length: 0,
+            };
+        }
+        return Tried {
+            done: true,
+            refused: NOT_WITHIN,
+            length: 0,
+        };
+    }
+    let n = w.length;
+    let f = write_file(&stream[0..n], out);
+    match f {
+        Filed::Refused(k) => Tried {
+            done: true,
+            refused: k,
+            length: 0,
+        },
+        Filed::Bytes(m) => Tried {
+            done: true,
+            refused: 0,
+            length: m,
+        },
+    }
+}
+
+fn make_short(sheet: &[u8], out: &mut [u8]) -> Tried
+    requires { ⌜ length (now sheet) ≤ 64 ⌝ }
+    ensures { λ r. ⌜ Tries (file-made (now (sheet .entry)) (length (now (out .entry)))) 1024 (now (out .entry)) r (now (out .exit)) ⌝ }
+{
+    let mut toks = [0u16; 64];
+    let mut raw = [0u16; 192];
+    let mut values = [0u8; 64];
+    let mut cells = [0u16; 576];
+    let mut stream = [0u8; 1024];
+    make(
+        sheet,
+        &mut toks,
+        &mut raw,
+        &mut values,
+        &mut cells,
+        &mut stream,
+        out,
+    )
+}
+
+fn make_middle(sheet: &[u8], out: &mut [u8]) -> Tried
+    requires { ⌜ length (now sheet) ≤ 512 ⌝ }
+    ensures { λ r. ⌜ Tries (file-made (now (sheet .entry)) (length (now (out .entry)))) 8192 (now (out .entry)) r (now (out .exit)) ⌝ }
+{
+    let mut toks = [0u16; 512];
+    let mut raw = [0u16; 1536];
+    let mut values = [0u8; 512];
+    let mut cells = [0u16; 4608];
+    let mut stream = [0u8; 8192];
+    make(
+        sheet,
+        &mut toks,
+        &mut raw,
+        &mut values,
+        &mut cells,
+        &mut stream,
+        out,
+    )
+}
+
+fn make_long(sheet: &[u8], out: &mut [u8]) -> Made
+    ensures answer { λ r. ⌜ r ≡ made-answer (file-made (now (sheet .entry)) (length (now (out .entry)))) ⌝ }
+    ensures written { λ r. ⌜ now (out .exit) ≡ output-after (file-made (now (sheet .entry)) (length (now (out .entry)))) (now (out .entry)) ⌝ }
+{
+    let mut toks = [0u16; 4096];
+    let mut raw = [0u16; 12288];
+    let mut values = [0u8; 4096];
+    let mut cells = [0u16; 36864];
+    let mut stream = [0u8; 64768];
+    let t = make(
+        sheet,
+        &mut toks,
+        &mut raw,
+        &mut values,
+        &mut cells,
+        &mut stream,
+        out,
+    );
+    Made {
+        refused: t.refused,
+        length: t.length,
+    }
+}
+
+// Over the arrays of a size, and where the stream is too long for them, over the long ones: by a call of itself,
+// which keeps the compiler from laying the arrays of all sizes into one frame.
+fn make_sized(sheet: &[u8], out: &mut [u8], size: usize) -> Made
+    requires { ⌜ (size ≡ 0 → length (now sheet) ≤ 64) × (size ≡ 1 → length (now sheet) ≤ 512) ⌝ }
+    ensures answer { λ r. ⌜ r ≡ made-answer (file-made (now (sheet .entry)) (length (now (out .entry)))) ⌝ }
+    ensures written { λ r. ⌜ now (out .exit) ≡ output-after (file-made (now (sheet .entry)) (length (now (out .entry)))) (now (out .entry)) ⌝ }
+{
+    if size == SHORT_ARRAYS {
+        let t = make_short(sheet, out);
+        if t.done {
+            return Made {
+                refused: t.refused,
+                length: t.length,
+            };
+        }
+        return make_sized(sheet, out, LONG_ARRAYS);
+    }
+    if size == MIDDLE_ARRAYS {
+        let u = make_middle(sheet, out);
+        if u.done {
+            return Made {
+                refused: u.refused,
+                length: u.length,
+            };
+        }
+        return make_sized(sheet, out, LONG_ARRAYS);
+    }
+    make_long(sheet, out)
+}
+
+// Make a table: the file of a sheet's bytes over the front of the lent output.
+pub fn make_table(sheet: &[u8], out: &mut [u8]) -> Made
+    ensures answer { λ r. ⌜ r ≡ made-answer (file-made (now (sheet .entry)) (length (now (out .entry)))) ⌝ }
+    ensures written { λ r. ⌜ now (out .exit) ≡ output-after (file-made (now (sheet .entry)) (length (now (out .entry)))) (now (out .entry)) ⌝ }
+{
+    if sheet.len() <= SHORT {
+        return make_sized(sheet, out, SHORT_ARRAYS);
+    }
+    if sheet.len() <= MIDDLE {
+        return make_sized(sheet, out, MIDDLE_ARRAYS);
+    }
+    make_sized(sheet, out, LONG_ARRAYS)
+}
+
+// Check a sheet: the number of the first of questions 1 to 10 that fails, or 0. Where there is no room for a file,
+// question 11 is the first to fail exactly if 1 to 10 pass.
+pub fn check_sheet(sheet: &[u8]) -> u8
+    ensures { λ r. ⌜ r ≡ refusal (table-made (now (sheet .entry))) ⌝ }
+{
+    let mut none = [0u8; 1];
+    let m = make_table(sheet, &mut none);
+    if m.refused == NO_ROOM {
+        return 0;
+    }
+    m.refused
+}

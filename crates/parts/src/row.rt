@@ -1,0 +1,28 @@
+// A row for each part that gets a new equation.
+ghost use mathlib.Core.Path.{_≡_};
+ghost use Prim.Native.Nat.{_<_};
+ghost use Rattle.nodes.specs.Layout.{cell-limit};
+ghost use Rattle.parts.specs.Rows.{RowPut};
+
+pub const ROW: usize = 3;
+
+const CELL_LIMIT: usize = 65536;
+
+// A number below the limit of cells.
+fn word(n: usize) -> u32
+    ensures { λ r. ⌜ (n < cell-limit → r ≡ n) ⌝ }
+{
+    if n < CELL_LIMIT { n as u32 } else { 0 }
+}
+
+// Row k, if there is room for it.
+pub fn put_part_row(rows: &mut [u32], k: usize, place: usize, scope: usize, bits: u32)
+    ensures { λ r. ⌜ RowPut (now (rows .entry)) k place scope bits (now (rows .exit)) ⌝ }
+{
+    if k < rows.len() / ROW {
+        let i = ROW * k;
+        rows[i] = word(place);
+        rows[i + 1] = word(scope);
+        rows[i + 2] = bits;
+    }
+}

@@ -1,0 +1,4 @@
+pub mod Bytes
+pub mod Opening
+pub mod PutLaws
+pub mod Several
