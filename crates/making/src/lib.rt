@@ -18,16 +18,11 @@ const NO_ROOM: u8 = 11;
 
 const MAX_STREAM: usize = 64768;
 
-// Arrays of three sizes, for sheets of so many bytes: to clear the long ones would take longer than to read a short sheet.
-const SHORT: usize = 64;
+// Arrays of three sizes: for sheets below these lengths the short and the middle ones. To clear the long ones would take
+// longer than to read a short sheet.
+const SHORT: usize = 65;
 
-const MIDDLE: usize = 512;
-
-const SHORT_ARRAYS: usize = 0;
-
-const MIDDLE_ARRAYS: usize = 1;
-
-const LONG_ARRAYS: usize = 2;
+const MIDDLE: usize = 513;
 
 // The number of the first question that fails, or 0 and how many bytes were written.
 pub struct Made {
@@ -159,14 +154,15 @@ fn make_long(sheet: &[u8], out: &mut [u8]) -> Made
     }
 }
 
-// Over the arrays of a size, and where the stream is too long for them, over the long ones: by a call of itself,
-// which keeps the compiler from laying the arrays of all sizes into one frame.
-fn make_sized(sheet: &[u8], out: &mut [u8], size: usize) -> Made
-    requires { ⌜ (size ≡ 0 → length (now sheet) ≤ 64) × (size ≡ 1 → length (now sheet) ≤ 512) ⌝ }
+// Over short arrays for a sheet below `short` bytes, over middle ones below `middle`; and where the stream is too long for
+// them over the long ones, by a call of itself: so the compiler does not lay the arrays of all sizes into one frame.
+fn make_by(sheet: &[u8], out: &mut [u8], short: usize, middle: usize) -> Made
+    requires { ⌜ (short ≤ 65) × (middle ≤ 513) ⌝ }
     ensures answer { λ r. ⌜ r ≡ made-answer (file-made (now (sheet .entry)) (length (now (out .entry)))) ⌝ }
     ensures written { λ r. ⌜ now (out .exit) ≡ output-after (file-made (now (sheet .entry)) (length (now (out .entry)))) (now (out .entry)) ⌝ }
 {
-    if size == SHORT_ARRAYS {
+    let n = sheet.len();
+    if n < short {
         let t = make_short(sheet, out);
         if t.done {
             return Made {
@@ -174,9 +170,9 @@ fn make_sized(sheet: &[u8], out: &mut [u8], size: usize) -> Made
                 length: t.length,
             };
         }
-        return make_sized(sheet, out, LONG_ARRAYS);
+        return make_by(sheet, out, n, n);
     }
-    if size == MIDDLE_ARRAYS {
+    if n < middle {
         let u = make_middle(sheet, out);
         if u.done {
             return Made {
@@ -184,7 +180,7 @@ fn make_sized(sheet: &[u8], out: &mut [u8], size: usize) -> Made
                 length: u.length,
             };
         }
-        return make_sized(sheet, out, LONG_ARRAYS);
+        return make_by(sheet, out, short, n);
     }
     make_long(sheet, out)
 }
@@ -194,13 +190,7 @@ pub fn make_table(sheet: &[u8], out: &mut [u8]) -> Made
     ensures answer { λ r. ⌜ r ≡ made-answer (file-made (now (sheet .entry)) (length (now (out .entry)))) ⌝ }
     ensures written { λ r. ⌜ now (out .exit) ≡ output-after (file-made (now (sheet .entry)) (length (now (out .entry)))) (now (out .entry)) ⌝ }
 {
-    if sheet.len() <= SHORT {
-        return make_sized(sheet, out, SHORT_ARRAYS);
-    }
-    if sheet.len() <= MIDDLE {
-        return make_sized(sheet, out, MIDDLE_ARRAYS);
-    }
-    make_sized(sheet, out, LONG_ARRAYS)
+    make_by(sheet, out, SHORT, MIDDLE)
 }
 
 // Check a sheet: the number of the first of questions 1 to 10 that fails, or 0. Where there is no room for a file,
