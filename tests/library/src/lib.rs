@@ -3,28 +3,45 @@
 #[path = "../../reader/tests/common/mod.rs"]
 pub mod common;
 pub mod large;
+pub mod made;
+pub mod painted;
 pub mod sheets;
 
 extern "C" {
-    fn wizbratel_check_sheet(bytes: *const u8, length: usize) -> u8;
-    fn wizbratel_check_table(bytes: *const u8, length: usize) -> u8;
+    fn wizbratel_check_sheet(sheet: *const u8, length: usize) -> u8;
+    fn wizbratel_make_table(
+        sheet: *const u8,
+        length: usize,
+        out: *mut u8,
+        room: usize,
+        written: *mut usize,
+    ) -> u8;
+    fn wizbratel_check_table(file: *const u8, length: usize) -> u8;
     fn measures_crc(bytes: *const u8, length: usize) -> u16;
 }
 
-/// Questions 1 to 9 of a sheet: the number of the first that fails, or 0. Question 10 is not asked.
+/// Questions 1 to 10 of a sheet: the number of the first that fails, or 0.
 pub fn check_sheet(sheet: &[u8]) -> u8 {
     // SAFETY: the pointer and the length are those of a slice, which the function only reads.
     unsafe { wizbratel_check_sheet(sheet.as_ptr(), sheet.len()) }
 }
 
+/// Questions 1 to 11: the sheet's table file over the front of the output, and its length; or the number of the first
+/// question that fails.
+pub fn make_table(sheet: &[u8], out: &mut [u8], written: &mut usize) -> u8 {
+    let (room, out) = (out.len(), out.as_mut_ptr());
+    // SAFETY: as above; what is written is lent mutably, each apart from the rest.
+    unsafe { wizbratel_make_table(sheet.as_ptr(), sheet.len(), out, room, written) }
+}
+
 /// Questions 12 to 14 of a table file: the number of the first that fails, or 0.
 pub fn check_table(file: &[u8]) -> u8 {
-    // SAFETY: as above.
+    // SAFETY: as in `check_sheet`.
     unsafe { wizbratel_check_table(file.as_ptr(), file.len()) }
 }
 
 /// CRC-16, exported by `measures` to be timed.
 pub fn crc(bytes: &[u8]) -> u16 {
-    // SAFETY: as above.
+    // SAFETY: as in `check_sheet`.
     unsafe { measures_crc(bytes.as_ptr(), bytes.len()) }
 }

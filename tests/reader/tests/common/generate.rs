@@ -1,4 +1,4 @@
-//! Small sheets by a seed: right in form, names and sorts, and without circles at the head unless these are asked for.
+//! Sheets by a seed: right in form, names and sorts, and without circles at the head unless these are asked for.
 
 use super::random::Random;
 
@@ -7,6 +7,47 @@ struct Function {
     arguments: Vec<usize>,
     result: usize,
 }
+
+/// How much a sheet has of what; the numbers are one more than the most.
+#[derive(Clone, Copy)]
+struct Shape {
+    functions: usize,
+    processes: usize,
+    parameters: usize,
+    /// How deep choices stand in one another.
+    depth: usize,
+    /// A conditional is a test once in so many times.
+    tests: usize,
+    /// Variables in scope where another sum may stand.
+    scope: usize,
+    /// Any process may stand at any head.
+    circles: bool,
+    /// Processes call the next one at the head, for long ways to a head.
+    chained: bool,
+}
+
+const SMALL: Shape = Shape {
+    functions: 3,
+    processes: 3,
+    parameters: 3,
+    depth: 3,
+    tests: 4,
+    scope: 4,
+    circles: false,
+    chained: false,
+};
+
+/// Many heads through several processes, with data.
+const HEADS: Shape = Shape {
+    functions: 5,
+    processes: 7,
+    parameters: 5,
+    depth: 2,
+    tests: 3,
+    scope: 6,
+    circles: false,
+    chained: true,
+};
 
 /// A sheet being written, with what is declared and the variables in scope.
 struct Writer {
@@ -17,24 +58,29 @@ struct Writer {
     processes: Vec<(String, Vec<usize>)>,
     scope: Vec<(String, usize)>,
     sums: usize,
-    circles: bool,
+    shape: Shape,
     text: String,
 }
 
 const SORT_NAMES: [&str; 3] = ["Bool", "D", "E"];
-const DEPTH: usize = 3;
 
 /// The sheet of a seed.
 pub fn sheet(seed: u64) -> String {
-    written(seed, false)
+    written(seed, SMALL)
 }
 
 /// The sheet of a seed in which any process may stand at any head.
 pub fn with_circles(seed: u64) -> String {
-    written(seed, true)
+    let circles = true;
+    written(seed, Shape { circles, ..SMALL })
 }
 
-fn written(seed: u64, circles: bool) -> String {
+/// The sheet of a seed in which heads are reached through calls with data, sums and tests.
+pub fn with_heads(seed: u64) -> String {
+    written(seed, HEADS)
+}
+
+fn written(seed: u64, shape: Shape) -> String {
     let mut writer = Writer {
         random: Random::new(seed),
         sizes: vec![2],
@@ -43,7 +89,7 @@ fn written(seed: u64, circles: bool) -> String {
         processes: Vec::new(),
         scope: Vec::new(),
         sums: 0,
-        circles,
+        shape,
         text: String::new(),
     };
     writer.declarations();
@@ -62,7 +108,7 @@ impl Writer {
             self.sizes.push(size);
             self.text += &format!("sort {name} {size};");
         }
-        for number in 0..self.random.below(3) {
+        for number in 0..self.random.below(self.shape.functions) {
             self.function(number);
         }
         for number in 0..1 + self.random.below(3) {
@@ -74,8 +120,8 @@ impl Writer {
             self.text += &format!("act {name}{colon}{listed};");
             self.actions.push((name, sorts));
         }
-        for number in 0..1 + self.random.below(3) {
-            let count = self.random.below(3);
+        for number in 0..1 + self.random.below(self.shape.processes) {
+            let count = self.random.below(self.shape.parameters);
             let sorts = self.some_sorts(count);
             self.processes.push((format!("X{number}"), sorts));
         }
@@ -114,7 +160,7 @@ impl Writer {
             .map(|(name, sort)| format!("{name}:{}", SORT_NAMES[*sort]))
             .collect();
         let parameters = in_brackets(&parameters);
-        let body = self.choice(DEPTH, Some(number));
+        let body = self.choice(self.shape.depth, Some(number));
         self.scope.clear();
         self.text += &format!("proc {name}{parameters}={body};");
     }
@@ -130,7 +176,7 @@ impl Writer {
 
     fn conditional(&mut self, depth: usize, head_of: Option<usize>) -> String {
         let yes = self.sequence(depth, head_of);
-        if !self.random.one_in(4) {
+        if !self.random.one_in(self.shape.tests) {
             return yes;
         }
         let test = self.data(0, 2);
@@ -147,12 +193,15 @@ impl Writer {
     }
 
     fn part(&mut self, depth: usize, head_of: Option<usize>) -> String {
+        if self.shape.chained && head_of.is_some() && self.random.one_in(3) {
+            return self.call(head_of);
+        }
         match self.random.below(if depth == 0 { 7 } else { 10 }) {
             0 if self.random.one_in(2) => "delta".to_string(),
             1 => "tau".to_string(),
             2 | 3 => self.call(head_of),
             7 => format!("({})", self.choice(depth - 1, head_of)),
-            8 | 9 if self.scope.len() < 4 => self.sum(depth - 1, head_of),
+            8 | 9 if self.scope.len() < self.shape.scope => self.sum(depth - 1, head_of),
             _ => self.action(),
         }
     }
@@ -164,12 +213,14 @@ impl Writer {
 
     /// Where there is to be no circle, only later processes are called at the head.
     fn call(&mut self, head_of: Option<usize>) -> String {
-        let head_of = head_of.filter(|_| !self.circles);
+        let head_of = head_of.filter(|_| !self.shape.circles);
         let from = head_of.map_or(0, |number| number + 1);
         if from == self.processes.len() {
             return self.action();
         }
-        let (name, sorts) = self.random.pick(&self.processes[from..]).clone();
+        let next = self.shape.chained && head_of.is_some() && !self.random.one_in(3);
+        let to = if next { from + 1 } else { self.processes.len() };
+        let (name, sorts) = self.random.pick(&self.processes[from..to]).clone();
         name + &self.bracketed(&sorts)
     }
 

@@ -7,6 +7,8 @@ pub mod generate;
 pub mod json;
 pub mod mutate;
 pub mod random;
+pub mod slow;
+pub mod table_limits;
 pub mod worst;
 
 use std::time::{Duration, Instant};

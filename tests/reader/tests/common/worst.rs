@@ -129,6 +129,10 @@ fn chains() -> Vec<Case> {
     let values = repeated("0", 2000, ",");
     let function = format!("func f:Bool->Bool={values};proc X=tau;init X;");
     let init = format!("proc X=tau;init X({values});");
+    let action = format!("act a:Bool;proc X=a({values});init X;");
+    let names = repeated("v", 2000, ",");
+    let variables = format!("act a:Bool;proc X=sum(v:Bool,a({names}));init X;");
+    let parameters = format!("proc X({})=tau;init X;", repeated("p:D", 1000, ","));
     vec![
         with("2,000 parts in sequence", repeated("a", 2000, "."), 10),
         with("2,000 parts in choice", repeated("a", 2000, "+"), 10),
@@ -145,6 +149,9 @@ fn chains() -> Vec<Case> {
         with("closing brackets", ")".repeat(4000), 5),
         Case::new("2,000 values of a function", function, 8),
         Case::new("2,000 values to init", init, 8),
+        Case::new("2,000 values to an action", action, 8),
+        Case::new("2,000 variables to an action", variables, 8),
+        Case::new("1,000 parameters", parameters, 6),
         Case::new("sort lines", "sort D 1;".repeat(400), 5),
         Case::new("act lines", "act a;".repeat(670) + "proc X=a;init X;", 6),
         Case::new("proc lines", "proc X=tau;".repeat(370) + "init X;", 6),

@@ -1,0 +1,57 @@
+//! Generated and changed sheets, file for file beside the reader, in outputs of many lengths.
+
+use library::check_sheet;
+use library::common::random::Random;
+use library::common::{generate, mutate};
+use library::made::same;
+use reader::limits::FILE_BYTES;
+
+/// So many sheets, unless the variable of this name says otherwise.
+const SHEETS: usize = 100_000;
+const VARIABLE: &str = "WIZBRATEL_SHEETS";
+
+/// How many sheets are tried.
+fn count() -> usize {
+    match std::env::var(VARIABLE) {
+        Ok(number) => number.parse().expect(VARIABLE),
+        Err(_) => SHEETS,
+    }
+}
+
+/// A generated sheet: a third of them small, a third with many heads, a third with circles.
+fn sheet(seed: u64) -> String {
+    match seed % 3 {
+        0 => generate::sheet(seed),
+        1 => generate::with_heads(seed),
+        _ => generate::with_circles(seed),
+    }
+}
+
+/// Mostly room for every file; now and then for few blocks.
+fn room(random: &mut Random) -> usize {
+    match random.below(8) {
+        0 => random.below(1200),
+        1 => 512 * random.below(5),
+        _ => FILE_BYTES,
+    }
+}
+
+#[test]
+fn files_and_answers() {
+    let mut random = Random::new(31);
+    let mut seen = [0; 12];
+    let count = count();
+    for seed in 0..(count / 4) as u64 {
+        let generated = sheet(seed);
+        let changed = [(); 3].map(|()| mutate::changed(&mut random, &generated));
+        for sheet in [generated.into_bytes()].iter().chain(&changed) {
+            let number = same(sheet, room(&mut random), "generated");
+            seen[usize::from(number)] += 1;
+            let checked = if number == 11 { 0 } else { number };
+            assert_eq!(check_sheet(sheet), checked, "{}", String::from_utf8_lossy(sheet));
+        }
+    }
+    println!("answers 0 to 11: {seen:?}");
+    let least = count / 100;
+    assert!(seen.iter().all(|&seen| seen >= least), "{seen:?}");
+}

@@ -1,0 +1,76 @@
+//! The stack that a call uses, measured, and the dearest sheets in a thread of 1 MiB.
+
+use std::hint::black_box;
+use std::time::Duration;
+
+use library::common::{slow, table_limits, within, worst};
+use library::painted::used;
+use library::{check_sheet, check_table, large, make_table, sheets};
+
+/// Bytes of stack that `make_table` and the checks may use, for any input.
+const MOST: usize = 512 << 10;
+
+/// The same for a sheet of up to 64 bytes.
+const MOST_SHORT: usize = 224 << 10;
+
+/// A sheet of up to so many bytes is short.
+const SHORT: usize = 64;
+
+/// Stack for the table of a sheet, its output apart.
+fn making(sheet: &[u8]) -> usize {
+    let mut out = vec![0; 65_536];
+    let mut written = 0;
+    used(|| {
+        make_table(sheet, &mut out, &mut written);
+    })
+}
+
+/// Holds what a sheet needs to its bound, and hands on the larger of both.
+fn held(what: &str, sheet: &[u8]) -> usize {
+    let checking = used(|| {
+        black_box(check_sheet(sheet));
+    });
+    let making = making(sheet);
+    let most = if sheet.len() <= SHORT { MOST_SHORT } else { MOST };
+    assert!(making <= most && checking <= most, "{what}: {making}, {checking}");
+    making.max(checking)
+}
+
+#[test]
+fn sheets_of_usual_lengths() {
+    for sheet in sheets::accepted() {
+        let (length, bytes) = (sheet.len(), sheet.as_bytes());
+        println!("a sheet of {length} bytes: {} of stack", held("accepted", bytes));
+        assert!(making(bytes) > 0, "measured");
+    }
+}
+
+#[test]
+fn dearest_sheets() {
+    let cases = [worst::sheets(), slow::sheets(), table_limits::sheets()].concat();
+    let needs = cases.iter().map(|case| (held(&case.what, &case.sheet), &case.what));
+    let mut needs: Vec<(usize, &String)> = needs.collect();
+    needs.sort();
+    for (bytes, what) in needs.iter().rev().take(5) {
+        println!("{what}: {bytes} of stack");
+    }
+}
+
+#[test]
+fn the_largest_table_file() {
+    let file = large::large_file();
+    let bytes = used(|| {
+        black_box(check_table(&file));
+    });
+    println!("a table file of {} bytes: {bytes} of stack", file.len());
+    assert!(bytes <= MOST);
+}
+
+#[test]
+fn dearest_sheets_in_a_thread_of_1_mib() {
+    for case in [worst::sheets(), slow::sheets()].concat() {
+        let sheet = case.sheet.clone();
+        let made = move || library::made::made_whole(&sheet).err().unwrap_or(0);
+        assert_eq!(within(Duration::from_secs(5), made), case.wanted, "{}", case.what);
+    }
+}

@@ -1,0 +1,133 @@
+//! Sheets whose tables are dear to make: many heads behind much that has none, and long summands.
+
+use super::table_limits::data;
+use super::{numbered, repeated, Case};
+
+/// All of them.
+pub fn sheets() -> Vec<Case> {
+    let mut cases = Vec::new();
+    for brackets in [0, 8, 12, 15] {
+        cases.push(lefts(brackets, false));
+        cases.push(lefts(brackets, true));
+    }
+    cases.extend([
+        shared_lefts(),
+        alternatives("a", 255),
+        alternatives("a.X.a.X", 60),
+        behind_deltas(),
+        deltas_everywhere(),
+        nested_tests(),
+        deep_left(),
+        long_equations(),
+        long_summands(),
+        doubling_to_255(),
+        one_new_equation_each(),
+    ]);
+    cases
+}
+
+/// So many heads and calls that have none, in brackets of which each stands left of some more heads.
+fn left(brackets: usize, heads: usize, calls: usize, heads_first: bool) -> String {
+    let share = heads / (brackets + 1);
+    let inner = heads - share * brackets;
+    let (idle, own) = (repeated("D", calls, "+"), repeated("a", inner, "+"));
+    let mut text = if heads_first { format!("{own}+{idle}") } else { format!("{idle}+{own}") };
+    for _ in 0..brackets {
+        text = format!("({text}){}", "+a".repeat(share));
+    }
+    text
+}
+
+fn lefts(brackets: usize, heads_first: bool) -> Case {
+    let body = left(brackets, 254, 1600, heads_first);
+    let order = if heads_first { "heads first" } else { "heads last" };
+    let what = format!("{brackets} brackets on the left, 1,600 calls without heads, {order}");
+    Case::new(&what, format!("act a;proc X={body};proc D=delta;init X;"), 0)
+}
+
+/// Two equations with the same heads.
+fn shared_lefts() -> Case {
+    let body = left(15, 127, 1400, false);
+    let sheet = format!("act a;proc X={body};proc D=delta;proc Y=X;init Y;");
+    Case::new("brackets on the left, called once more", sheet, 0)
+}
+
+fn alternatives(head: &str, count: usize) -> Case {
+    let sheet = format!("act a;proc X={};init X;", repeated(head, count, "+"));
+    Case::new(&format!("{count} alternatives {head}"), sheet, 0)
+}
+
+/// One head behind much that has none, called again and again.
+fn behind_deltas() -> Case {
+    let (calls, idle) = (repeated("Y", 254, "+"), "delta+".repeat(580));
+    let sheet = format!("act a;proc X={calls};proc Y={idle}a;init X;");
+    Case::new("a head behind 580 deltas, called 254 times", sheet, 0)
+}
+
+/// A line of processes, each with much that has no heads.
+fn deltas_everywhere() -> Case {
+    let idle = "delta+".repeat(30);
+    let link = |i: usize| format!("proc X{i}={idle}X{};", i + 1);
+    let last = repeated("a", 15, "+");
+    let sheet = format!("act a;{}proc X15={last};init X0;", numbered(15, link));
+    Case::new("16 processes in a line, deltas on the left", sheet, 0)
+}
+
+/// Eight conditions of 31 nodes around many heads.
+fn nested_tests() -> Case {
+    let test = data(15);
+    let heads = repeated("a", 200, "+");
+    let body = format!("{}{heads}{}", "(".repeat(8), format!("<|{test}|>delta)").repeat(8));
+    let functions = "func f:Bool->Bool=1,0;func g:Bool#Bool->Bool=0,1,1,0;";
+    let sheet = format!("{functions}act a;proc X(v:Bool)={};init X(0);", body.replacen("a+", "(a+", 1)
+        .replacen("<|", ")<|", 1));
+    Case::new("eight conditions around 200 heads", sheet, 0)
+}
+
+/// Each bracket holds half of what is left.
+fn deep_left() -> Case {
+    let mut text = "a".to_string();
+    for _ in 0..15 {
+        text = format!("({text}{}{})", "+delta".repeat(25), "+a".repeat(16));
+    }
+    Case::new("15 brackets, heads and deltas in each", format!("act a;proc X={text};init X;"), 0)
+}
+
+const WIDE: &str = "func f:Bool->Bool=1,0;func g:Bool#Bool->Bool=0,1,1,0;act a;\
+                    proc Z(p:Bool,q:Bool,r:Bool,s:Bool)=delta;";
+
+/// A process whose only summand has some hundreds of bytes.
+fn wide_process(calls: usize) -> String {
+    let wide = data(31);
+    let call = format!("Z({wide},{wide},{wide},{wide})");
+    format!("proc W(v:Bool)=a.{};", repeated(&call, calls, "."))
+}
+
+/// 64 equations, 61 of them new, each with a long summand.
+fn long_equations() -> Case {
+    let parts = ".(W(v)+delta)".repeat(61);
+    let sheet = format!("{WIDE}{}proc X(v:Bool)=delta{parts};init X(0);", wide_process(5));
+    Case::new("64 equations of long summands", sheet, 0)
+}
+
+/// As many long summands as the stream holds.
+fn long_summands() -> Case {
+    let heads = repeated("W(v)", 101, "+");
+    let sheet = format!("{WIDE}{}proc X(v:Bool)={heads};init X(0);", wide_process(5));
+    Case::new("102 long summands", sheet, 0)
+}
+
+/// Eight processes, each calling the next twice.
+fn doubling_to_255() -> Case {
+    let link = |i: usize| format!("proc X{i}=X{0}+X{0};", i + 1);
+    let sheet = format!("act a;{}proc X7=a;init X0;", numbered(7, link));
+    Case::new("8 processes, 255 heads", sheet, 0)
+}
+
+/// 63 new equations with four parameters.
+fn one_new_equation_each() -> Case {
+    let part = "(b(p)+b(q)<|r|>b(s))";
+    let body = repeated(&format!("tau.{part}"), 62, "+");
+    let sheet = format!("act b:Bool;proc X(p:Bool,q:Bool,r:Bool,s:Bool)={body};init X(0,0,0,0);");
+    Case::new("62 new equations of four parameters", sheet, 0)
+}
