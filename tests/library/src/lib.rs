@@ -6,6 +6,7 @@ pub mod large;
 pub mod made;
 pub mod painted;
 pub mod sheets;
+pub mod timing;
 
 extern "C" {
     fn wizbratel_check_sheet(sheet: *const u8, length: usize) -> u8;

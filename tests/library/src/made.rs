@@ -14,7 +14,9 @@ const UNWRITTEN: usize = 0x5eed_0000_0000_0001;
 /// What stands in and around an output before it is lent; no two bytes beside each other are equal.
 static BEFORE: LazyLock<Vec<u8>> = LazyLock::new(|| {
     let longest = SIDE + FILE_BYTES + 1024 + SIDE;
-    (0..longest).map(|place| (place % 251) as u8 ^ 0xa5).collect()
+    (0..longest)
+        .map(|place| (place % 251) as u8 ^ 0xa5)
+        .collect()
 });
 
 /// The file that the library makes of a sheet in an output of this length, or the number of the question that fails.
@@ -34,7 +36,11 @@ pub fn made(sheet: &[u8], room: usize) -> Result<Vec<u8>, Refusal> {
     let (front, rest) = bytes.split_at(SIDE);
     assert!(front == &before[..SIDE], "written before: {}", text());
     let (file, behind) = rest.split_at(written);
-    assert!(behind == &before[SIDE + written..], "written behind: {}", text());
+    assert!(
+        behind == &before[SIDE + written..],
+        "written behind: {}",
+        text()
+    );
     Ok(file.to_vec())
 }
 

@@ -59,9 +59,15 @@ const FEATURES: [&str; 10] = [
 ];
 
 fn features(sheet: &Sheet, table: &Table) -> [bool; 10] {
-    let longest = (0..sheet.processes.len()).map(|process| way(sheet, process)).max();
+    let longest = (0..sheet.processes.len())
+        .map(|process| way(sheet, process))
+        .max();
     let new = &table.equations[sheet.processes.len()..];
-    let summands: usize = table.equations.iter().map(|equation| equation.summands.len()).sum();
+    let summands: usize = table
+        .equations
+        .iter()
+        .map(|equation| equation.summands.len())
+        .sum();
     [
         longest >= Some(2),
         longest >= Some(4),
@@ -70,11 +76,16 @@ fn features(sheet: &Sheet, table: &Table) -> [bool; 10] {
         some(table, |summand| summand.calls.len() >= 3),
         some(table, |summand| {
             let tests = summand.conditions.iter().map(|condition| &condition.data);
-            tests.chain(&summand.arguments).any(|data| data.nodes() >= 5)
+            tests
+                .chain(&summand.arguments)
+                .any(|data| data.nodes() >= 5)
         }),
         some(table, |summand| summand.action.is_none()),
         new.iter().any(|equation| !equation.parameters.is_empty()),
-        table.equations.iter().any(|equation| equation.summands.is_empty()),
+        table
+            .equations
+            .iter()
+            .any(|equation| equation.summands.is_empty()),
         summands >= 20,
     ]
 }

@@ -48,7 +48,12 @@ fn files_and_answers() {
             let number = same(sheet, room(&mut random), "generated");
             seen[usize::from(number)] += 1;
             let checked = if number == 11 { 0 } else { number };
-            assert_eq!(check_sheet(sheet), checked, "{}", String::from_utf8_lossy(sheet));
+            assert_eq!(
+                check_sheet(sheet),
+                checked,
+                "{}",
+                String::from_utf8_lossy(sheet)
+            );
         }
     }
     println!("answers 0 to 11: {seen:?}");

@@ -21,7 +21,10 @@ fn the_longest_stream() {
     let checked = reader::check_sheet(sheet.as_bytes()).expect("accepted");
     let stream = reader::encode(&reader::linear_table(&checked).expect("a table"));
     assert_eq!(stream.len(), STREAM_BYTES);
-    assert_eq!(made(sheet.as_bytes(), FILE_BYTES), Ok(reader::to_blocks(&stream)));
+    assert_eq!(
+        made(sheet.as_bytes(), FILE_BYTES),
+        Ok(reader::to_blocks(&stream))
+    );
     assert_eq!(made(sheet.as_bytes(), FILE_BYTES - 1), Err(11));
 }
 

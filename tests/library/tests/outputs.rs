@@ -10,9 +10,17 @@ fn fits_exactly(sheet: &[u8], rooms: impl IntoIterator<Item = usize>) {
     let file = reader::make_table(sheet).expect("a table");
     let mut seen = [0, 0];
     for room in rooms {
-        let wanted = if room < file.len() { Err(11) } else { Ok(file.clone()) };
+        let wanted = if room < file.len() {
+            Err(11)
+        } else {
+            Ok(file.clone())
+        };
         seen[usize::from(wanted.is_ok())] += 1;
-        assert!(made(sheet, room) == wanted, "{room} for {} bytes", file.len());
+        assert!(
+            made(sheet, room) == wanted,
+            "{room} for {} bytes",
+            file.len()
+        );
     }
     assert!(seen.iter().all(|&count| count > 1), "{seen:?}");
 }

@@ -7,21 +7,31 @@ use reader::limits::FILE_BYTES;
 
 /// Both readers give this answer.
 fn answers(sheet: &str, wanted: u8) {
-    assert_eq!(same(sheet.as_bytes(), FILE_BYTES, "shelf"), wanted, "{sheet}");
+    assert_eq!(
+        same(sheet.as_bytes(), FILE_BYTES, "shelf"),
+        wanted,
+        "{sheet}"
+    );
     assert_eq!(check_sheet(sheet.as_bytes()), wanted, "{sheet}");
 }
 
 #[test]
 fn sort_sizes() {
     for (size, wanted) in [(16, 0), (17, 6), (0, 6)] {
-        answers(&format!("sort D {size};act a:D;proc X=sum(d:D,a(d));init X;"), wanted);
+        answers(
+            &format!("sort D {size};act a:D;proc X=sum(d:D,a(d));init X;"),
+            wanted,
+        );
     }
 }
 
 #[test]
 fn eight_calls_and_nine() {
     for (count, wanted) in [(8, 0), (9, 10)] {
-        answers(&format!("act a;proc X=a{};init X;", ".X".repeat(count)), wanted);
+        answers(
+            &format!("act a;proc X=a{};init X;", ".X".repeat(count)),
+            wanted,
+        );
     }
 }
 
@@ -34,5 +44,8 @@ fn sheets_of_4096_bytes() {
 
 #[test]
 fn crc_of_nine_digits() {
-    assert_eq!([library::crc(b"123456789"), reader::crc16(b"123456789")], [0x29b1; 2]);
+    assert_eq!(
+        [library::crc(b"123456789"), reader::crc16(b"123456789")],
+        [0x29b1; 2]
+    );
 }

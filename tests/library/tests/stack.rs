@@ -31,8 +31,15 @@ fn held(what: &str, sheet: &[u8]) -> usize {
         black_box(check_sheet(sheet));
     });
     let making = making(sheet);
-    let most = if sheet.len() <= SHORT { MOST_SHORT } else { MOST };
-    assert!(making <= most && checking <= most, "{what}: {making}, {checking}");
+    let most = if sheet.len() <= SHORT {
+        MOST_SHORT
+    } else {
+        MOST
+    };
+    assert!(
+        making <= most && checking <= most,
+        "{what}: {making}, {checking}"
+    );
     making.max(checking)
 }
 
@@ -40,7 +47,10 @@ fn held(what: &str, sheet: &[u8]) -> usize {
 fn sheets_of_usual_lengths() {
     for sheet in sheets::accepted() {
         let (length, bytes) = (sheet.len(), sheet.as_bytes());
-        println!("a sheet of {length} bytes: {} of stack", held("accepted", bytes));
+        println!(
+            "a sheet of {length} bytes: {} of stack",
+            held("accepted", bytes)
+        );
         assert!(making(bytes) > 0, "measured");
     }
 }
@@ -48,7 +58,9 @@ fn sheets_of_usual_lengths() {
 #[test]
 fn dearest_sheets() {
     let cases = [worst::sheets(), slow::sheets(), table_limits::sheets()].concat();
-    let needs = cases.iter().map(|case| (held(&case.what, &case.sheet), &case.what));
+    let needs = cases
+        .iter()
+        .map(|case| (held(&case.what, &case.sheet), &case.what));
     let mut needs: Vec<(usize, &String)> = needs.collect();
     needs.sort();
     for (bytes, what) in needs.iter().rev().take(5) {
@@ -71,6 +83,11 @@ fn dearest_sheets_in_a_thread_of_1_mib() {
     for case in [worst::sheets(), slow::sheets()].concat() {
         let sheet = case.sheet.clone();
         let made = move || library::made::made_whole(&sheet).err().unwrap_or(0);
-        assert_eq!(within(Duration::from_secs(5), made), case.wanted, "{}", case.what);
+        assert_eq!(
+            within(Duration::from_secs(5), made),
+            case.wanted,
+            "{}",
+            case.what
+        );
     }
 }

@@ -26,7 +26,10 @@ fn bytes_of_the_stream() {
     let sheet = reader::check_sheet(longest.as_bytes()).unwrap();
     let table = reader::linear_table(&sheet).unwrap();
     assert_eq!(reader::encode(&table).len(), 64_768);
-    assert_eq!(reader::make_table_within(longest.as_bytes(), 65_535), Err(11));
+    assert_eq!(
+        reader::make_table_within(longest.as_bytes(), 65_535),
+        Err(11)
+    );
 }
 
 #[test]

@@ -5,7 +5,7 @@ mod common;
 use std::time::Duration;
 
 use common::worst::{self, chain};
-use common::{repeated, table, within};
+use common::{repeated, slow, table, within};
 use reader::{all_steps, step, walk, Terms, Transitions};
 
 const AT_ONCE: Duration = Duration::from_millis(500);
@@ -23,7 +23,7 @@ fn verdict(sheet: Vec<u8>) -> u8 {
 
 #[test]
 fn sheets_are_answered_at_once() {
-    for case in worst::sheets() {
+    for case in [worst::sheets(), slow::sheets()].concat() {
         assert_eq!(verdict(case.sheet), case.wanted, "{}", case.what);
     }
 }

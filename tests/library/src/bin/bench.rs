@@ -1,49 +1,15 @@
-//! Times the proved library beside the other reader in one run and prints the ratios: `cargo run --release --bin bench`.
+//! Times the proved library beside the other reader in one run and prints the ratios:
+//! `cargo run --release --offline --bin bench [WORD ..]`, with words only the parts that they name (crc, check, make).
 //! On a busy machine the calls of several milliseconds come out too long, the reader's of 128 blocks above all: its ratio
 //! is then too good.
 
 use std::hint::black_box;
-use std::time::{Duration, Instant};
+use std::time::Duration;
 
-use library::common::worst;
+use library::common::{slow, worst, Case};
 use library::large::large_file;
 use library::sheets;
-
-/// So many that some are undisturbed.
-const ROUNDS: usize = 200;
-
-/// A round is as many calls as take about this long.
-const ROUND: Duration = Duration::from_micros(500);
-
-/// The time of a call, over so many of them.
-fn round(call: &mut dyn FnMut(), calls: u32) -> Duration {
-    let began = Instant::now();
-    (0..calls).for_each(|_| call());
-    began.elapsed() / calls
-}
-
-/// How many calls make a round.
-fn calls(call: &mut dyn FnMut()) -> u32 {
-    let one = round(call, 1).min(round(call, 1));
-    let fit = ROUND.as_nanos() / one.as_nanos().max(1);
-    fit.clamp(1, 1000) as u32
-}
-
-/// The shortest times of two calls, in turn, so that a busy moment strikes both.
-fn shortest(mut one: impl FnMut(), mut other: impl FnMut()) -> (Duration, Duration) {
-    let (ones, others) = (calls(&mut one), calls(&mut other));
-    let rounds = (0..ROUNDS).map(|_| (round(&mut one, ones), round(&mut other, others)));
-    let least = |a: (Duration, Duration), b: (Duration, Duration)| (a.0.min(b.0), a.1.min(b.1));
-    rounds.reduce(least).expect("some round")
-}
-
-/// Prints the proved code's time, which is handed on, beside that of another, which is named.
-fn compare(what: &str, proved: impl FnMut(), name: &str, other: impl FnMut()) -> Duration {
-    let (proved, other) = shortest(proved, other);
-    let ratio = proved.as_secs_f64() / other.as_secs_f64();
-    println!("{what:<48} proved {proved:>10.2?}   {name:<6} {other:>10.2?}   ratio {ratio:.2}");
-    proved
-}
+use library::timing::compare;
 
 /// What eight shifts make of a register with this byte at its top.
 const fn shifted(byte: usize) -> u16 {
@@ -105,36 +71,81 @@ fn bench_table(file: &[u8]) {
     );
 }
 
-fn bench_sheet(what: &str, sheet: &[u8]) -> Duration {
-    let wanted = reader::check_sheet(sheet).err().unwrap_or(0);
+/// Questions 1 to 10; the reader's file is left out of its time.
+fn bench_check(what: &str, sheet: &[u8]) -> Duration {
+    let read = |sheet| reader::check_sheet(sheet).and_then(|sheet| reader::linear_table(&sheet));
+    let wanted = read(sheet).err().unwrap_or(0);
     assert_eq!(library::check_sheet(sheet), wanted, "{what}");
     compare(
-        what,
+        &format!("check {what}"),
         || {
             black_box(library::check_sheet(black_box(sheet)));
         },
         "reader",
         || {
-            let _ = black_box(reader::check_sheet(black_box(sheet)));
+            let _ = black_box(read(black_box(sheet)));
         },
     )
 }
 
-/// The dearest sheets, and the longest time of any.
-fn bench_worst() {
-    let times = worst::sheets()
-        .into_iter()
-        .map(|case| bench_sheet(&case.what, &case.sheet));
-    println!("longest of these: {:.2?}", times.max().expect("some sheet"));
+/// Questions 1 to 11, into an output that is long enough.
+fn bench_make(what: &str, sheet: &[u8]) -> Duration {
+    let wanted = reader::make_table(sheet).err().unwrap_or(0);
+    let mut out = vec![0; reader::limits::FILE_BYTES];
+    let mut written = 0;
+    assert_eq!(
+        library::make_table(sheet, &mut out, &mut written),
+        wanted,
+        "{what}"
+    );
+    let answer = if wanted == 0 {
+        format!("{written} bytes")
+    } else {
+        format!("refused {wanted}")
+    };
+    compare(
+        &format!("make {what} ({answer})"),
+        || {
+            black_box(library::make_table(
+                black_box(sheet),
+                &mut out,
+                &mut written,
+            ));
+        },
+        "reader",
+        || {
+            let _ = black_box(reader::make_table(black_box(sheet)));
+        },
+    )
+}
+
+type Bench = fn(&str, &[u8]) -> Duration;
+
+/// Sheets of 25, 500 and 4,096 bytes, the dearest ones, and the longest time of any.
+fn bench_sheets(bench: Bench, dearest: Vec<Case>) {
+    let mut longest = Duration::ZERO;
+    for sheet in sheets::accepted() {
+        let what = format!("a sheet of {} bytes", sheet.len());
+        longest = longest.max(bench(&what, sheet.as_bytes()));
+    }
+    for case in dearest {
+        longest = longest.max(bench(&case.what, &case.sheet));
+    }
+    println!("longest of these: {longest:.2?}");
 }
 
 fn main() {
-    [510, 65_536].into_iter().for_each(bench_crc);
-    bench_table(&reader::make_table(b"act a;proc X=a.X;init X;").expect("a table"));
-    bench_table(&large_file());
-    for sheet in sheets::accepted() {
-        let what = format!("check a sheet of {} bytes", sheet.len());
-        bench_sheet(&what, sheet.as_bytes());
+    let words: Vec<String> = std::env::args().skip(1).collect();
+    let wanted = |word: &str| words.is_empty() || words.iter().any(|given| given == word);
+    if wanted("crc") {
+        [510, 65_536].into_iter().for_each(bench_crc);
     }
-    bench_worst();
+    if wanted("check") {
+        bench_table(&reader::make_table(b"act a;proc X=a.X;init X;").expect("a table"));
+        bench_table(&large_file());
+        bench_sheets(bench_check, worst::sheets());
+    }
+    if wanted("make") {
+        bench_sheets(bench_make, [worst::sheets(), slow::sheets()].concat());
+    }
 }

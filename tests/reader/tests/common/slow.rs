@@ -26,23 +26,33 @@ pub fn sheets() -> Vec<Case> {
     cases
 }
 
-/// So many heads and calls that have none, in brackets of which each stands left of some more heads.
+/// So many heads and calls that have none, in brackets of which each stands left of one more head.
 fn left(brackets: usize, heads: usize, calls: usize, heads_first: bool) -> String {
-    let share = heads / (brackets + 1);
-    let inner = heads - share * brackets;
-    let (idle, own) = (repeated("D", calls, "+"), repeated("a", inner, "+"));
-    let mut text = if heads_first { format!("{own}+{idle}") } else { format!("{idle}+{own}") };
-    for _ in 0..brackets {
-        text = format!("({text}){}", "+a".repeat(share));
-    }
-    text
+    let (idle, own) = (
+        repeated("D", calls, "+"),
+        repeated("a", heads - brackets, "+"),
+    );
+    let text = if heads_first {
+        format!("{own}+{idle}")
+    } else {
+        format!("{idle}+{own}")
+    };
+    format!("{}{text}{}", "(".repeat(brackets), ")+a".repeat(brackets))
 }
 
 fn lefts(brackets: usize, heads_first: bool) -> Case {
     let body = left(brackets, 254, 1600, heads_first);
-    let order = if heads_first { "heads first" } else { "heads last" };
+    let order = if heads_first {
+        "heads first"
+    } else {
+        "heads last"
+    };
     let what = format!("{brackets} brackets on the left, 1,600 calls without heads, {order}");
-    Case::new(&what, format!("act a;proc X={body};proc D=delta;init X;"), 0)
+    Case::new(
+        &what,
+        format!("act a;proc X={body};proc D=delta;init X;"),
+        0,
+    )
 }
 
 /// Two equations with the same heads.
@@ -73,24 +83,26 @@ fn deltas_everywhere() -> Case {
     Case::new("16 processes in a line, deltas on the left", sheet, 0)
 }
 
-/// Eight conditions of 31 nodes around many heads.
+/// Eight conditions around many heads.
 fn nested_tests() -> Case {
-    let test = data(15);
-    let heads = repeated("a", 200, "+");
-    let body = format!("{}{heads}{}", "(".repeat(8), format!("<|{test}|>delta)").repeat(8));
+    let (heads, test) = (repeated("a", 200, "+"), format!("<|{}|>delta)", data(15)));
+    let body = format!("{}({heads}){}", "(".repeat(8), test.repeat(8));
     let functions = "func f:Bool->Bool=1,0;func g:Bool#Bool->Bool=0,1,1,0;";
-    let sheet = format!("{functions}act a;proc X(v:Bool)={};init X(0);", body.replacen("a+", "(a+", 1)
-        .replacen("<|", ")<|", 1));
+    let sheet = format!("{functions}act a;proc X(v:Bool)={body};init X(0);");
     Case::new("eight conditions around 200 heads", sheet, 0)
 }
 
-/// Each bracket holds half of what is left.
+/// Heads and deltas behind each bracket.
 fn deep_left() -> Case {
     let mut text = "a".to_string();
     for _ in 0..15 {
         text = format!("({text}{}{})", "+delta".repeat(25), "+a".repeat(16));
     }
-    Case::new("15 brackets, heads and deltas in each", format!("act a;proc X={text};init X;"), 0)
+    Case::new(
+        "15 brackets, heads and deltas in each",
+        format!("act a;proc X={text};init X;"),
+        0,
+    )
 }
 
 const WIDE: &str = "func f:Bool->Bool=1,0;func g:Bool#Bool->Bool=0,1,1,0;act a;\
@@ -106,7 +118,10 @@ fn wide_process(calls: usize) -> String {
 /// 64 equations, 61 of them new, each with a long summand.
 fn long_equations() -> Case {
     let parts = ".(W(v)+delta)".repeat(61);
-    let sheet = format!("{WIDE}{}proc X(v:Bool)=delta{parts};init X(0);", wide_process(5));
+    let sheet = format!(
+        "{WIDE}{}proc X(v:Bool)=delta{parts};init X(0);",
+        wide_process(5)
+    );
     Case::new("64 equations of long summands", sheet, 0)
 }
 

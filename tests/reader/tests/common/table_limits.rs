@@ -44,7 +44,12 @@ pub fn data(nodes: usize) -> String {
 /// Data with this many nodes, of one argument each, but for the last ones: 16 brackets are the most.
 fn deep(nodes: usize) -> String {
     let deep = nodes.saturating_sub(10).min(9);
-    format!("{}{}{}", "f(".repeat(deep), data(nodes - deep), ")".repeat(deep))
+    format!(
+        "{}{}{}",
+        "f(".repeat(deep),
+        data(nodes - deep),
+        ")".repeat(deep)
+    )
 }
 
 /// 64 equations: one is written, or 16 are.
@@ -52,10 +57,15 @@ fn equations() -> Vec<Case> {
     let one = |body: &str| format!("act a;proc X={body};init X;");
     let written = numbered(15, |i| format!("proc Y{i}=a;"));
     let uncalled = |count| format!("proc Z=delta{}", ".tau".repeat(count));
-    let inside = |count: usize| repeated("delta.(a.a+a)", count / 2, "+") + &"+a.a".repeat(count % 2);
+    let inside =
+        |count: usize| repeated("delta.(a.a+a)", count / 2, "+") + &"+a.a".repeat(count % 2);
     [
-        around("parts after delta", 63, |n| one(&format!("delta{}", ".a".repeat(n)))),
-        around("deltas after delta", 63, |n| one(&format!("delta{}", ".delta".repeat(n)))),
+        around("parts after delta", 63, |n| {
+            one(&format!("delta{}", ".a".repeat(n)))
+        }),
+        around("deltas after delta", 63, |n| {
+            one(&format!("delta{}", ".delta".repeat(n)))
+        }),
         around("parts of pairs", 63, |n| one(&repeated("a.a", n, "+"))),
         around("parts inside parts", 63, |n| one(&inside(n))),
         around("parts beside 16 processes", 48, |n| {
@@ -77,11 +87,18 @@ fn marked_variables() -> Vec<Case> {
         )
     };
     [
-        around("marked variables", 4, |n| sheet(format!("b(p4).({})", using(n)))),
-        around("marked and never called", 4, |n| sheet(format!("delta.({})", using(n)))),
+        around("marked variables", 4, |n| {
+            sheet(format!("b(p4).({})", using(n)))
+        }),
+        around("marked and never called", 4, |n| {
+            sheet(format!("delta.({})", using(n)))
+        }),
         around("marked by a condition", 4, |n| {
             let test = format!("p{}", n - 1);
-            sheet(format!("tau.({}<|{test}|>tau)", format!("({})", using(n - 1))))
+            sheet(format!(
+                "tau.({}<|{test}|>tau)",
+                format!("({})", using(n - 1))
+            ))
         }),
         around("marked behind a sum's own", 4, |n| {
             sheet(format!("tau.sum(q:Bool,b(q)+{})", using(n)))
@@ -96,8 +113,12 @@ fn summands() -> Vec<Case> {
     let heads = |count| repeated("a", count, "+");
     [
         around("summands", 255, |n| one(heads(n))),
-        around("summands of tests", 255, |n| one(repeated("a<|1|>a", n / 2, "+") + &"+a".repeat(n % 2))),
-        around("summands in a new equation", 254, |n| one(format!("a.({})", heads(n)))),
+        around("summands of tests", 255, |n| {
+            one(repeated("a<|1|>a", n / 2, "+") + &"+a".repeat(n % 2))
+        }),
+        around("summands in a new equation", 254, |n| {
+            one(format!("a.({})", heads(n)))
+        }),
         around("summands never called", 254, |n| {
             format!("act a;proc Y={};proc X=a;init X;", heads(n))
         }),
@@ -105,7 +126,10 @@ fn summands() -> Vec<Case> {
             // Y has five heads, and each call of it five more
             let (calls, more) = ((n - 5) / 5, (n - 5) % 5);
             let own = "+a".repeat(more);
-            format!("act a;proc X={}{own};proc Y=a+a+a+a+a;init X;", repeated("Y", calls, "+"))
+            format!(
+                "act a;proc X={}{own};proc Y=a+a+a+a+a;init X;",
+                repeated("Y", calls, "+")
+            )
         }),
         around("summands through two processes", 255, |n| {
             // Z has 3, Y 15, X 237 and what is added
@@ -126,11 +150,20 @@ fn sums() -> Vec<Case> {
     let with = |body: String, other: String| format!("act a;proc X={body};proc Y={other};init X;");
     [
         around("sums", 4, |n| with(nested(n, "a"), "a".into())),
-        around("sums in a new equation", 4, |n| with(format!("a.{}", nested(n, "a")), "a".into())),
-        around("sums through a call", 4, |n| with(nested(n - 2, "Y"), nested(2, "a"))),
-        around("sums of the called alone", 4, |n| with("Y".into(), nested(n, "a"))),
+        around("sums in a new equation", 4, |n| {
+            with(format!("a.{}", nested(n, "a")), "a".into())
+        }),
+        around("sums through a call", 4, |n| {
+            with(nested(n - 2, "Y"), nested(2, "a"))
+        }),
+        around("sums of the called alone", 4, |n| {
+            with("Y".into(), nested(n, "a"))
+        }),
         around("sums, one alternative deeper", 4, |n| {
-            with(nested(3, &format!("a+{}", nested(n - 3, "a").replace('v', "w"))), "a".into())
+            with(
+                nested(3, &format!("a+{}", nested(n - 3, "a").replace('v', "w"))),
+                "a".into(),
+            )
         }),
     ]
     .concat()
@@ -148,12 +181,21 @@ fn conditions() -> Vec<Case> {
     };
     let with = |body: String, other: String| format!("act a;proc X={body};proc Y={other};init X;");
     [
-        around("conditions that are 1", 8, |n| with(yes(n, "a"), "a".into())),
+        around("conditions that are 1", 8, |n| {
+            with(yes(n, "a"), "a".into())
+        }),
         around("conditions that are 0", 8, |n| with(no(n, "a"), "a".into())),
-        around("conditions through a call", 8, |n| with(no(n - 3, "Y"), yes(3, "a"))),
-        around("conditions in a new equation", 8, |n| with(format!("a.{}", yes(n, "a")), "a".into())),
+        around("conditions through a call", 8, |n| {
+            with(no(n - 3, "Y"), yes(3, "a"))
+        }),
+        around("conditions in a new equation", 8, |n| {
+            with(format!("a.{}", yes(n, "a")), "a".into())
+        }),
         around("conditions around a sum", 8, |n| {
-            with(yes(4, &format!("sum(v:Bool,{})", no(n - 4, "a"))), "a".into())
+            with(
+                yes(4, &format!("sum(v:Bool,{})", no(n - 4, "a"))),
+                "a".into(),
+            )
         }),
     ]
     .concat()
@@ -164,7 +206,9 @@ fn calls() -> Vec<Case> {
     let with = |body: String, other: &str| format!("act a;proc X={body};proc Y={other};init X;");
     [
         around("calls", 8, |n| with(format!("a{}", ".X".repeat(n)), "a")),
-        around("calls of parts", 8, |n| with(format!("a{}", ".tau".repeat(n)), "a")),
+        around("calls of parts", 8, |n| {
+            with(format!("a{}", ".tau".repeat(n)), "a")
+        }),
         around("calls behind brackets", 8, |n| {
             with(format!("(a.X.X+a.X){}", ".Y".repeat(n - 2)), "a")
         }),
@@ -185,8 +229,12 @@ fn nodes() -> Vec<Case> {
         format!("{declared}proc Y(w:Bool)={other};proc X(v:Bool)={body};init X(0);")
     };
     let at = |place: &'static str| {
-        let flat = around(place, 31, |n| sheet("b(w)", place.replace("DATA", &data(n))));
-        let steep = around(place, 31, |n| sheet("b(w)", place.replace("DATA", &deep(n))));
+        let flat = around(place, 31, |n| {
+            sheet("b(w)", place.replace("DATA", &data(n)))
+        });
+        let steep = around(place, 31, |n| {
+            sheet("b(w)", place.replace("DATA", &deep(n)))
+        });
         [flat, steep].concat()
     };
     let places = [
@@ -207,7 +255,12 @@ fn nodes() -> Vec<Case> {
     cases.extend(through("put in twice", "b(g(w,w))", 15, |n| n));
     cases.extend(through("put in a condition", "a<|f(w)|>a", 30, |n| n));
     cases.extend(through("put in a call", "a.Y(f(w))", 30, |n| n));
-    cases.extend(through("put in a new equation's call", "b(0).b(w)", 31, |n| n));
+    cases.extend(through(
+        "put in a new equation's call",
+        "b(0).b(w)",
+        31,
+        |n| n,
+    ));
     cases.extend(through("put in behind the head", "b(0).b(f(w))", 31, |n| n));
     cases
 }
@@ -234,7 +287,9 @@ pub fn longest_stream() -> String {
 
 /// 64,768 stream bytes.
 fn stream() -> Vec<Case> {
-    around("characters of a name for 64,768 bytes", NAME, |n| long_stream(&"n".repeat(n)))
+    around("characters of a name for 64,768 bytes", NAME, |n| {
+        long_stream(&"n".repeat(n))
+    })
 }
 
 /// What stands in no head is free.
@@ -245,30 +300,62 @@ fn unbound() -> Vec<Case> {
     let thousand = data(1000);
     let y = |other: &str, body: &str| {
         let body = body.replace("DATA", &thousand);
-        format!("{FUNCTIONS}act a;act b:Bool;proc Y(w:Bool)={other};proc X(v:Bool)={body};init X(0);")
+        format!(
+            "{FUNCTIONS}act a;act b:Bool;proc Y(w:Bool)={other};proc X(v:Bool)={body};init X(0);"
+        )
     };
     let init = thousand.replace('v', "1");
     [
-        accepted("9 calls after delta", &[x(format!("delta{}", ".X".repeat(9)))]),
-        accepted("1,000 calls after delta", &[x(format!("a+delta{}", ".X".repeat(1000)))]),
-        accepted("9 conditions around delta", &[x(tests("delta")), x(tests("delta.X"))]),
-        accepted("9 sums around delta", &[x(format!("{sums}delta{}", ")".repeat(9)))]),
-        accepted("9 sums around a call without heads", &[
-            format!("act a;proc X={sums}Y{};proc Y=delta+delta.a;init X;", ")".repeat(9)),
-        ]),
-        accepted("a thousand nodes", &[
-            y("a", "delta<|DATA|>delta"),
-            y("a", "a+delta.Y(DATA)"),
-            y("a", "Y(DATA)"),
-            y("a.a", "Y(DATA).X(v)"),
-            y("delta.b(w)", "a+Y(DATA)"),
-        ]),
-        accepted("a thousand nodes in init", &[
-            format!("{FUNCTIONS}act b:Bool;proc X(v:Bool)=b(v);init X({init});"),
-        ]),
+        accepted(
+            "9 calls after delta",
+            &[x(format!("delta{}", ".X".repeat(9)))],
+        ),
+        accepted(
+            "1,000 calls after delta",
+            &[x(format!("a+delta{}", ".X".repeat(1000)))],
+        ),
+        accepted(
+            "9 conditions around delta",
+            &[x(tests("delta")), x(tests("delta.X"))],
+        ),
+        accepted(
+            "9 sums around delta",
+            &[x(format!("{sums}delta{}", ")".repeat(9)))],
+        ),
+        accepted(
+            "9 sums around a call without heads",
+            &[format!(
+                "act a;proc X={sums}Y{};proc Y=delta+delta.a;init X;",
+                ")".repeat(9)
+            )],
+        ),
+        accepted(
+            "a thousand nodes",
+            &[
+                y("a", "delta<|DATA|>delta"),
+                y("a", "a+delta.Y(DATA)"),
+                y("a", "Y(DATA)"),
+                y("a.a", "Y(DATA).X(v)"),
+                y("delta.b(w)", "a+Y(DATA)"),
+            ],
+        ),
+        accepted(
+            "a thousand nodes in init",
+            &[format!(
+                "{FUNCTIONS}act b:Bool;proc X(v:Bool)=b(v);init X({init});"
+            )],
+        ),
         vec![
-            Case::new("a thousand nodes in a new equation", y("a", "delta.b(DATA)"), 10),
-            Case::new("a thousand nodes in a condition", y("a", "a<|DATA|>delta"), 10),
+            Case::new(
+                "a thousand nodes in a new equation",
+                y("a", "delta.b(DATA)"),
+                10,
+            ),
+            Case::new(
+                "a thousand nodes in a condition",
+                y("a", "a<|DATA|>delta"),
+                10,
+            ),
             Case::new("a thousand nodes put in", y("b(w)", "Y(DATA)"), 10),
         ],
     ]
