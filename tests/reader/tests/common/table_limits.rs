@@ -95,10 +95,7 @@ fn marked_variables() -> Vec<Case> {
         }),
         around("marked by a condition", 4, |n| {
             let test = format!("p{}", n - 1);
-            sheet(format!(
-                "tau.({}<|{test}|>tau)",
-                format!("({})", using(n - 1))
-            ))
+            sheet(format!("tau.(({})<|{test}|>tau)", using(n - 1)))
         }),
         around("marked behind a sum's own", 4, |n| {
             sheet(format!("tau.sum(q:Bool,b(q)+{})", using(n)))
