@@ -1,0 +1,153 @@
+-- Blocks of assignments: what a condition says on one of them it says on all, if it names no variable that changes there.
+use mathlib.Core.Path.{_≡_, refl, sym, _∙_, ap}
+use mathlib.Core.List.{List, [], _∷_}
+use mathlib.Core.Bool.{Bool, true, false}
+use Prim.Native.Nat.{ℕ, zero, suc, _+_, _-_, _*_, _/_, _%_, _≤_, _<_}
+use native.Mathlib.Nat.{div-div-eq-div-mul, mul-one, mul-comm, mul-assoc, mul-pos, div-eq-of-lt-le, div-mul-le-self}
+use native.Mathlib.Omega.{arith}
+use lib.Dec.{eqb, ltb}
+use lib.ListN.{length, getD, drop, take, List·getD-append}
+use lib.Seq.{length-take-le, getD-append-add}
+use borrow.Author.Tests.{eq-eqb, ne-eqb, lt-ltb, le-ltb, ltb-true, ltb-false}
+use Rattle.pcrl.specs.Tests.{and}
+use Rattle.evaluation.specs.Run.{top, peak}
+use Rattle.evaluation.specs.Known.{Alike}
+use Rattle.evaluation.proofs.Bytes.{run-same}
+use Rattle.assignments.specs.Places.{product, valuesOf, Sizes}
+use Rattle.assignments.specs.Conditions.{env, code, holds, all-below, met, Ready, tried-of, Tested}
+
+-- products of sizes
+pub product-pos : (l : ℕ) (s : List ℕ) → ((i : ℕ) → i < length s → 0 < getD s i 0) → 0 < product (drop l s)
+product-pos zero [] h = omega arith
+product-pos (suc l) [] h = omega arith
+product-pos zero (n ∷ s) h = mul-pos (h 0 (omega arith)) (product-pos 0 s (λ i k. h (suc i) (omega arith)))
+product-pos (suc l) (n ∷ s) h = product-pos l s (λ i k. h (suc i) (omega arith))
+
+product-split : (l : ℕ) (s : List ℕ) → product s ≡ product (drop l s) * product (take l s)
+product-split zero s = sym (mul-one (product s))
+product-split (suc l) [] = refl
+product-split (suc l) (n ∷ s) = ap (λ (x : ℕ). n * x) (product-split l s) ∙ sym (mul-assoc n (product (drop l s)) (product (take l s))) ∙ ap (λ (x : ℕ). x * product (take l s)) (mul-comm n (product (drop l s))) ∙ mul-assoc (product (drop l s)) n (product (take l s))
+
+coarser : (l : ℕ) (s : List ℕ) (i j : ℕ) → i / product (drop l s) ≡ j / product (drop l s) → i / product s ≡ j / product s
+coarser l s i j h =
+    rw (product-split l s) (sym (div-div-eq-div-mul i (product (drop l s)) (product (take l s))) ∙ ap (λ (x : ℕ). x / product (take l s)) h ∙ div-div-eq-div-mul j (product (drop l s)) (product (take l s)))
+
+-- two places of one block have the same first values
+pub same-values : (l : ℕ) (s : List ℕ) (i j : ℕ) → i / product (drop l s) ≡ j / product (drop l s) → (v : ℕ) → v < l → getD (valuesOf s i) v 0 ≡ getD (valuesOf s j) v 0
+same-values zero s i j h v k = absurd (omega arith)
+same-values (suc l) [] i j h v k = refl
+same-values (suc l) (n ∷ s) i j h zero k = ap (λ (x : ℕ). x % n) (coarser l s i j h)
+same-values (suc l) (n ∷ s) i j h (suc v) k = same-values l s i j h v (omega arith)
+
+split-at : (p : ℕ) (a w : List ℕ) → p ≤ length a → (v : ℕ) → p ≤ v → getD (env p a w) v 0 ≡ getD w (v - p) 0
+split-at p a w h v k =
+    let e : v ≡ length (take p a) + (v - p) = simp (length-take-le p a h) (omega arith) in
+    ap (λ (x : ℕ). getD (env p a w) x 0) e ∙ getD-append-add (take p a) w (v - p) 0
+
+-- places whose environments agree as far as their blocks do
+abbrev pub Agree : ℕ → List ℕ → ℕ → ℕ → List ℕ → List ℕ → Type 0
+Agree p sizes i j e f = (l : ℕ) → i / product (drop l sizes) ≡ j / product (drop l sizes) → (v : ℕ) → v < p + l → getD e v 0 ≡ getD f v 0
+
+pub env-agree : (p : ℕ) (a sizes f : List ℕ) (i j : ℕ) → p ≤ length a → ((v : ℕ) → getD f v 0 ≡ getD (env p a (valuesOf sizes j)) v 0) → Agree p sizes i j (env p a (valuesOf sizes i)) f
+env-agree p a sizes f i j h g l q v k = go (ltb v p) refl ∙ sym (g v)
+  where
+    go : (t : Bool) → ltb v p ≡ t → getD (env p a (valuesOf sizes i)) v 0 ≡ getD (env p a (valuesOf sizes j)) v 0
+    go true r =
+        let x : v < length (take p a) = simp (length-take-le p a h) (ltb-true v p r) in
+        List·getD-append (take p a) (valuesOf sizes i) 0 v x ∙ sym (List·getD-append (take p a) (valuesOf sizes j) 0 v x)
+    go false r =
+        let x : p ≤ v = ltb-false v p r in
+        split-at p a (valuesOf sizes i) h v x ∙ same-values l sizes i j q (v - p) (omega arith) ∙ sym (split-at p a (valuesOf sizes j) h v x)
+
+-- a block of d holds what divides to the same
+pub in-block : (j d i : ℕ) → 0 < d → j ≤ i → i < (j / d + 1) * d → i / d ≡ j / d
+in-block j d i p h k = div-eq-of-lt-le d (let z : j / d * d ≤ j = div-mul-le-self j d in omega arith) k
+
+-- ALL CONDITIONS, AND ONE OF THEM
+
+pub all-true : (n : ℕ) (t : ℕ → Bool) → ((i : ℕ) → i < n → t i ≡ true) → all-below n t ≡ true
+unfolding all-below
+all-true zero t h = refl
+all-true (suc n) t h = rw (h n (omega arith)) (all-true n t (λ i k. h i (omega arith)))
+
+both-false : (a : Bool) → and a false ≡ false
+both-false true = refl
+both-false false = refl
+
+pub one-false : (n : ℕ) (t : ℕ → Bool) (m : ℕ) → m < n → t m ≡ false → all-below n t ≡ false
+unfolding all-below
+one-false zero t m h e = absurd (omega arith)
+one-false (suc n) t m h e = go (ltb m n) refl (λ k. one-false n t m k e)
+  where
+    go : (b : Bool) → ltb m n ≡ b → (m < n → all-below n t ≡ false) → and (t n) (all-below n t) ≡ false
+    go true q ih = rw (ih (ltb-true m n q)) (both-false (t n))
+    go false q ih = let l = ltb-false m n q in let z : n ≡ m = omega arith in let f : t n ≡ false = ap t z ∙ e in rw f refl
+
+-- WHAT A TEST OF THE CONDITIONS SAYS OF A WHOLE BLOCK
+
+module _ (s funcs froms ends blocks : List ℕ) (n p reach : ℕ) (sizes a : List ℕ) (few : p ≤ length a) (ready : (i : ℕ) → i < n → Ready s p sizes froms ends blocks reach i) where
+  abbrev holds-in : List ℕ → ℕ → Bool
+  holds-in e i = holds s funcs e (getD froms i 0) (getD ends i 0)
+
+  holds-same : (e f : List ℕ) (m : ℕ) → ((v : ℕ) → v < peak (code s (getD froms m 0) (getD ends m 0)) → getD e v 0 ≡ getD f v 0) → holds-in e m ≡ holds-in f m
+  holds-same e f m h = ap (λ (l : List ℕ). eqb (top l) (getD s (getD froms m 0) 0)) (run-same s funcs e f (code s (getD froms m 0) (getD ends m 0)) h)
+
+  module _ (f : List ℕ) (j : ℕ) (alike : Alike f (env p a (valuesOf sizes j))) where
+    pub blocked : (d : ℕ) → Tested (holds-in f) blocks n d → 0 < d → (i : ℕ) → i / d ≡ j / d → met s funcs froms ends n (env p a (valuesOf sizes i)) ≡ false
+    blocked d t h i q =
+        let (m, k, e, b) = t .one-fails h in
+        let r = ready m k in
+        let l : ℕ = peak (code s (getD froms m 0) (getD ends m 0)) - p in
+        let z : d ≡ product (drop l sizes) = b ∙ r .block-is in
+        one-false n (holds-in (env p a (valuesOf sizes i))) m k
+        (holds-same (env p a (valuesOf sizes i)) f m (λ v w. env-agree p a sizes f i j few alike l (ap (λ (x : ℕ). i / x) (sym z) ∙ q ∙ ap (λ (x : ℕ). j / x) z) v (omega arith)) ∙ e)
+
+    pub accepted : (d : ℕ) → Tested (holds-in f) blocks n d → d ≡ 0 → (i : ℕ) → i / product (drop (reach - p) sizes) ≡ j / product (drop (reach - p) sizes)
+        → met s funcs froms ends n (env p a (valuesOf sizes i)) ≡ true
+    accepted d t h i q =
+        all-true n (holds-in (env p a (valuesOf sizes i))) (λ m k.
+        let r = ready m k .low in
+        holds-same (env p a (valuesOf sizes i)) f m (λ v w. env-agree p a sizes f i j few alike (reach - p) q v (omega arith)) ∙ t .all-pass h m k)
+
+-- A TEST, CONDITION BY CONDITION
+
+pub tested-none : (t : ℕ → Bool) (blocks : List ℕ) → Tested t blocks 0 0
+tested-none t blocks = record { all-pass = λ e i h. absurd (omega arith); one-fails = λ h. absurd (omega arith) }
+
+pub tested-more : (t : ℕ → Bool) (blocks : List ℕ) (n r r′ : ℕ) → 0 < getD blocks n 0 → Tested t blocks n r → r′ ≡ tried-of (t n) (getD blocks n 0) r → Tested t blocks (n + 1) r′
+tested-more t blocks n r r′ pos w e = go (ltb r (getD blocks n 0)) refl (t n) refl
+  where
+    keep : r′ ≡ r → (r ≡ 0 → t n ≡ true) → Tested t blocks (n + 1) r′
+    keep z h =
+        record {
+          all-pass = λ q i k. last (ltb i n) i refl k (z′ q);
+          one-fails = λ q. let (m, k, f, b) = w .one-fails (omega arith) in (m, omega arith, f, z ∙ b);
+        }
+      where
+        z′ : r′ ≡ 0 → r ≡ 0
+        z′ q = sym z ∙ q
+
+        last : (c : Bool) (i : ℕ) → ltb i n ≡ c → i < n + 1 → r ≡ 0 → t i ≡ true
+        last true i y k q = w .all-pass q i (ltb-true i n y)
+        last false i y k q = let u = ltb-false i n y in let x : i ≡ n = omega arith in ap t x ∙ h q
+
+    go : (c : Bool) → ltb r (getD blocks n 0) ≡ c → (h : Bool) → t n ≡ h → Tested t blocks (n + 1) r′
+    go true q true k = keep (e ∙ rw (q, k) refl) (λ z. k)
+    go true q false k =
+        let z : r′ ≡ getD blocks n 0 = e ∙ rw (q, k) refl in
+        record { all-pass = λ y i l. absurd (omega arith); one-fails = λ y. (n, omega arith, k, z) }
+    go false q h k = let u = ltb-false r (getD blocks n 0) q in keep (e ∙ rw q refl) (λ z. absurd (omega arith))
+
+-- what one condition gives
+pub tried-known : (h : Bool) (block out : ℕ) → block ≤ out → out ≡ tried-of h block out
+tried-known h block out l = rw (le-ltb out block l) refl
+
+pub tried-holds : (x y block out : ℕ) → out < block → x ≡ y → out ≡ tried-of (eqb x y) block out
+tried-holds x y block out l e = rw (lt-ltb out block l, eq-eqb x y e) refl
+
+pub tried-fails : (x y block out : ℕ) → out < block → (x ≡ y → ⊥) → block ≡ tried-of (eqb x y) block out
+tried-fails x y block out l e = rw (lt-ltb out block l, ne-eqb x y e) refl
+
+-- blocks are of one assignment at least
+pub block-pos : (s : List ℕ) (p : ℕ) (sizes froms ends blocks : List ℕ) (reach i : ℕ) → Sizes sizes → length sizes ≡ 4 → Ready s p sizes froms ends blocks reach i → 0 < getD blocks i 0
+block-pos s p sizes froms ends blocks reach i z l r = rw (r .block-is) (product-pos (peak (code s (getD froms i 0) (getD ends i 0)) - p) sizes (λ m h. z m (omega arith) .0))

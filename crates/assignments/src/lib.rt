@@ -1,0 +1,221 @@
+// The k-th assignment of a summand's sum variables that meets its conditions: a counter that goes over blocks of assignments.
+ghost use mathlib.Core.Path.{_≡_};
+ghost use mathlib.Core.List.{List, _++_};
+ghost use mathlib.Core.Bool.{Bool};
+ghost use Prim.Native.Nat.{ℕ, _+_, _-_, _*_, _/_, _%_, _≤_, _<_};
+ghost use lib.ListN.{length, getD, take, drop};
+ghost use Rattle.pcrl.specs.Limits.{max-size, frame-width, max-variables, max-conditions, max-nodes};
+ghost use Rattle.assignments.specs.Places.{product, valuesOf, places, Sizes};
+ghost use Rattle.assignments.specs.Conditions.{env, holds, met, Ready, tried-of, Tested, Finds};
+
+// One for each sum variable: sizes of their sorts, 1 where there is no variable; or their values.
+pub struct Four {
+    pub at: [u8; 4],
+}
+
+// A value for each variable: parameters, then sum variables.
+pub struct Eight {
+    pub at: [u8; 8],
+}
+
+// The conditions of a summand: where each begins and ends, the block of assignments that it fails on as a whole;
+// how many there are, one more than the highest variable that they name, and where they all end.
+pub struct Conditions {
+    pub froms: [usize; 8],
+    pub ends: [usize; 8],
+    pub blocks: [u32; 8],
+    pub count: usize,
+    pub reach: usize,
+    pub end: usize,
+}
+
+pub struct Found {
+    pub found: bool,
+    pub at: usize,
+    pub left: u64,
+}
+
+fn times(a: u8, b: usize) -> usize
+    requires { ⌜ (a ≤ max-size) × (b ≤ 4096) ⌝ }
+    ensures { λ r. ⌜ (r ≡ a * b) × (r ≤ max-size * b) ⌝ }
+{
+    (a as usize) * b
+}
+
+// The number of assignments of the variables from a level on.
+pub fn block_size(s: Four, l: usize) -> usize
+    requires { ⌜ Sizes (s .at) ⌝ }
+    ensures { λ r. ⌜ (r ≡ product (drop l (s .at))) × (r ≤ 65536) ⌝ }
+{
+    if 4 <= l {
+        return 1;
+    }
+    let s3 = times(s.at[3], 1);
+    if l == 3 {
+        return s3;
+    }
+    let s2 = times(s.at[2], s3);
+    if l == 2 {
+        return s2;
+    }
+    let s1 = times(s.at[1], s2);
+    if l == 1 {
+        return s1;
+    }
+    times(s.at[0], s1)
+}
+
+// The block of assignments on which nothing changes that names only variables below h; p of them are parameters.
+pub fn grain(sizes: Four, h: usize, p: usize) -> usize
+    requires { ⌜ Sizes (sizes .at) ⌝ }
+    ensures { λ r. ⌜ (r ≡ product (drop (h - p) (sizes .at))) × (r ≤ 65536) ⌝ }
+{
+    if h < p {
+        return block_size(sizes, 0);
+    }
+    block_size(sizes, h - p)
+}
+
+fn digit(j: usize, s: u8) -> u8
+    requires { ⌜ 0 < s ⌝ }
+    ensures { λ r. ⌜ r ≡ j % s ⌝ }
+{
+    (j % (s as usize)) as u8
+}
+
+fn quotient(j: usize, s: u8) -> usize
+    requires { ⌜ 0 < s ⌝ }
+    ensures { λ r. ⌜ r ≡ j / s ⌝ }
+{
+    j / (s as usize)
+}
+
+// Assignment j.
+pub fn values(s: Four, j: usize) -> Four
+    requires { ⌜ ((i : ℕ) → i < max-variables → 0 < getD (s .at) i 0) ⌝ }
+    ensures { λ r. ⌜ r .at ≡ valuesOf (s .at) j ⌝ }
+{
+    let s3 = s.at[3];
+    let s2 = s.at[2];
+    let s1 = s.at[1];
+    let s0 = s.at[0];
+    let j2 = quotient(j, s3);
+    let j1 = quotient(j2, s2);
+    let j0 = quotient(j1, s1);
+    let v = [digit(j0, s0), digit(j1, s1), digit(j2, s2), digit(j, s3)];
+    Four { at: v }
+}
+
+// The values w are put behind p parameters.
+pub fn environment(params: Eight, p: usize, w: Four) -> Eight
+    requires { ⌜ (p ≤ frame-width) × ((i : ℕ) → p ≤ i → getD (params .at) i 0 ≡ 0) ⌝ }
+    ensures { λ r. ⌜ ((i : ℕ) → getD (r .at) i 0 ≡ getD (env p (params .at) (w .at)) i 0) ⌝ }
+{
+    let mut a = params.at;
+    a[p] = w.at[0];
+    a[p + 1] = w.at[1];
+    a[p + 2] = w.at[2];
+    a[p + 3] = w.at[3];
+    Eight { at: a }
+}
+
+// The first number of the next block of d.
+fn next(j: usize, d: usize) -> usize
+    requires { ⌜ (0 < d) × ((d < 4294967296) × (j < 65536)) ⌝ }
+    ensures { λ r. ⌜ (j < r) × ((i : ℕ) → j ≤ i → i < r → i / d ≡ j / d) ⌝ }
+{
+    (j / d + 1) * d
+}
+
+// The larger of out and the condition's block, if the condition fails; it is not evaluated if that changes nothing.
+fn tried(s: &[u8], funcs: &[u16], e: &[u8], from: usize, end: usize, block: u32, out: u32) -> u32
+    ensures { λ r. ⌜ (from + 1 ≤ end → end ≤ from + 1 + max-nodes → end ≤ length (now (s .entry)) → r ≡ tried-of (holds (now (s .entry)) (now (funcs .entry)) (now (e .entry)) from end) block out) ⌝ }
+{
+    if block <= out {
+        return out;
+    }
+    if s.len() <= from {
+        return out;
+    }
+    let v = evaluation::value(s, funcs, e, from + 1, end);
+    if v == s[from] {
+        return out;
+    }
+    block
+}
+
+// The block of a condition that fails, the largest of such blocks; 0 if all hold.
+fn test(
+    s: &[u8],
+    funcs: &[u16],
+    e: &[u8],
+    froms: &[usize; 8],
+    ends: &[usize; 8],
+    blocks: &[u32; 8],
+    n: usize,
+) -> u32
+    requires { ⌜ n ≤ max-conditions ⌝ }
+    ensures { λ r. ⌜ ((p : ℕ) (sizes : List ℕ) (reach : ℕ) → Sizes sizes → length sizes ≡ max-variables → ((i : ℕ) → i < n → Ready (now (s .entry)) p sizes (now (froms .entry)) (now (ends .entry)) (now (blocks .entry)) reach i) → Tested (λ i. holds (now (s .entry)) (now (funcs .entry)) (now (e .entry)) (getD (now (froms .entry)) i 0) (getD (now (ends .entry)) i 0)) (now (blocks .entry)) n r) ⌝ }
+{
+    let mut out: u32 = 0;
+    let mut i: usize = 0;
+    while i < n {
+        out = tried(s, funcs, e, froms[i], ends[i], blocks[i], out);
+        i += 1;
+    }
+    out
+}
+
+fn wide_block(x: u32) -> usize
+    ensures { λ r. ⌜ (r ≡ x) × (r < 4294967296) ⌝ }
+{
+    x as usize
+}
+
+// The k-th assignment that meets the conditions, or how much of k is left.
+pub fn find(
+    s: &[u8],
+    funcs: &[u16],
+    params: Eight,
+    p: usize,
+    sizes: Four,
+    c: Conditions,
+    k: u64,
+) -> Found
+    requires { ⌜ (p ≤ frame-width) × (((i : ℕ) → p ≤ i → getD (params .at) i 0 ≡ 0) × ((c .count ≤ max-conditions) × Sizes (sizes .at))) ⌝ }
+    ensures { λ r. ⌜ (((i : ℕ) → i < c .count → Ready (now (s .entry)) p (sizes .at) (c .froms) (c .ends) (c .blocks) (c .reach) i) → Finds (places (λ j. met (now (s .entry)) (now (funcs .entry)) (c .froms) (c .ends) (c .count) (env p (params .at) (valuesOf (sizes .at) j))) (product (sizes .at)) 0) k (r .found) (r .at) (r .left)) ⌝ }
+{
+    let froms = c.froms;
+    let ends = c.ends;
+    let blocks = c.blocks;
+    let n = c.count;
+    let total = block_size(sizes, 0);
+    let g = grain(sizes, c.reach, p);
+    let mut j: usize = 0;
+    let mut left = k;
+    while j < total {
+        let e = environment(params, p, values(sizes, j));
+        let a = e.at;
+        let d = test(s, funcs, &a, &froms, &ends, &blocks, n);
+        if d == 0 {
+            let r = evaluation::smaller(next(j, g), total);
+            let m = (r - j) as u64;
+            if left < m {
+                return Found {
+                    found: true,
+                    at: j + (left as usize),
+                    left: 0,
+                };
+            }
+            left -= m;
+            j = r;
+        } else {
+            j = next(j, wide_block(d));
+        }
+    }
+    Found {
+        found: false,
+        at: 0,
+        left: left,
+    }
+}

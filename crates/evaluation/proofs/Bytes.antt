@@ -1,0 +1,180 @@
+-- Laws of the bytes of terms: one byte more, and what hangs on which variables.
+use mathlib.Core.Path.{_≡_, refl, sym, ap, _∙_}
+use mathlib.Core.List.{List, [], _∷_}
+use mathlib.Core.Bool.{Bool, true, false}
+use Prim.Native.Nat.{ℕ, zero, suc, _+_, _-_, _*_, _≤_, _<_, max, min}
+use native.Mathlib.Nat.{mul-le-mul, add-zero}
+use native.Mathlib.Numerals.{add-one}
+use native.Mathlib.Omega.{arith}
+use lib.Dec.{ltb}
+use lib.ListN.{length, getD, drop, take, set, length-set, drop-of-length-le}
+use lib.Seq.{drop-cons, drop-drop, getD-drop}
+use borrow.Author.Tests.{eq-eqb, ne-eqb, ltb-true, ltb-false}
+use Rattle.pcrl.specs.Stream.{variable-code, function-code}
+use Rattle.pcrl.specs.Decode.{Node, value, variable, function, node-of}
+use Rattle.codec.specs.TermLaws.{node-value, node-variable, node-function}
+use Rattle.terms.proofs.Stack.{push-at}
+use Rattle.evaluation.specs.Run.{argument-count, extent, worth-of, run, named, peak}
+
+-- A BYTE'S KIND
+
+pub is-value : (b : ℕ) → b < variable-code → node-of b ≡ value b
+is-value b h = node-value b h
+
+pub is-variable : (b : ℕ) → variable-code ≤ b → b < function-code → node-of b ≡ variable (b - variable-code)
+is-variable b h k = let z : b ≡ variable-code + (b - variable-code) = omega arith in ap node-of z ∙ node-variable (b - variable-code) (omega arith)
+
+pub is-function : (b : ℕ) → function-code ≤ b → node-of b ≡ function (b - function-code)
+is-function b h = let z : b ≡ function-code + (b - function-code) = omega arith in ap node-of z ∙ node-function (b - function-code)
+
+-- a byte below the functions is a value or a variable
+pub below-functions : (P : Node → Type 0) (b : ℕ) → b < function-code → ((v : ℕ) → P (value v)) → ((i : ℕ) → P (variable i)) → P (node-of b)
+below-functions P b h f g = go (ltb b variable-code) refl
+  where
+    go : (t : Bool) → ltb b variable-code ≡ t → P (node-of b)
+    go true e = rw (is-value b (ltb-true b variable-code e)) (f b)
+    go false e = rw (is-variable b (ltb-false b variable-code e) h) (g (b - variable-code))
+
+module _ (s funcs : List ℕ) where
+  pub no-arguments : (b : ℕ) → b < function-code → 0 ≡ argument-count s funcs (node-of b)
+  unfolding argument-count
+  no-arguments b h = below-functions (λ n. 0 ≡ argument-count s funcs n) b h (λ v. refl) (λ i. refl)
+
+  pub one-argument : (b p : ℕ) → function-code ≤ b → p ≡ getD funcs (b - function-code) 0 → getD s p 0 ≡ 1 → 1 ≡ argument-count s funcs (node-of b)
+  unfolding argument-count
+  one-argument b p h e k = rw (is-function b h, ← e, eq-eqb (getD s p 0) 1 k) refl
+
+  pub two-arguments : (b p : ℕ) → function-code ≤ b → p ≡ getD funcs (b - function-code) 0 → (getD s p 0 ≡ 1 → ⊥) → 2 ≡ argument-count s funcs (node-of b)
+  unfolding argument-count
+  two-arguments b p h e k = rw (is-function b h, ← e, ne-eqb (getD s p 0) 1 k) refl
+
+  -- SCANNING
+
+  pub extent-none : (l : List ℕ) → extent s funcs l 0 ≡ 0
+  unfolding extent
+  extent-none [] = refl
+  extent-none (b ∷ l) = refl
+
+  pub extent-end : (c : List ℕ) (i n : ℕ) → length c ≤ i → extent s funcs (drop i c) n ≡ 0
+  unfolding extent
+  extent-end c i n h = rw (drop-of-length-le c {i = i} h) refl
+
+  pub extent-step : (c : List ℕ) (i n : ℕ) → i < length c → 0 < n → extent s funcs (drop i c) n ≡ suc (extent s funcs (drop (i + 1) c) (n - 1 + argument-count s funcs (node-of (getD c i 0))))
+  unfolding extent
+  extent-step c i zero h p = absurd (omega arith)
+  extent-step c i (suc n) h p = let e : suc n - 1 ≡ n = omega arith in rw (e, add-one i, drop-cons c i 0) refl
+
+  -- VALUES
+
+  module _ (e : List ℕ) where
+    pub worth-value : (b x y : ℕ) → b < variable-code → b ≡ worth-of s funcs e (node-of b) x y
+    unfolding worth-of
+    worth-value b x y h = rw (is-value b h) refl
+
+    pub worth-variable : (b x y : ℕ) → variable-code ≤ b → b < function-code → getD e (b - variable-code) 0 ≡ worth-of s funcs e (node-of b) x y
+    unfolding worth-of
+    worth-variable b x y h k = rw (is-variable b h k) refl
+
+    pub worth-one : (b p x y : ℕ) → function-code ≤ b → p ≡ getD funcs (b - function-code) 0 → getD s p 0 ≡ 1 → getD s (p + 3 + x) 0 ≡ worth-of s funcs e (node-of b) x y
+    unfolding worth-of
+    worth-one b p x y h q k = rw (is-function b h, ← q, eq-eqb (getD s p 0) 1 k) refl
+
+    pub worth-two : (b p x y i : ℕ) → function-code ≤ b → p ≡ getD funcs (b - function-code) 0 → (getD s p 0 ≡ 1 → ⊥) → i ≡ x * getD s (1 + getD s (p + 2) 0) 0 + y
+        → getD s (p + 4 + i) 0 ≡ worth-of s funcs e (node-of b) x y
+    unfolding worth-of
+    worth-two b p x y i h q k z = rw (is-function b h, ← q, ne-eqb (getD s p 0) 1 k, z) refl
+
+    -- the bytes from i to end are worth nothing at the end, and one more than from i + 1 on
+    pub run-none : (c : List ℕ) (i n : ℕ) → n ≡ 0 → [] ≡ run s funcs e (take n (drop i c))
+    unfolding run
+    run-none c i n h = rw h refl
+
+    pub run-more : (c : List ℕ) (i n : ℕ) → i < length c → run s funcs e (take (suc n) (drop i c))
+        ≡ worth-of s funcs e (node-of (getD c i 0)) (getD (run s funcs e (take n (drop (i + 1) c))) 0 0) (getD (run s funcs e (take n (drop (i + 1) c))) 1 0)
+        ∷ drop (argument-count s funcs (node-of (getD c i 0))) (run s funcs e (take n (drop (i + 1) c)))
+    unfolding run
+    run-more c i n h = rw (drop-cons c i 0 h, add-one i) refl
+
+  -- A term's value hangs on no variable from its peak on.
+  module _ (e f : List ℕ) where
+    worth-same : (n : Node) (x y : ℕ) → ((i : ℕ) → i < named n → getD e i 0 ≡ getD f i 0) → worth-of s funcs e n x y ≡ worth-of s funcs f n x y
+    unfolding worth-of named
+    worth-same (value v) x y h = refl
+    worth-same (variable i) x y h = h i (omega arith)
+    worth-same (function g) x y h = refl
+
+    pub run-same : (c : List ℕ) → ((i : ℕ) → i < peak c → getD e i 0 ≡ getD f i 0) → run s funcs e c ≡ run s funcs f c
+    unfolding run peak
+    run-same [] h = refl
+    run-same (b ∷ c) h =
+        let r = run-same c (λ i k. h i (omega arith)) in
+        rw r (ap (λ (v : ℕ). v ∷ drop (argument-count s funcs (node-of b)) (run s funcs f c)) (worth-same (node-of b) _ _ (λ i k. h i (omega arith))))
+
+-- THE HIGHEST VARIABLE
+
+pub named-value : (b : ℕ) → b < variable-code → 0 ≡ named (node-of b)
+unfolding named
+named-value b h = rw (is-value b h) refl
+
+pub named-variable : (b : ℕ) → variable-code ≤ b → b < function-code → b - variable-code + 1 ≡ named (node-of b)
+unfolding named
+named-variable b h k = rw (is-variable b h k) (omega arith)
+
+pub named-function : (b : ℕ) → function-code ≤ b → 0 ≡ named (node-of b)
+unfolding named
+named-function b h = rw (is-function b h) refl
+
+pub peak-none : (c : List ℕ) (i n : ℕ) → n ≡ 0 → 0 ≡ peak (take n (drop i c))
+unfolding peak
+peak-none c i n h = rw h refl
+
+pub peak-more : (c : List ℕ) (i n : ℕ) → i < length c → peak (take (suc n) (drop i c)) ≡ max (named (node-of (getD c i 0))) (peak (take n (drop (i + 1) c)))
+unfolding peak
+peak-more c i n h = rw (drop-cons c i 0 h, add-one i) refl
+
+-- THE STACK OF VALUES, from t on
+
+pub product-small : (x y : ℕ) → x < 256 → y < 256 → x * y ≤ 255 * 255
+product-small x y h k = let a : x ≤ 255 = omega arith in let b : y ≤ 255 = omega arith in mul-le-mul a b
+
+-- x is put on the stack, and k values are taken
+pub stack-put : (l : List ℕ) (t k u x : ℕ) → length l ≡ 32 → 0 < t → t ≤ 32 → u ≡ min (t - 1 + k) 32 → drop u (set l (t - 1) x) ≡ drop k (x ∷ drop t l)
+stack-put l t k u x n p h e = go (ltb (t - 1 + k) 32) refl ∙ sym (drop-drop k (t - 1) l′) ∙ ap (drop k) (push-at l t x p (omega arith))
+  where
+    l′ : List ℕ
+    l′ = set l (t - 1) x
+
+    go : (b : Bool) → ltb (t - 1 + k) 32 ≡ b → drop u (set l (t - 1) x) ≡ drop (t - 1 + k) (set l (t - 1) x)
+    go true q = let a = ltb-true (t - 1 + k) 32 q in let z : u ≡ t - 1 + k = omega arith in ap (λ (m : ℕ). drop m (set l (t - 1) x)) z
+    go false q =
+        let a = ltb-false (t - 1 + k) 32 q in
+        let m = length-set l (t - 1) x in
+        drop-of-length-le (set l (t - 1) x) {i = u} (omega arith) ∙ sym (drop-of-length-le (set l (t - 1) x) {i = t - 1 + k} (omega arith))
+
+-- what the stack is worth at the start: nothing
+pub run-start : (s funcs e c stack : List ℕ) (i n : ℕ) → n ≡ 0 → length stack ≡ 32 → (m : ℕ) → getD (0 ∷ drop 32 stack) m 0 ≡ getD (run s funcs e (take n (drop i c))) m 0
+run-start s funcs e c stack i n z l m =
+    let d : drop 32 stack ≡ [] = drop-of-length-le stack {i = 32} (omega arith) in
+    ap (λ (y : List ℕ). getD (0 ∷ y) m 0) d ∙ none 0 m ∙ ap (λ (y : List ℕ). getD y m 0) (run-none s funcs e c i n z)
+  where
+    none : (x m : ℕ) → getD (x ∷ []) m x ≡ x
+    none x zero = refl
+    none x (suc m) = refl
+
+-- one byte more is read: the value x is put on the stack, k arguments are taken, and v is the value last found
+pub run-again : (s funcs e c stack : List ℕ) (i end t k u v x y : ℕ) → length stack ≡ 32 → 0 < t → t ≤ 32 → 0 < i → i ≤ end → end ≤ length c
+    → ((m : ℕ) → getD (x ∷ drop t stack) m 0 ≡ getD (run s funcs e (take (end - i) (drop i c))) m 0) → y ≡ getD stack t 0
+    → v ≡ worth-of s funcs e (node-of (getD c (i - 1) 0)) x y → k ≡ argument-count s funcs (node-of (getD c (i - 1) 0)) → u ≡ min (t - 1 + k) 32
+    → (m : ℕ) → getD (v ∷ drop u (set stack (t - 1) x)) m 0 ≡ getD (run s funcs e (take (end - (i - 1)) (drop (i - 1) c))) m 0
+run-again s funcs e c stack i end t k u v x y n p h q r w before ey ev ek eu m =
+    let a : end - (i - 1) ≡ suc (end - i) = omega arith in
+    let j : i - 1 + 1 ≡ i = omega arith in
+    let more = rw j at (run-more s funcs e c (i - 1) (end - i) (omega arith)) in
+    let y′ : y ≡ getD (run s funcs e (take (end - i) (drop i c))) 1 0 = ey ∙ ap (λ (z : ℕ). getD stack z 0) (sym (add-zero t)) ∙ sym (getD-drop t stack 0 0) ∙ before 1 in
+    let l : List ℕ = run s funcs e (take (end - i) (drop i c)) in
+    let put = stack-put stack t k u x n p h eu in
+    rw (a, more, ← before 0, ← y′, ← ek, ← ev) (go m put)
+  where
+    go : (m : ℕ) → drop u (set stack (t - 1) x) ≡ drop k (x ∷ drop t stack) → getD (v ∷ drop u (set stack (t - 1) x)) m 0 ≡ getD (v ∷ drop k (run s funcs e (take (end - i) (drop i c)))) m 0
+    go zero put = refl
+    go (suc m) put = ap (λ (z : List ℕ). getD z m 0) put ∙ getD-drop k (x ∷ drop t stack) m 0 ∙ before (k + m) ∙ sym (getD-drop k (run s funcs e (take (end - i) (drop i c))) m 0)

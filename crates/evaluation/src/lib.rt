@@ -1,0 +1,149 @@
+// Data terms that stand in a table's stream: where they end, what they are worth, the variables that they name.
+ghost use mathlib.Core.Path.{_≡_};
+ghost use Prim.Native.Nat.{_+_, _-_, _*_, _≤_, _<_, max, min};
+ghost use lib.ListN.{length, getD, take, drop};
+ghost use Rattle.pcrl.specs.Limits.{max-nodes, max-stream};
+ghost use Rattle.pcrl.specs.Decode.{node-of};
+ghost use Rattle.evaluation.specs.Run.{argument-count, worth-of, extent, run, top, named, peak};
+
+// The codes of a term's bytes: values, then variables, then functions.
+const VARIABLE: usize = 0x20;
+
+const FUNCTION: usize = 0x40;
+
+// Nodes of a term, at the most.
+const NODES: usize = 31;
+
+// How many arguments stand behind a byte.
+fn arguments(s: &[u8], funcs: &[u16], b: u8) -> usize
+    ensures { λ r. ⌜ (r ≡ argument-count (now (s .entry)) (now (funcs .entry)) (node-of b)) × (r ≤ 2) ⌝ }
+{
+    let n = terms::wide(b);
+    if n < FUNCTION {
+        return 0;
+    }
+    let p = terms::place(funcs, n - FUNCTION);
+    if terms::peek(s, p) == 1 {
+        return 1;
+    }
+    2
+}
+
+// What a byte is worth where the values behind it begin with x and y.
+fn worth(s: &[u8], funcs: &[u16], e: &[u8], b: u8, x: u8, y: u8) -> u8
+    ensures { λ r. ⌜ r ≡ worth-of (now (s .entry)) (now (funcs .entry)) (now (e .entry)) (node-of b) x y ⌝ }
+{
+    let n = terms::wide(b);
+    if n < VARIABLE {
+        return b;
+    }
+    if n < FUNCTION {
+        return terms::peek(e, n - VARIABLE);
+    }
+    let p = terms::place(funcs, n - FUNCTION);
+    if terms::peek(s, p) == 1 {
+        return terms::peek(s, p + 3 + terms::wide(x));
+    }
+    let d = terms::wide(terms::peek(s, p + 2));
+    let i = row(x, terms::peek(s, 1 + d), y);
+    terms::peek(s, p + 4 + i)
+}
+
+// The place of y in row x, where the rows are of the given length.
+fn row(x: u8, length: u8, y: u8) -> usize
+    ensures { λ r. ⌜ (r ≡ x * length + y) × (r < 65536) ⌝ }
+{
+    terms::wide(x) * terms::wide(length) + terms::wide(y)
+}
+
+// The place behind n terms.
+pub fn skip(s: &[u8], funcs: &[u16], at: usize, n: u8) -> usize
+    requires { ⌜ length (now s) ≤ max-stream ⌝ }
+    ensures { λ r. ⌜ (r ≡ at + extent (now (s .entry)) (now (funcs .entry)) (drop at (now (s .entry))) n) × ((at ≤ r) × (r ≤ max at (length (now (s .entry))))) ⌝ }
+{
+    let mut need = terms::wide(n);
+    let mut i = at;
+    while i < s.len() {
+        if need == 0 {
+            return i;
+        }
+        need = need - 1 + arguments(s, funcs, s[i]);
+        i += 1;
+    }
+    i
+}
+
+// One more than the variable that a byte names, 0 if none.
+fn variable(b: u8) -> usize
+    ensures { λ r. ⌜ r ≡ named (node-of b) ⌝ }
+{
+    let n = terms::wide(b);
+    if n < VARIABLE {
+        return 0;
+    }
+    if n < FUNCTION {
+        return n - VARIABLE + 1;
+    }
+    0
+}
+
+pub fn larger(a: usize, b: usize) -> usize
+    ensures { λ r. ⌜ r ≡ max a b ⌝ }
+{
+    if a < b { b } else { a }
+}
+
+pub fn smaller(a: usize, b: usize) -> usize
+    ensures { λ r. ⌜ r ≡ min a b ⌝ }
+{
+    if a < b { a } else { b }
+}
+
+// One more than the highest variable that is named from at to end.
+pub fn highest(s: &[u8], at: usize, end: usize) -> usize
+    ensures { λ r. ⌜ (at ≤ end → end ≤ length (now (s .entry)) → r ≡ peak (take (end - at) (drop at (now (s .entry))))) ⌝ }
+{
+    let mut high: usize = 0;
+    let mut i = smaller(end, s.len());
+    while at < i {
+        i -= 1;
+        high = larger(variable(s[i]), high);
+    }
+    high
+}
+
+// Where the stack begins after its first value was put on it and k were taken.
+fn taken(t: usize, k: usize) -> usize
+    requires { ⌜ (0 < t) × ((t ≤ 32) × (k ≤ 2)) ⌝ }
+    ensures { λ r. ⌜ r ≡ min (t - 1 + k) 32 ⌝ }
+{
+    smaller(t - 1 + k, 32)
+}
+
+// The value of the term that stands from at to end, from the right: the value last found is x, those before it stand on a stack that grows downwards.
+pub fn value(s: &[u8], funcs: &[u16], e: &[u8], at: usize, end: usize) -> u8
+    ensures { λ r. ⌜ (at ≤ end → end ≤ at + max-nodes → end ≤ length (now (s .entry)) → r ≡ top (run (now (s .entry)) (now (funcs .entry)) (now (e .entry)) (take (end - at) (drop at (now (s .entry)))))) ⌝ }
+{
+    let mut stack = [0u8; 32];
+    let mut t: usize = 32;
+    let mut x: u8 = 0;
+    if end < at {
+        return 0;
+    }
+    if s.len() < end {
+        return 0;
+    }
+    if NODES < end - at {
+        return 0;
+    }
+    let mut i = end;
+    while at < i {
+        i -= 1;
+        let b = s[i];
+        let y = terms::peek(&stack, t);
+        stack[t - 1] = x;
+        x = worth(s, funcs, e, b, x, y);
+        t = taken(t, arguments(s, funcs, b));
+    }
+    x
+}

@@ -1,0 +1,9 @@
+pub mod Evaluating
+pub mod Counting
+pub mod Framing
+pub mod Skipping
+pub mod Listing
+pub mod Meeting
+pub mod Rowing
+pub mod Indexing
+pub mod Telling

@@ -1,0 +1,36 @@
+-- What is known of a table at a place of its stream: of its terms and their values, of its actions and the parameters of its equations.
+use mathlib.Core.List.{List, []}
+use Prim.Native.Nat.{ℕ, _<_, _≤_}
+use lib.ListN.{length, getD}
+use Rattle.pcrl.specs.Limits.{max-arity, max-actions, frame-width}
+use Rattle.pcrl.specs.Tests.{Every}
+use Rattle.pcrl.specs.Sheet.{Action, no-action, Sig}
+use Rattle.pcrl.specs.Table.{Summand}
+use Rattle.pcrl.specs.Right.{RightSummand}
+use Rattle.pcrl.specs.Stack.{InSorts}
+use Rattle.pcrl.specs.Stream.{variable-code, encode-numbers, encode-action}
+use Rattle.terms.specs.Stands.{Stands}
+use Rattle.evaluation.specs.Known.{KnownTerms, Alike}
+
+-- the variables of the sorts Γ are worth vs, and e has these values
+pub record Valued (S : Sig) (s funcs e Γ vs : List ℕ) : Type 0 where
+  pub known : KnownTerms S s funcs
+  pub short : length Γ ≤ variable-code
+  pub in-sorts : InSorts S Γ vs
+  pub alike : Alike e vs
+
+-- where the actions and the parameters of the equations stand
+pub record KnownParts (S : Sig) (Ps : List (List ℕ)) (s acts params : List ℕ) : Type 0 where
+  pub act-at : (a : ℕ) → a < length (S .acts) → Stands s (getD acts a 0) (encode-action (getD (S .acts) a no-action))
+  pub params-at : (e : ℕ) → e < length Ps → Stands s (getD params e 0) (encode-numbers (getD Ps e []))
+  pub few-acts : length (S .acts) ≤ max-actions
+  pub few-sorts : Every (λ (a : Action). length (a .takes) ≤ max-arity) (S .acts)
+  pub few-params : Every (λ (Ds : List ℕ). length Ds ≤ frame-width) Ps
+
+-- the summands hs of an equation whose parameters are of the sorts Δ and worth vs
+pub record AtRow (S : Sig) (Ps : List (List ℕ)) (s funcs acts params Δ vs : List ℕ) (hs : List Summand) : Type 0 where
+  pub known : KnownTerms S s funcs
+  pub parts : KnownParts S Ps s acts params
+  pub right : Every (RightSummand S Ps Δ) hs
+  pub few : length Δ ≤ frame-width
+  pub in-sorts : InSorts S Δ vs

@@ -1,0 +1,7 @@
+pub mod Again
+pub mod Exchanges
+pub mod Over
+pub mod FrameLists
+pub mod Replying
+pub mod Starting
+pub mod Listing

@@ -1,0 +1,183 @@
+// Stacks in lent bytes, a frame behind another: question 15, and the top frame replaced by the calls of a step.
+ghost use mathlib.Core.Path.{_≡_};
+ghost use mathlib.Core.List.{List, _++_};
+ghost use Prim.Native.Nat.{ℕ, _+_, _-_, _*_, _/_, _<_, _≤_};
+ghost use lib.ListN.{length, getD, take, drop, set, replicate};
+ghost use Rattle.pcrl.specs.Limits.{frame-width, stack-limit};
+ghost use Rattle.pcrl.specs.Table.{Table};
+ghost use Rattle.pcrl.specs.Right.{RightTable};
+ghost use Rattle.pcrl.specs.Stack.{zero-frame, RightFrame, IsZero, RightFrames, frames-of, stack-of};
+ghost use Rattle.pcrl.specs.Answers.{start-stack};
+ghost use Rattle.laws.specs.Says.{Says};
+ghost use Rattle.tables.specs.Indexed.{Indexed};
+ghost use Rattle.stacks.specs.Lent.{frame-bytes, frame-at, frames-at, frames-in, stack-bytes};
+ghost use Rattle.stacks.specs.Fitting.{FitsAt, Fitting};
+ghost use Rattle.stacks.specs.Known.{Known, RightAt};
+
+// "A frame is an equation number and four values": its bytes.
+pub const FRAME: usize = 5;
+
+// "exactly 64 frames lent"
+pub const LIMIT: usize = 64;
+
+// Does the value v fit at place i of a frame whose equation's parameters have these sorts?
+fn fits(sizes: &[u8], sorts: &[u8], i: usize, v: u8) -> bool
+    ensures { λ r. ⌜ Says r (FitsAt (now (sizes .entry)) (now (sorts .entry)) i v) ⌝ }
+{
+    if i < sorts.len() {
+        return v < terms::peek(sizes, terms::wide(sorts[i]));
+    }
+    v == 0
+}
+
+fn fitting(sizes: &[u8], sorts: &[u8], values: &[u8]) -> bool
+    ensures { λ r. ⌜ Says r (Fitting (now (sizes .entry)) (now (sorts .entry)) (now (values .entry))) ⌝ }
+{
+    if values.len() < sorts.len() {
+        return false;
+    }
+    let mut i = 0;
+    while i < values.len() {
+        if !fits(sizes, sorts, i, values[i]) {
+            return false;
+        }
+        i += 1;
+    }
+    true
+}
+
+// "each used frame an equation with values in its sorts, all unused values .. zero"
+fn right_frame(s: &[u8], sizes: &[u8], params: &[u16], f: &[u8]) -> bool
+    requires { ⌜ length (now f) ≡ frame-bytes frame-width ⌝ }
+    ensures { λ r. ⌜ ((T : Table) → Known T (now (s .entry)) (now (sizes .entry)) (now (params .entry)) → Says r (RightFrame frame-width T (frame-at frame-width (now (f .entry)) 0))) ⌝ }
+{
+    let e = terms::wide(f[0]);
+    if params.len() <= e {
+        return false;
+    }
+    fitting(sizes, terms::list_at(s, terms::place(params, e)), &f[1..])
+}
+
+// "all unused .. frames zero"
+fn zero_frame(f: &[u8]) -> bool
+    requires { ⌜ length (now f) ≡ frame-bytes frame-width ⌝ }
+    ensures { λ r. ⌜ Says r (IsZero frame-width (frame-at frame-width (now (f .entry)) 0)) ⌝ }
+{
+    let mut i = 0;
+    while i < f.len() {
+        if f[i] != 0 {
+            return false;
+        }
+        i += 1;
+    }
+    true
+}
+
+fn right_at(s: &[u8], sizes: &[u8], params: &[u16], used: bool, f: &[u8]) -> bool
+    requires { ⌜ length (now f) ≡ frame-bytes frame-width ⌝ }
+    ensures { λ r. ⌜ ((T : Table) → Known T (now (s .entry)) (now (sizes .entry)) (now (params .entry)) → Says r (RightAt frame-width T used (frame-at frame-width (now (f .entry)) 0))) ⌝ }
+{
+    if used {
+        return right_frame(s, sizes, params, f);
+    }
+    zero_frame(f)
+}
+
+// The first n places.
+pub fn first(places: &[u16], n: usize) -> &[u16]
+    ensures { λ r. ⌜ now r ≡ take n (now (places .entry)) ⌝ }
+{
+    if places.len() <= n {
+        return &places[0..];
+    }
+    &places[0..n]
+}
+
+// Question 15.
+pub fn right_frames(s: &[u8], index: tables::Index, frames: &[u8], depth: usize) -> bool
+    ensures { λ r. ⌜ ((T : Table) → Indexed T (now (s .entry)) index → Says r (RightFrames frame-width stack-limit T (frames-in frame-width (now (frames .entry))) depth)) ⌝ }
+{
+    if frames.len() / FRAME != LIMIT {
+        return false;
+    }
+    if LIMIT < depth {
+        return false;
+    }
+    let sizes = terms::list_at(s, 0);
+    let places = index.params;
+    let params = first(&places, index.equations);
+    let mut i = 0;
+    while i < LIMIT {
+        let at = i * FRAME;
+        let end = at + FRAME;
+        if !right_at(s, sizes, params, i < depth, &frames[at..end]) {
+            return false;
+        }
+        i += 1;
+    }
+    true
+}
+
+// Frame i becomes frame j of others.
+pub fn put(frames: &mut [u8], i: usize, others: &[u8], j: usize)
+    requires { ⌜ ((i + 1) * frame-bytes frame-width ≤ length (now frames)) × ((j + 1) * frame-bytes frame-width ≤ length (now others)) ⌝ }
+    ensures { λ r. ⌜ frames-in frame-width (now (frames .exit)) ≡ set (frames-in frame-width (now (frames .entry))) i (frame-at frame-width (now (others .entry)) (j * frame-bytes frame-width)) ⌝ }
+{
+    let to = i * FRAME;
+    let from = j * FRAME;
+    let mut n = 0;
+    while n < FRAME {
+        frames[to + n] = others[from + n];
+        n += 1;
+    }
+}
+
+// The top frame is replaced by the first n of others, the first of them on top.
+pub fn replace(frames: &mut [u8], depth: usize, others: &[u8], n: usize)
+    requires { ⌜ (length (now frames) ≡ stack-bytes) × ((0 < depth) × ((depth ≤ stack-limit) × ((depth + n ≤ stack-limit + 1) × (n * frame-bytes frame-width ≤ length (now others))))) ⌝ }
+    ensures { λ r. ⌜ (drop depth (frames-in frame-width (now (frames .entry))) ≡ replicate (stack-limit - depth) (zero-frame frame-width) → frames-in frame-width (now (frames .exit)) ≡ frames-of frame-width stack-limit (frames-at frame-width n (now (others .entry)) ++ drop 1 (stack-of (frames-in frame-width (now (frames .entry))) depth))) ⌝ }
+{
+    let zeros = [0u8; FRAME];
+    put(frames, depth - 1, &zeros, 0);
+    let mut i = 0;
+    while i < n {
+        put(frames, depth - 1 + (n - 1 - i), others, i);
+        i += 1;
+    }
+}
+
+// n bytes from a place on, or as many as there are.
+pub fn part(s: &[u8], at: usize, n: usize) -> &[u8]
+    ensures { λ r. ⌜ now r ≡ take n (drop at (now (s .entry))) ⌝ }
+{
+    if s.len() <= at {
+        return &s[0..0];
+    }
+    if s.len() - at <= n {
+        return &s[at..];
+    }
+    let end = at + n;
+    &s[at..end]
+}
+
+// The bytes, and zeros behind them.
+fn spread(bytes: &[u8], out: &mut [u8])
+    ensures { λ r. ⌜ ((i : ℕ) → i < length (now (out .entry)) → getD (now (out .exit)) i 0 ≡ getD (now (bytes .entry)) i 0) ⌝ }
+{
+    let mut i = 0;
+    while i < out.len() {
+        out[i] = terms::peek(bytes, i);
+        i += 1;
+    }
+}
+
+// The stack with which the table starts.
+pub fn start(s: &[u8], index: tables::Index, frames: &mut [u8])
+    requires { ⌜ length (now frames) ≡ stack-bytes ⌝ }
+    ensures { λ r. ⌜ ((T : Table) → RightTable T → Indexed T (now (s .entry)) index → frames-in frame-width (now (frames .exit)) ≡ frames-of frame-width stack-limit (start-stack frame-width T)) ⌝ }
+{
+    let at = index.start;
+    let places = index.params;
+    let params = terms::list_at(s, terms::place(&places, terms::wide(terms::peek(s, at))));
+    spread(part(s, at, 1 + params.len()), frames);
+}

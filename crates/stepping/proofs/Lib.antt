@@ -1,0 +1,5 @@
+pub mod Fronts
+pub mod Loading
+pub mod Answering
+pub mod Readiness
+pub mod Lending

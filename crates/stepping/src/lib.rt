@@ -1,0 +1,261 @@
+// Stepping from a table file, on lent bytes that hold frames: start a stack, ask for a step, ask a list. Any bytes whatever are taken.
+ghost use mathlib.Core.Path.{_≡_};
+ghost use Prim.Native.Nat.{_*_, _/_, _≤_, min};
+ghost use lib.ListN.{length};
+ghost use Rattle.pcrl.specs.Limits.{max-stream, stack-limit};
+ghost use Rattle.pcrl.specs.Blocks.{block-bytes, block-stream};
+ghost use Rattle.pcrl.specs.Answers.{table-checked};
+ghost use Rattle.stepping.specs.Promises.{Loads, StartIs, AskedIs, AskedAllIs, spare};
+
+// The longest stream of a file, and that of one of 8 blocks: a short file takes a short array.
+const MAX_STREAM: usize = 64768;
+
+const SHORT_STREAM: usize = 4048;
+
+const SHORT_FILE: usize = 4096;
+
+// Bytes of a frame, frames of a stack, and bytes of these.
+const FRAME: usize = 5;
+
+const LIMIT: usize = 64;
+
+const BYTES: usize = 320;
+
+// The questions that refuse here.
+const NO_TABLE: u8 = 14;
+
+const WRONG_STACK: u8 = 15;
+
+// The number of the question that failed; or 0, how long the stream is, and where its parts stand.
+pub struct Loaded {
+    pub refused: u8,
+    pub count: usize,
+    pub index: tables::Index,
+}
+
+// What a list of questions came to: the number of the question that refused it, or 0; how many were asked; the last depth.
+pub struct Answered {
+    pub refused: u8,
+    pub count: usize,
+    pub depth: usize,
+}
+
+fn none(refused: u8) -> Loaded
+    ensures { λ r. ⌜ r .refused ≡ refused ⌝ }
+{
+    let index = tables::Index {
+        funcs: [0; 16],
+        acts: [0; 32],
+        params: [0; 64],
+        rows: [0; 64],
+        functions: 0,
+        actions: 0,
+        equations: 0,
+        start: 0,
+    };
+    Loaded {
+        refused: refused,
+        count: 0,
+        index: index,
+    }
+}
+
+// Questions 12 to 14, where there is room for the file's stream.
+pub fn load(file: &[u8], stream: &mut [u8]) -> Loaded
+    requires { ⌜ (min (length (now file) / block-bytes * block-stream) max-stream ≤ length (now stream)) × (length (now stream) ≤ max-stream) ⌝ }
+    ensures { λ r. ⌜ Loads (table-checked (now (file .entry))) (now (stream .exit)) r ⌝ }
+{
+    let opened = blocks::read_file(file, stream);
+    if opened.refused != 0 {
+        return none(opened.refused);
+    }
+    let n = opened.count;
+    let table = tables::read_table(&stream[0..n]);
+    if !table.ok {
+        return none(NO_TABLE);
+    }
+    let index = table.index;
+    Loaded {
+        refused: 0,
+        count: n,
+        index: index,
+    }
+}
+
+fn ask_in(file: &[u8], stream: &mut [u8], frames: &mut [u8], depth: usize, k: u64) -> asking::Told
+    requires { ⌜ (min (length (now file) / block-bytes * block-stream) max-stream ≤ length (now stream)) × (length (now stream) ≤ max-stream) ⌝ }
+    ensures { λ r. ⌜ (spare (now (frames .exit)) ≡ spare (now (frames .entry))) × ((r .refused ≡ 0 → r .depth ≤ stack-limit) × (AskedIs (now (file .entry)) (now (frames .entry)) depth k (now (frames .exit)) r)) ⌝ }
+{
+    let f = load(file, stream);
+    if f.refused != 0 {
+        return asking::plain(f.refused, 0, depth);
+    }
+    let n = f.count;
+    let index = f.index;
+    if !stacks::right_frames(&stream[0..n], index, &frames[0..], depth) {
+        return asking::plain(WRONG_STACK, 0, depth);
+    }
+    asking::ask(&stream[0..n], index, &mut frames[0..BYTES], depth, k)
+}
+
+fn ask_short(file: &[u8], frames: &mut [u8], depth: usize, k: u64) -> asking::Told
+    requires { ⌜ length (now file) ≤ 4096 ⌝ }
+    ensures { λ r. ⌜ (spare (now (frames .exit)) ≡ spare (now (frames .entry))) × ((r .refused ≡ 0 → r .depth ≤ stack-limit) × (AskedIs (now (file .entry)) (now (frames .entry)) depth k (now (frames .exit)) r)) ⌝ }
+{
+    let mut stream = [0u8; SHORT_STREAM];
+    ask_in(file, &mut stream, frames, depth, k)
+}
+
+fn ask_long(file: &[u8], frames: &mut [u8], depth: usize, k: u64) -> asking::Told
+    ensures { λ r. ⌜ (spare (now (frames .exit)) ≡ spare (now (frames .entry))) × ((r .refused ≡ 0 → r .depth ≤ stack-limit) × (AskedIs (now (file .entry)) (now (frames .entry)) depth k (now (frames .exit)) r)) ⌝ }
+{
+    let mut stream = [0u8; MAX_STREAM];
+    ask_in(file, &mut stream, frames, depth, k)
+}
+
+// Ask for step k: questions 12 to 16.
+pub fn ask(file: &[u8], frames: &mut [u8], depth: usize, k: u64) -> asking::Told
+    ensures { λ r. ⌜ (spare (now (frames .exit)) ≡ spare (now (frames .entry))) × ((r .refused ≡ 0 → r .depth ≤ stack-limit) × (AskedIs (now (file .entry)) (now (frames .entry)) depth k (now (frames .exit)) r)) ⌝ }
+{
+    if file.len() <= SHORT_FILE {
+        return ask_short(file, frames, depth, k);
+    }
+    ask_long(file, frames, depth, k)
+}
+
+fn start_in(file: &[u8], stream: &mut [u8], frames: &mut [u8]) -> u8
+    requires { ⌜ (min (length (now file) / block-bytes * block-stream) max-stream ≤ length (now stream)) × (length (now stream) ≤ max-stream) ⌝ }
+    ensures { λ r. ⌜ StartIs (now (file .entry)) (now (frames .entry)) (now (frames .exit)) r ⌝ }
+{
+    let f = load(file, stream);
+    if f.refused != 0 {
+        return f.refused;
+    }
+    if frames.len() / FRAME != LIMIT {
+        return WRONG_STACK;
+    }
+    let n = f.count;
+    let index = f.index;
+    stacks::start(&stream[0..n], index, &mut frames[0..BYTES]);
+    0
+}
+
+fn start_short(file: &[u8], frames: &mut [u8]) -> u8
+    requires { ⌜ length (now file) ≤ 4096 ⌝ }
+    ensures { λ r. ⌜ StartIs (now (file .entry)) (now (frames .entry)) (now (frames .exit)) r ⌝ }
+{
+    let mut stream = [0u8; SHORT_STREAM];
+    start_in(file, &mut stream, frames)
+}
+
+fn start_long(file: &[u8], frames: &mut [u8]) -> u8
+    ensures { λ r. ⌜ StartIs (now (file .entry)) (now (frames .entry)) (now (frames .exit)) r ⌝ }
+{
+    let mut stream = [0u8; MAX_STREAM];
+    start_in(file, &mut stream, frames)
+}
+
+// Start a stack: questions 12 to 14, and of 15 that 64 frames are lent.
+pub fn start(file: &[u8], frames: &mut [u8]) -> u8
+    ensures { λ r. ⌜ StartIs (now (file .entry)) (now (frames .entry)) (now (frames .exit)) r ⌝ }
+{
+    if file.len() <= SHORT_FILE {
+        return start_short(file, frames);
+    }
+    start_long(file, frames)
+}
+
+fn refusal(refused: u8, depth: usize) -> Answered
+    ensures { λ r. ⌜ (r .refused ≡ refused) × ((r .count ≡ 0) × (r .depth ≡ depth)) ⌝ }
+{
+    Answered {
+        refused: refused,
+        count: 0,
+        depth: depth,
+    }
+}
+
+fn lesser(a: usize, b: usize) -> usize
+    ensures { λ r. ⌜ r ≡ min a b ⌝ }
+{
+    if a < b { a } else { b }
+}
+
+fn ask_all_in(
+    file: &[u8],
+    stream: &mut [u8],
+    frames: &mut [u8],
+    depth: usize,
+    ks: &[u64],
+    out: &mut [u64],
+) -> Answered
+    requires { ⌜ (min (length (now file) / block-bytes * block-stream) max-stream ≤ length (now stream)) × (length (now stream) ≤ max-stream) ⌝ }
+    ensures { λ r. ⌜ (spare (now (frames .exit)) ≡ spare (now (frames .entry))) × (AskedAllIs (now (file .entry)) (now (frames .entry)) depth (now (ks .entry)) (now (out .entry)) (now (frames .exit)) (now (out .exit)) r) ⌝ }
+{
+    let f = load(file, stream);
+    if f.refused != 0 {
+        return refusal(f.refused, depth);
+    }
+    let n = f.count;
+    let index = f.index;
+    if !stacks::right_frames(&stream[0..n], index, &frames[0..], depth) {
+        return refusal(WRONG_STACK, depth);
+    }
+    let count = lesser(ks.len(), out.len());
+    let last = asking::ask_each(
+        &stream[0..n],
+        index,
+        &mut frames[0..BYTES],
+        depth,
+        &ks[0..count],
+        out,
+    );
+    Answered {
+        refused: 0,
+        count: count,
+        depth: last,
+    }
+}
+
+fn ask_all_short(
+    file: &[u8],
+    frames: &mut [u8],
+    depth: usize,
+    ks: &[u64],
+    out: &mut [u64],
+) -> Answered
+    requires { ⌜ length (now file) ≤ 4096 ⌝ }
+    ensures { λ r. ⌜ (spare (now (frames .exit)) ≡ spare (now (frames .entry))) × (AskedAllIs (now (file .entry)) (now (frames .entry)) depth (now (ks .entry)) (now (out .entry)) (now (frames .exit)) (now (out .exit)) r) ⌝ }
+{
+    let mut stream = [0u8; SHORT_STREAM];
+    ask_all_in(file, &mut stream, frames, depth, ks, out)
+}
+
+fn ask_all_long(
+    file: &[u8],
+    frames: &mut [u8],
+    depth: usize,
+    ks: &[u64],
+    out: &mut [u64],
+) -> Answered
+    ensures { λ r. ⌜ (spare (now (frames .exit)) ≡ spare (now (frames .entry))) × (AskedAllIs (now (file .entry)) (now (frames .entry)) depth (now (ks .entry)) (now (out .entry)) (now (frames .exit)) (now (out .exit)) r) ⌝ }
+{
+    let mut stream = [0u8; MAX_STREAM];
+    ask_all_in(file, &mut stream, frames, depth, ks, out)
+}
+
+// Ask a list: questions 12 to 15 once, then each question in turn, as many as there is room for answers.
+pub fn ask_all(
+    file: &[u8],
+    frames: &mut [u8],
+    depth: usize,
+    ks: &[u64],
+    out: &mut [u64],
+) -> Answered
+    ensures { λ r. ⌜ (spare (now (frames .exit)) ≡ spare (now (frames .entry))) × (AskedAllIs (now (file .entry)) (now (frames .entry)) depth (now (ks .entry)) (now (out .entry)) (now (frames .exit)) (now (out .exit)) r) ⌝ }
+{
+    if file.len() <= SHORT_FILE {
+        return ask_all_short(file, frames, depth, ks, out);
+    }
+    ask_all_long(file, frames, depth, ks, out)
+}

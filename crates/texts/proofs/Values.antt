@@ -1,0 +1,77 @@
+-- None, one or two values in brackets.
+use mathlib.Core.Path.{_≡_, refl, sym, _∙_, ap}
+use mathlib.Core.List.{List, [], _∷_, _++_, append-assoc, append-nil}
+use Prim.Native.Nat.{ℕ, zero, suc, _<_, _≤_}
+use native.Mathlib.Omega.{arith}
+use borrow.Author.Tests.{eq-eqb, ne-eqb}
+use mathlib.Core.Bool.{Bool, true, false}
+use lib.Dec.{eqb}
+use lib.ListN.{length, getD, take, List·getD-eq-default}
+use lib.Seq.{take-nil, getD-take}
+use Rattle.pcrl.specs.Text.{bytes}
+use Rattle.pcrl.specs.Sheet.{Sig, Act, tau, action, no-action}
+use Rattle.pcrl.specs.Label.{Label, silent, named, label}
+use Rattle.pcrl.specs.Table.{Table}
+use Rattle.pcrl.specs.Stream.{encode-action, tau-code}
+use Rattle.terms.specs.Stands.{list-at}
+use Rattle.terms.proofs.Places.{stands-there, name-stands, list-is}
+use Rattle.tables.specs.declared.Index.{Index}
+use Rattle.tables.specs.Indexed.{Indexed}
+use Rattle.laws.specs.Tests.{where-yes, where-no}
+use native.Mathlib.Decide.{ℕ-discrete}
+use Rattle.firing.specs.Fires.{act-of}
+use Rattle.labels.specs.Labels.{label-of}
+use Rattle.pcrl.specs.Walk.{decimal, values-text, label-text, line, step-line}
+use Rattle.texts.specs.Pieces.{bracketed}
+
+pub no-value : (n v w : ℕ) → n ≡ 0 → [] ≡ bracketed (take n (v ∷ w ∷ []))
+unfolding bracketed
+no-value n v w e = rw e
+
+pub one-value : (n v w : ℕ) → n ≡ 1 → (bytes "(" ++ decimal v) ++ bytes ")" ≡ bracketed (take n (v ∷ w ∷ []))
+unfolding bracketed values-text
+one-value n v w e = rw e
+
+pub two-values : (n v w : ℕ) → 1 < n → (((bytes "(" ++ decimal v) ++ bytes ",") ++ decimal w) ++ bytes ")" ≡ bracketed (take n (v ∷ w ∷ []))
+unfolding bracketed values-text
+two-values zero v w h = absurd (omega arith)
+two-values (suc zero) v w h = absurd (omega arith)
+two-values (suc (suc n)) v w h =
+    let z : (((bytes "(" ++ decimal v) ++ bytes ",") ++ decimal w) ++ bytes ")" ≡ bracketed (v ∷ w ∷ []) = simp append-assoc in
+    z ∙ sym (ap (λ (l : List ℕ). bracketed (v ∷ w ∷ l)) (take-nil n))
+
+-- LABELS
+
+-- the name of an action, where it stands
+pub name-is : (T : Table) (s : List ℕ) (index : Index) → Indexed T s index → (a : ℕ) → a < index .actions → list-at s (getD (index .acts) a 0) ≡ getD (T .sig .acts) a no-action .name
+name-is T s index x a h =
+    let own = take (index .actions) (index .acts) in
+    let n = x .actions-are in
+    let at : getD own a 0 ≡ getD (index .acts) a 0 = getD-take (index .actions) (index .acts) a 0 h in
+    let there = stands-there encode-action s (T .sig .acts) own (x .parts .acts-stand) no-action a (omega arith) in
+    ap (list-at s) (sym at) ∙ list-is s (getD own a 0) _ (name-stands s (getD own a 0) (getD (T .sig .acts) a no-action) there)
+
+pub no-name : (T : Table) (s : List ℕ) (index : Index) → Indexed T s index → (a : ℕ) → index .actions ≤ a → [] ≡ getD (T .sig .acts) a no-action .name
+no-name T s index x a h = let n = x .actions-are in sym (ap (λ y. y .name) (List·getD-eq-default (T .sig .acts) no-action {n = a} (omega arith)))
+
+pub tau-text : (S : Sig) (a : ℕ) (vs : List ℕ) → a ≡ tau-code → bytes "tau" ≡ label-text (label-of S a vs)
+unfolding label-of act-of label label-text
+tau-text S a vs e = sym (ap (λ (x : Act). label-text (label S x vs)) (where-yes {A = Act} (ℕ-discrete a tau-code) e tau (action a)))
+
+named-text : (n vs : List ℕ) → n ++ bracketed vs ≡ label-text (named n vs)
+unfolding bracketed label-text
+named-text n [] = append-nil n
+named-text n (v ∷ vs) = refl
+
+act-is : (a : ℕ) → ¬ (a ≡ tau-code) → act-of a ≡ action a
+unfolding act-of
+act-is a h = where-no {A = Act} (ℕ-discrete a tau-code) h tau (action a)
+
+pub action-text : (S : Sig) (a : ℕ) (vs : List ℕ) → ¬ (a ≡ tau-code) → getD (S .acts) a no-action .name ++ bracketed vs ≡ label-text (label-of S a vs)
+unfolding label-of label
+action-text S a vs h = named-text (getD (S .acts) a no-action .name) vs ∙ sym (ap (λ (x : Act). label-text (label S x vs)) (act-is a h))
+
+-- a line from its pieces
+pub line-is : (i : ℕ) (l : Label) (d : ℕ) → ((((decimal i ++ bytes " ") ++ label-text l) ++ bytes " ") ++ decimal d) ++ bytes "\n" ≡ step-line i l d
+unfolding step-line line
+line-is i l d = simp append-assoc

@@ -1,0 +1,182 @@
+// The walk: step 0 up to 8 times, and its text.
+ghost use mathlib.Core.Path.{_≡_};
+ghost use mathlib.Core.List.{List, _++_};
+ghost use Prim.Native.Nat.{ℕ, _+_, _*_, _/_, _%_, _<_, _≤_, min};
+ghost use lib.ListN.{length};
+ghost use Rattle.pcrl.specs.Limits.{frame-width, stack-limit, max-stream};
+ghost use Rattle.pcrl.specs.Table.{Table};
+ghost use Rattle.pcrl.specs.Right.{RightTable};
+ghost use Rattle.pcrl.specs.Stack.{frames-of};
+ghost use Rattle.pcrl.specs.Answers.{table-checked, start-stack};
+ghost use Rattle.pcrl.specs.Walk.{walk-steps, decimal, line, walk-lines, walk-made, step-line};
+ghost use Rattle.pcrl.specs.Text.{bytes};
+ghost use Rattle.pcrl.specs.Blocks.{block-bytes, block-stream};
+ghost use Rattle.tables.specs.Indexed.{Indexed};
+ghost use Rattle.stacks.specs.Lent.{frames-in, stack-bytes};
+ghost use Rattle.asking.specs.Replies.{label-told};
+ghost use Rattle.texts.specs.Wrote.{Wrote};
+ghost use Rattle.walk.specs.Moves.{moved-by};
+
+// "takes step 0 up to 8 times"
+const STEPS: usize = 8;
+
+// The longest stream of a file, and that of one of 8 blocks: a short file takes a short array.
+const MAX_STREAM: usize = 64768;
+
+const SHORT_STREAM: usize = 4048;
+
+const SHORT_FILE: usize = 4096;
+
+// Bytes of 64 frames.
+const BYTES: usize = 320;
+
+// "A walk holds its depth, its steps taken and its last answer."
+pub struct Walk {
+    pub depth: usize,
+    pub taken: usize,
+    pub last: asking::Told,
+}
+
+// The same walk with another last answer.
+fn kept(w: Walk, r: asking::Told) -> Walk
+    ensures { λ x. ⌜ (x .depth ≡ w .depth) × ((x .taken ≡ w .taken) × (x .last ≡ r)) ⌝ }
+{
+    Walk {
+        depth: w.depth,
+        taken: w.taken,
+        last: r,
+    }
+}
+
+pub fn moved(w: Walk, r: asking::Told) -> Walk
+    ensures { λ x. ⌜ x ≡ moved-by w r ⌝ }
+{
+    if r.refused != 0 {
+        return kept(w, r);
+    }
+    if r.kind < 2 {
+        return kept(w, r);
+    }
+    if STEPS <= w.taken {
+        return kept(w, r);
+    }
+    Walk {
+        depth: r.depth,
+        taken: w.taken + 1,
+        last: r,
+    }
+}
+
+// A walk that is lent is changed after a step.
+pub fn advance(w: &mut Walk, r: asking::Told)
+    ensures { λ _. ⌜ now (w .exit) ≡ moved-by (now (w .entry)) r ⌝ }
+{
+    *w = moved(*w, r);
+}
+
+// The line of a step.
+fn put_step(
+    out: &mut [u8],
+    at: usize,
+    i: usize,
+    s: &[u8],
+    index: tables::Index,
+    r: asking::Told,
+) -> usize
+    requires { ⌜ at ≤ length (now out) ⌝ }
+    ensures { λ p. ⌜ (p ≤ length (now (out .entry))) × ((T : Table) → Indexed T (now (s .entry)) index → Wrote (now (out .entry)) at (step-line (i % 256) (label-told (T .sig) r) (r .depth % 256)) (now (out .exit)) p) ⌝ }
+{
+    texts::put_line(
+        out,
+        at,
+        i,
+        s,
+        index,
+        r.action,
+        r.arity,
+        r.values[0],
+        r.values[1],
+        r.depth,
+    )
+}
+
+// The lines of a walk from frames that hold the start, and how long they are.
+pub fn put_walk(s: &[u8], index: tables::Index, frames: &mut [u8], out: &mut [u8]) -> usize
+    requires { ⌜ (length (now s) ≤ max-stream) × (length (now frames) ≡ stack-bytes) ⌝ }
+    ensures { λ p. ⌜ ((T : Table) → RightTable T → Indexed T (now (s .entry)) index → frames-in frame-width (now (frames .entry)) ≡ frames-of frame-width stack-limit (start-stack frame-width T) → Wrote (now (out .entry)) 0 (walk-lines T walk-steps 1 (start-stack frame-width T)) (now (out .exit)) p) ⌝ }
+{
+    let first = asking::plain(0, 0, 1);
+    let mut w = Walk {
+        depth: 1,
+        taken: 0,
+        last: first,
+    };
+    let mut at = 0;
+    while w.taken < STEPS {
+        let r = asking::ask(s, index, frames, w.depth, 0);
+        if r.refused != 0 {
+            return texts::put_bytes(out, at, b"stuck\n");
+        }
+        if r.kind == 0 {
+            return texts::put_bytes(out, at, b"ended\n");
+        }
+        if r.kind == 1 {
+            return texts::put_bytes(out, at, b"stuck\n");
+        }
+        at = put_step(out, at, w.taken + 1, s, index, r);
+        w = moved(w, r);
+    }
+    if w.depth == 0 {
+        return texts::put_bytes(out, at, b"ended\n");
+    }
+    texts::put_bytes(out, at, b"more\n")
+}
+
+// "only `refused` and the number"
+fn put_refused(out: &mut [u8], n: u8) -> usize
+    ensures { λ p. ⌜ Wrote (now (out .entry)) 0 (line (bytes "refused " ++ decimal n)) (now (out .exit)) p ⌝ }
+{
+    let a = texts::put_bytes(out, 0, b"refused ");
+    let b = texts::put_decimal(out, a, terms::wide(n));
+    texts::put_byte(out, b, b'\n')
+}
+
+fn walk_in(file: &[u8], stream: &mut [u8], out: &mut [u8]) -> usize
+    requires { ⌜ (min (length (now file) / block-bytes * block-stream) max-stream ≤ length (now stream)) × (length (now stream) ≤ max-stream) ⌝ }
+    ensures { λ p. ⌜ (Wrote (now (out .entry)) 0 (walk-made (table-checked (now (file .entry)))) (now (out .exit)) p) ⌝ }
+{
+    let f = stepping::load(file, stream);
+    if f.refused != 0 {
+        return put_refused(out, f.refused);
+    }
+    let n = f.count;
+    let index = f.index;
+    let mut frames = [0u8; BYTES];
+    stacks::start(&stream[0..n], index, &mut frames);
+    put_walk(&stream[0..n], index, &mut frames, out)
+}
+
+fn walk_short(file: &[u8], out: &mut [u8]) -> usize
+    requires { ⌜ length (now file) ≤ 4096 ⌝ }
+    ensures { λ p. ⌜ (Wrote (now (out .entry)) 0 (walk-made (table-checked (now (file .entry)))) (now (out .exit)) p) ⌝ }
+{
+    let mut stream = [0u8; SHORT_STREAM];
+    walk_in(file, &mut stream, out)
+}
+
+fn walk_long(file: &[u8], out: &mut [u8]) -> usize
+    ensures { λ p. ⌜ (Wrote (now (out .entry)) 0 (walk-made (table-checked (now (file .entry)))) (now (out .exit)) p) ⌝ }
+{
+    let mut stream = [0u8; MAX_STREAM];
+    walk_in(file, &mut stream, out)
+}
+
+// The text of the walk by a table file, as far as there is room for it, and how long that is.
+pub fn walk_table(file: &[u8], out: &mut [u8]) -> usize
+    ensures { λ p. ⌜ (Wrote (now (out .entry)) 0 (walk-made (table-checked (now (file .entry)))) (now (out .exit)) p) ⌝ }
+{
+    if file.len() <= SHORT_FILE {
+        return walk_short(file, out);
+    }
+    walk_long(file, out)
+}
