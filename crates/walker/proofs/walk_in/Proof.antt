@@ -1,7 +1,7 @@
 -- Refused by 12 to 14, or the walk's lines.
 use borrow.Author.Needs.{needs}
-use Rattle.walk.proofs.walk_in.Statement.{statement}
-use Rattle.walk.proofs.walk_in.Tie as tie
+use Rattle.walker.proofs.walk_in.Statement.{statement}
+use Rattle.walker.proofs.walk_in.Tie as tie
 use native.Mathlib.Omega.{arith}
 use mathlib.Core.Path.{_≡_, refl, sym, ap, _∙_, subst}
 use Prim.Native.Nat.{ℕ, _-_}
@@ -9,7 +9,7 @@ use lib.ListN.{length, take, length-take}
 use Rattle.tables.specs.Indexed.{Indexed}
 use Rattle.texts.proofs.Writing.{wrote-as}
 use Rattle.stepping.proofs.Loading.{load-refused, load-accepted, load-count}
-use Rattle.walk.proofs.Printing.{made-refused, made-lines}
+use Rattle.walker.proofs.Printing.{made-refused, made-lines}
 
 load-requires : tie.Need-load-requires
 load-requires c κs = search needs

@@ -1,7 +1,7 @@
 -- The two values are all the values.
 use borrow.Author.Needs.{needs}
-use Rattle.walk.proofs.put_step.Statement.{statement}
-use Rattle.walk.proofs.put_step.Tie as tie
+use Rattle.walker.proofs.put_step.Statement.{statement}
+use Rattle.walker.proofs.put_step.Tie as tie
 use native.Mathlib.Omega.{arith}
 use mathlib.Core.Path.{_≡_, refl, sym, ap}
 use mathlib.Core.List.{List, [], _∷_}

@@ -5,7 +5,7 @@ use lib.Dec.{ltb, eqb}
 use Rattle.pcrl.specs.Tests.{and}
 use Rattle.pcrl.specs.Walk.{walk-steps}
 use Rattle.asking.specs.declared.Told.{Told}
-use Rattle.walk.specs.declared.Walk.{Walk}
+use Rattle.walker.specs.declared.Walk.{Walk}
 
 -- the answer is a step, and may still be counted
 abbrev pub counts : Walk → Told → Bool

@@ -1,4 +1,4 @@
-// The walk: step 0 up to 8 times, and its text.
+// The walk: step 0 up to 8 times, and its text, from a table file and from a sheet.
 ghost use mathlib.Core.Path.{_≡_};
 ghost use mathlib.Core.List.{List, _++_};
 ghost use Prim.Native.Nat.{ℕ, _+_, _*_, _/_, _%_, _<_, _≤_, min};
@@ -8,14 +8,14 @@ ghost use Rattle.pcrl.specs.Table.{Table};
 ghost use Rattle.pcrl.specs.Right.{RightTable};
 ghost use Rattle.pcrl.specs.Stack.{frames-of};
 ghost use Rattle.pcrl.specs.Answers.{table-checked, start-stack};
-ghost use Rattle.pcrl.specs.Walk.{walk-steps, decimal, line, walk-lines, walk-made, step-line};
+ghost use Rattle.pcrl.specs.Walk.{walk-steps, decimal, line, walk-lines, walk-made, walk-text, step-line};
 ghost use Rattle.pcrl.specs.Text.{bytes};
 ghost use Rattle.pcrl.specs.Blocks.{block-bytes, block-stream};
 ghost use Rattle.tables.specs.Indexed.{Indexed};
 ghost use Rattle.stacks.specs.Lent.{frames-in, stack-bytes};
 ghost use Rattle.asking.specs.Replies.{label-told};
 ghost use Rattle.texts.specs.Wrote.{Wrote};
-ghost use Rattle.walk.specs.Moves.{moved-by};
+ghost use Rattle.walker.specs.Moves.{moved-by};
 
 // "takes step 0 up to 8 times"
 const STEPS: usize = 8;
@@ -26,6 +26,9 @@ const MAX_STREAM: usize = 64768;
 const SHORT_STREAM: usize = 4048;
 
 const SHORT_FILE: usize = 4096;
+
+// The longest file.
+const MAX_FILE: usize = 65536;
 
 // Bytes of 64 frames.
 const BYTES: usize = 320;
@@ -48,7 +51,8 @@ fn kept(w: Walk, r: asking::Told) -> Walk
     }
 }
 
-pub fn moved(w: Walk, r: asking::Told) -> Walk
+// The walk after an answer: a step counts, and gives the new depth.
+fn moved(w: Walk, r: asking::Told) -> Walk
     ensures { λ x. ⌜ x ≡ moved-by w r ⌝ }
 {
     if r.refused != 0 {
@@ -68,10 +72,19 @@ pub fn moved(w: Walk, r: asking::Told) -> Walk
 }
 
 // A walk that is lent is changed after a step.
-pub fn advance(w: &mut Walk, r: asking::Told)
+fn advance(w: &mut Walk, r: asking::Told)
     ensures { λ _. ⌜ now (w .exit) ≡ moved-by (now (w .entry)) r ⌝ }
 {
     *w = moved(*w, r);
+}
+
+// The walk after a step: lent, changed and handed on.
+fn stepped(w: Walk, r: asking::Told) -> Walk
+    ensures { λ x. ⌜ x ≡ moved-by w r ⌝ }
+{
+    let mut x = w;
+    advance(&mut x, r);
+    x
 }
 
 // The line of a step.
@@ -101,7 +114,7 @@ fn put_step(
 }
 
 // The lines of a walk from frames that hold the start, and how long they are.
-pub fn put_walk(s: &[u8], index: tables::Index, frames: &mut [u8], out: &mut [u8]) -> usize
+fn put_walk(s: &[u8], index: tables::Index, frames: &mut [u8], out: &mut [u8]) -> usize
     requires { ⌜ (length (now s) ≤ max-stream) × (length (now frames) ≡ stack-bytes) ⌝ }
     ensures { λ p. ⌜ ((T : Table) → RightTable T → Indexed T (now (s .entry)) index → frames-in frame-width (now (frames .entry)) ≡ frames-of frame-width stack-limit (start-stack frame-width T) → Wrote (now (out .entry)) 0 (walk-lines T walk-steps 1 (start-stack frame-width T)) (now (out .exit)) p) ⌝ }
 {
@@ -124,7 +137,7 @@ pub fn put_walk(s: &[u8], index: tables::Index, frames: &mut [u8], out: &mut [u8
             return texts::put_bytes(out, at, b"stuck\n");
         }
         at = put_step(out, at, w.taken + 1, s, index, r);
-        w = moved(w, r);
+        w = stepped(w, r);
     }
     if w.depth == 0 {
         return texts::put_bytes(out, at, b"ended\n");
@@ -179,4 +192,17 @@ pub fn walk_table(file: &[u8], out: &mut [u8]) -> usize
         return walk_short(file, out);
     }
     walk_long(file, out)
+}
+
+// The text of the walk of a sheet's bytes, as far as there is room for it, and how long that is.
+pub fn walk_sheet(sheet: &[u8], out: &mut [u8]) -> usize
+    ensures { λ p. ⌜ (Wrote (now (out .entry)) 0 (walk-text (now (sheet .entry))) (now (out .exit)) p) ⌝ }
+{
+    let mut file = [0u8; MAX_FILE];
+    let m = making::make_table(sheet, &mut file);
+    if m.refused != 0 {
+        return put_refused(out, m.refused);
+    }
+    let n = m.length;
+    walk_table(&file[0..n], out)
 }

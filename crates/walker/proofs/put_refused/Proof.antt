@@ -1,7 +1,7 @@
 -- The word, the number and a line feed.
 use borrow.Author.Needs.{needs}
-use Rattle.walk.proofs.put_refused.Statement.{statement}
-use Rattle.walk.proofs.put_refused.Tie as tie
+use Rattle.walker.proofs.put_refused.Statement.{statement}
+use Rattle.walker.proofs.put_refused.Tie as tie
 use native.Mathlib.Omega.{arith}
 use mathlib.Core.Path.{_≡_, refl, sym, ap, _∙_}
 use mathlib.Core.List.{List, _++_}

@@ -1,6 +1,6 @@
 -- The loop's invariant: the lines written, and the frames and depth from which the walk goes on.
-use Rattle.walk.proofs.put_walk.Statement.{statement}
-use Rattle.walk.proofs.put_walk.Tie as tie
+use Rattle.walker.proofs.put_walk.Statement.{statement}
+use Rattle.walker.proofs.put_walk.Tie as tie
 use borrow.Author.Needs.{needs}
 use native.Mathlib.Omega.{arith}
 use mathlib.Core.Path.{_≡_, refl, sym, ap, ap₂, _∙_, subst}
@@ -19,10 +19,10 @@ use Rattle.tables.specs.Indexed.{Indexed}
 use Rattle.stacks.specs.Lent.{frames-in, stack-bytes}
 use Rattle.asking.specs.Replies.{label-told}
 use Rattle.texts.proofs.Writing.{wrote-as}
-use Rattle.walk.specs.declared.Walk.{Walk}
-use Rattle.walk.specs.Moves.{moved-if, moved-by}
-use Rattle.walk.proofs.Moving.{step-moves}
-use Rattle.walk.proofs.Walking.{Walking, walking-start, walking-on, ends-refused, ends-ended, ends-stuck, closes-ended, closes-more}
+use Rattle.walker.specs.declared.Walk.{Walk}
+use Rattle.walker.specs.Moves.{moved-if, moved-by}
+use Rattle.walker.proofs.Moving.{step-moves}
+use Rattle.walker.proofs.Walking.{Walking, walking-start, walking-on, ends-refused, ends-ended, ends-stuck, closes-ended, closes-more}
 
 abbrev Inv-loop : tie.InvT-loop
 Inv-loop s index frames₀ out₀ w₀ at₀ t9 t10 t11 t12 t13 frames out w at = ((length frames ≡ length frames₀) × ((length out ≡ length out₀) × ((w .depth ≤ stack-limit) × (at ≤ length out)))) × ((T : Table) → RightTable T → Indexed T s index → frames-in frame-width frames₀ ≡ frames-of frame-width stack-limit (start-stack frame-width T) → Walking T out₀ (frames-in frame-width frames) (w .depth) (w .taken) out at)
@@ -99,20 +99,20 @@ add-put-step c = omega (arith, c .before .before .before .before .before .before
 put-step-requires : tie.Need-put-step-requires Inv-loop μ-loop
 put-step-requires c κs = c .before .before .before .before .before .before .before .before .before .before .before .before .before .before .loop .inv .0 .1 .1 .1
 
-moved-requires : tie.Need-moved-requires Inv-loop μ-loop
-moved-requires c κs = search needs
+stepped-requires : tie.Need-stepped-requires Inv-loop μ-loop
+stepped-requires c κs = search needs
 
 loop-less : tie.Need-loop-less Inv-loop μ-loop
 loop-less c =
-    let taken : c .moved .result .taken ≡ c .before .before .before .before .before .before .before .before .before .before .before .before .before .before .before .before .before .before .loop .w .taken + 1 = ap (λ (y : Walk). y .taken) (c .moved .ensures ∙ sym (step-moves (c .before .before .before .before .before .before .before .before .before .before .before .before .before .before .before .before .before .before .loop .w) (c .before .before .before .before .before .before .before .before .before .before .before .before .before .before .ask .result) (omega (arith, c .before .before .before .before .before .before .before .before .before .before .if2)) (omega (arith, c .before .before .before .before .before .before .before .before .if3, c .before .before .before .before .before .before .if4)) (omega (arith, c .before .before .before .before .before .before .before .before .before .before .before .before .before .before .before .before .if1)))) in
+    let taken : c .stepped .result .taken ≡ c .before .before .before .before .before .before .before .before .before .before .before .before .before .before .before .before .before .before .loop .w .taken + 1 = ap (λ (y : Walk). y .taken) (c .stepped .ensures ∙ sym (step-moves (c .before .before .before .before .before .before .before .before .before .before .before .before .before .before .before .before .before .before .loop .w) (c .before .before .before .before .before .before .before .before .before .before .before .before .before .before .ask .result) (omega (arith, c .before .before .before .before .before .before .before .before .before .before .if2)) (omega (arith, c .before .before .before .before .before .before .before .before .if3, c .before .before .before .before .before .before .if4)) (omega (arith, c .before .before .before .before .before .before .before .before .before .before .before .before .before .before .before .before .if1)))) in
     omega (arith, c .before .before .before .before .before .before .before .before .before .before .before .before .before .before .before .before .if1)
 
 loop-again : tie.Need-loop-again Inv-loop μ-loop
 loop-again c =
     let w = c .before .before .before .before .before .before .before .before .before .before .before .before .before .before .before .before .before .before .loop .w in
     let r = c .before .before .before .before .before .before .before .before .before .before .before .before .before .before .ask .result in
-    let now : c .moved .result ≡ moved-if true w r = c .moved .ensures ∙ sym (step-moves w r (omega (arith, c .before .before .before .before .before .before .before .before .before .before .if2)) (omega (arith, c .before .before .before .before .before .before .before .before .if3, c .before .before .before .before .before .before .if4)) (omega (arith, c .before .before .before .before .before .before .before .before .before .before .before .before .before .before .before .before .if1))) in
-    let depth : c .moved .result .depth ≡ r .depth = ap (λ (y : Walk). y .depth) now in
+    let now : c .stepped .result ≡ moved-if true w r = c .stepped .ensures ∙ sym (step-moves w r (omega (arith, c .before .before .before .before .before .before .before .before .before .before .if2)) (omega (arith, c .before .before .before .before .before .before .before .before .if3, c .before .before .before .before .before .before .if4)) (omega (arith, c .before .before .before .before .before .before .before .before .before .before .before .before .before .before .before .before .if1))) in
+    let depth : c .stepped .result .depth ≡ r .depth = ap (λ (y : Walk). y .depth) now in
     let limit = c .before .before .before .before .before .before .before .before .before .before .before .before .before .before .ask .ensures .0 in (
       (c .before .before .before .before .before .before .before .before .before .before .before .before .before .before .ask .kept .1 .1 .0 ∙ c .before .before .before .before .before .before .before .before .before .before .before .before .before .before .before .before .before .before .loop .inv .0 .0, (c .before .before .before .put-step .kept .0 ∙ c .before .before .before .before .before .before .before .before .before .before .before .before .before .before .before .before .before .before .loop .inv .0 .1 .0, (omega arith, omega (arith, c .before .before .before .put-step .ensures .0, c .before .before .before .put-step .kept .0)))),
       λ T right x e.
@@ -184,7 +184,7 @@ put-walk-spec =
     returns-3
     add-put-step
     put-step-requires
-    moved-requires
+    stepped-requires
     loop-less
     loop-again
     slice-aggregate-put-bytes-4

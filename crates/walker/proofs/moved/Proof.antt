@@ -1,10 +1,10 @@
 -- An answer that does not count is only kept.
 use borrow.Author.Needs.{needs}
-use Rattle.walk.proofs.moved.Statement.{statement}
-use Rattle.walk.proofs.moved.Tie as tie
+use Rattle.walker.proofs.moved.Statement.{statement}
+use Rattle.walker.proofs.moved.Tie as tie
 use native.Mathlib.Omega.{arith}
 use mathlib.Core.Path.{_≡_}
-use Rattle.walk.proofs.Moving.{refused-keeps, plain-keeps, late-keeps, step-moves}
+use Rattle.walker.proofs.Moving.{refused-keeps, plain-keeps, late-keeps, step-moves}
 
 kept-requires : tie.Need-kept-requires
 kept-requires c κs = search needs

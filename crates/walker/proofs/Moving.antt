@@ -9,8 +9,8 @@ use Rattle.pcrl.specs.Tests.{and}
 use Rattle.pcrl.specs.Walk.{walk-steps}
 use Rattle.laws.specs.Tests.{eqb-other}
 use Rattle.asking.specs.declared.Told.{Told}
-use Rattle.walk.specs.declared.Walk.{Walk}
-use Rattle.walk.specs.Moves.{counts, moved-if, moved-by}
+use Rattle.walker.specs.declared.Walk.{Walk}
+use Rattle.walker.specs.Moves.{counts, moved-if, moved-by}
 
 module _ (w : Walk) (r : Told) where
   by-counts : (b : Bool) → counts w r ≡ b → moved-if b w r ≡ moved-by w r

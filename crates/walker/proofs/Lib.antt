@@ -1,3 +1,4 @@
 pub mod Moving
 pub mod Walking
 pub mod Printing
+pub mod FromSheet
