@@ -2,9 +2,6 @@
 use libc::STDIN_FILENO;
 use libc::STDOUT_FILENO;
 
-// The longest text of a walk fits: 8 lines of at most 30 bytes, and a closing word.
-const TEXT: usize = 1024;
-
 // The first n bytes.
 fn write_front(text: &[u8], n: usize) {
     if n <= text.len() {
@@ -16,7 +13,7 @@ fn main() {
     // more than the longest sheet: of a longer input the front is enough
     let mut sheet = io::large_buffer();
     let n = io::read_full(STDIN_FILENO, &mut sheet);
-    let mut text = [0u8; TEXT];
-    let m = walker::walk_sheet(&sheet[..n], &mut text);
-    write_front(&text, m);
+    let t = walker::walk_text(&sheet[..n]);
+    let text = t.bytes;
+    write_front(&text, t.length);
 }

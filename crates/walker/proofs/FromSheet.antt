@@ -1,5 +1,5 @@
 -- A sheet's walk is that of the file made of it: where the longest file has room, question 11 never fails.
-use mathlib.Core.Path.{_≡_, refl, sym, ap, _∙_, subst}
+use mathlib.Core.Path.{_≡_, refl, sym, ap, _∙_}
 use mathlib.Core.List.{List, _++_}
 use Prim.Native.Nat.{ℕ, _-_, _≤_}
 use native.Mathlib.Omega.{arith}
@@ -8,7 +8,6 @@ use lib.Seq.{take-append-le, take-all}
 use Rattle.pcrl.specs.Text.{bytes}
 use Rattle.pcrl.specs.Result.{Result, refused, accepted, after}
 use Rattle.pcrl.specs.Table.{Table}
-use Rattle.pcrl.specs.Stream.{encode}
 use Rattle.pcrl.specs.Blocks.{max-file, file-of, RightLength, right-length?, Room, room?}
 use Rattle.pcrl.specs.Answers.{table-made, stream-filed, file-made, output-after, stream-read, table-checked}
 use Rattle.pcrl.specs.Walk.{decimal, line, walk-made, walk-text}

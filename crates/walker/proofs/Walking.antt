@@ -4,7 +4,7 @@ use mathlib.Core.List.{List, [], _∷_, _++_, append-assoc}
 use Prim.Native.Nat.{ℕ, zero, suc, _+_, _-_, _<_, _≤_}
 use native.Mathlib.Omega.{arith}
 use native.Mathlib.Numerals.{add-one}
-use lib.ListN.{length, take}
+use lib.ListN.{length}
 use Rattle.pcrl.specs.Limits.{frame-width, stack-limit}
 use Rattle.pcrl.specs.Text.{bytes}
 use Rattle.pcrl.specs.Label.{Label}

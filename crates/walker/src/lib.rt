@@ -2,7 +2,7 @@
 ghost use mathlib.Core.Path.{_≡_};
 ghost use mathlib.Core.List.{List, _++_};
 ghost use Prim.Native.Nat.{ℕ, _+_, _*_, _/_, _%_, _<_, _≤_, min};
-ghost use lib.ListN.{length};
+ghost use lib.ListN.{length, take};
 ghost use Rattle.pcrl.specs.Limits.{frame-width, stack-limit, max-stream};
 ghost use Rattle.pcrl.specs.Table.{Table};
 ghost use Rattle.pcrl.specs.Right.{RightTable};
@@ -30,6 +30,9 @@ const SHORT_FILE: usize = 4096;
 // The longest file.
 const MAX_FILE: usize = 65536;
 
+// No text of a walk is longer: 8 lines of 29 bytes and a closing word.
+const TEXT_LIMIT: usize = 238;
+
 // Bytes of 64 frames.
 const BYTES: usize = 320;
 
@@ -38,6 +41,12 @@ pub struct Walk {
     pub depth: usize,
     pub taken: usize,
     pub last: asking::Told,
+}
+
+// The text of a walk, at the front.
+pub struct Text {
+    pub bytes: [u8; TEXT_LIMIT],
+    pub length: usize,
 }
 
 // The same walk with another last answer.
@@ -196,7 +205,7 @@ pub fn walk_table(file: &[u8], out: &mut [u8]) -> usize
 
 // The text of the walk of a sheet's bytes, as far as there is room for it, and how long that is.
 pub fn walk_sheet(sheet: &[u8], out: &mut [u8]) -> usize
-    ensures { λ p. ⌜ (Wrote (now (out .entry)) 0 (walk-text (now (sheet .entry))) (now (out .exit)) p) ⌝ }
+    ensures { λ p. ⌜ Wrote (now (out .entry)) 0 (walk-text (now (sheet .entry))) (now (out .exit)) p ⌝ }
 {
     let mut file = [0u8; MAX_FILE];
     let m = making::make_table(sheet, &mut file);
@@ -205,4 +214,16 @@ pub fn walk_sheet(sheet: &[u8], out: &mut [u8]) -> usize
     }
     let n = m.length;
     walk_table(&file[0..n], out)
+}
+
+// The whole text of the walk of a sheet's bytes.
+pub fn walk_text(sheet: &[u8]) -> Text
+    ensures { λ t. ⌜ take (t .length) (t .bytes) ≡ walk-text (now (sheet .entry)) ⌝ }
+{
+    let mut bytes = [0u8; TEXT_LIMIT];
+    let n = walk_sheet(sheet, &mut bytes);
+    Text {
+        bytes: bytes,
+        length: n,
+    }
 }

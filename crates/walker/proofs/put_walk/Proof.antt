@@ -4,23 +4,21 @@ use Rattle.walker.proofs.put_walk.Tie as tie
 use borrow.Author.Needs.{needs}
 use native.Mathlib.Omega.{arith}
 use mathlib.Core.Path.{_≡_, refl, sym, ap, ap₂, _∙_, subst}
-use mathlib.Core.List.{List, [], _∷_}
 use mathlib.Core.Bool.{true}
-use Prim.Native.Nat.{ℕ, _+_, _-_, _%_, _<_, _≤_}
+use Prim.Native.Nat.{ℕ, _+_, _-_, _%_, _≤_}
 use lib.ListN.{length}
 use Rattle.pcrl.specs.Limits.{frame-width, stack-limit}
-use Rattle.pcrl.specs.Text.{bytes}
 use Rattle.pcrl.specs.Table.{Table}
 use Rattle.pcrl.specs.Right.{RightTable}
 use Rattle.pcrl.specs.Stack.{frames-of}
 use Rattle.pcrl.specs.Answers.{start-stack}
 use Rattle.pcrl.specs.Walk.{walk-steps, step-line, line}
 use Rattle.tables.specs.Indexed.{Indexed}
-use Rattle.stacks.specs.Lent.{frames-in, stack-bytes}
+use Rattle.stacks.specs.Lent.{frames-in}
 use Rattle.asking.specs.Replies.{label-told}
 use Rattle.texts.proofs.Writing.{wrote-as}
 use Rattle.walker.specs.declared.Walk.{Walk}
-use Rattle.walker.specs.Moves.{moved-if, moved-by}
+use Rattle.walker.specs.Moves.{moved-if}
 use Rattle.walker.proofs.Moving.{step-moves}
 use Rattle.walker.proofs.Walking.{Walking, walking-start, walking-on, ends-refused, ends-ended, ends-stuck, closes-ended, closes-more}
 

@@ -1,12 +1,6 @@
 -- Refused by 1 to 10, or the walk by the file that is made.
 use borrow.Author.Needs.{needs}
 use native.Mathlib.Omega.{arith}
-use mathlib.Core.Path.{_≡_, sym, ap, _∙_}
-use mathlib.Core.List.{List}
-use Prim.Native.Nat.{ℕ, _-_}
-use lib.ListN.{length, take}
-use Rattle.pcrl.specs.Walk.{walk-made}
-use Rattle.pcrl.specs.Answers.{table-checked}
 use Rattle.texts.proofs.Writing.{wrote-as}
 use Rattle.walker.proofs.FromSheet.{sheet-refused, sheet-filed}
 use Rattle.walker.proofs.walk_sheet.Statement.{statement}
