@@ -1,3 +1,4 @@
 pub mod Stepping
-pub mod Packed
+pub mod Values
+pub mod EncodingLaws
 pub mod InTurn

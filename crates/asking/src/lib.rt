@@ -1,16 +1,16 @@
 // Step questions put to the frames of a table that is known: one, and a list of them in turn.
 ghost use mathlib.Core.Path.{_≡_};
-ghost use mathlib.Core.List.{List, _++_, map};
-ghost use Prim.Native.Nat.{ℕ, _+_, _-_, _*_, _/_, _<_, _≤_};
-ghost use lib.ListN.{length, getD, take, drop};
+ghost use mathlib.Core.List.{[], _∷_};
+ghost use Prim.Native.Nat.{_*_, _%_, _<_, _≤_, min};
+ghost use lib.ListN.{length};
 ghost use Rattle.pcrl.specs.Limits.{frame-width, stack-limit, max-stream};
-ghost use Rattle.pcrl.specs.Sheet.{Sig};
 ghost use Rattle.pcrl.specs.Table.{Table};
 ghost use Rattle.pcrl.specs.Right.{RightTable};
 ghost use Rattle.pcrl.specs.Stack.{RightFrames};
 ghost use Rattle.tables.specs.Indexed.{Indexed};
 ghost use Rattle.stacks.specs.Lent.{frames-in, stack-bytes};
-ghost use Rattle.asking.specs.Replies.{AskIs, AllIs, answer-told, answer-packed, result-told, result-packed};
+ghost use Rattle.asking.specs.Encoding.{answer-bytes, filled, encode-answer};
+ghost use Rattle.asking.specs.Replies.{AskIs, AllIs, answer-told};
 
 // Bytes of a frame, and frames of a stack.
 const FRAME: usize = 5;
@@ -19,6 +19,12 @@ const LIMIT: usize = 64;
 
 // Bytes of the frames of 8 calls.
 const MADE: usize = 40;
+
+// Bytes of an answer.
+const ANSWER: usize = 24;
+
+// The byte of tau in a table.
+const TAU: u8 = 255;
 
 // What is answered where no question refuses.
 const ENDED: u8 = 0;
@@ -38,6 +44,11 @@ pub struct Told {
     pub arity: u8,
     pub values: [u8; 2],
     pub depth: usize,
+}
+
+// An answer in bytes.
+pub struct Encoded {
+    pub bytes: [u8; 24],
 }
 
 // An answer with no label.
@@ -94,29 +105,68 @@ pub fn ask(s: &[u8], index: tables::Index, frames: &mut [u8], depth: usize, k: u
     }
 }
 
-fn wide(x: u8) -> u64
-    ensures { λ r. ⌜ (r ≡ x) × (r < 256) ⌝ }
+fn low(n: usize) -> u8
+    ensures { λ r. ⌜ r ≡ n % 256 ⌝ }
 {
-    x as u64
+    (n % 256) as u8
 }
 
-// The depth in a byte: it is 64 at the most where a step was taken.
-fn low(depth: usize) -> u64
-    ensures { λ r. ⌜ (depth < 256 → r ≡ depth) × (r < 256) ⌝ }
+// A kind, and zeros behind it.
+fn encode_kind(kind: u8) -> Encoded
+    ensures { λ e. ⌜ e .bytes ≡ filled answer-bytes (kind ∷ []) ⌝ }
 {
-    (depth % 256) as u64
+    let mut bytes = [0u8; ANSWER];
+    bytes[0] = kind;
+    Encoded { bytes: bytes }
 }
 
-// An answer in one number. "A refusal returns its number alone."
-pub fn pack(r: Told) -> u64
-    ensures { λ p. ⌜ ((r .refused ≡ 0 → r .depth < 256) → (S : Sig) → (answer-packed S p ≡ answer-told S r) × (result-packed S p ≡ result-told S r)) × (0 < r .refused → p ≡ r .refused) ⌝ }
+// A step: the new depth, how many values, two values, the name's length, the name, and zeros behind it.
+fn encode_step(depth: usize, count: u8, v: u8, w: u8, name: &[u8]) -> Encoded
+    ensures { λ e. ⌜ e .bytes ≡ filled answer-bytes (2 ∷ depth % 256 ∷ count ∷ v ∷ w ∷ length (now (name .entry)) % 256 ∷ now (name .entry)) ⌝ }
+{
+    let mut bytes = [0u8; ANSWER];
+    let head = [STEPPED, low(depth), count, v, w, low(name.len())];
+    let at = texts::put_bytes(&mut bytes, 0, &head);
+    texts::put_bytes(&mut bytes, at, name);
+    Encoded { bytes: bytes }
+}
+
+// How many of two values are there.
+fn counted(arity: u8) -> u8
+    ensures { λ r. ⌜ r ≡ min arity 2 ⌝ }
+{
+    if arity < 2 { arity } else { 2 }
+}
+
+// Value i where it is there, and else 0.
+fn value(arity: u8, i: u8, v: u8) -> u8
+    ensures { λ r. ⌜ (i < arity → r ≡ v) × (arity ≤ i → r ≡ 0) ⌝ }
+{
+    if i < arity { v } else { 0 }
+}
+
+// An answer in 24 bytes.
+pub fn encode(s: &[u8], index: tables::Index, r: Told) -> Encoded
+    ensures { λ e. ⌜ ((T : Table) → RightTable T → Indexed T (now (s .entry)) index → r .depth ≤ stack-limit → e .bytes ≡ encode-answer (answer-told (T .sig) r)) ⌝ }
 {
     if r.refused != 0 {
-        return wide(r.refused);
+        return encode_kind(r.refused);
     }
-    let label = wide(r.action) * 0x1_0000 + wide(r.arity) * 0x100_0000;
-    let values = wide(r.values[0]) * 0x1_0000_0000 + wide(r.values[1]) * 0x100_0000_0000;
-    wide(r.kind) * 0x100 + label + values + low(r.depth) * 0x1_0000_0000_0000
+    if r.kind < STEPPED {
+        return encode_kind(r.kind);
+    }
+    if r.action == TAU {
+        return encode_step(r.depth, 0, 0, 0, b"tau");
+    }
+    let v = value(r.arity, 0, r.values[0]);
+    let w = value(r.arity, 1, r.values[1]);
+    encode_step(
+        r.depth,
+        counted(r.arity),
+        v,
+        w,
+        texts::name(s, index, r.action),
+    )
 }
 
 // The questions ks in turn, "each question gets the frames and depth that the last one left": an answer for each, and the last depth.
@@ -126,16 +176,20 @@ pub fn ask_each(
     frames: &mut [u8],
     depth: usize,
     ks: &[u64],
-    out: &mut [u64],
+    out: &mut [u8],
 ) -> usize
-    requires { ⌜ (length (now s) ≤ max-stream) × ((length (now frames) ≡ stack-bytes) × ((depth ≤ stack-limit) × (length (now ks) ≤ length (now out)))) ⌝ }
-    ensures { λ r. ⌜ (drop (length (now (ks .entry))) (now (out .exit)) ≡ drop (length (now (ks .entry))) (now (out .entry))) × ((T : Table) → RightTable T → Indexed T (now (s .entry)) index → RightFrames frame-width stack-limit T (frames-in frame-width (now (frames .entry))) depth → AllIs T (frames-in frame-width (now (frames .entry))) depth (now (ks .entry)) (take (length (now (ks .entry))) (now (out .exit))) (frames-in frame-width (now (frames .exit))) r) ⌝ }
+    requires { ⌜ (length (now s) ≤ max-stream) × ((length (now frames) ≡ stack-bytes) × ((depth ≤ stack-limit) × (answer-bytes * length (now ks) ≤ length (now out)))) ⌝ }
+    ensures { λ r. ⌜ ((T : Table) → RightTable T → Indexed T (now (s .entry)) index → RightFrames frame-width stack-limit T (frames-in frame-width (now (frames .entry))) depth → AllIs T (frames-in frame-width (now (frames .entry))) depth (now (ks .entry)) (now (out .entry)) (now (out .exit)) (frames-in frame-width (now (frames .exit))) r) ⌝ }
 {
     let mut d = depth;
     let mut i = 0;
     while i < ks.len() {
         let r = ask(s, index, frames, d, ks[i]);
-        out[i] = pack(r);
+        let e = encode(s, index, r);
+        let bytes = e.bytes;
+        let at = i * ANSWER;
+        let end = at + ANSWER;
+        texts::put_bytes(&mut out[at..end], 0, &bytes);
         d = r.depth;
         i += 1;
     }

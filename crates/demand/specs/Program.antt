@@ -1,104 +1,152 @@
 -- DEMAND 3 OVER THE PROGRAM: what its own operations answer, by their promises alone.
--- "Put in turn to the stepping program": each question is one call of `wizbratel_ask`, on the file that the table's writer wrote, on the frames that the last call left.
-use mathlib.Core.Path.{_≡_, refl, sym, ap, ap₂, _∙_, subst, subst₂}
-use mathlib.Core.List.{List, [], _∷_, _++_, map}
-use Prim.Native.Nat.{ℕ, zero, suc}
+use mathlib.Core.Path.{_≡_, refl, sym, ap, _∙_, subst, subst₂}
+use mathlib.Core.List.{List, [], _∷_}
+use mathlib.Core.Logic.{_↔_}
+use Prim.Native.Nat.{ℕ}
 use native.Mathlib.Omega.{arith}
 use native.Mathlib.Decide.{ℕ-discrete}
-use lib.ListN.{length, take, drop, length-map}
-use lib.Seq.{take-at}
+use lib.ListN.{length, take, drop}
 use Rattle.pcrl.specs.Limits.{frame-width, stack-limit}
-use Rattle.pcrl.specs.Result.{Result, refused, accepted, after}
-use Rattle.pcrl.specs.Sheet.{Sig}
-use Rattle.pcrl.specs.Label.{Label}
+use Rattle.pcrl.specs.Tests.{Each}
+use Rattle.pcrl.specs.Result.{Result, accepted, question, after, refusal}
 use Rattle.pcrl.specs.Table.{Table}
 use Rattle.pcrl.specs.Heads.{table-of}
 use Rattle.pcrl.specs.Stack as pcrl
 use Rattle.pcrl.specs.Stack.{RightFrames}
 use Rattle.pcrl.specs.Ask.{Answer}
-use Rattle.pcrl.specs.Right.{RightTable}
-use Rattle.pcrl.specs.Answers.{file-made, output-after, table-checked, Reply, reply, start-stack, started-in, started, asked}
-use Rattle.laws.specs.Questions.{question-passes}
+use Rattle.pcrl.specs.Equality.{Equal}
+use Rattle.pcrl.specs.States.{State, RightState, stands-for}
+use Rattle.pcrl.specs.Answers.{file-made, table-checked, Reply, reply, start-stack, started-in, started, asked, asked-all}
+use Rattle.codec.specs.FileLaws.{written-read}
 use Rattle.theory.specs.Lending.{frames-right}
 use Rattle.theory.specs.StepRight.{start-stack-right}
 use Rattle.theory.specs.Written.{written-for}
 use Rattle.theory.specs.InTurn.{as-answer}
 use Rattle.theory.specs.Calls.{CallIs, Calls, no-call, call-then, call-of-asked}
-use Rattle.theory.specs.Demand.{AcceptedSheet, Answered, last-sentence-holds}
-use Rattle.asking.specs.Replies.{answer-kind, answer-by, result-by, answer-packed, result-packed}
-use Rattle.stepping.specs.Promises.{names-of, names-in}
+use Rattle.theory.specs.Demand.{AcceptedSheet, states, Answered, first-sentence-holds, last-sentence-holds, at-once-holds}
+use Rattle.asking.specs.Encoding.{answer-after, answers-after}
+use Rattle.stepping.specs.Promises.{Replied, put-questions}
 use Rattle.frames.specs.declared.Frame.{Frame}
-use Rattle.frames.specs.Lists.{frame-of, frames-of}
-use Rattle.frames.specs.Promises.{depth-after, AskPromise, StartPromise}
+use Rattle.frames.specs.Lists.{frames-of}
+use Rattle.wizbratel.specs.Tables.{MakePromise}
+use Rattle.wizbratel.specs.Made.{file-written}
 
--- Calls of `wizbratel_ask` one after another, all on one file: the questions ks got the packed answers rs, and left the frames fs′ of depth d′.
--- All that is known of a call is its promise. "Each question gets the frames and depth that the last one left".
-pub data Asking (file : List ℕ) : List Frame → ℕ → List ℕ → List ℕ → List Frame → ℕ → Type 0 where
+-- AN ACCEPTED SHEET: `wizbratel_make_table` answered 0 for it, and kept its promise.
+pub record Made : Type 0 where
+  pub sheet : List ℕ
+  pub out : List ℕ
+  pub out′ : List ℕ
+  pub written : ℕ
+  pub written′ : ℕ
+  pub r : ℕ
+  pub promise : MakePromise sheet out written r out′ written′
+  pub zero : r ≡ 0
+
+-- "the table written for an accepted sheet": as many bytes of the output as it says
+abbrev pub blocks : Made → List ℕ
+blocks m = take (m .written′) (m .out′)
+
+-- the file that was made, and that it is those bytes
+pub filed : (m : Made) → (file : List ℕ) × (file-made (m .sheet) (length (m .out)) ≡ accepted file) × (blocks m ≡ file) × (drop (m .written′) (m .out′) ≡ drop (m .written′) (m .out))
+filed m = file-written (m .sheet) (m .out) (m .written) (m .r) (m .out′) (m .written′) (m .promise) (m .zero)
+
+abbrev pub sheet-of : Made → AcceptedSheet
+sheet-of m =
+    let f = filed m in
+    let w = written-for (m .sheet) (length (m .out)) (f .0) (f .1) in
+    record { bytes = m .sheet; room = length (m .out); file = f .0; sheet = w .sheet; table = table-of (w .sheet); read = w .read; made = f .1; checked = w .checked }
+
+blocks-are : (m : Made) → blocks m ≡ sheet-of m .file
+blocks-are m = filed m .2
+
+-- THE FIRST SENTENCE, of two sheets for which tables were made.
+pub equal-alike : (a b : Made)
+    -- "Whatever two states are taken, each a closed process term of an accepted sheet or a stack, however deep, of such a sheet's table, from one sheet or two,"
+    → (s t : State) → RightState frame-width (sheet-of a .sheet) (sheet-of a .table) s → RightState frame-width (sheet-of b .sheet) (sheet-of b .table) t
+    -- "and whatever n from 0: they are equal to n steps exactly when the terms they stand for are."
+    → (n : ℕ) → Equal (states (sheet-of a)) (states (sheet-of b)) n s t ↔ Equal (states (sheet-of a)) (states (sheet-of b)) n (stands-for (sheet-of a .sheet) s) (stands-for (sheet-of b .sheet) t)
+equal-alike a b s t p q n = first-sentence-holds (sheet-of a) (sheet-of b) s t p q n
+
+-- A STACK TO START FROM: what `wizbratel_start` leaves, where it answers 0, passes question 15.
+started-by : (m : Made) (fs : List pcrl.Frame) (d : ℕ) → started (blocks m) fs d ≡ reply frame-width stack-limit fs d (question 15 (ℕ-discrete (length fs) stack-limit) (λ _. accepted (tt, start-stack frame-width (sheet-of m .table))))
+unfolding started-in after
+started-by m fs d =
+    ap (λ (x : Result Table). reply frame-width stack-limit fs d (after x (λ T. question 15 (ℕ-discrete (length fs) stack-limit) (λ _. accepted (tt, start-stack frame-width T))))) (ap table-checked (blocks-are m) ∙ sheet-of m .checked)
+
+pub started-right : (m : Made) (fs : List Frame) (d r : ℕ) (fs′ : List Frame) (d′ : ℕ) → Replied (started (blocks m) (frames-of fs) d) r (frames-of fs′) d′ → r ≡ 0 → RightFrames frame-width stack-limit (sheet-of m .table) (frames-of fs′) d′
+unfolding reply question refusal start-stack
+started-right m fs d r fs′ d′ p z = go (ℕ-discrete (length (frames-of fs)) stack-limit) (started-by m (frames-of fs) d)
+  where
+    go : (x : Dec (length (frames-of fs) ≡ stack-limit)) → started (blocks m) (frames-of fs) d ≡ reply frame-width stack-limit (frames-of fs) d (question 15 x (λ _. accepted (tt, start-stack frame-width (sheet-of m .table))))
+        → RightFrames frame-width stack-limit (sheet-of m .table) (frames-of fs′) d′
+    go (no h) e = absurd (let n = p .answer ∙ ap (λ (y : Reply (Unit {0})). refusal (y .answer)) e in omega arith)
+    go (yes h) e =
+        let T = sheet-of m .table in
+        subst₂ (λ (gs : List pcrl.Frame) (n : ℕ). RightFrames frame-width stack-limit T gs n) (sym (p .frames ∙ ap (λ (y : Reply (Unit {0})). y .frames) e)) (sym (p .depth ∙ ap (λ (y : Reply (Unit {0})). y .depth) e))
+        (frames-right frame-width stack-limit T (start-stack frame-width T) (start-stack-right T (written-read (sheet-of m .file) T (sheet-of m .checked) .1) frame-width) (omega arith))
+
+-- ONE CALL: the number that `wizbratel_ask` answered, and the bytes lent for the answer, before and after.
+pub record Call : Type 0 where
+  pub r : ℕ
+  pub before : List ℕ
+  pub after : List ℕ
+
+-- its promise, on a file and the frames and depth lent to it
+abbrev pub Kept : List ℕ → List Frame → ℕ → ℕ → Call → List Frame → ℕ → Type 0
+Kept file fs d k c fs′ d′ = (Replied (asked file (frames-of fs) d k) (c .r) (frames-of fs′) d′) × (c .after ≡ answer-after (asked file (frames-of fs) d k .answer) (c .before))
+
+-- what a caller reads off it: the answer a, "those answered ended, none or 16 included"
+pub record Tells (c : Call) (a : Answer) : Type 0 where
+  pub result : Result Answer
+  pub number : c .r ≡ refusal result
+  pub bytes : c .after ≡ answer-after result (c .before)
+  pub answer : a ≡ as-answer result
+
+-- "put in turn to the stepping program": each call on the frames and depth that the last one left
+pub data Asking (file : List ℕ) : List Frame → ℕ → List ℕ → List Call → List Frame → ℕ → Type 0 where
   no-question : {fs : List Frame} {d : ℕ} → Asking file fs d [] [] fs d
-  question-then : {fs fs′ fs″ : List Frame} {d d″ k r : ℕ} {ks rs : List ℕ}
-      → AskPromise file fs d k fs′ r → Asking file fs′ (depth-after d (result-packed (names-in file) r)) ks rs fs″ d″ → Asking file fs d (k ∷ ks) (r ∷ rs) fs″ d″
+  question-then : {fs fs′ fs″ : List Frame} {d d′ d″ k : ℕ} {c : Call} {ks : List ℕ} {cs : List Call} → Kept file fs d k c fs′ d′ → Asking file fs′ d′ ks cs fs″ d″ → Asking file fs d (k ∷ ks) (c ∷ cs) fs″ d″
 
--- an answer alone, among others
-as-packed : (n k : ℕ) (l : Label) (d : ℕ) → as-answer (result-by n k l d) ≡ answer-by n k l d
-unfolding as-answer result-by answer-by
-as-packed zero k l d = refl
-as-packed (suc n) k l d = refl
+calls : (file : List ℕ) (T : Table) → table-checked file ≡ accepted T → {fs fs′ : List Frame} {d d′ : ℕ} {ks : List ℕ} {cs : List Call} → Asking file fs d ks cs fs′ d′
+    → (answers : List Answer) × Each Tells cs answers × Calls frame-width stack-limit T (frames-of fs) d ks answers (frames-of fs′) d′
+unfolding Each
+calls file T checked no-question = ([], tt, no-call)
+calls file T checked (question-then {fs} {fs′} {d = d} {d′} {k = k} {c} p more) =
+    let (l, each, rest) = calls file T checked more in
+    let R = asked file (frames-of fs) d k in (
+      as-answer (R .answer) ∷ l,
+      (record { result = R .answer; number = p .0 .answer; bytes = p .1; answer = refl }, each),
+      call-then
+          (λ right. subst₂ (λ (gs : List pcrl.Frame) (n : ℕ). CallIs frame-width stack-limit T (frames-of fs) d k (as-answer (R .answer)) gs n) (sym (p .0 .frames)) (sym (p .0 .depth)) (call-of-asked frame-width stack-limit T file checked (frames-of fs) d k R refl right))
+          rest,
+    )
 
-packed-answer : (S : Sig) (r : ℕ) → as-answer (result-packed S r) ≡ answer-packed S r
-unfolding result-packed answer-packed
-packed-answer S r = as-packed _ _ _ _
+-- THE LAST SENTENCE, one call for each question.
+pub steps-in-turn : (m : Made)
+    -- "from any stack of at most 64 frames of such a table"
+    → (fs : List Frame) (d : ℕ) → RightFrames frame-width stack-limit (sheet-of m .table) (frames-of fs) d
+    -- "for every list of step questions, .. put in turn to the stepping program"
+    → (ks : List ℕ) (cs : List Call) (fs′ : List Frame) (d′ : ℕ) → Asking (blocks m) fs d ks cs fs′ d′
+    -- "each answer, and the stack it leaves, is the one document 01's steps give, ..": all of `Answered`
+    → (answers : List Answer) × Each Tells cs answers × Answered (sheet-of m) (frames-of fs) d ks answers (frames-of fs′) d′
+steps-in-turn m fs d right ks cs fs′ d′ asking =
+    let A = sheet-of m in
+    let (answers, each, made) = calls (A .file) (A .table) (A .checked) (subst (λ (f : List ℕ). Asking f fs d ks cs fs′ d′) (blocks-are m) asking) in
+    (answers, each, last-sentence-holds A ks (frames-of fs) d right answers (frames-of fs′) d′ made)
 
-module _ (file : List ℕ) (T : Table) (checked : table-checked file ≡ accepted T) where
-  names-are : names-in file ≡ T .sig
-  unfolding names-of
-  names-are = rw checked
-
-  -- one call, by its promise
-  call-is : (fs : List Frame) (d k : ℕ) (fs′ : List Frame) (r : ℕ) → AskPromise file fs d k fs′ r → RightFrames frame-width stack-limit T (frames-of fs) d
-      → CallIs frame-width stack-limit T (frames-of fs) d k (answer-packed (T .sig) r) (frames-of fs′) (depth-after d (result-packed (names-in file) r))
-  call-is fs d k fs′ r p right =
-      let c = call-of-asked frame-width stack-limit T file checked (frames-of fs) d k (asked file (frames-of fs) d k) refl right in
-      let a : answer-packed (T .sig) r ≡ as-answer (asked file (frames-of fs) d k .answer) =
-      sym (packed-answer (T .sig) r) ∙ ap (λ (S : Sig). as-answer (result-packed S r)) (sym names-are) ∙ ap as-answer (p .answer) in
-      record { answers = a ∙ c .answers; leaves = p .frames ∙ c .leaves; depth = p .depth ∙ c .depth }
-
-  -- Calls of the program are calls of the theory.
-  pub asking-is-calls : {fs fs′ : List Frame} {d d′ : ℕ} {ks rs : List ℕ} → Asking file fs d ks rs fs′ d′
-      → Calls frame-width stack-limit T (frames-of fs) d ks (map (answer-packed (T .sig)) rs) (frames-of fs′) d′
-  asking-is-calls no-question = no-call
-  asking-is-calls (question-then {fs} {fs′} {d = d} {k = k} {r} p more) = call-then (call-is fs d k fs′ r p) (asking-is-calls more)
-
--- an accepted sheet, with the file written for it
-abbrev pub accepted-sheet : (bytes : List ℕ) (room : ℕ) (file : List ℕ) → file-made bytes room ≡ accepted file → AcceptedSheet
-accepted-sheet bytes room file made =
-    let w = written-for bytes room file made in
-    record { bytes = bytes; room = room; file = file; sheet = w .sheet; table = table-of (w .sheet); read = w .read; made = made; checked = w .checked }
-
--- THE LAST SENTENCE, over the program's own calls. The writer of tables promises `file-made` and `output-after`, as document 01 has them;
--- the blocks written are the front of the lent output, and they are the file that is lent to each call.
-pub program-steps : (sheet out out′ file : List ℕ)
-    -- "the table written for an accepted sheet": the writer accepted it, and left its output as it promises
-    → (made : file-made sheet (length out) ≡ accepted file) → out′ ≡ output-after (file-made sheet (length out)) out
-    -- "from any stack of at most 64 frames of such a table", in frames that pass question 15
-    → (fs : List Frame) (d : ℕ) → RightFrames frame-width stack-limit (accepted-sheet sheet (length out) file made .table) (frames-of fs) d
-    -- "for every list of step questions .. put in turn to the stepping program", on the blocks written
-    → (ks rs : List ℕ) (fs′ : List Frame) (d′ : ℕ) → Asking (take (length file) out′) fs d ks rs fs′ d′
-    → let A = accepted-sheet sheet (length out) file made in Answered A (frames-of fs) d ks (map (answer-packed (A .table .sig)) rs) (frames-of fs′) d′
-unfolding output-after
-program-steps sheet out out′ file made promised fs d right ks rs fs′ d′ asking =
-    let A = accepted-sheet sheet (length out) file made in
-    let whole : out′ ≡ file ++ drop (length file) out = promised ∙ ap (λ (x : Result (List ℕ)). output-after x out) made in
-    let lent : take (length file) out′ ≡ file = ap (take (length file)) whole ∙ take-at file (drop (length file) out) (length file) refl in
-    last-sentence-holds A ks (frames-of fs) d right (map (answer-packed (A .table .sig)) rs) (frames-of fs′) d′
-    (asking-is-calls file (A .table) (A .checked) (subst (λ (f : List ℕ). Asking f fs d ks rs fs′ d′) lent asking))
-
--- A stack that `wizbratel_start` made passes question 15 at depth 1: so the last sentence holds of the questions put to it.
-pub started-right : (file : List ℕ) (T : Table) → table-checked file ≡ accepted T → RightTable T → (fs fs′ : List Frame) → length fs ≡ stack-limit → (r : ℕ) → StartPromise file fs fs′ r
-    → RightFrames frame-width stack-limit T (frames-of fs′) 1
-unfolding started-in after reply start-stack frames-of
-started-right file T checked right fs fs′ n r p =
-    let lent : length (frames-of fs) ≡ stack-limit = length-map fs frame-of ∙ n in
-    let q : started file (frames-of fs) 0 ≡ record { answer = accepted tt; frames = pcrl.frames-of frame-width stack-limit (start-stack frame-width T); depth = 1 } =
-    rw checked (ap (reply frame-width stack-limit (frames-of fs) 0) (question-passes 15 (ℕ-discrete (length (frames-of fs)) stack-limit) _ (accepted (tt, start-stack frame-width T)) lent (λ _. refl))) in
-    subst (λ (gs : List pcrl.Frame). RightFrames frame-width stack-limit T gs 1) (sym (p .frames 0 ∙ ap (λ (x : Reply (Unit {0})). x .frames) q))
-    (frames-right frame-width stack-limit T (start-stack frame-width T) (start-stack-right T right frame-width) (omega arith))
+-- The same, the whole list by one call of `wizbratel_ask_all`, as many questions as there is room for answers.
+pub steps-at-once : (m : Made) (fs : List Frame) (d : ℕ) → RightFrames frame-width stack-limit (sheet-of m .table) (frames-of fs) d
+    -- its promise, on the blocks written
+    → (ks out : List ℕ) (r : ℕ) (fs′ : List Frame) (d′ : ℕ) (out′ : List ℕ) → Replied (asked-all (blocks m) (frames-of fs) d (put-questions ks out)) r (frames-of fs′) d′
+    → out′ ≡ answers-after (asked-all (blocks m) (frames-of fs) d (put-questions ks out) .answer) out
+    → (answers : List Answer) × (r ≡ 0) × (out′ ≡ answers-after (accepted answers) out) × Answered (sheet-of m) (frames-of fs) d (put-questions ks out) answers (frames-of fs′) d′
+unfolding refusal
+steps-at-once m fs d right ks out r fs′ d′ out′ p w =
+    let A = sheet-of m in
+    let (answers, gs, n, e, all) = at-once-holds A (put-questions ks out) (frames-of fs) d right in
+    let q : asked-all (blocks m) (frames-of fs) d (put-questions ks out) ≡ record { answer = accepted answers; frames = gs; depth = n } = ap (λ (f : List ℕ). asked-all f (frames-of fs) d (put-questions ks out)) (blocks-are m) ∙ e in (
+      answers,
+      p .answer ∙ ap (λ (x : Reply (List Answer)). refusal (x .answer)) q,
+      w ∙ ap (λ (x : Reply (List Answer)). answers-after (x .answer) out) q,
+      subst₂ (λ (hs : List pcrl.Frame) (k : ℕ). Answered A (frames-of fs) d (put-questions ks out) answers hs k) (sym (p .frames ∙ ap (λ (x : Reply (List Answer)). x .frames) q)) (sym (p .depth ∙ ap (λ (x : Reply (List Answer)). x .depth) q)) all,
+    )

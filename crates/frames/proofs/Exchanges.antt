@@ -1,7 +1,7 @@
 -- A caller's call of `exchange`, as one step of a walk: the `&mut [Frame]` that the caller holds is lent again for the call, and comes back with its first m frames changed for the stack's.
 -- All that it knows of `exchange` is that it meets its contract.
 use mathlib.Core.Path.{_≡_, refl, sym, _∙_, ap, subst}
-use Prim.Native.Nat.{ℕ, _≤_, _<_, _^_}
+use Prim.Native.Nat.{ℕ, _≤_}
 use native.Mathlib.Omega.{arith}
 use mathlib.Core.List.{List, [], _∷_}
 use lib.ListN.{length, length-map}
@@ -16,9 +16,8 @@ use prog.Routine.{Routine}
 use prog.Wp.{Heap, Env, Calls, Loops}
 use ghost.Atoms.{Atoms, sem}
 use contract.Monad.{Fun, fact}
-use types.Kit.{Go, Post, Given, Item, ‵, raw, some, later, _⊛_, runs, lands, regoal, Sq, _$_, _∵_, !, qed, move, drop, use1, use2, use3, split, join, pick, rewrite, fsplit, fjoin, feqL, frame, await, done}
+use types.Kit.{Go, Post, Given, Item, ‵, raw, some, later, _⊛_, runs, lands, regoal, Sq, _$_, _∵_, !, qed, move, drop, use1, use2, split, join, pick, rewrite, fsplit, fjoin, feqL, frame, await, done}
 use types.Run.{Opds}
-use types.Tokens.{lft-new, lft-end}
 use sound.WpLaws.{FmC}
 use denote.Laws.{Is, shows}
 use denote.Plain.{uint-makes}
@@ -35,9 +34,8 @@ use denote.Triple.Walked.{says}
 use Rattle.frames.specs.Lists.{over}
 use Rattle.frames.specs.declared.Frame.{Frame}
 use Rattle.frames.specs.declared.Stack.{Stack}
-use Rattle.frames.proofs.Again.{LentAgain, lends-again, comes-back}
+use Rattle.frames.proofs.Again.{Claim, goes-out, comes-in}
 use Rattle.frames.proofs.Frame as T
-use Rattle.frames.proofs.Frame.Laws as T′
 use Rattle.frames.proofs.Stack as S
 use Rattle.frames.proofs.Stack.Laws as S′
 use Rattle.frames.proofs.exchange as exchange
@@ -79,18 +77,15 @@ module _ {M : Type 1} (𝓤 : URA M) (H : Heap 𝓤) (A : Atoms 𝓤) (W : Given
         → Sq W (‵ (held κ b o γ n ys) ∷ ‵ (flft κ q) ∷ Γ) (runs C Λ E (seq (call #frames·exchange xs d) rest) p)
     exchanges {Γ} {E} {C} {Λ} {xs} {d} {rest} {p} fm known os k =
         rewrite ! 0 (λ (c : ℕ). ‵ (MutSlice (named 0) κ T.the-row .own (at-list γ ys) (sliceVal (b, o) c ∷ []))) (sym ys-len) refl $
-        lft-new ! tt (λ ν. move ! (1 ∷ 2 ∷ []) $
-        use2 W (later (some (λ (δ : GName). ‵ (MutSlice (named 0) (ν ∷ []) T.the-row .own (at-list δ ys) (sliceVal (b, o) (length ys) ∷ [])) ⊛ ‵ (LentAgain T.the-row κ (ν ∷ []) q γ b o δ ys)))) (lends-again T.the-row κ (ν ∷ []) q γ b o 𝓤 H A W (named 0) (named 0) ys) $ await ! tt $ pick ! (λ δ. split ! $
-        move ! (2 ∷ 0 ∷ []) $ use2 W (raw (Exchange 𝓤 H A mem run .pre (to-exchange ν δ))) (goes ν δ) $
-        calls-at ! fm (Exchange 𝓤 H A mem run) known (to-exchange ν δ) (subst (λ (c : ℕ). Opds (Go {0}) W (raw (Exchange 𝓤 H A mem run .pre (to-exchange ν δ)) ∷ ‵ (LentAgain T.the-row κ (ν ∷ []) q γ b o δ ys) ∷ Γ) E xs (sliceVal (b, o) c ∷ vint w64 m ∷ stackVal s ∷ [])) (sym ys-len) (os _ _)) (λ w.
+        goes-out T.the-row b o κ q γ 𝓤 H A W tt ys (λ ν δ. use2 W (raw (Exchange 𝓤 H A mem run .pre (to-exchange ν δ))) (goes ν δ) $
+        calls-at ! fm (Exchange 𝓤 H A mem run) known (to-exchange ν δ) (subst (λ (c : ℕ). Opds (Go {0}) W (raw (Exchange 𝓤 H A mem run .pre (to-exchange ν δ)) ∷ ‵ (Claim T.the-row b o κ q γ ν δ ys) ∷ Γ) E xs (sliceVal (b, o) c ∷ vint w64 m ∷ stackVal s ∷ [])) (sym ys-len) (os _ _)) (λ w.
         use1 W (later (some (λ (r : Stack). ((‵ (flft (ν ∷ []) fullShare) ⊛ ‵ ftrue) ⊛ ‵ (S.the-row .own r (w ∷ []))) ⊛ raw (ensured 𝓤 H A exchange.ended (exchange.clauses 𝓤 H A mem run) (ν ∷ [], tt) (at-list δ ys, (m, (s, tt))) tt r)))) (id⊢ 𝓤 _) $ await ! tt $ pick ! (λ r.
         split ! $ move ! (1 ∷ []) $ use1 W (some (λ (zs : List Frame × (Unit {0} × (Unit {0} × Unit {0}))). ‵ (lasts exchange.ended (ν ∷ [], tt) (at-list δ ys, (m, (s, tt))) zs) ⊛ raw (fact 𝓤 (Says r (zs .0))))) (id⊢ 𝓤 _) $ pick ! (λ zs.
-        split ! $ move ! (1 ∷ []) $ heard ! (Says r (zs .0)) (λ e. fsplit ! $ fsplit ! $ move ! (1 ∷ []) $ feqL ! (λ l.
-        -- [the last list; true; the token and the result; what was kept; Γ]
+        split ! $ move ! (1 ∷ []) $ heard ! (Says r (zs .0)) (λ e. fsplit ! $ fsplit ! $ move ! (1 ∷ []) $ feqL ! (λ _.
+        -- [the last list; true; the token and the result; the claim; Γ]
         move ! (2 ∷ []) $ split ! $ move ! (1 ∷ []) $ peeks ! S.the-row (Is S.the-row) (shows 𝓤 H A S.the-row) r (w ∷ []) (λ is. drop ! $
         let told : w ∷ [] ≡ stackVal r ∷ [] = LL.tells S.the-type S′.the-laws r (w ∷ []) is in
-        split ! $ lft-end ! tt $ move ! (0 ∷ 4 ∷ 2 ∷ []) $
-        use3 W (later (‵ (MutSlice (named 0) κ T.the-row .own (at-list γ (zs .0)) (sliceVal (b, o) (length ys) ∷ [])) ⊛ ‵ (flft κ q))) (comes-back T.the-row κ (ν ∷ []) q γ b o 𝓤 H A W (named 0) (named 0) ys δ (zs .0) (subst (Room T.the-row) (sym ys-len) room) l) $ await ! tt $ split ! $
+        split ! $ move ! (0 ∷ 2 ∷ 4 ∷ []) $ comes-in T.the-row b o κ q γ 𝓤 H A W tt ν δ ys (zs .0) (subst (Room T.the-row) (sym ys-len) room) (λ l.
         move ! (2 ∷ []) $ drop ! $ move ! (2 ∷ []) $ drop ! $
-        rewrite ! 0 (λ (c : ℕ). ‵ (MutSlice (named 0) κ T.the-row .own (at-list γ (zs .0)) (sliceVal (b, o) c ∷ []))) ys-len refl $ rewrite ! 0 (λ (us : List Frame). ‵ (held κ b o γ n us)) (e .1) refl $
+        rewrite ! 0 (λ (c : ℕ). ‵ (MutSlice (named 0) κ T.the-row .own (at-list γ (zs .0)) (sliceVal (b, o) c ∷ []))) (l ∙ ys-len) refl $ rewrite ! 0 (λ (us : List Frame). ‵ (held κ b o γ n us)) (e .1) refl $
         regoal ! (λ (u : Val). lands C Λ E d u rest p) (ap only told) refl $ k r (e .0) (subst (Is S.the-row r) told is)))))))))

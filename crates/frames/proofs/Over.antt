@@ -7,7 +7,7 @@ use borrow.Author.Tests.{eqb-true}
 use Prim.Native.Nat.{ℕ, suc, _+_, _≤_, _<_}
 use native.Mathlib.Numerals.{add-one}
 use native.Mathlib.Omega.{arith}
-use lib.ListN.{length, take, drop, getD, set, length-append, length-take, length-drop, length-set, length-map, take-append-drop, drop-of-length-le}
+use lib.ListN.{length, take, drop, getD, set, length-append, length-take, length-drop, length-set, length-map, drop-of-length-le}
 use lib.Seq.{drop-cons, take-suc, set-at, getD-at, length-take-le, length-front, append-snoc, take-at, drop-at, take-all}
 use Rattle.frames.specs.declared.Frame.{Frame}
 use Rattle.pcrl.specs.Limits.{stack-limit}
@@ -33,11 +33,6 @@ module _ (i : ℕ) (xs ys : List Frame) (hx : i ≤ length xs) where
   over-step d lx ly =
       rw (drop-cons ys i d, add-one, take-suc xs i d)
       (set-at (take i xs) (getD ys i d) (drop (suc i) ys) (getD xs i d) i (length-take-le i xs hx) ∙ sym (append-assoc (take i xs) (getD xs i d ∷ []) (drop (suc i) ys)))
-
--- m of xs and m of ys change places, and then again
-pub over-back : (m : ℕ) (xs ys : List Frame) → m ≤ length xs → m ≤ length ys → over m (over m xs ys) (over m ys xs) ≡ xs
-unfolding over
-over-back m xs ys hx hy = rw (take-at (take m xs) (drop m ys) m (length-take-le m xs hx), drop-at (take m ys) (drop m xs) m (length-take-le m ys hy)) (take-append-drop m xs)
 
 pub over-all : (m : ℕ) (xs ys : List Frame) → length xs ≡ m → length ys ≡ m → over m xs ys ≡ xs
 unfolding over

@@ -1,3 +1,1 @@
 pub mod Lists
-pub mod Promises
-pub mod Counted

@@ -1,17 +1,17 @@
 -- The replies of `started`, `asked` and `asked-all` from the answers of each layer.
-use mathlib.Core.Path.{_≡_, refl, sym, ap, ap₂, _∙_, subst}
-use mathlib.Core.List.{List, [], _∷_, map}
-use Prim.Native.Nat.{ℕ, zero, suc, _*_, _/_, _<_, _≤_}
+use mathlib.Core.Path.{_≡_, refl, sym, ap, _∙_}
+use mathlib.Core.List.{List}
+use Prim.Native.Nat.{ℕ, zero, suc, _/_, _<_}
 use native.Mathlib.Omega.{arith}
 use native.Mathlib.Decide.{ℕ-discrete}
-use lib.ListN.{length, take, drop}
+use lib.ListN.{length}
 use Rattle.pcrl.specs.Limits.{frame-width, stack-limit}
 use Rattle.pcrl.specs.Result.{Result, refused, accepted, question, after, refusal}
 use Rattle.pcrl.specs.Sheet.{Sig}
 use Rattle.pcrl.specs.Label.{Label}
 use Rattle.pcrl.specs.Table.{Table}
 use Rattle.pcrl.specs.Stack.{Frame, Stack, RightFrames, right-frames?, frames-of, stack-of}
-use Rattle.pcrl.specs.Ask.{Answer, ask, ask-all}
+use Rattle.pcrl.specs.Ask.{Answer}
 use Rattle.pcrl.specs.Answers.{table-checked, Reply, reply, stack-read, start-stack, started-in, started, asked-in, asked, asked-all-in, asked-all}
 use Rattle.laws.specs.Questions.{question-passes, question-fails}
 use Rattle.theory.specs.Lending.{Holds, passes-15}
@@ -19,26 +19,43 @@ use Rattle.theory.specs.InTurn.{alone, asked-is, asked-all-is}
 use Rattle.stacks.specs.Lent.{frame-bytes, frames-in}
 use Rattle.stacks.proofs.Views.{length-frames-in}
 use Rattle.asking.specs.declared.Told.{Told}
-use Rattle.asking.specs.Replies.{answer-kind, answer-by, result-by, answer-told, result-told, label-told, answer-packed, AskIs, AllIs}
+use Rattle.asking.specs.Encoding.{encode-answer, answer-after, answers-after}
+use Rattle.asking.specs.Replies.{answer-kind, answer-by, answer-told, label-told, AskIs, AllIs}
 use Rattle.stepping.specs.declared.Answered.{Answered}
-use Rattle.stepping.specs.Promises.{names-of, names-in, spare, StartIs, AskedIs, AskedAllIs, Writes, put-questions}
+use Rattle.stepping.specs.Promises.{Replied}
+
+-- a reply that is known
+replied-by : {A : Type 0} (R R′ : Reply A) → R ≡ R′ → (r : ℕ) (fs : List Frame) (d : ℕ) → r ≡ refusal (R′ .answer) → fs ≡ R′ .frames → d ≡ R′ .depth → Replied R r fs d
+replied-by {A} R R′ q r fs d a f e =
+    record { answer = a ∙ sym (ap (λ (x : Reply A). refusal (x .answer)) q); frames = f ∙ sym (ap (λ (x : Reply A). x .frames) q); depth = e ∙ sym (ap (λ (x : Reply A). x .depth) q) }
 
 -- "A refusal returns its number alone", in numbers too
-result-alone : (n k : ℕ) (l : Label) (d : ℕ) → result-by n k l d ≡ alone (answer-by n k l d)
-unfolding result-by answer-by answer-kind alone
-result-alone zero zero l d = refl
-result-alone zero (suc zero) l d = refl
-result-alone zero (suc (suc k)) l d = refl
-result-alone (suc n) k l d = refl
+told-refusal : (S : Sig) (r : Told) → r .refused ≡ refusal (alone (answer-told S r))
+unfolding answer-told answer-by answer-kind alone refusal
+told-refusal S r = go (r .refused) (r .kind) (label-told S r) (r .depth)
+  where
+    go : (n k : ℕ) (l : Label) (d : ℕ) → n ≡ refusal (alone (answer-by n k l d))
+    go zero zero l d = refl
+    go zero (suc zero) l d = refl
+    go zero (suc (suc k)) l d = refl
+    go (suc n) k l d = refl
 
-told-alone : (S : Sig) (r : Told) → result-told S r ≡ alone (answer-told S r)
-unfolding result-told answer-told
-told-alone S r = result-alone (r .refused) (r .kind) (label-told S r) (r .depth)
+told-refused : (S : Sig) (r : Told) (out : List ℕ) → 0 < r .refused → out ≡ answer-after (alone (answer-told S r)) out
+unfolding answer-told answer-by alone answer-after
+told-refused S r out h = go (r .refused) h
+  where
+    go : (n : ℕ) → 0 < n → out ≡ answer-after (alone (answer-by n (r .kind) (label-told S r) (r .depth))) out
+    go zero h = absurd (omega arith)
+    go (suc n) h = refl
 
-told-refused : (S : Sig) (r : Told) (n : ℕ) → r .refused ≡ n → 0 < n → result-told S r ≡ refused n
-unfolding result-told result-by
-told-refused S r zero e h = absurd (omega arith)
-told-refused S r (suc n) e h = rw e
+told-written : (S : Sig) (r : Told) (out : List ℕ) → r .refused ≡ 0 → encode-answer (answer-told S r) ≡ answer-after (alone (answer-told S r)) out
+unfolding answer-told answer-by answer-kind alone answer-after
+told-written S r out e = rw e (go (r .kind) (label-told S r) (r .depth))
+  where
+    go : (k : ℕ) (l : Label) (d : ℕ) → encode-answer (answer-kind k l d) ≡ answer-after (alone (answer-kind k l d)) out
+    go zero l d = refl
+    go (suc zero) l d = refl
+    go (suc (suc k)) l d = refl
 
 module _ (file bytes : List ℕ) (d : ℕ) where
   abbrev fs : List Frame
@@ -62,97 +79,67 @@ module _ (file bytes : List ℕ) (d : ℕ) where
   unfolding stack-read after
   read-no-stack T e h = rw e (question-fails 15 (right-frames? frame-width stack-limit T fs d) _ h)
 
-  pub ask-refused : (k n : ℕ) (r : Told) → stack-read frame-width stack-limit file fs d ≡ refused n → 0 < n → r .refused ≡ n → r .depth ≡ d → AskedIs file bytes d k bytes r
-  ask-refused k n r e p h g =
-      let q = asked-refused k n e in
-      record {
-        answer = told-refused (names-in file) r n h p ∙ sym (ap (λ (x : Reply Answer). x .answer) q);
-        frames = sym (ap (λ (x : Reply Answer). x .frames) q);
-        depth = g ∙ sym (ap (λ (x : Reply Answer). x .depth) q);
-      }
+  module _ (n : ℕ) (r : Answered) (e : stack-read frame-width stack-limit file fs d ≡ refused n) (h : r .refused ≡ n) (g : r .depth ≡ d) where
+    pub ask-refused : (k : ℕ) (out : List ℕ) → Replied (asked file fs d k) (r .refused) fs (r .depth) × (out ≡ answer-after (asked file fs d k .answer) out)
+    unfolding refusal answer-after
+    ask-refused k out = let q = asked-refused k n e in (replied-by (asked file fs d k) _ q (r .refused) fs (r .depth) h refl g, sym (ap (λ (x : Reply Answer). answer-after (x .answer) out) q))
 
-  pub ask-all-refused : (ks out : List ℕ) (n : ℕ) (r : Answered) → stack-read frame-width stack-limit file fs d ≡ refused n → r .refused ≡ n → r .depth ≡ d → AskedAllIs file bytes d ks out bytes out r
-  unfolding refusal Writes
-  ask-all-refused ks out n r e h g =
-      let q = all-refused (put-questions ks out) n e in
-      record {
-        answer = h ∙ sym (ap (λ (x : Reply (List Answer)). refusal (x .answer)) q);
-        written = subst (λ (x : Result (List Answer)). Writes (names-in file) x (r .count) out out) (sym (ap (λ (x : Reply (List Answer)). x .answer) q)) refl;
-        frames = sym (ap (λ (x : Reply (List Answer)). x .frames) q);
-        depth = g ∙ sym (ap (λ (x : Reply (List Answer)). x .depth) q);
-      }
+    pub ask-all-refused : (ks out : List ℕ) → Replied (asked-all file fs d ks) (r .refused) fs (r .depth) × (out ≡ answers-after (asked-all file fs d ks .answer) out)
+    unfolding refusal answers-after
+    ask-all-refused ks out = let q = all-refused ks n e in (replied-by (asked-all file fs d ks) _ q (r .refused) fs (r .depth) h refl g, sym (ap (λ (x : Reply (List Answer)). answers-after (x .answer) out) q))
 
   -- ANSWERED
 
-  module _ (T : Table) (checked : table-checked file ≡ accepted T) where
-    names-are : names-in file ≡ T .sig
-    unfolding names-of
-    names-are = rw checked
+  module _ (T : Table) (checked : table-checked file ≡ accepted T) (right : RightFrames frame-width stack-limit T fs d) (new : List Frame) where
+    holds : Holds frame-width stack-limit T fs d (stack-of fs d)
+    holds = passes-15 frame-width stack-limit T fs d .0 right
 
-    module _ (right : RightFrames frame-width stack-limit T fs d) where
-      holds : Holds frame-width stack-limit T fs d (stack-of fs d)
-      holds = passes-15 frame-width stack-limit T fs d .0 right
+    module _ (k : ℕ) (t : Told) (r : Answered) (a : AskIs T fs d k t new) (h : r .refused ≡ t .refused) (g : r .depth ≡ t .depth) where
+      ask-replied : Replied (asked file fs d k) (r .refused) new (r .depth)
+      ask-replied = replied-by (asked file fs d k) _ (asked-is frame-width stack-limit file T checked holds k) (r .refused) new (r .depth) (h ∙ told-refusal (T .sig) t ∙ ap (λ (x : Answer). refusal (alone x)) (a .answer)) (a .frames) (g ∙ a .depth)
 
-      pub ask-answered : (k : ℕ) (r : Told) (bytes′ : List ℕ) (fs′ : List Frame) → frames-in frame-width bytes′ ≡ fs′ → AskIs T fs d k r fs′ → AskedIs file bytes d k bytes′ r
-      ask-answered k r bytes′ fs′ e a =
-          let q = asked-is frame-width stack-limit file T checked holds k in
-          record {
-            answer = ap (λ (S : Sig). result-told S r) names-are ∙ told-alone (T .sig) r ∙ ap alone (a .answer) ∙ sym (ap (λ (x : Reply Answer). x .answer) q);
-            frames = e ∙ a .frames ∙ sym (ap (λ (x : Reply Answer). x .frames) q);
-            depth = a .depth ∙ sym (ap (λ (x : Reply Answer). x .depth) q);
-          }
+      told : (out : List ℕ) → answer-after (alone (answer-told (T .sig) t)) out ≡ answer-after (asked file fs d k .answer) out
+      told out = ap (λ (x : Answer). answer-after (alone x) out) (a .answer) ∙ sym (ap (λ (x : Reply Answer). answer-after (x .answer) out) (asked-is frame-width stack-limit file T checked holds k))
 
-      pub all-answered : (ks out : List ℕ) (r : Answered) (bytes′ out′ : List ℕ) (fs′ : List Frame) → frames-in frame-width bytes′ ≡ fs′ → r .refused ≡ 0
-          → AllIs T fs d (put-questions ks out) (take (r .count) out′) fs′ (r .depth) → drop (r .count) out′ ≡ drop (r .count) out → AskedAllIs file bytes d ks out bytes′ out′ r
-      unfolding refusal Writes
-      all-answered ks out r bytes′ out′ fs′ e z a b =
-          let q = asked-all-is frame-width stack-limit file T checked holds (put-questions ks out) in
-          record {
-            answer = z ∙ sym (ap (λ (x : Reply (List Answer)). refusal (x .answer)) q);
-            written = subst (λ (x : Result (List Answer)). Writes (names-in file) x (r .count) out out′) (sym (ap (λ (x : Reply (List Answer)). x .answer) q))
-                (ap (λ (S : Sig). map (answer-packed S) (take (r .count) out′)) names-are ∙ a .answers, b);
-            frames = e ∙ a .frames ∙ sym (ap (λ (x : Reply (List Answer)). x .frames) q);
-            depth = a .depth ∙ sym (ap (λ (x : Reply (List Answer)). x .depth) q);
-          }
+      -- by 16
+      pub ask-deep : (out : List ℕ) → 0 < t .refused → Replied (asked file fs d k) (r .refused) new (r .depth) × (out ≡ answer-after (asked file fs d k .answer) out)
+      ask-deep out z = (ask-replied, told-refused (T .sig) t out z ∙ told out)
 
--- START A STACK
+      pub ask-answered : (out out′ : List ℕ) → t .refused ≡ 0 → out′ ≡ encode-answer (answer-told (T .sig) t) → Replied (asked file fs d k) (r .refused) new (r .depth) × (out′ ≡ answer-after (asked file fs d k .answer) out)
+      ask-answered out out′ z e = (ask-replied, e ∙ told-written (T .sig) t out z ∙ told out)
 
-module _ (file bytes : List ℕ) where
-  abbrev lent : List Frame
-  lent = frames-in frame-width bytes
+    pub all-answered : (ks out out′ : List ℕ) (r : Answered) → r .refused ≡ 0 → AllIs T fs d ks out out′ new (r .depth) → Replied (asked-all file fs d ks) (r .refused) new (r .depth) × (out′ ≡ answers-after (asked-all file fs d ks .answer) out)
+    unfolding refusal
+    all-answered ks out out′ r z a =
+        let q = asked-all-is frame-width stack-limit file T checked holds ks in
+        (replied-by (asked-all file fs d ks) _ q (r .refused) new (r .depth) z (a .frames) (a .depth), a .answers ∙ sym (ap (λ (x : Reply (List Answer)). answers-after (x .answer) out) q))
+
+  -- START A STACK
 
   abbrev first-stack : Result (Unit {0} × Stack)
-  first-stack = after (table-checked file) (λ T. question 15 (ℕ-discrete (length lent) stack-limit) (λ _. accepted (tt, start-stack frame-width T)))
+  first-stack = after (table-checked file) (λ T. question 15 (ℕ-discrete (length fs) stack-limit) (λ _. accepted (tt, start-stack frame-width T)))
 
-  started-as : (d : ℕ) (x : Result (Unit {0} × Stack)) → first-stack ≡ x → started file lent d ≡ reply frame-width stack-limit lent d x
+  started-as : (x : Result (Unit {0} × Stack)) → first-stack ≡ x → started file fs d ≡ reply frame-width stack-limit fs d x
   unfolding started-in
-  started-as d x e = ap (reply frame-width stack-limit lent d) e
+  started-as x e = ap (reply frame-width stack-limit fs d) e
 
-  pub start-refused : (n : ℕ) → first-stack ≡ refused n → 0 < n → StartIs file bytes bytes n
-  unfolding reply refusal
-  start-refused n e p = record {
-    answer = λ d. ap (λ (x : Reply (Unit {0})). refusal (x .answer)) (started-as d (refused n) e);
-    frames = λ d. sym (ap (λ (x : Reply (Unit {0})). x .frames) (started-as d (refused n) e));
-    depth = λ d z. absurd (omega arith);
-    rest = refl;
-  }
+  module _ (r : Answered) where
+    start-refused : (n : ℕ) → first-stack ≡ refused n → r .refused ≡ n → r .depth ≡ d → Replied (started file fs d) (r .refused) fs (r .depth)
+    unfolding reply refusal
+    start-refused n e h g = replied-by (started file fs d) _ (started-as (refused n) e) (r .refused) fs (r .depth) h refl g
 
-  pub start-no-table : (n : ℕ) → table-checked file ≡ refused n → 0 < n → StartIs file bytes bytes n
-  unfolding after
-  start-no-table n e p = start-refused n (rw e) p
-
-  module _ (T : Table) (checked : table-checked file ≡ accepted T) where
-    pub start-no-stack : ¬ (length bytes / frame-bytes frame-width ≡ stack-limit) → StartIs file bytes bytes 15
+    pub start-no-table : (n : ℕ) → table-checked file ≡ refused n → r .refused ≡ n → r .depth ≡ d → Replied (started file fs d) (r .refused) fs (r .depth)
     unfolding after
-    start-no-stack h = start-refused 15 (rw checked (question-fails 15 (ℕ-discrete (length lent) stack-limit) _ (λ e. h (sym (length-frames-in frame-width bytes) ∙ e)))) (omega arith)
+    start-no-table n e h g = start-refused n (rw e) h g
 
-    pub start-done : length bytes / frame-bytes frame-width ≡ stack-limit → (bytes′ : List ℕ) → frames-in frame-width bytes′ ≡ frames-of frame-width stack-limit (start-stack frame-width T) → spare bytes′ ≡ spare bytes → StartIs file bytes bytes′ 0
-    unfolding after reply refusal start-stack
-    start-done h bytes′ e b =
-        let q : (d : ℕ) → started file lent d ≡ reply frame-width stack-limit lent d (accepted (tt, start-stack frame-width T)) = λ d. started-as d (accepted (tt, start-stack frame-width T)) (rw checked (question-passes 15 (ℕ-discrete (length lent) stack-limit) _ (accepted (tt, start-stack frame-width T)) (length-frames-in frame-width bytes ∙ h) (λ _. refl))) in
-        record {
-          answer = λ d. ap (λ (x : Reply (Unit {0})). refusal (x .answer)) (q d);
-          frames = λ d. e ∙ sym (ap (λ (x : Reply (Unit {0})). x .frames) (q d));
-          depth = λ d z. ap (λ (x : Reply (Unit {0})). x .depth) (q d);
-          rest = b;
-        }
+    module _ (T : Table) (checked : table-checked file ≡ accepted T) where
+      pub start-no-stack : ¬ (length bytes / frame-bytes frame-width ≡ stack-limit) → r .refused ≡ 15 → r .depth ≡ d → Replied (started file fs d) (r .refused) fs (r .depth)
+      unfolding after
+      start-no-stack n h g = start-refused 15 (rw checked (question-fails 15 (ℕ-discrete (length fs) stack-limit) _ (λ e. n (sym (length-frames-in frame-width bytes) ∙ e)))) h g
+
+      pub start-done : length bytes / frame-bytes frame-width ≡ stack-limit → (new : List Frame) → new ≡ frames-of frame-width stack-limit (start-stack frame-width T) → r .refused ≡ 0 → r .depth ≡ 1 → Replied (started file fs d) (r .refused) new (r .depth)
+      unfolding after reply refusal start-stack
+      start-done n new e h g =
+          replied-by (started file fs d) _
+          (started-as (accepted (tt, start-stack frame-width T)) (rw checked (question-passes 15 (ℕ-discrete (length fs) stack-limit) _ (accepted (tt, start-stack frame-width T)) (length-frames-in frame-width bytes ∙ n) (λ _. refl))))
+          (r .refused) new (r .depth) h e g

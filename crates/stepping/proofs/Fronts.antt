@@ -1,15 +1,13 @@
 -- The bytes of 64 frames, lent from the front of longer ones.
-use mathlib.Core.Path.{_≡_, refl, sym, _∙_, ap, ap₂}
+use mathlib.Core.Path.{_≡_, sym, _∙_, ap}
 use mathlib.Core.List.{List, _++_}
-use Prim.Native.Nat.{ℕ, _+_, _-_, _*_, _/_, _<_, _≤_}
+use Prim.Native.Nat.{ℕ, _+_, _-_, _*_, _/_, _<_}
 use native.Mathlib.Omega.{arith}
-use lib.ListN.{length, getD, take, drop, length-append, length-drop, take-append-drop, List·getD-append}
-use lib.Seq.{length-take-le, drop-at}
+use lib.ListN.{length, take, drop, length-append, length-drop, take-append-drop, List·getD-append}
+use lib.Seq.{length-take-le}
 use Rattle.pcrl.specs.Limits.{frame-width, stack-limit}
-use Rattle.pcrl.specs.Stack.{Frame}
-use Rattle.stacks.specs.Lent.{frame-bytes, frame-at, frames-at, frames-in, stack-bytes}
+use Rattle.stacks.specs.Lent.{frame-bytes, frames-at, frames-in, stack-bytes}
 use Rattle.stacks.proofs.Views.{tabulate-same, frame-same}
-use Rattle.stepping.specs.Promises.{spare}
 
 -- bytes that are no whole frame hold none
 pub front-same : (s t : List ℕ) → length s ≡ stack-bytes → length t < frame-bytes frame-width → frames-in frame-width (s ++ t) ≡ frames-in frame-width s
@@ -31,14 +29,6 @@ module _ (bytes : List ℕ) (count : length bytes / frame-bytes frame-width ≡ 
   pub front-frames : frames-in frame-width (take stack-bytes bytes) ≡ frames-in frame-width bytes
   front-frames = sym (front-same (take stack-bytes bytes) (drop stack-bytes bytes) front-length rest-short) ∙ ap (frames-in frame-width) (take-append-drop stack-bytes bytes)
 
-  -- and where others come back for it, these are the frames, and the spare bytes are as they were
-  pub front-back : (new : List ℕ) → length new ≡ stack-bytes → (frames-in frame-width (new ++ drop stack-bytes bytes) ≡ frames-in frame-width new) × (spare (new ++ drop stack-bytes bytes) ≡ spare bytes)
-  unfolding spare
-  front-back new l =
-      let z = length-append new (drop stack-bytes bytes) in
-      let y = length-drop stack-bytes bytes in
-      let e : length (new ++ drop stack-bytes bytes) / frame-bytes frame-width * frame-bytes frame-width ≡ stack-bytes = omega arith in
-      let g : length bytes / frame-bytes frame-width * frame-bytes frame-width ≡ stack-bytes = omega arith in (
-        front-same new (drop stack-bytes bytes) l rest-short,
-        ap (λ (n : ℕ). drop n (new ++ drop stack-bytes bytes)) e ∙ drop-at new (drop stack-bytes bytes) stack-bytes l ∙ ap (λ (n : ℕ). drop n bytes) (sym g),
-      )
+  -- and where others come back for it, these are the frames
+  pub front-back : (new : List ℕ) → length new ≡ stack-bytes → frames-in frame-width (new ++ drop stack-bytes bytes) ≡ frames-in frame-width new
+  front-back new l = front-same new (drop stack-bytes bytes) l rest-short

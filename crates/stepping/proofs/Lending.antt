@@ -1,5 +1,5 @@
 -- The 64 frames at the front of the lent bytes are lent on, and come back changed.
-use mathlib.Core.Path.{_≡_, refl, sym, ap, _∙_, subst}
+use mathlib.Core.Path.{_≡_, sym, ap, _∙_, subst, subst₂}
 use mathlib.Core.List.{List, _++_}
 use Prim.Native.Nat.{ℕ, _/_, _≤_, min}
 use native.Mathlib.Omega.{arith}
@@ -10,16 +10,17 @@ use Rattle.pcrl.specs.Limits.{frame-width, stack-limit}
 use Rattle.pcrl.specs.Result.{accepted}
 use Rattle.pcrl.specs.Table.{Table}
 use Rattle.pcrl.specs.Stack.{Frame, RightFrames, frames-of}
-use Rattle.pcrl.specs.Answers.{table-checked, start-stack}
+use Rattle.pcrl.specs.Answers.{table-checked, start-stack, started, asked-all}
 use Rattle.tables.specs.declared.Index.{Index}
 use Rattle.stacks.specs.Lent.{frame-bytes, frames-in, stack-bytes}
 use Rattle.asking.specs.declared.Told.{Told}
+use Rattle.asking.specs.Encoding.{answer-bytes, answers-after}
 use Rattle.asking.specs.Replies.{AskIs, AllIs}
 use Rattle.stepping.specs.declared.Answered.{Answered}
-use Rattle.stepping.specs.Promises.{spare, StartIs, AskedIs, AskedAllIs}
+use Rattle.stepping.specs.Promises.{Replied, put-questions}
 use Rattle.stepping.proofs.Fronts.{front-frames, front-back}
 use Rattle.stepping.proofs.Readiness.{Ready, ready-count}
-use Rattle.stepping.proofs.Answering.{ask-answered, all-answered, start-done}
+use Rattle.stepping.proofs.Answering.{all-answered, start-done}
 
 -- a count that passes the end takes all
 min-take : (n : ℕ) (l : List ℕ) → take (min (length l) n) l ≡ take n l
@@ -46,29 +47,28 @@ module _ (file bytes : List ℕ) (d : ℕ) (stream : List ℕ) (index : Index) (
     new-length : length new ≡ stack-bytes
     new-length = len ∙ front-fits .0
 
-    pub spare-kept : spare (new ++ drop stack-bytes bytes) ≡ spare bytes
-    spare-kept = front-back bytes count new new-length .1
+    pub new-frames : frames-in frame-width (new ++ drop stack-bytes bytes) ≡ frames-in frame-width new
+    new-frames = front-back bytes count new new-length
 
-    pub ask-done : (k : ℕ) (r : Told) → AskIs (y .table) (frames-in frame-width front) d k r (frames-in frame-width new) → AskedIs file bytes d k (new ++ drop stack-bytes bytes) r
-    ask-done k r a = ask-answered file bytes d (y .table) (y .checked) (y .right-frames) k r (new ++ drop stack-bytes bytes) (frames-in frame-width new) (front-back bytes count new new-length .0)
-        (subst (λ (fs : List Frame). AskIs (y .table) fs d k r (frames-in frame-width new)) (front-frames bytes count) a)
+    module _ (k : ℕ) (t : Told) (a : AskIs (y .table) (frames-in frame-width front) d k t (frames-in frame-width new)) where
+      pub asked-here : AskIs (y .table) (frames-in frame-width bytes) d k t (frames-in frame-width (new ++ drop stack-bytes bytes))
+      asked-here = subst₂ (λ (fs gs : List Frame). AskIs (y .table) fs d k t gs) (front-frames bytes count) (sym new-frames) a
 
-    pub all-done : (ks out out′ asked : List ℕ) (r : Answered) → r .refused ≡ 0 → r .count ≡ min (length ks) (length out) → asked ≡ take (r .count) ks
-        → AllIs (y .table) (frames-in frame-width front) d asked (take (length asked) out′) (frames-in frame-width new) (r .depth) → drop (length asked) out′ ≡ drop (length asked) out
-        → AskedAllIs file bytes d ks out (new ++ drop stack-bytes bytes) out′ r
-    all-done ks out out′ asked r z n e a b =
-        let l : length asked ≡ r .count = ap length e ∙ length-take (r .count) ks ∙ (let q : min (r .count) (length ks) ≡ r .count = omega arith in q) in
-        let put : asked ≡ take (length out) ks = e ∙ ap (λ (m : ℕ). take m ks) n ∙ min-take (length out) ks in
-        all-answered file bytes d (y .table) (y .checked) (y .right-frames) ks out r (new ++ drop stack-bytes bytes) out′ (frames-in frame-width new) (front-back bytes count new new-length .0) z
-        (subst (λ (m : ℕ). AllIs (y .table) (frames-in frame-width bytes) d (take (length out) ks) (take m out′) (frames-in frame-width new) (r .depth)) l
-        (subst (λ (qs : List ℕ). AllIs (y .table) (frames-in frame-width bytes) d qs (take (length asked) out′) (frames-in frame-width new) (r .depth)) put
-        (subst (λ (fs : List Frame). AllIs (y .table) fs d asked (take (length asked) out′) (frames-in frame-width new) (r .depth)) (front-frames bytes count) a)))
-        (subst (λ (m : ℕ). drop m out′ ≡ drop m out) l b)
+    -- as many questions as there is room for
+    pub all-done : (ks out out′ asked : List ℕ) (n : ℕ) (r : Answered) → r .refused ≡ 0 → n ≡ min (length ks) (length out / answer-bytes) → asked ≡ take n ks
+        → AllIs (y .table) (frames-in frame-width front) d asked out out′ (frames-in frame-width new) (r .depth)
+        → Replied (asked-all file (frames-in frame-width bytes) d (put-questions ks out)) (r .refused) (frames-in frame-width (new ++ drop stack-bytes bytes)) (r .depth)
+        × (out′ ≡ answers-after (asked-all file (frames-in frame-width bytes) d (put-questions ks out) .answer) out)
+    all-done ks out out′ asked n r z c e a =
+        let put : asked ≡ put-questions ks out = e ∙ ap (λ (m : ℕ). take m ks) c ∙ min-take (length out / answer-bytes) ks in
+        all-answered file bytes d (y .table) (y .checked) (y .right-frames) (frames-in frame-width (new ++ drop stack-bytes bytes)) (put-questions ks out) out out′ r z
+        (subst (λ (qs : List ℕ). AllIs (y .table) (frames-in frame-width bytes) d qs out out′ (frames-in frame-width (new ++ drop stack-bytes bytes)) (r .depth)) put
+        (subst₂ (λ (fs gs : List Frame). AllIs (y .table) fs d asked out out′ gs (r .depth)) (front-frames bytes count) (sym new-frames) a))
 
 -- Start a stack.
-pub started-done : (file bytes : List ℕ) (T : Table) → table-checked file ≡ accepted T → length bytes / frame-bytes frame-width ≡ stack-limit → (new : List ℕ) → length new ≡ length (take stack-bytes bytes)
-    → frames-in frame-width new ≡ frames-of frame-width stack-limit (start-stack frame-width T) → StartIs file bytes (new ++ drop stack-bytes bytes) 0
-started-done file bytes T checked count new len e =
+pub started-done : (file bytes : List ℕ) (d : ℕ) (r : Answered) (T : Table) → table-checked file ≡ accepted T → length bytes / frame-bytes frame-width ≡ stack-limit → (new : List ℕ) → length new ≡ length (take stack-bytes bytes)
+    → frames-in frame-width new ≡ frames-of frame-width stack-limit (start-stack frame-width T) → r .refused ≡ 0 → r .depth ≡ 1
+    → Replied (started file (frames-in frame-width bytes) d) (r .refused) (frames-in frame-width (new ++ drop stack-bytes bytes)) (r .depth)
+started-done file bytes d r T checked count new len e h g =
     let n : length new ≡ stack-bytes = len ∙ length-take stack-bytes bytes ∙ (let z : min stack-bytes (length bytes) ≡ stack-bytes = omega arith in z) in
-    let (f, b) = front-back bytes count new n in
-    start-done file bytes T checked count (new ++ drop stack-bytes bytes) (f ∙ e) b
+    start-done file bytes d r T checked count (frames-in frame-width (new ++ drop stack-bytes bytes)) (front-back bytes count new n ∙ e) h g

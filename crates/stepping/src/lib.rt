@@ -2,10 +2,12 @@
 ghost use mathlib.Core.Path.{_≡_};
 ghost use Prim.Native.Nat.{_*_, _/_, _≤_, min};
 ghost use lib.ListN.{length};
-ghost use Rattle.pcrl.specs.Limits.{max-stream, stack-limit};
+ghost use Rattle.pcrl.specs.Limits.{frame-width, max-stream};
 ghost use Rattle.pcrl.specs.Blocks.{block-bytes, block-stream};
-ghost use Rattle.pcrl.specs.Answers.{table-checked};
-ghost use Rattle.stepping.specs.Promises.{Loads, StartIs, AskedIs, AskedAllIs, spare};
+ghost use Rattle.pcrl.specs.Answers.{table-checked, started, asked, asked-all};
+ghost use Rattle.stacks.specs.Lent.{frames-in};
+ghost use Rattle.asking.specs.Encoding.{answer-after, answers-after};
+ghost use Rattle.stepping.specs.Promises.{Loads, Replied, put-questions};
 
 // The longest stream of a file, and that of one of 8 blocks: a short file takes a short array.
 const MAX_STREAM: usize = 64768;
@@ -21,6 +23,9 @@ const LIMIT: usize = 64;
 
 const BYTES: usize = 320;
 
+// Bytes of an answer.
+const ANSWER: usize = 24;
+
 // The questions that refuse here.
 const NO_TABLE: u8 = 14;
 
@@ -33,10 +38,9 @@ pub struct Loaded {
     pub index: tables::Index,
 }
 
-// What a list of questions came to: the number of the question that refused it, or 0; how many were asked; the last depth.
+// The number of the question that refused, or 0; and the depth that is left.
 pub struct Answered {
     pub refused: u8,
-    pub count: usize,
     pub depth: usize,
 }
 
@@ -82,97 +86,116 @@ pub fn load(file: &[u8], stream: &mut [u8]) -> Loaded
     }
 }
 
-fn ask_in(file: &[u8], stream: &mut [u8], frames: &mut [u8], depth: usize, k: u64) -> asking::Told
+fn refusal(refused: u8, depth: usize) -> Answered
+    ensures { λ r. ⌜ (r .refused ≡ refused) × (r .depth ≡ depth) ⌝ }
+{
+    Answered {
+        refused: refused,
+        depth: depth,
+    }
+}
+
+fn ask_in(
+    file: &[u8],
+    stream: &mut [u8],
+    frames: &mut [u8],
+    depth: usize,
+    k: u64,
+    out: &mut [u8; 24],
+) -> Answered
     requires { ⌜ (min (length (now file) / block-bytes * block-stream) max-stream ≤ length (now stream)) × (length (now stream) ≤ max-stream) ⌝ }
-    ensures { λ r. ⌜ (spare (now (frames .exit)) ≡ spare (now (frames .entry))) × ((r .refused ≡ 0 → r .depth ≤ stack-limit) × (AskedIs (now (file .entry)) (now (frames .entry)) depth k (now (frames .exit)) r)) ⌝ }
+    ensures { λ r. ⌜ (Replied (asked (now (file .entry)) (frames-in frame-width (now (frames .entry))) depth k) (r .refused) (frames-in frame-width (now (frames .exit))) (r .depth)) × (now (out .exit) ≡ answer-after (asked (now (file .entry)) (frames-in frame-width (now (frames .entry))) depth k .answer) (now (out .entry))) ⌝ }
 {
     let f = load(file, stream);
     if f.refused != 0 {
-        return asking::plain(f.refused, 0, depth);
+        return refusal(f.refused, depth);
     }
     let n = f.count;
     let index = f.index;
     if !stacks::right_frames(&stream[0..n], index, &frames[0..], depth) {
-        return asking::plain(WRONG_STACK, 0, depth);
+        return refusal(WRONG_STACK, depth);
     }
-    asking::ask(&stream[0..n], index, &mut frames[0..BYTES], depth, k)
+    let r = asking::ask(&stream[0..n], index, &mut frames[0..BYTES], depth, k);
+    if r.refused != 0 {
+        return refusal(r.refused, r.depth);
+    }
+    let e = asking::encode(&stream[0..n], index, r);
+    let bytes = e.bytes;
+    *out = bytes;
+    Answered {
+        refused: 0,
+        depth: r.depth,
+    }
 }
 
-fn ask_short(file: &[u8], frames: &mut [u8], depth: usize, k: u64) -> asking::Told
+fn ask_short(file: &[u8], frames: &mut [u8], depth: usize, k: u64, out: &mut [u8; 24]) -> Answered
     requires { ⌜ length (now file) ≤ 4096 ⌝ }
-    ensures { λ r. ⌜ (spare (now (frames .exit)) ≡ spare (now (frames .entry))) × ((r .refused ≡ 0 → r .depth ≤ stack-limit) × (AskedIs (now (file .entry)) (now (frames .entry)) depth k (now (frames .exit)) r)) ⌝ }
+    ensures { λ r. ⌜ (Replied (asked (now (file .entry)) (frames-in frame-width (now (frames .entry))) depth k) (r .refused) (frames-in frame-width (now (frames .exit))) (r .depth)) × (now (out .exit) ≡ answer-after (asked (now (file .entry)) (frames-in frame-width (now (frames .entry))) depth k .answer) (now (out .entry))) ⌝ }
 {
     let mut stream = [0u8; SHORT_STREAM];
-    ask_in(file, &mut stream, frames, depth, k)
+    ask_in(file, &mut stream, frames, depth, k, out)
 }
 
-fn ask_long(file: &[u8], frames: &mut [u8], depth: usize, k: u64) -> asking::Told
-    ensures { λ r. ⌜ (spare (now (frames .exit)) ≡ spare (now (frames .entry))) × ((r .refused ≡ 0 → r .depth ≤ stack-limit) × (AskedIs (now (file .entry)) (now (frames .entry)) depth k (now (frames .exit)) r)) ⌝ }
+fn ask_long(file: &[u8], frames: &mut [u8], depth: usize, k: u64, out: &mut [u8; 24]) -> Answered
+    ensures { λ r. ⌜ (Replied (asked (now (file .entry)) (frames-in frame-width (now (frames .entry))) depth k) (r .refused) (frames-in frame-width (now (frames .exit))) (r .depth)) × (now (out .exit) ≡ answer-after (asked (now (file .entry)) (frames-in frame-width (now (frames .entry))) depth k .answer) (now (out .entry))) ⌝ }
 {
     let mut stream = [0u8; MAX_STREAM];
-    ask_in(file, &mut stream, frames, depth, k)
+    ask_in(file, &mut stream, frames, depth, k, out)
 }
 
 // Ask for step k: questions 12 to 16.
-pub fn ask(file: &[u8], frames: &mut [u8], depth: usize, k: u64) -> asking::Told
-    ensures { λ r. ⌜ (spare (now (frames .exit)) ≡ spare (now (frames .entry))) × ((r .refused ≡ 0 → r .depth ≤ stack-limit) × (AskedIs (now (file .entry)) (now (frames .entry)) depth k (now (frames .exit)) r)) ⌝ }
+pub fn ask(file: &[u8], frames: &mut [u8], depth: usize, k: u64, out: &mut [u8; 24]) -> Answered
+    ensures { λ r. ⌜ (Replied (asked (now (file .entry)) (frames-in frame-width (now (frames .entry))) depth k) (r .refused) (frames-in frame-width (now (frames .exit))) (r .depth)) × (now (out .exit) ≡ answer-after (asked (now (file .entry)) (frames-in frame-width (now (frames .entry))) depth k .answer) (now (out .entry))) ⌝ }
 {
     if file.len() <= SHORT_FILE {
-        return ask_short(file, frames, depth, k);
+        return ask_short(file, frames, depth, k, out);
     }
-    ask_long(file, frames, depth, k)
+    ask_long(file, frames, depth, k, out)
 }
 
-fn start_in(file: &[u8], stream: &mut [u8], frames: &mut [u8]) -> u8
+fn start_in(file: &[u8], stream: &mut [u8], frames: &mut [u8], depth: usize) -> Answered
     requires { ⌜ (min (length (now file) / block-bytes * block-stream) max-stream ≤ length (now stream)) × (length (now stream) ≤ max-stream) ⌝ }
-    ensures { λ r. ⌜ StartIs (now (file .entry)) (now (frames .entry)) (now (frames .exit)) r ⌝ }
+    ensures { λ r. ⌜ Replied (started (now (file .entry)) (frames-in frame-width (now (frames .entry))) depth) (r .refused) (frames-in frame-width (now (frames .exit))) (r .depth) ⌝ }
 {
     let f = load(file, stream);
     if f.refused != 0 {
-        return f.refused;
+        return refusal(f.refused, depth);
     }
     if frames.len() / FRAME != LIMIT {
-        return WRONG_STACK;
+        return refusal(WRONG_STACK, depth);
     }
     let n = f.count;
     let index = f.index;
     stacks::start(&stream[0..n], index, &mut frames[0..BYTES]);
-    0
+    Answered {
+        refused: 0,
+        depth: 1,
+    }
 }
 
-fn start_short(file: &[u8], frames: &mut [u8]) -> u8
+fn start_short(file: &[u8], frames: &mut [u8], depth: usize) -> Answered
     requires { ⌜ length (now file) ≤ 4096 ⌝ }
-    ensures { λ r. ⌜ StartIs (now (file .entry)) (now (frames .entry)) (now (frames .exit)) r ⌝ }
+    ensures { λ r. ⌜ Replied (started (now (file .entry)) (frames-in frame-width (now (frames .entry))) depth) (r .refused) (frames-in frame-width (now (frames .exit))) (r .depth) ⌝ }
 {
     let mut stream = [0u8; SHORT_STREAM];
-    start_in(file, &mut stream, frames)
+    start_in(file, &mut stream, frames, depth)
 }
 
-fn start_long(file: &[u8], frames: &mut [u8]) -> u8
-    ensures { λ r. ⌜ StartIs (now (file .entry)) (now (frames .entry)) (now (frames .exit)) r ⌝ }
+fn start_long(file: &[u8], frames: &mut [u8], depth: usize) -> Answered
+    ensures { λ r. ⌜ Replied (started (now (file .entry)) (frames-in frame-width (now (frames .entry))) depth) (r .refused) (frames-in frame-width (now (frames .exit))) (r .depth) ⌝ }
 {
     let mut stream = [0u8; MAX_STREAM];
-    start_in(file, &mut stream, frames)
+    start_in(file, &mut stream, frames, depth)
 }
 
 // Start a stack: questions 12 to 14, and of 15 that 64 frames are lent.
-pub fn start(file: &[u8], frames: &mut [u8]) -> u8
-    ensures { λ r. ⌜ StartIs (now (file .entry)) (now (frames .entry)) (now (frames .exit)) r ⌝ }
+pub fn start(file: &[u8], frames: &mut [u8], depth: usize) -> Answered
+    ensures { λ r. ⌜ Replied (started (now (file .entry)) (frames-in frame-width (now (frames .entry))) depth) (r .refused) (frames-in frame-width (now (frames .exit))) (r .depth) ⌝ }
 {
     if file.len() <= SHORT_FILE {
-        return start_short(file, frames);
+        return start_short(file, frames, depth);
     }
-    start_long(file, frames)
-}
-
-fn refusal(refused: u8, depth: usize) -> Answered
-    ensures { λ r. ⌜ (r .refused ≡ refused) × ((r .count ≡ 0) × (r .depth ≡ depth)) ⌝ }
-{
-    Answered {
-        refused: refused,
-        count: 0,
-        depth: depth,
-    }
+    start_long(file, frames, depth)
 }
 
 fn lesser(a: usize, b: usize) -> usize
@@ -187,10 +210,10 @@ fn ask_all_in(
     frames: &mut [u8],
     depth: usize,
     ks: &[u64],
-    out: &mut [u64],
+    out: &mut [u8],
 ) -> Answered
     requires { ⌜ (min (length (now file) / block-bytes * block-stream) max-stream ≤ length (now stream)) × (length (now stream) ≤ max-stream) ⌝ }
-    ensures { λ r. ⌜ (spare (now (frames .exit)) ≡ spare (now (frames .entry))) × (AskedAllIs (now (file .entry)) (now (frames .entry)) depth (now (ks .entry)) (now (out .entry)) (now (frames .exit)) (now (out .exit)) r) ⌝ }
+    ensures { λ r. ⌜ (Replied (asked-all (now (file .entry)) (frames-in frame-width (now (frames .entry))) depth (put-questions (now (ks .entry)) (now (out .entry)))) (r .refused) (frames-in frame-width (now (frames .exit))) (r .depth)) × (now (out .exit) ≡ answers-after (asked-all (now (file .entry)) (frames-in frame-width (now (frames .entry))) depth (put-questions (now (ks .entry)) (now (out .entry))) .answer) (now (out .entry))) ⌝ }
 {
     let f = load(file, stream);
     if f.refused != 0 {
@@ -201,7 +224,7 @@ fn ask_all_in(
     if !stacks::right_frames(&stream[0..n], index, &frames[0..], depth) {
         return refusal(WRONG_STACK, depth);
     }
-    let count = lesser(ks.len(), out.len());
+    let count = lesser(ks.len(), out.len() / ANSWER);
     let last = asking::ask_each(
         &stream[0..n],
         index,
@@ -212,7 +235,6 @@ fn ask_all_in(
     );
     Answered {
         refused: 0,
-        count: count,
         depth: last,
     }
 }
@@ -222,10 +244,10 @@ fn ask_all_short(
     frames: &mut [u8],
     depth: usize,
     ks: &[u64],
-    out: &mut [u64],
+    out: &mut [u8],
 ) -> Answered
     requires { ⌜ length (now file) ≤ 4096 ⌝ }
-    ensures { λ r. ⌜ (spare (now (frames .exit)) ≡ spare (now (frames .entry))) × (AskedAllIs (now (file .entry)) (now (frames .entry)) depth (now (ks .entry)) (now (out .entry)) (now (frames .exit)) (now (out .exit)) r) ⌝ }
+    ensures { λ r. ⌜ (Replied (asked-all (now (file .entry)) (frames-in frame-width (now (frames .entry))) depth (put-questions (now (ks .entry)) (now (out .entry)))) (r .refused) (frames-in frame-width (now (frames .exit))) (r .depth)) × (now (out .exit) ≡ answers-after (asked-all (now (file .entry)) (frames-in frame-width (now (frames .entry))) depth (put-questions (now (ks .entry)) (now (out .entry))) .answer) (now (out .entry))) ⌝ }
 {
     let mut stream = [0u8; SHORT_STREAM];
     ask_all_in(file, &mut stream, frames, depth, ks, out)
@@ -236,23 +258,17 @@ fn ask_all_long(
     frames: &mut [u8],
     depth: usize,
     ks: &[u64],
-    out: &mut [u64],
+    out: &mut [u8],
 ) -> Answered
-    ensures { λ r. ⌜ (spare (now (frames .exit)) ≡ spare (now (frames .entry))) × (AskedAllIs (now (file .entry)) (now (frames .entry)) depth (now (ks .entry)) (now (out .entry)) (now (frames .exit)) (now (out .exit)) r) ⌝ }
+    ensures { λ r. ⌜ (Replied (asked-all (now (file .entry)) (frames-in frame-width (now (frames .entry))) depth (put-questions (now (ks .entry)) (now (out .entry)))) (r .refused) (frames-in frame-width (now (frames .exit))) (r .depth)) × (now (out .exit) ≡ answers-after (asked-all (now (file .entry)) (frames-in frame-width (now (frames .entry))) depth (put-questions (now (ks .entry)) (now (out .entry))) .answer) (now (out .entry))) ⌝ }
 {
     let mut stream = [0u8; MAX_STREAM];
     ask_all_in(file, &mut stream, frames, depth, ks, out)
 }
 
 // Ask a list: questions 12 to 15 once, then each question in turn, as many as there is room for answers.
-pub fn ask_all(
-    file: &[u8],
-    frames: &mut [u8],
-    depth: usize,
-    ks: &[u64],
-    out: &mut [u64],
-) -> Answered
-    ensures { λ r. ⌜ (spare (now (frames .exit)) ≡ spare (now (frames .entry))) × (AskedAllIs (now (file .entry)) (now (frames .entry)) depth (now (ks .entry)) (now (out .entry)) (now (frames .exit)) (now (out .exit)) r) ⌝ }
+pub fn ask_all(file: &[u8], frames: &mut [u8], depth: usize, ks: &[u64], out: &mut [u8]) -> Answered
+    ensures { λ r. ⌜ (Replied (asked-all (now (file .entry)) (frames-in frame-width (now (frames .entry))) depth (put-questions (now (ks .entry)) (now (out .entry)))) (r .refused) (frames-in frame-width (now (frames .exit))) (r .depth)) × (now (out .exit) ≡ answers-after (asked-all (now (file .entry)) (frames-in frame-width (now (frames .entry))) depth (put-questions (now (ks .entry)) (now (out .entry))) .answer) (now (out .entry))) ⌝ }
 {
     if file.len() <= SHORT_FILE {
         return ask_all_short(file, frames, depth, ks, out);

@@ -88,7 +88,7 @@ pub fn put_values(out: &mut [u8], at: usize, arity: u8, v: u8, w: u8) -> usize
     put_byte(out, d, b')')
 }
 
-fn name(s: &[u8], index: tables::Index, action: u8) -> &[u8]
+pub fn name(s: &[u8], index: tables::Index, action: u8) -> &[u8]
     ensures { λ r. ⌜ ((T : Table) → Indexed T (now (s .entry)) index → now r ≡ getD (T .sig .acts) action no-action .name) ⌝ }
 {
     let a = terms::wide(action);

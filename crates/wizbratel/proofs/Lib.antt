@@ -1,2 +1,4 @@
 pub mod RoundTrip
 mod Counted
+pub mod Replying
+pub mod Prepares

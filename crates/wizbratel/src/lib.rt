@@ -1,8 +1,19 @@
 // The public operations, exported for C and Rust. Each takes any bytes whatever and asks nothing of its caller.
 ghost use mathlib.Core.Path.{_≡_};
+ghost use mathlib.Core.List.{List};
+ghost use lib.ListN.{length};
 ghost use Rattle.pcrl.specs.Result.{refusal};
-ghost use Rattle.pcrl.specs.Answers.{table-made, table-checked};
+ghost use Rattle.pcrl.specs.Answers.{table-made, table-checked, started, asked, asked-all};
+ghost use Rattle.asking.specs.Encoding.{answer-after, answers-after};
+ghost use Rattle.stepping.specs.Promises.{Replied, put-questions};
+ghost use Rattle.frames.specs.declared.Frame.{Frame};
+ghost use Rattle.frames.specs.Lists.{over, taken, frames-of};
 ghost use Rattle.wizbratel.specs.Tables.{MakePromise};
+
+// Frames of a stack, and bytes of these.
+const LIMIT: usize = 64;
+
+const BYTES: usize = 320;
 
 // Check a sheet, questions 1 to 10: the number of the first that fails, or 0. So it is accepted exactly if its table can be made.
 #[no_mangle]
@@ -31,4 +42,154 @@ pub extern "C" fn wizbratel_check_table(file: &[u8]) -> u8
     ensures { λ r. ⌜ r ≡ refusal (table-checked (now (file .entry))) ⌝ }
 {
     files::check_file(file)
+}
+
+// Start a stack, questions 12 to 14, and of 15 that 64 frames are lent: the number of the first that fails, or 0. The table's start
+// stands in the first frame, and the depth is 1; after a refusal both are as they were.
+#[no_mangle]
+pub extern "C" fn wizbratel_start(
+    file: &[u8],
+    frames: &mut [frames::Frame],
+    depth: &mut usize,
+) -> u8
+    ensures { λ r. ⌜ Replied (started (now (file .entry)) (frames-of (now (frames .entry))) (now (depth .entry))) r (frames-of (now (frames .exit))) (now (depth .exit)) ⌝ }
+{
+    let n = frames.len();
+    let p = frames::prepare(n);
+    let old = frames::exchange(&mut *frames, p.count, p.stack);
+    let r = start_stack(depth, file, n, old);
+    frames::exchange(&mut *frames, r.count, r.stack);
+    r.refused
+}
+
+// Ask for step k, questions 12 to 16: the number of the first that fails, or 0. The answer stands in the lent bytes, and the frames and
+// the depth are those of the stack after it; after a refusal all are as they were.
+#[no_mangle]
+pub extern "C" fn wizbratel_ask(
+    file: &[u8],
+    frames: &mut [frames::Frame],
+    depth: &mut usize,
+    k: u64,
+    answer: &mut [u8; 24],
+) -> u8
+    ensures { λ r. ⌜ (Replied (asked (now (file .entry)) (frames-of (now (frames .entry))) (now (depth .entry)) k) r (frames-of (now (frames .exit))) (now (depth .exit))) × (now (answer .exit) ≡ answer-after (asked (now (file .entry)) (frames-of (now (frames .entry))) (now (depth .entry)) k .answer) (now (answer .entry))) ⌝ }
+{
+    let n = frames.len();
+    let p = frames::prepare(n);
+    let old = frames::exchange(&mut *frames, p.count, p.stack);
+    let r = ask_stack(depth, answer, file, n, k, old);
+    frames::exchange(&mut *frames, r.count, r.stack);
+    r.refused
+}
+
+// Ask a list, questions 12 to 15 once, and then each question in turn, as many as there is room for answers of 24 bytes: the number of the
+// first that fails, or 0. After a refusal all is as it was.
+#[no_mangle]
+pub extern "C" fn wizbratel_ask_all(
+    file: &[u8],
+    frames: &mut [frames::Frame],
+    depth: &mut usize,
+    questions: &[u64],
+    answers: &mut [u8],
+) -> u8
+    ensures { λ r. ⌜ (Replied (asked-all (now (file .entry)) (frames-of (now (frames .entry))) (now (depth .entry)) (put-questions (now (questions .entry)) (now (answers .entry)))) r (frames-of (now (frames .exit))) (now (depth .exit))) × (now (answers .exit) ≡ answers-after (asked-all (now (file .entry)) (frames-of (now (frames .entry))) (now (depth .entry)) (put-questions (now (questions .entry)) (now (answers .entry))) .answer) (now (answers .entry))) ⌝ }
+{
+    let n = frames.len();
+    let p = frames::prepare(n);
+    let old = frames::exchange(&mut *frames, p.count, p.stack);
+    let r = ask_all_stack(depth, answers, file, n, questions, old);
+    frames::exchange(&mut *frames, r.count, r.stack);
+    r.refused
+}
+
+// A start on frames by value, of a slice of n.
+fn start_stack(depth: &mut usize, file: &[u8], n: usize, s: frames::Stack) -> frames::Ready
+    ensures { λ r. ⌜ (r .count ≡ taken n) × ((xs : List Frame) → length xs ≡ n → over (taken n) xs (s .frames) ≡ s .frames → Replied (started (now (file .entry)) (frames-of xs) (now (depth .entry))) (r .refused) (frames-of (over (taken n) (r .stack .frames) xs)) (now (depth .exit))) ⌝ }
+{
+    if n != LIMIT {
+        let mut none = [0u8; 1];
+        let a = stepping::start(file, &mut none, *depth);
+        *depth = a.depth;
+        return frames::Ready {
+            count: 0,
+            stack: s,
+            refused: a.refused,
+        };
+    }
+    let mut bytes = [0u8; BYTES];
+    frames::to_bytes(s, &mut bytes);
+    let a = stepping::start(file, &mut bytes, *depth);
+    *depth = a.depth;
+    let begun = frames::from_bytes(&bytes);
+    frames::Ready {
+        count: LIMIT,
+        stack: begun,
+        refused: a.refused,
+    }
+}
+
+// A question on frames by value, of a slice of n.
+fn ask_stack(
+    depth: &mut usize,
+    out: &mut [u8; 24],
+    file: &[u8],
+    n: usize,
+    k: u64,
+    s: frames::Stack,
+) -> frames::Ready
+    ensures { λ r. ⌜ (r .count ≡ taken n) × ((xs : List Frame) → length xs ≡ n → over (taken n) xs (s .frames) ≡ s .frames → (Replied (asked (now (file .entry)) (frames-of xs) (now (depth .entry)) k) (r .refused) (frames-of (over (taken n) (r .stack .frames) xs)) (now (depth .exit))) × (now (out .exit) ≡ answer-after (asked (now (file .entry)) (frames-of xs) (now (depth .entry)) k .answer) (now (out .entry)))) ⌝ }
+{
+    if n != LIMIT {
+        let mut none = [0u8; 1];
+        let a = stepping::ask(file, &mut none, *depth, k, out);
+        *depth = a.depth;
+        return frames::Ready {
+            count: 0,
+            stack: s,
+            refused: a.refused,
+        };
+    }
+    let mut bytes = [0u8; BYTES];
+    frames::to_bytes(s, &mut bytes);
+    let a = stepping::ask(file, &mut bytes, *depth, k, out);
+    *depth = a.depth;
+    let left = frames::from_bytes(&bytes);
+    frames::Ready {
+        count: LIMIT,
+        stack: left,
+        refused: a.refused,
+    }
+}
+
+// A list of questions on frames by value, of a slice of n.
+fn ask_all_stack(
+    depth: &mut usize,
+    out: &mut [u8],
+    file: &[u8],
+    n: usize,
+    ks: &[u64],
+    s: frames::Stack,
+) -> frames::Ready
+    ensures { λ r. ⌜ (r .count ≡ taken n) × ((xs : List Frame) → length xs ≡ n → over (taken n) xs (s .frames) ≡ s .frames → (Replied (asked-all (now (file .entry)) (frames-of xs) (now (depth .entry)) (put-questions (now (ks .entry)) (now (out .entry)))) (r .refused) (frames-of (over (taken n) (r .stack .frames) xs)) (now (depth .exit))) × (now (out .exit) ≡ answers-after (asked-all (now (file .entry)) (frames-of xs) (now (depth .entry)) (put-questions (now (ks .entry)) (now (out .entry))) .answer) (now (out .entry)))) ⌝ }
+{
+    if n != LIMIT {
+        let mut none = [0u8; 1];
+        let a = stepping::ask_all(file, &mut none, *depth, ks, out);
+        *depth = a.depth;
+        return frames::Ready {
+            count: 0,
+            stack: s,
+            refused: a.refused,
+        };
+    }
+    let mut bytes = [0u8; BYTES];
+    frames::to_bytes(s, &mut bytes);
+    let a = stepping::ask_all(file, &mut bytes, *depth, ks, out);
+    *depth = a.depth;
+    let last = frames::from_bytes(&bytes);
+    frames::Ready {
+        count: LIMIT,
+        stack: last,
+        refused: a.refused,
+    }
 }

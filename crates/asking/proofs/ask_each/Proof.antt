@@ -1,31 +1,32 @@
--- The loop's invariant: what was answered, and what is still to be asked of the frames and depth left.
-use Rattle.asking.proofs.ask_each.Statement.{statement}
-use Rattle.asking.proofs.ask_each.Tie as tie
+-- The loop's invariant: what was answered and stands in the bytes, and what is still to be asked of the frames and depth left.
 use borrow.Author.Needs.{needs}
 use native.Mathlib.Omega.{arith}
-use mathlib.Core.Path.{_≡_, refl, sym, ap, _∙_, subst}
-use mathlib.Core.List.{List}
-use Prim.Native.Nat.{ℕ, suc, _+_, _-_, _<_, _≤_}
-use native.Mathlib.Numerals.{add-one}
-use lib.ListN.{length, getD, take, drop, set, length-set}
-use lib.Seq.{drop-set-lt}
+use mathlib.Core.Path.{_≡_, refl, sym, ap, _∙_}
+use Prim.Native.Nat.{_+_, _-_, _*_, _≤_}
+use lib.ListN.{length, getD, take, drop}
 use Rattle.pcrl.specs.Limits.{frame-width, stack-limit}
 use Rattle.pcrl.specs.Table.{Table}
 use Rattle.pcrl.specs.Right.{RightTable}
 use Rattle.pcrl.specs.Stack.{RightFrames}
 use Rattle.tables.specs.Indexed.{Indexed}
-use Rattle.stacks.specs.Lent.{frames-in, stack-bytes}
-use Rattle.asking.specs.Replies.{AllIs}
+use Rattle.stacks.specs.Lent.{frames-in}
+use borrow.Rule.Slice.PartMut.{same-len-mid}
+use Rattle.blocks.proofs.Fronts.{length-cut}
+use Rattle.asking.specs.Encoding.{answer-bytes, encode-answer}
+use Rattle.asking.specs.Replies.{answer-told}
+use Rattle.asking.proofs.EncodingLaws.{wrote-whole, length-answer}
 use Rattle.asking.proofs.InTurn.{Going, going-start, going-on, going-end}
+use Rattle.asking.proofs.ask_each.Statement.{statement}
+use Rattle.asking.proofs.ask_each.Tie as tie
 
 abbrev Inv-loop : tie.InvT-loop
-Inv-loop s index frames₀ depth ks out₀ d₀ i₀ frames out d i = ((length frames ≡ length frames₀) × ((length out ≡ length out₀) × ((d ≤ stack-limit) × (i ≤ length ks)))) × ((drop (length ks) out ≡ drop (length ks) out₀) × ((T : Table) → RightTable T → Indexed T s index → RightFrames frame-width stack-limit T (frames-in frame-width frames₀) depth → Going T ks (frames-in frame-width frames₀) depth i (frames-in frame-width frames) d (take i out)))
+Inv-loop s index frames₀ depth ks out₀ d₀ i₀ frames out d i = ((length frames ≡ length frames₀) × ((length out ≡ length out₀) × ((d ≤ stack-limit) × (i ≤ length ks)))) × ((T : Table) → RightTable T → Indexed T s index → RightFrames frame-width stack-limit T (frames-in frame-width frames₀) depth → Going T ks (frames-in frame-width frames₀) depth out₀ i (frames-in frame-width frames) d out)
 
 abbrev μ-loop : tie.MeasureT-loop
 μ-loop s index frames₀ depth ks out₀ d₀ i₀ frames out d i = length ks - i
 
 loop-holds : tie.Need-loop-holds Inv-loop μ-loop
-loop-holds c = ((refl, (refl, (omega (arith, c .before .before .before .before .pre), omega arith))), (refl, λ T r x p. going-start T _ _ _ p))
+loop-holds c = ((refl, (refl, (omega (arith, c .before .before .before .before .pre), omega arith))), λ T r x p. going-start T _ _ _ _ p)
 
 mul-ask : tie.Need-mul-ask Inv-loop μ-loop
 mul-ask c = omega arith
@@ -36,34 +37,53 @@ shared-slice-read-ask c = omega arith
 ask-requires : tie.Need-ask-requires Inv-loop μ-loop
 ask-requires c κs = omega (arith, c .before .before .before .loop .inv .0, c .before .before .before .before .before .before .before .before .pre)
 
-pack-requires : tie.Need-pack-requires Inv-loop μ-loop
-pack-requires c κs = search needs
+encode-requires : tie.Need-encode-requires Inv-loop μ-loop
+encode-requires c κs = search needs
 
-mul-out : tie.Need-mul-out Inv-loop μ-loop
-mul-out c = omega arith
+mul-at : tie.Need-mul-at Inv-loop μ-loop
+mul-at c = omega (arith, c .before .before .before .before .before .before .before .before .loop .inv .0, c .before .before .before .before .before .before .before .loop-test, c .before .before .before .before .before .before .before .before .before .before .before .before .before .pre)
 
-slice-write-out : tie.Need-slice-write-out Inv-loop μ-loop
-slice-write-out c = omega (arith, c .before .before .before .before .before .before .before .loop .inv .0, c .before .before .before .before .before .before .before .before .before .before .before .before .pre)
+add-end : tie.Need-add-end Inv-loop μ-loop
+add-end c = omega (arith, c .before .before .before .before .before .before .before .before .loop .inv .0, c .before .before .before .before .before .before .before .loop-test, c .before .before .before .before .before .before .before .before .before .before .before .before .before .pre)
+
+sub-put-bytes : tie.Need-sub-put-bytes Inv-loop μ-loop
+sub-put-bytes c = omega (arith, c .before .before .before .before .before .before .before .before .loop .inv .0, c .before .before .before .before .before .before .before .loop-test, c .before .before .before .before .before .before .before .before .before .before .before .before .before .pre)
+
+part-put-bytes-start : tie.Need-part-put-bytes-start Inv-loop μ-loop
+part-put-bytes-start c = omega (arith, c .before .before .before .before .before .before .before .before .loop .inv .0, c .before .before .before .before .before .before .before .loop-test, c .before .before .before .before .before .before .before .before .before .before .before .before .before .pre)
+
+part-put-bytes-end : tie.Need-part-put-bytes-end Inv-loop μ-loop
+part-put-bytes-end c = omega (arith, c .before .before .before .before .before .before .before .before .loop .inv .0, c .before .before .before .before .before .before .before .loop-test, c .before .before .before .before .before .before .before .before .before .before .before .before .before .pre)
+
+slice-aggregate-put-bytes : tie.Need-slice-aggregate-put-bytes Inv-loop μ-loop
+slice-aggregate-put-bytes c = search needs
+
+put-bytes-requires : tie.Need-put-bytes-requires Inv-loop μ-loop
+put-bytes-requires c κs = search needs
 
 add-i : tie.Need-add-i Inv-loop μ-loop
-add-i c = omega (arith, c .before .before .before .before .before .before .loop-test)
+add-i c = omega (arith, c .before .before .before .before .before .before .before .before .before .before .before .before .loop-test, c .before .before .before .before .before .before .before .before .before .before .before .before .before .before .before .before .before .before .good .1 .1 .1 .1 .0 .0)
 
 loop-less : tie.Need-loop-less Inv-loop μ-loop
-loop-less c = omega (arith, c .before .before .before .before .before .before .loop-test)
+loop-less c = omega (arith, c .before .before .before .before .before .before .before .before .before .before .before .before .loop-test)
 
 loop-again : tie.Need-loop-again Inv-loop μ-loop
 loop-again c =
-    let a = c .before .before .before .before .before .before .before .before .before .before .before .before .args in
-    let i = c .before .before .before .before .before .before .before .loop .i in
-    let inv = c .before .before .before .before .before .before .before .loop .inv in (
-      (c .before .before .before .ask .kept .1 .1 .0 ∙ inv .0 .0, (length-set (c .before .before .before .before .before .before .before .loop .out) i (c .pack .result) ∙ inv .0 .1 .0, (c .before .before .before .ask .ensures .0, omega (arith, c .before .before .before .before .before .before .loop-test)))),
-      (
-        drop-set-lt (length (a .ks .now)) (c .before .before .before .before .before .before .before .loop .out) i (c .pack .result) (omega (arith, c .before .before .before .before .before .before .loop-test)) ∙ inv .1 .0,
-        λ T r x p.
-            let g = inv .1 .1 T r x p in
-            going-on T (a .ks .now) (frames-in frame-width (a .frames .now)) (a .depth) r i (frames-in frame-width (c .before .before .before .before .before .before .before .loop .frames)) (c .before .before .before .before .before .before .before .loop .d) (c .before .before .before .before .before .before .before .loop .out) g (omega (arith, c .before .before .before .before .before .before .loop-test)) (omega (arith, c .before .before .before .before .before .before .loop-test, c .before .before .before .before .before .before .before .before .before .before .before .before .pre, inv .0))
-            (getD (a .ks .now) i 0) (c .before .before .before .ask .result) (frames-in frame-width (c .before .before .before .ask .last .1 .1 .0)) (c .pack .result) refl (c .before .before .before .ask .ensures .1 T r x (g .right)) (c .pack .ensures .0 (λ _. omega (arith, c .before .before .before .ask .ensures .0)) (T .sig) .0),
-      ),
+    let a = c .before .before .before .before .before .before .before .before .before .before .before .before .before .before .before .before .before .before .args in
+    let i = c .before .before .before .before .before .before .before .before .before .before .before .before .before .loop .i in
+    let out = c .before .before .before .before .before .before .before .before .before .before .before .before .before .loop .out in
+    let inv = c .before .before .before .before .before .before .before .before .before .before .before .before .before .loop .inv in
+    let put = c .before .before .put-bytes in (
+      (c .before .before .before .before .before .before .before .before .before .ask .kept .1 .1 .0 ∙ inv .0 .0, (same-len-mid (i * 24) (i * 24 + 24 - i * 24) out (put .last .0) (put .ensures .same) ∙ inv .0 .1 .0, (c .before .before .before .before .before .before .before .before .before .ask .ensures .0, omega (arith, c .before .before .before .before .before .before .before .before .before .before .before .before .loop-test)))),
+      λ T r x p.
+          let g = inv .1 T r x p in
+          let told = c .before .before .before .before .before .before .before .before .before .ask .result in
+          let coded : c .before .before .before .before .before .before .encode .result .bytes ≡ encode-answer (answer-told (T .sig) told) = c .before .before .before .before .before .before .encode .ensures T r x (c .before .before .before .before .before .before .before .before .before .ask .ensures .0) in
+          let wide : i * 24 + 24 - i * 24 ≡ answer-bytes = omega arith in
+          let room : i * 24 + 24 ≤ length out = omega (arith, c .before .before .before .before .before .before .before .before .before .before .before .before .loop-test, inv .0, c .before .before .before .before .before .before .before .before .before .before .before .before .before .before .before .before .before .before .pre) in
+          let full : length (c .before .before .before .before .before .before .encode .result .bytes) ≡ length (take (i * 24 + 24 - i * 24) (drop (i * 24) out)) = ap length coded ∙ length-answer (answer-told (T .sig) told) ∙ sym (length-cut 24 i out room) in
+          going-on T (a .ks .now) (frames-in frame-width (a .frames .now)) (a .depth) (a .out .now) r i (frames-in frame-width (c .before .before .before .before .before .before .before .before .before .before .before .before .before .loop .frames)) (c .before .before .before .before .before .before .before .before .before .before .before .before .before .loop .d) out g (omega (arith, c .before .before .before .before .before .before .before .before .before .before .before .before .loop-test))
+          (getD (a .ks .now) i 0) told (frames-in frame-width (c .before .before .before .before .before .before .before .before .before .ask .last .1 .1 .0)) (put .last .0) refl (c .before .before .before .before .before .before .before .before .before .ask .ensures .1 T r x (g .right)) (wrote-whole _ _ _ _ (put .ensures) full ∙ coded) (i * 24) (i * 24 + 24 - i * 24) refl wide,
     )
 
 same-length : tie.Need-same-length Inv-loop μ-loop
@@ -73,14 +93,7 @@ same-length-2 : tie.Need-same-length-2 Inv-loop μ-loop
 same-length-2 c = c .before .loop .inv .0 .1 .0
 
 returns : tie.Need-returns Inv-loop μ-loop
-returns c = (
-  c .before .loop .inv .1 .0,
-  λ T r x p.
-      let a = c .before .before .before .before .before .before .args in
-      let e : c .before .loop .i ≡ length (a .ks .now) = omega arith in
-      going-end T (a .ks .now) (frames-in frame-width (a .frames .now)) (a .depth) (c .before .loop .i) (frames-in frame-width (c .before .loop .frames)) (c .before .loop .d) (take (length (a .ks .now)) (c .before .loop .out))
-      (subst (λ (n : ℕ). Going T (a .ks .now) (frames-in frame-width (a .frames .now)) (a .depth) (c .before .loop .i) (frames-in frame-width (c .before .loop .frames)) (c .before .loop .d) (take n (c .before .loop .out))) e (c .before .loop .inv .1 .1 T r x p)) (omega arith),
-)
+returns c = λ T r x p. going-end T (c .before .before .before .before .before .before .args .ks .now) (frames-in frame-width (c .before .before .before .before .before .before .args .frames .now)) (c .before .before .before .before .before .before .args .depth) (c .before .before .before .before .before .before .args .out .now) (c .before .loop .i) (frames-in frame-width (c .before .loop .frames)) (c .before .loop .d) (c .before .loop .out) (c .before .loop .inv .1 T r x p) (omega arith)
 
 pub ask-each-spec : {M : Type 1} → statement M
 ask-each-spec =
@@ -92,9 +105,14 @@ ask-each-spec =
     mul-ask
     shared-slice-read-ask
     ask-requires
-    pack-requires
-    mul-out
-    slice-write-out
+    encode-requires
+    mul-at
+    add-end
+    sub-put-bytes
+    part-put-bytes-start
+    part-put-bytes-end
+    slice-aggregate-put-bytes
+    put-bytes-requires
     add-i
     loop-less
     loop-again

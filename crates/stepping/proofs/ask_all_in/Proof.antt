@@ -1,25 +1,17 @@
 -- Refused by 12 to 14, by 15, or answered one by one.
 use borrow.Author.Needs.{needs}
-use Rattle.stepping.proofs.ask_all_in.Statement.{statement}
-use Rattle.stepping.proofs.ask_all_in.Tie as tie
-use Rattle.stepping.proofs.ask_all_in.Reads as reads
-use Rattle.stepping.proofs.ask_all_in.Lts as lts
-use Rattle.asking.proofs.ask_each.Reads as ask-each-reads
-use Rattle.stacks.proofs.right_frames.Reads as right-frames-reads
-use Rattle.stepping.proofs.lesser.Reads as lesser-reads
-use Rattle.stepping.proofs.load.Reads as load-reads
-use Rattle.stepping.proofs.refusal.Reads as refusal-reads
 use native.Mathlib.Omega.{arith}
-use mathlib.Core.Path.{_≡_, refl, sym, ap, _∙_, subst}
-use mathlib.Core.List.{List}
+use mathlib.Core.Path.{_≡_, refl, ap}
 use Prim.Native.Nat.{ℕ, _-_}
 use borrow.Author.Tests.{not-true, not-false}
-use lib.ListN.{length, take, drop, length-take}
-use Rattle.stacks.specs.Lent.{stack-bytes}
+use lib.ListN.{take, length-take}
+use Rattle.stepping.specs.Promises.{put-questions}
 use Rattle.stepping.proofs.Loading.{load-refused, load-count}
 use Rattle.stepping.proofs.Readiness.{ready, not-ready, ready-count}
-use Rattle.stepping.proofs.Lending.{front-fits, front-right, spare-kept, all-done}
+use Rattle.stepping.proofs.Lending.{front-fits, front-right, all-done}
 use Rattle.stepping.proofs.Answering.{read-no-table, ask-all-refused}
+use Rattle.stepping.proofs.ask_all_in.Statement.{statement}
+use Rattle.stepping.proofs.ask_all_in.Tie as tie
 
 load-requires : tie.Need-load-requires
 load-requires c κs = search needs
@@ -33,12 +25,10 @@ same-length c = search needs
 returns : tie.Need-returns
 returns c =
     let l = c .before .before .before .before .before .load in
-    let a = c .before .before .before .before .before .before .before .before .before .before .before .before .args in (
-      refl,
-      ask-all-refused (a .file .now) (a .frames .now) (a .depth) (a .ks .now) (a .out .now) (l .result .refused) (c .refusal .result)
-          (read-no-table (a .file .now) (a .frames .now) (a .depth) (l .result .refused) (load-refused _ (l .last .1 .0) (l .result) (l .ensures) (λ e. omega (arith, c .before .if1))))
-          (c .refusal .ensures .0) (c .refusal .ensures .1 .1),
-    )
+    let a = c .before .before .before .before .before .before .before .before .before .before .before .before .args in
+    ask-all-refused (a .file .now) (a .frames .now) (a .depth) (l .result .refused) (c .refusal .result)
+    (read-no-table (a .file .now) (a .frames .now) (a .depth) (l .result .refused) (load-refused _ (l .last .1 .0) (l .result) (l .ensures) (λ e. omega (arith, c .before .if1))))
+    (c .refusal .ensures .0) (c .refusal .ensures .1) (put-questions (a .ks .now) (a .out .now)) (a .out .now)
 
 sub-right-frames : tie.Need-sub-right-frames
 sub-right-frames c = search needs
@@ -73,12 +63,10 @@ same-length-3 c = search needs
 returns-2 : tie.Need-returns-2
 returns-2 c =
     let l = c .before .before .before .before .before .before .before .before .before .before .before .before .load in
-    let a = c .before .before .before .before .before .before .before .before .before .before .before .before .before .before .before .before .before .before .before .args in (
-      refl,
-      ask-all-refused (a .file .now) (a .frames .now) (a .depth) (a .ks .now) (a .out .now) 15 (c .refusal2 .result)
-          (not-ready (a .file .now) (l .last .1 .0) (a .frames .now) (a .depth) (l .result) (l .ensures) (omega (arith, c .before .before .before .before .before .before .before .before .if1)) (c .before .before .right-frames .result) (c .before .before .right-frames .ensures) (not-true _ (c .before .if2 .taken)))
-          (c .refusal2 .ensures .0) (c .refusal2 .ensures .1 .1),
-    )
+    let a = c .before .before .before .before .before .before .before .before .before .before .before .before .before .before .before .before .before .before .before .args in
+    ask-all-refused (a .file .now) (a .frames .now) (a .depth) 15 (c .refusal2 .result)
+    (not-ready (a .file .now) (l .last .1 .0) (a .frames .now) (a .depth) (l .result) (l .ensures) (omega (arith, c .before .before .before .before .before .before .before .before .if1)) (c .before .before .right-frames .result) (c .before .before .right-frames .ensures) (not-true _ (c .before .if2 .taken)))
+    (c .refusal2 .ensures .0) (c .refusal2 .ensures .1) (put-questions (a .ks .now) (a .out .now)) (a .out .now)
 
 lesser-requires : tie.Need-lesser-requires
 lesser-requires c κs = search needs
@@ -137,11 +125,9 @@ returns-3 c =
     let a = c .before .before .before .before .before .before .before .before .before .before .before .before .before .before .before .before .before .before .before .before .before .before .before .before .before .before .before .before .before .args in
     let y = ready (a .file .now) (l .last .1 .0) (a .frames .now) (a .depth) (l .result) (l .ensures) (omega (arith, c .before .before .before .before .before .before .before .before .before .before .before .before .before .before .before .before .before .before .if1)) (c .before .before .before .before .before .before .before .before .before .before .before .before .right-frames .result) (c .before .before .before .before .before .before .before .before .before .before .before .before .right-frames .ensures) (not-false _ (c .before .before .before .before .before .before .before .before .before .before .before .if2 .left)) in
     let n : c .before .before .before .before .before .before .before .before .before .before .lesser .result - 0 ≡ c .before .before .before .before .before .before .before .before .before .before .lesser .result = omega arith in
-    let e = c .before .before .before .before .ask-each in (
-      spare-kept (a .file .now) (a .frames .now) (a .depth) _ _ y (e .last .1 .1 .0) (e .kept .1 .1 .0),
-      all-done (a .file .now) (a .frames .now) (a .depth) _ _ y (e .last .1 .1 .0) (e .kept .1 .1 .0) (a .ks .now) (a .out .now) (e .last .1 .1 .1 .1 .1 .0) (take (c .before .before .before .before .before .before .before .before .before .before .lesser .result - 0) (a .ks .now)) _ refl (c .before .before .before .before .before .before .before .before .before .before .lesser .ensures) (ap (λ (m : ℕ). take m (a .ks .now)) n)
-          (e .ensures .1 (y .table) (y .right-table) (y .indexed) (front-right (a .file .now) (a .frames .now) (a .depth) _ _ y)) (e .ensures .0),
-    )
+    let e = c .before .before .before .before .ask-each in
+    all-done (a .file .now) (a .frames .now) (a .depth) _ _ y (e .last .1 .1 .0) (e .kept .1 .1 .0) (a .ks .now) (a .out .now) (e .last .1 .1 .1 .1 .1 .0) (take (c .before .before .before .before .before .before .before .before .before .before .lesser .result - 0) (a .ks .now)) (c .before .before .before .before .before .before .before .before .before .before .lesser .result) (record { refused = 0; depth = e .result }) refl (c .before .before .before .before .before .before .before .before .before .before .lesser .ensures)
+    (ap (λ (m : ℕ). take m (a .ks .now)) n) (e .ensures (y .table) (y .right-table) (y .indexed) (front-right (a .file .now) (a .frames .now) (a .depth) _ _ y))
 
 pub ask-all-in-spec : {M : Type 1} → statement M
 ask-all-in-spec =

@@ -1,36 +1,43 @@
 -- Refused by 12 to 14, by 15, or started.
 use borrow.Author.Needs.{needs}
-use Rattle.stepping.proofs.start_in.Statement.{statement}
-use Rattle.stepping.proofs.start_in.Tie as tie
 use native.Mathlib.Omega.{arith}
-use mathlib.Core.Path.{_≡_, refl, sym, ap, _∙_, subst}
+use mathlib.Core.Path.{_≡_, refl, subst}
 use Prim.Native.Nat.{ℕ, _-_}
-use lib.ListN.{length, take, drop, length-take}
+use lib.ListN.{take}
 use Rattle.tables.specs.Indexed.{Indexed}
-use Rattle.stacks.specs.Lent.{stack-bytes}
 use Rattle.stepping.proofs.Loading.{load-refused, load-accepted, load-count}
 use Rattle.stepping.proofs.Lending.{started-done}
 use Rattle.stepping.proofs.Answering.{start-no-table, start-no-stack}
+use Rattle.stepping.proofs.start_in.Statement.{statement}
+use Rattle.stepping.proofs.start_in.Tie as tie
 
 load-requires : tie.Need-load-requires
 load-requires c κs = search needs
+
+refusal-requires : tie.Need-refusal-requires
+refusal-requires c κs = search needs
 
 same-length : tie.Need-same-length
 same-length c = search needs
 
 returns : tie.Need-returns
 returns c =
-    let l = c .before .before .before .before .load in
-    start-no-table (c .before .before .before .before .before .before .before .before .before .args .file .now) (c .before .before .before .before .before .before .before .before .before .args .frames .now) (l .result .refused) (load-refused _ (l .last .1 .0) (l .result) (l .ensures) (λ e. omega (arith, c .if1))) (omega (arith, c .if1))
+    let l = c .before .before .before .before .before .load in
+    let a = c .before .before .before .before .before .before .before .before .before .before .args in
+    start-no-table (a .file .now) (a .frames .now) (a .depth) (c .refusal .result) (l .result .refused) (load-refused _ (l .last .1 .0) (l .result) (l .ensures) (λ e. omega (arith, c .before .if1))) (c .refusal .ensures .0) (c .refusal .ensures .1)
+
+refusal-requires-2 : tie.Need-refusal-requires-2
+refusal-requires-2 c κs = search needs
 
 same-length-2 : tie.Need-same-length-2
 same-length-2 c = search needs
 
 returns-2 : tie.Need-returns-2
 returns-2 c =
-    let l = c .before .before .before .before .before .load in
-    let (T, checked, (right, x)) = load-accepted _ (l .last .1 .0) (l .result) (l .ensures) (omega (arith, c .before .if1)) in
-    start-no-stack (c .before .before .before .before .before .before .before .before .before .before .args .file .now) (c .before .before .before .before .before .before .before .before .before .before .args .frames .now) T checked (λ e. omega (arith, c .if2))
+    let l = c .before .before .before .before .before .before .load in
+    let a = c .before .before .before .before .before .before .before .before .before .before .before .args in
+    let (T, checked, (right, x)) = load-accepted _ (l .last .1 .0) (l .result) (l .ensures) (omega (arith, c .before .before .if1)) in
+    start-no-stack (a .file .now) (a .frames .now) (a .depth) (c .refusal2 .result) T checked (λ e. omega (arith, c .before .if2)) (c .refusal2 .ensures .0) (c .refusal2 .ensures .1)
 
 sub-start : tie.Need-sub-start
 sub-start c = search needs
@@ -62,18 +69,21 @@ same-length-4 c = search needs
 returns-3 : tie.Need-returns-3
 returns-3 c =
     let l = c .before .before .before .before .before .before .before .before .before .before .before .before .load in
+    let a = c .before .before .before .before .before .before .before .before .before .before .before .before .before .before .before .before .before .args in
     let n : l .result .count ≡ l .result .count - 0 = omega arith in
     let (T, checked, (right, x)) = load-accepted _ (l .last .1 .0) (l .result) (l .ensures) (omega (arith, c .before .before .before .before .before .before .before .before .if1)) in
-    started-done (c .before .before .before .before .before .before .before .before .before .before .before .before .before .before .before .before .before .args .file .now) (c .before .before .before .before .before .before .before .before .before .before .before .before .before .before .before .before .before .args .frames .now) T checked (omega (arith, c .before .before .before .before .before .before .before .if2)) (c .before .before .start .last .1 .1 .0) (c .before .before .start .kept .1 .1 .0)
-    (c .before .before .start .ensures T right (subst (λ (m : ℕ). Indexed T (take m (l .last .1 .0)) (l .result .index)) n x))
+    started-done (a .file .now) (a .frames .now) (a .depth) (record { refused = 0; depth = 1 }) T checked (omega (arith, c .before .before .before .before .before .before .before .if2)) (c .before .before .start .last .1 .1 .0) (c .before .before .start .kept .1 .1 .0)
+    (c .before .before .start .ensures T right (subst (λ (m : ℕ). Indexed T (take m (l .last .1 .0)) (l .result .index)) n x)) refl refl
 
 pub start-in-spec : {M : Type 1} → statement M
 start-in-spec =
     tie.close
     (tie.spec
     load-requires
+    refusal-requires
     same-length
     returns
+    refusal-requires-2
     same-length-2
     returns-2
     sub-start

@@ -2,14 +2,13 @@
 use borrow.Author.Needs.{needs}
 use Rattle.walker.proofs.put_step.Statement.{statement}
 use Rattle.walker.proofs.put_step.Tie as tie
-use native.Mathlib.Omega.{arith}
-use mathlib.Core.Path.{_≡_, refl, sym, ap}
-use mathlib.Core.List.{List, [], _∷_}
+use mathlib.Core.Path.{sym, ap}
+use mathlib.Core.List.{List}
 use Prim.Native.Nat.{ℕ, _%_}
-use lib.ListN.{take, getD}
+use lib.ListN.{take}
 use Rattle.pcrl.specs.Walk.{step-line}
 use Rattle.labels.specs.Labels.{label-of}
-use Rattle.asking.proofs.Packed.{two-values, values-two}
+use Rattle.asking.proofs.Values.{two-values, values-two}
 use Rattle.texts.proofs.Writing.{wrote-as}
 
 element-copy-out-put-line : tie.Need-element-copy-out-put-line
