@@ -1,11 +1,15 @@
 //! The proved library, called safely: each function takes slices and asks nothing of the caller.
 
+pub mod asked;
 #[path = "../../reader/tests/common/mod.rs"]
 pub mod common;
 pub mod large;
 pub mod made;
 pub mod painted;
+pub mod questions;
+pub mod reached;
 pub mod sheets;
+pub mod stepping;
 pub mod timing;
 
 extern "C" {

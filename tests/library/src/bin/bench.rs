@@ -1,5 +1,5 @@
 //! Times the proved library beside the other reader in one run and prints the ratios:
-//! `cargo run --release --offline --bin bench [WORD ..]`, with words only the parts that they name (crc, check, make).
+//! `cargo run --release --offline --bin bench [WORD ..]`, with words only the parts that they name (crc, check, make, ask, dear).
 //! On a busy machine the calls of several milliseconds come out too long, the reader's of 128 blocks above all: its ratio
 //! is then too good.
 
@@ -8,8 +8,10 @@ use std::time::Duration;
 
 use library::common::{slow, worst, Case};
 use library::large::large_file;
-use library::sheets;
-use library::timing::compare;
+use library::questions::{dearest, largest, smallest, usual, Question};
+use library::stepping::{Answer, Frame, ANSWER};
+use library::timing::{compare, compare_each};
+use library::{asked, sheets, stepping};
 
 /// What eight shifts make of a register with this byte at its top.
 const fn shifted(byte: usize) -> u16 {
@@ -134,6 +136,122 @@ fn bench_sheets(bench: Bench, dearest: Vec<Case>) {
     println!("longest of these: {longest:.2?}");
 }
 
+/// The reader's frames of the library's.
+fn reader_frames(frames: &[Frame]) -> Vec<reader::Frame> {
+    frames.iter().map(|&frame| frame.into()).collect()
+}
+
+/// One question from a file, the frames put back each time.
+fn bench_ask(question: &Question) -> Duration {
+    let Question {
+        what,
+        file,
+        frames,
+        k,
+    } = question;
+    let ours = asked::same(file, frames, 1, *k, what);
+    let others = reader_frames(frames);
+    let mut answer = Answer::plain(0);
+    let mut lent = frames.clone();
+    compare(
+        &format!("ask {what} ({ours:?})"),
+        || {
+            lent.copy_from_slice(frames);
+            let mut depth = 1;
+            black_box(stepping::ask(
+                black_box(file),
+                &mut lent,
+                &mut depth,
+                *k,
+                &mut answer,
+            ));
+        },
+        "reader",
+        || {
+            black_box(reader::ask(black_box(file), &others, 1, *k));
+        },
+    )
+}
+
+/// A list of a thousand questions: the time of each. The reader reads the file once too.
+fn bench_list(what: &str, file: &[u8], start: Frame, questions: &[u64]) {
+    let frames = asked::lent(&[start]);
+    let room = questions.len() * ANSWER;
+    asked::same_all(file, &frames, 1, questions, room, what);
+    let others = reader_frames(&frames);
+    let mut answers = vec![0; room];
+    let mut lent = frames.clone();
+    compare_each(
+        &format!("ask a list of {}, each: {what}", questions.len()),
+        questions.len() as u32,
+        || {
+            lent.copy_from_slice(&frames);
+            let mut depth = 1;
+            stepping::ask_all(
+                black_box(file),
+                &mut lent,
+                &mut depth,
+                questions,
+                &mut answers,
+            );
+            black_box(&answers);
+        },
+        "reader",
+        || {
+            let table = reader::read_table(black_box(file)).expect("a table");
+            let (mut frames, mut depth) = (others.clone(), 1);
+            for &k in questions {
+                let answer = reader::ask_table(&table, &frames, depth, k);
+                if let reader::Answer::Step {
+                    depth: next,
+                    frames: left,
+                    ..
+                } = black_box(answer)
+                {
+                    (frames, depth) = (left, next);
+                }
+            }
+        },
+    );
+}
+
+fn bench_start(what: &str, file: &[u8]) {
+    let mut frames = asked::lent(&[]);
+    let mut depth = 0;
+    compare(
+        &format!("start {what}"),
+        || {
+            black_box(stepping::start(black_box(file), &mut frames, &mut depth));
+        },
+        "reader",
+        || {
+            let table = reader::read_table(black_box(file)).expect("a table");
+            black_box(table.start_stack());
+        },
+    );
+}
+
+fn bench_asks() {
+    bench_start("one block", &smallest());
+    bench_start("128 blocks", &largest());
+    for question in usual() {
+        bench_ask(&question);
+    }
+    let [first, none] = [vec![0; 1000], vec![9; 1000]];
+    bench_list("step 0 of one block", &smallest(), Frame::default(), &first);
+    bench_list("none of one block", &smallest(), Frame::default(), &none);
+    let sheet = sheets::typical(4096);
+    let file = reader::make_table(sheet.as_bytes()).expect("a table");
+    let table = reader::read_table(&file).expect("a table");
+    let mixed: Vec<u64> = (0..1000).map(|i| i * i % 7).collect();
+    bench_list(
+        "a usual sheet",
+        &file,
+        table.start_stack()[0].into(),
+        &mixed,
+    );
+}
+
 fn main() {
     let words: Vec<String> = std::env::args().skip(1).collect();
     let wanted = |word: &str| words.is_empty() || words.iter().any(|given| given == word);
@@ -147,5 +265,11 @@ fn main() {
     }
     if wanted("make") {
         bench_sheets(bench_make, [worst::sheets(), slow::sheets()].concat());
+    }
+    if wanted("ask") {
+        bench_asks();
+    }
+    if wanted("dear") {
+        bench_ask(&dearest());
     }
 }

@@ -1,0 +1,125 @@
+//! Step questions that are timed: tables and stacks of document 01's largest sizes.
+
+use reader::limits::{FILE_BYTES, FRAMES};
+
+use crate::stepping::Frame;
+
+/// A file, the depth of a stack of start frames, and a step.
+pub struct Question {
+    pub what: &'static str,
+    pub file: Vec<u8>,
+    pub frames: Vec<Frame>,
+    pub k: u64,
+}
+
+/// Sixteen values, added up, and told apart.
+fn declared() -> String {
+    let sums: Vec<String> = (0..256)
+        .map(|i| ((i / 16 + i % 16) % 16).to_string())
+        .collect();
+    let even: Vec<String> = (0..16).map(|i| (1 - i % 2).to_string()).collect();
+    let all = vec!["1"; 16].join(",");
+    format!(
+        "sort D 16;func f:D#D->D={};func g:D->D={};func even:D->Bool={};func t:D->Bool={all};act a:D#D;",
+        sums.join(","),
+        sums[..16].join(","),
+        even.join(","),
+    )
+}
+
+/// Data with this many nodes, odd, over a variable.
+fn tree(nodes: usize, variable: &str) -> String {
+    if nodes == 1 {
+        return variable.to_string();
+    }
+    let left = nodes / 4 * 2 + 1;
+    let left = if left + 2 > nodes { nodes - 2 } else { left };
+    let right = nodes - 1 - left;
+    format!("f({},{})", tree(left, variable), tree(right, variable))
+}
+
+/// A process with four sums around a call of one with eight conditions of 31 nodes: a test of f's of one of its variables.
+fn four_sums(test: &str, variable: &str) -> String {
+    let data = format!("{test}(g({}))", tree(29, variable));
+    let tests = format!("<|{data}|>delta)").repeat(8);
+    let eight = format!("{}a(p,s){tests}", "(".repeat(8));
+    format!(
+        "proc Y=sum(u:D,sum(v:D,sum(w:D,sum(x:D,Z(u,v,w,x)))));\
+         proc Z(p:D,q:D,r:D,s:D)={eight};"
+    )
+}
+
+fn file(body: &str, more: &str) -> Vec<u8> {
+    let sheet = format!("{}proc X={body};{more}init X;", declared());
+    assert!(sheet.len() <= 4096, "{} bytes", sheet.len());
+    reader::make_table(sheet.as_bytes()).expect("a table")
+}
+
+fn question(what: &'static str, file: Vec<u8>, k: u64) -> Question {
+    let mut frames = vec![Frame::default(); FRAMES];
+    let table = reader::read_table(&file).expect("a table");
+    frames[0] = table.start_stack()[0].into();
+    Question {
+        what,
+        file,
+        frames,
+        k,
+    }
+}
+
+/// A table of 128 blocks that goes on.
+pub fn largest() -> Vec<u8> {
+    let sheet = crate::common::table_limits::longest_stream();
+    let file = reader::make_table(sheet.as_bytes()).expect("a table");
+    assert_eq!(file.len(), FILE_BYTES);
+    file
+}
+
+/// The smallest table, which goes on for ever.
+pub fn smallest() -> Vec<u8> {
+    reader::make_table(b"act a;proc X=a.X;init X;").expect("a table")
+}
+
+/// All of them but the whole table of dear conditions.
+pub fn usual() -> Vec<Question> {
+    let sums = "sum(u:D,sum(v:D,sum(w:D,sum(x:D,a(u,x)))))";
+    let none = u64::MAX;
+    vec![
+        question("step 0 of one block", smallest(), 0),
+        question("step 15 of a sum of 16", file("sum(u:D,a(u,u))", ""), 15),
+        question("the last step of four sums of 16", file(sums, ""), 65_535),
+        question("k too large for four sums of 16", file(sums, ""), none),
+        question(
+            "eight conditions on the first variable, all hold",
+            file("Y", &four_sums("t", "p")),
+            none,
+        ),
+        question(
+            "eight conditions on the first variable, half hold",
+            file("Y", &four_sums("even", "p")),
+            none,
+        ),
+        question(
+            "eight conditions on the last variable, all hold",
+            file("Y", &four_sums("t", "s")),
+            none,
+        ),
+        question(
+            "eight conditions on the last variable, half hold",
+            file("Y", &four_sums("even", "s")),
+            none,
+        ),
+        question("step 0 of 128 blocks", largest(), 0),
+        question("k too large for 128 blocks", largest(), none),
+    ]
+}
+
+/// As many summands with dear conditions on the last variable as a table holds.
+pub fn dearest() -> Question {
+    let calls = vec!["Y"; 230].join("+");
+    question(
+        "a whole table of dear conditions, k too large",
+        file(&calls, &four_sums("t", "s")),
+        u64::MAX,
+    )
+}

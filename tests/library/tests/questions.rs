@@ -1,0 +1,46 @@
+//! The questions that are timed: both answer them alike, and they are of the sizes that they are named for.
+
+use library::asked::same;
+use library::questions::{dearest, largest, usual};
+
+#[test]
+fn timed_questions_get_the_same_answers() {
+    for question in usual() {
+        let (number, _) = same(
+            &question.file,
+            &question.frames,
+            1,
+            question.k,
+            question.what,
+        );
+        assert_eq!(number, 0, "{}", question.what);
+    }
+}
+
+#[test]
+fn conditions_of_31_nodes_over_four_sums_of_16() {
+    let dear = usual()
+        .into_iter()
+        .filter(|question| question.what.contains("conditions"));
+    let files: Vec<Vec<u8>> = dear.map(|question| question.file).collect();
+    assert_eq!(files.len(), 4);
+    for file in files {
+        let table = reader::read_table(&file).expect("a table");
+        let summand = &table.equations[0].summands[0];
+        assert_eq!((summand.variables.len(), summand.conditions.len()), (4, 8));
+        assert!(summand
+            .conditions
+            .iter()
+            .all(|condition| condition.data.nodes() == 31));
+        assert!(summand
+            .variables
+            .iter()
+            .all(|&sort| table.signature.sorts[sort] == 16));
+    }
+}
+
+#[test]
+fn whole_tables() {
+    assert_eq!(largest().len(), 65_536);
+    assert!(dearest().file.len() > 60_000);
+}

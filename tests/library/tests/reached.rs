@@ -1,0 +1,108 @@
+//! Every step of the stacks that generated sheets reach: number, label, depth, all frames, and k past the end.
+
+use library::asked::{asked, lent, meant, same_start};
+use library::common::generate;
+use library::common::random::Random;
+use library::made::made_whole;
+use library::reached::{piled, reached};
+use library::stepping::{frames_of, Frame};
+use reader::limits::FRAMES;
+use reader::{all_steps, Answer, Table};
+
+/// So many sheets, unless the variable of this name says otherwise.
+const SHEETS: u64 = 20_000;
+const VARIABLE: &str = "WIZBRATEL_STEPPED";
+
+/// Stacks of a sheet that are looked at.
+const STACKS: usize = 12;
+
+/// Answers seen: steps, none, 16, ended.
+#[derive(Debug, Default)]
+struct Seen {
+    steps: u64,
+    none: u64,
+    too_deep: u64,
+    ended: u64,
+}
+
+/// Every step of a stack, and what comes past the last.
+fn every_step(file: &[u8], table: &Table, stack: &[reader::Frame], seen: &mut Seen, text: &str) {
+    let (frames, depth) = (lent(&frames_of(stack)), stack.len());
+    let steps = all_steps(table, stack);
+    for (k, (label, mut next)) in (0..).zip(steps.iter().cloned()) {
+        let wanted = if next.len() > FRAMES {
+            seen.too_deep += 1;
+            Answer::Refused(16)
+        } else {
+            seen.steps += 1;
+            let depth = next.len() as u64;
+            next.resize(FRAMES, reader::Frame::default());
+            Answer::Step {
+                label,
+                depth,
+                frames: next,
+            }
+        };
+        let wanted = meant(&wanted, &frames, depth);
+        assert_eq!(
+            asked(file, &frames, depth, k),
+            wanted,
+            "{k} of {stack:?}: {text}"
+        );
+    }
+    let past = if stack.is_empty() {
+        seen.ended += 1;
+        Answer::Ended
+    } else {
+        seen.none += 1;
+        Answer::None
+    };
+    let wanted = meant(&past, &frames, depth);
+    let count = steps.len() as u64;
+    for k in [count, count + 1, 1 << 32, u64::MAX] {
+        assert_eq!(
+            asked(file, &frames, depth, k),
+            wanted,
+            "{k} of {stack:?}: {text}"
+        );
+    }
+}
+
+#[test]
+fn every_step_of_every_stack() {
+    let sheets = std::env::var(VARIABLE).map_or(SHEETS, |number| number.parse().expect(VARIABLE));
+    let mut random = Random::new(41);
+    let mut seen = Seen::default();
+    for seed in 0..sheets {
+        let text = if seed % 2 == 0 {
+            generate::sheet(seed)
+        } else {
+            generate::with_heads(seed)
+        };
+        let Ok(file) = made_whole(text.as_bytes()) else {
+            continue;
+        };
+        let table = reader::read_table(&file).expect("a table");
+        let before = [Frame {
+            equation: 7,
+            values: [1, 2, 3, 4],
+        }; FRAMES];
+        assert_eq!(same_start(&file, &before, 99, &text), 0);
+        let stacks = reached(&table, STACKS);
+        for stack in &stacks {
+            every_step(&file, &table, stack, &mut seen, &text);
+        }
+        let deep = random.pick(&stacks);
+        if !deep.is_empty() {
+            let pile = piled(deep, FRAMES - random.below(4));
+            every_step(&file, &table, &pile, &mut seen, &text);
+        }
+    }
+    println!("{seen:?}");
+    let least = sheets / 10;
+    assert!(
+        seen.steps > 10 * least && seen.none > 10 * least,
+        "{seen:?}"
+    );
+    assert!(seen.too_deep > least && seen.ended > least, "{seen:?}");
+}
