@@ -67,10 +67,34 @@ static void tables(void) {
     expect("the check low byte first", wizbratel_check_table(file, 512), 13);
 }
 
+/* No bytes at all: the pointer leads nowhere. */
+static void nothing(void) {
+    size_t written = 7, depth = 7;
+    wizbratel_answer answer;
+    memset(&answer, 7, sizeof answer);
+    expect("no sheet", wizbratel_check_sheet(NULL, 0), 5);
+    expect("no sheet, no output", wizbratel_make_table(NULL, 0, NULL, 0, &written), 5);
+    expect("no file", wizbratel_check_table(NULL, 0), 12);
+    expect("no file, no frames", wizbratel_start(NULL, 0, NULL, 0, &depth), 12);
+    expect("no file, no frames", wizbratel_ask(NULL, 0, NULL, 0, &depth, 0, &answer), 12);
+    expect("no file, nothing", wizbratel_ask_all(NULL, 0, NULL, 0, &depth, NULL, 0, NULL, 0), 12);
+    static uint8_t file[512];
+    worked(file);
+    expect("no frames", wizbratel_start(file, 512, NULL, 0, &depth), 15);
+    expect("no frames", wizbratel_ask(file, 512, NULL, 0, &depth, 0, &answer), 15);
+    expect("no frames", wizbratel_ask_all(file, 512, NULL, 0, &depth, NULL, 0, NULL, 0), 15);
+    static wizbratel_frame frames[WIZBRATEL_FRAMES];
+    depth = 1;
+    expect("no questions", wizbratel_ask_all(file, 512, frames, WIZBRATEL_FRAMES, &depth, NULL, 0, NULL, 0), 0);
+    expect("written, depth", (long)(written + depth), 8);
+    expect("answer", answer.kind, 7);
+}
+
 int main(void) {
     sheets();
     lengths();
     deepest();
     tables();
+    nothing();
     return failed;
 }

@@ -6,6 +6,7 @@ pub mod common;
 pub mod large;
 pub mod made;
 pub mod painted;
+pub mod program;
 pub mod questions;
 pub mod reached;
 pub mod sheets;

@@ -1,26 +1,9 @@
-//! The program `check_sheet`, which `rt ci` proves and builds: what it writes for sheets on its standard input.
-
-use std::io::Write;
-use std::path::Path;
-use std::process::{Command, Stdio};
+//! The program `check_sheet`: what it writes for sheets on its standard input.
 
 use library::common::vectors;
 
-/// What the program writes for these bytes.
 fn written(sheet: &[u8]) -> String {
-    let program = Path::new(env!("CARGO_MANIFEST_DIR")).join("../../target/bin/check_sheet");
-    let mut child = Command::new(program)
-        .stdin(Stdio::piped())
-        .stdout(Stdio::piped())
-        .spawn()
-        .expect("the program, which `rt check check_sheet` builds");
-    let mut input = child.stdin.take().expect("its input");
-    // a program that has read enough may close its input
-    let _ = input.write_all(sheet);
-    drop(input);
-    let output = child.wait_with_output().expect("its output");
-    assert!(output.status.success());
-    String::from_utf8(output.stdout).expect("text")
+    library::program::written("check_sheet", sheet)
 }
 
 #[test]

@@ -5,12 +5,17 @@ use std::time::Duration;
 
 use library::common::{slow, table_limits, within, worst};
 use library::painted::used;
+use library::questions::{usual, Question};
+use library::stepping::{ask, ask_all, start, Answer, ANSWER};
 use library::{check_sheet, check_table, large, make_table, sheets};
 
 /// Bytes of stack that `make_table` and the checks may use, for any input.
 const MOST: usize = 512 << 10;
 
-/// The same for a sheet of up to 64 bytes.
+/// Bytes of stack that the stepping functions may use, for any input.
+const MOST_STEPPING: usize = 512 << 10;
+
+/// The same as the first for a sheet of up to 64 bytes.
 const MOST_SHORT: usize = 224 << 10;
 
 /// A sheet of up to so many bytes is short.
@@ -76,6 +81,39 @@ fn the_largest_table_file() {
     });
     println!("a table file of {} bytes: {bytes} of stack", file.len());
     assert!(bytes <= MOST);
+}
+
+#[test]
+fn step_questions() {
+    for Question {
+        what,
+        file,
+        frames,
+        k,
+    } in usual()
+    {
+        let (mut lent, mut depth) = (frames.clone(), 1);
+        let mut answer = Answer::plain(0);
+        let one = used(|| {
+            black_box(ask(&file, &mut lent, &mut depth, k, &mut answer));
+        });
+        let (mut lent, mut depth) = (frames.clone(), 1);
+        let mut answers = [0; 10 * ANSWER];
+        let list = used(|| {
+            black_box(ask_all(
+                &file,
+                &mut lent,
+                &mut depth,
+                &[k; 10],
+                &mut answers,
+            ));
+        });
+        let begin = used(|| {
+            black_box(start(&file, &mut lent, &mut depth));
+        });
+        println!("{what}: {one}, in a list {list}, a start {begin} of stack");
+        assert!(one.max(list).max(begin) <= MOST_STEPPING, "{what}");
+    }
 }
 
 #[test]

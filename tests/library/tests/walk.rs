@@ -1,0 +1,43 @@
+//! The program `walk`: its text for every sheet of the vectors, for generated ones, and for document 01's own.
+
+use library::common::{generate, vectors};
+
+fn written(sheet: &[u8]) -> String {
+    library::program::written("walk", sheet)
+}
+
+#[test]
+fn document_01() {
+    let text = written(b"act a;act b;proc X=a.b;init X;");
+    assert_eq!(text, "1 a 1\n2 b 0\nended\n");
+}
+
+#[test]
+fn vectors_get_their_walks() {
+    for case in vectors("sheets.jsonl") {
+        let (name, sheet) = (case.text("name"), case.bytes("sheet"));
+        assert_eq!(written(&sheet), case.text("walk"), "{name}");
+    }
+}
+
+#[test]
+fn generated_sheets() {
+    let mut closed = std::collections::BTreeMap::new();
+    for seed in 0..600 {
+        let sheet = generate::with_heads(seed);
+        let text = written(sheet.as_bytes());
+        assert_eq!(text, reader::walk(sheet.as_bytes()), "{sheet}");
+        let word = text.lines().last().expect("a closing word").to_string();
+        *closed.entry(word).or_insert(0) += 1;
+    }
+    let words: Vec<&String> = closed.keys().collect();
+    assert_eq!(words, ["ended", "more", "refused 10", "stuck"]);
+}
+
+#[test]
+fn nothing_and_too_much() {
+    assert_eq!(written(b""), "refused 5\n");
+    for length in [4097, 65_536, 65_537, 1 << 20] {
+        assert_eq!(written(&vec![b' '; length]), "refused 1\n");
+    }
+}
