@@ -1,6 +1,7 @@
 //! Step questions that are timed: tables and stacks of document 01's largest sizes.
 
 use reader::limits::{FILE_BYTES, FRAMES};
+use reader::{all_steps, Label, Table};
 
 use crate::stepping::Frame;
 
@@ -122,4 +123,26 @@ pub fn dearest() -> Question {
         file(&calls, &four_sums("t", "s")),
         u64::MAX,
     )
+}
+
+/// Whether a stack has a run of so many steps.
+fn lives(table: &Table, stack: &[reader::Frame], steps: usize) -> bool {
+    let next = |(_, next): &(Label, Vec<reader::Frame>)| lives(table, next, steps - 1);
+    stack.len() <= FRAMES && (steps == 0 || all_steps(table, stack).iter().any(next))
+}
+
+/// So many questions, from the start on, that are all answered with a step: at each stack another one that goes on.
+pub fn going_on(file: &[u8], count: usize) -> Vec<u64> {
+    let table = reader::read_table(file).expect("a table");
+    let mut stack = table.start_stack();
+    let mut questions = Vec::new();
+    for turn in 0..count {
+        let steps = all_steps(&table, &stack);
+        let mut places = (0..steps.len()).map(|place| (place + turn) % steps.len());
+        let k = places.find(|&k| lives(&table, &steps[k].1, 4));
+        let k = k.expect("a step that goes on");
+        questions.push(k as u64);
+        stack.clone_from(&steps[k].1);
+    }
+    questions
 }

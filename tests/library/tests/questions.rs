@@ -1,7 +1,9 @@
 //! The questions that are timed: both answer them alike, and they are of the sizes that they are named for.
 
-use library::asked::same;
-use library::questions::{dearest, largest, usual};
+use library::asked::{lent, same, same_all};
+use library::questions::{dearest, going_on, largest, usual};
+use library::sheets;
+use library::stepping::{frames_of, ANSWER, STEP};
 
 #[test]
 fn timed_questions_get_the_same_answers() {
@@ -43,4 +45,14 @@ fn conditions_of_31_nodes_over_four_sums_of_16() {
 fn whole_tables() {
     assert_eq!(largest().len(), 65_536);
     assert!(dearest().file.len() > 60_000);
+}
+
+#[test]
+fn a_timed_list_is_all_steps() {
+    let file = reader::make_table(sheets::typical(4096).as_bytes()).expect("a table");
+    let table = reader::read_table(&file).expect("a table");
+    let questions = going_on(&file, 1000);
+    let frames = lent(&frames_of(&table.start_stack()));
+    let after = same_all(&file, &frames, 1, &questions, 1000 * ANSWER, "a timed list");
+    assert!(after.answers.chunks(ANSWER).all(|answer| answer[0] == STEP));
 }

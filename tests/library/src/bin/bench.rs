@@ -8,7 +8,7 @@ use std::time::Duration;
 
 use library::common::{slow, worst, Case};
 use library::large::large_file;
-use library::questions::{dearest, largest, smallest, usual, Question};
+use library::questions::{dearest, going_on, largest, smallest, usual, Question};
 use library::stepping::{Answer, Frame, ANSWER};
 use library::timing::{compare, compare_each};
 use library::{asked, sheets, stepping};
@@ -243,13 +243,9 @@ fn bench_asks() {
     let sheet = sheets::typical(4096);
     let file = reader::make_table(sheet.as_bytes()).expect("a table");
     let table = reader::read_table(&file).expect("a table");
-    let mixed: Vec<u64> = (0..1000).map(|i| i * i % 7).collect();
-    bench_list(
-        "a usual sheet",
-        &file,
-        table.start_stack()[0].into(),
-        &mixed,
-    );
+    let questions = going_on(&file, 1000);
+    let start = table.start_stack()[0].into();
+    bench_list("steps of a usual sheet", &file, start, &questions);
 }
 
 fn main() {
