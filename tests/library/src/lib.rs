@@ -3,6 +3,7 @@
 pub mod asked;
 #[path = "../../reader/tests/common/mod.rs"]
 pub mod common;
+pub mod files;
 pub mod large;
 pub mod made;
 pub mod painted;

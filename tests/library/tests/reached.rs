@@ -1,8 +1,9 @@
 //! Every step of the stacks that generated sheets reach: number, label, depth, all frames, and k past the end.
 
 use library::asked::{asked, lent, meant, same_start};
-use library::common::generate;
 use library::common::random::Random;
+use library::common::{generate, vectors};
+use library::files;
 use library::made::made_whole;
 use library::reached::{piled, reached};
 use library::stepping::{frames_of, Frame};
@@ -68,6 +69,43 @@ fn every_step(file: &[u8], table: &Table, stack: &[reader::Frame], seen: &mut Se
     }
 }
 
+/// Every step of the stacks that a file reaches, and of a high pile.
+fn every_stack(file: &[u8], random: &mut Random, seen: &mut Seen, text: &str) {
+    let table = reader::read_table(file).expect("a table");
+    let before = [Frame {
+        equation: 7,
+        values: [1, 2, 3, 4],
+    }; FRAMES];
+    assert_eq!(same_start(file, &before, 99, text), 0);
+    let stacks = reached(&table, STACKS);
+    for stack in &stacks {
+        every_step(file, &table, stack, seen, text);
+    }
+    let deep = random.pick(&stacks);
+    if !deep.is_empty() {
+        let pile = piled(deep, FRAMES - random.below(4));
+        every_step(file, &table, &pile, seen, text);
+    }
+}
+
+#[test]
+fn tables_of_no_sheet() {
+    let mut random = Random::new(42);
+    let mut seen = Seen::default();
+    let listed = vectors("tables.jsonl");
+    let mut all: Vec<Vec<u8>> = listed.iter().map(|case| case.bytes("file")).collect();
+    for file in files::made() {
+        all.extend((0..12).map(|_| files::slightly_changed(&mut random, &file)));
+    }
+    let accepted = |file: &&Vec<u8>| reader::read_table(file).is_ok();
+    for file in all.iter().filter(accepted) {
+        every_stack(file, &mut random, &mut seen, "a table of no sheet");
+    }
+    println!("{seen:?}");
+    assert!(seen.steps > 5000 && seen.none > 2000, "{seen:?}");
+    assert!(seen.too_deep > 100 && seen.ended > 200, "{seen:?}");
+}
+
 #[test]
 fn every_step_of_every_stack() {
     let sheets = std::env::var(VARIABLE).map_or(SHEETS, |number| number.parse().expect(VARIABLE));
@@ -82,21 +120,7 @@ fn every_step_of_every_stack() {
         let Ok(file) = made_whole(text.as_bytes()) else {
             continue;
         };
-        let table = reader::read_table(&file).expect("a table");
-        let before = [Frame {
-            equation: 7,
-            values: [1, 2, 3, 4],
-        }; FRAMES];
-        assert_eq!(same_start(&file, &before, 99, &text), 0);
-        let stacks = reached(&table, STACKS);
-        for stack in &stacks {
-            every_step(&file, &table, stack, &mut seen, &text);
-        }
-        let deep = random.pick(&stacks);
-        if !deep.is_empty() {
-            let pile = piled(deep, FRAMES - random.below(4));
-            every_step(&file, &table, &pile, &mut seen, &text);
-        }
+        every_stack(&file, &mut random, &mut seen, &text);
     }
     println!("{seen:?}");
     let least = sheets / 10;

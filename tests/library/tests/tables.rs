@@ -1,6 +1,7 @@
 //! Table files put to the proved library and to the other reader: vectors, files made of sheets, and mutants of them.
 
 use library::common::random::Random;
+use library::files::{made, rechecked, slightly_changed};
 use library::{check_table, common};
 
 /// Both say the same of a file.
@@ -8,26 +9,6 @@ fn same(file: &[u8], what: &str) -> u8 {
     let wanted = reader::read_table(file).err().unwrap_or(0);
     assert_eq!(check_table(file), wanted, "{what}");
     wanted
-}
-
-/// The check of each block made right again.
-fn rechecked(mut file: Vec<u8>) -> Vec<u8> {
-    for block in file.chunks_mut(512) {
-        if block.len() == 512 {
-            let check = reader::crc16(&block[..510]).to_be_bytes();
-            block[510..].copy_from_slice(&check);
-        }
-    }
-    file
-}
-
-/// Files of accepted sheets of the vectors.
-fn made() -> Vec<Vec<u8>> {
-    let sheets = common::vectors("sheets.jsonl");
-    sheets
-        .iter()
-        .filter_map(|case| reader::make_table(&case.bytes("sheet")).ok())
-        .collect()
 }
 
 #[test]
@@ -88,10 +69,8 @@ fn small_values_changed_and_the_check_made_right_again() {
     let mut accepted = 0;
     for file in made().iter().step_by(2) {
         for _ in 0..60 {
-            let mut mutant = file.clone();
-            let at = 4 + random.below(60);
-            mutant[at] = mutant[at].wrapping_add([1, 255, 32, 64, 2][random.below(5)]);
-            accepted += usize::from(same(&rechecked(mutant), "a changed stream") == 0);
+            let mutant = slightly_changed(&mut random, file);
+            accepted += usize::from(same(&mutant, "a changed stream") == 0);
         }
     }
     assert!(accepted > 100, "only {accepted} mutants were accepted");

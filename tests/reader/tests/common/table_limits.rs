@@ -262,16 +262,26 @@ fn nodes() -> Vec<Case> {
     cases
 }
 
-/// A sheet whose stream grows by one byte for each character of an action's name.
-fn long_stream(name: &str) -> String {
+/// A sheet with this many summands of some hundred bytes each: one head with so many calls of four wide terms.
+pub fn wide_summands(calls: usize, heads: usize) -> String {
+    with_wide_summands(calls, heads, "b", 1)
+}
+
+/// The same with an action of this name, of which each character is a byte of the stream, and more short summands.
+pub fn with_wide_summands(calls: usize, heads: usize, name: &str, more: usize) -> String {
     let wide = data(31);
     let call = format!("Z({wide},{wide},{wide},{wide})");
-    let calls = repeated(&call, 5, ".");
-    let (large, small) = (repeated("W(v)", 101, "+"), repeated("a", 142, "+"));
+    let calls = repeated(&call, calls, ".");
+    let (large, small) = (repeated("W(v)", heads, "+"), repeated("a", more, "+"));
     format!(
         "{FUNCTIONS}act a;act {name};proc Z(p:Bool,q:Bool,r:Bool,s:Bool)=delta;\
          proc W(v:Bool)=a.{calls};proc X(v:Bool)={large};proc Y={small};init X(0);"
     )
+}
+
+/// A sheet whose stream grows by one byte for each character of an action's name.
+fn long_stream(name: &str) -> String {
+    with_wide_summands(5, 101, name, 142)
 }
 
 /// Characters of the name with which the stream has 64,768 bytes.
