@@ -1,2 +1,5 @@
-pub mod Evaluated
+pub mod CellLaws
+pub mod Functions
+pub mod SymbolLaws
+pub mod Stepping
 pub mod Started

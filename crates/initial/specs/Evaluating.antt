@@ -1,30 +1,23 @@
 -- What the evaluator of data terms without variables says, for every term that stands in the cells.
 use mathlib.Core.Path.{_≡_}
-use mathlib.Core.List.{List, [], _∷_, _++_, map}
-use Prim.Native.Nat.{ℕ, _*_, _<_, _+_}
-use lib.ListN.{length, drop, getD}
-use Rattle.pcrl.specs.Sheet.{Data, call, Sig, Sheet}
-use Rattle.pcrl.specs.Sorts.{closed, HasSort, Arguments, Sorted}
+use mathlib.Core.List.{List, [], _++_, map}
+use Prim.Native.Nat.{ℕ, _*_, _%_, _≤_, _<_}
+use lib.ListN.{length, take, drop}
+use Rattle.pcrl.specs.Sheet.{call, Sig, Sheet}
+use Rattle.pcrl.specs.Sorts.{closed, Sorted}
 use Rattle.pcrl.specs.Values.{eval}
 use Rattle.pcrl.specs.Right.{RightSig}
 use Rattle.pcrl.specs.Stream.{encode-start}
 use Rattle.nodes.specs.declared.Outline.{Outline}
-use Rattle.nodes.specs.Layout.{cell-limit, enc-data, enc-datas}
-use Rattle.nodes.specs.Held.{func-width, HeldSig, TermAt}
+use Rattle.nodes.specs.Layout.{cell-limit, byte-limit}
+use Rattle.nodes.specs.Held.{HeldSig, TermAt}
 use Rattle.emit.specs.Putting.{Puts}
-use Rattle.initial.specs.declared.Valued.{Valued}
+use Rattle.initial.specs.declared.Reached.{Reached}
+use Rattle.initial.specs.Symbols.{Symbol, symbol-cells, cells-of, after, run}
 
 -- no place among a function's values is so far on
 abbrev pub far : ℕ
 far = cell-limit * cell-limit
-
--- the element x of the values of function f
-unfoldable pub looked-at : List ℕ → List ℕ → ℕ → ℕ → ℕ
-looked-at values places f x = getD values (getD places f 0 + x) 0
-
--- the size of the second sort that function f takes
-unfoldable pub second-size : List ℕ → List ℕ → ℕ → ℕ
-second-size sizes funcs f = getD sizes (getD funcs (func-width * f + 2) 0) 0
 
 -- the arrays hold a signature that passes questions 1 to 9
 pub record Known (S : Sig) (sizes funcs values places : List ℕ) : Type 0 where
@@ -33,16 +26,25 @@ pub record Known (S : Sig) (sizes funcs values places : List ℕ) : Type 0 where
   pub held : HeldSig S sizes funcs values places acts outline
   pub right : RightSig S
 
-abbrev pub Values : (sizes funcs values places cells : List ℕ) → ℕ → Valued → Type 0
-Values sizes funcs values places cells at r =
-    (S : Sig) → Known S sizes funcs values places → (d : Data) (D : ℕ) (rest : List ℕ) → HasSort S closed d D → drop at cells ≡ enc-data d ++ rest
-    → (r .value ≡ eval S [] d) × (drop (r .next) cells ≡ rest)
+-- one symbol was read, whatever stands there: the values stay behind what is left
+pub record Further (c : List ℕ) (i : ℕ) (r : Reached) : Type 0 where
+  pub less : r .end < i
+  pub above : r .end ≤ r .top
+  pub inside : r .top ≤ length c
 
--- the values of n terms, one byte each
-abbrev pub PutsValues : (sizes funcs values places cells : List ℕ) → (at n w : ℕ) (o : List ℕ) (w′ : ℕ) (o′ : List ℕ) → Type 0
-PutsValues sizes funcs values places cells at n w o w′ o′ =
-    (S : Sig) → Known S sizes funcs values places → (ds : List Data) (Ds : List ℕ) (rest : List ℕ) → Arguments S closed ds Ds → length ds ≡ n → drop at cells ≡ enc-datas ds ++ rest
-    → Puts (map (eval S []) ds) w o w′ o′
+-- the symbol that stands before i, and the values from t on
+abbrev pub Steps : (sizes funcs values places c : List ℕ) → (i t : ℕ) → Reached → List ℕ → Type 0
+Steps sizes funcs values places c i t r c′ =
+    (p : List ℕ) (a : Symbol) → take i c ≡ p ++ symbol-cells a → (take (r .end) c′ ≡ p) × (drop (r .top) c′ ≡ after sizes funcs values places a (drop t c))
+
+-- the symbols that stand from `at` to `end`: their values stand from t on
+abbrev pub Evaluates : (sizes funcs values places c : List ℕ) → (at end t : ℕ) → List ℕ → Type 0
+Evaluates sizes funcs values places c at end t c′ =
+    (p : List ℕ) (l : List Symbol) → length p ≡ at → take end c ≡ p ++ cells-of l → drop t c′ ≡ run sizes funcs values places l (drop end c)
+
+-- the low bytes of n numbers
+abbrev pub PutsValues : List ℕ → (at n w : ℕ) (o : List ℕ) (w′ : ℕ) (o′ : List ℕ) → Type 0
+PutsValues c at n w o w′ o′ = (vs rest : List ℕ) → length vs ≡ n → drop at c ≡ vs ++ rest → Puts (map (λ (v : ℕ). v % byte-limit) vs) w o w′ o′
 
 -- "start equation, its data evaluated"
 abbrev pub PutsStart : (sizes funcs values places cells : List ℕ) → (at w : ℕ) (o : List ℕ) (w′ : ℕ) (o′ : List ℕ) → Type 0

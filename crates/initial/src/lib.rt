@@ -1,23 +1,39 @@
 // "start equation, its data evaluated": the last part of a table's stream.
-// The evaluator calls itself for arguments: as deep as functions stand in one another, at most 16 by question 4.
+// The data are read from the right, and their values stand in the cells that were read.
 ghost use mathlib.Core.Path.{_≡_};
-ghost use Prim.Native.Nat.{_<_, _≤_};
-ghost use lib.ListN.{length};
+ghost use Prim.Native.Nat.{_+_, _*_, _<_, _≤_, min};
+ghost use lib.ListN.{length, set};
 ghost use Rattle.nodes.specs.Layout.{cell-limit, byte-limit};
-ghost use Rattle.initial.specs.Evaluating.{far, looked-at, second-size, Values, PutsValues, PutsStart};
+ghost use Rattle.initial.specs.Symbols.{looked-at, second-size};
+ghost use Rattle.initial.specs.Evaluating.{far, Further, Steps, Evaluates, PutsValues, PutsStart};
 use emit::bytes::low;
 use emit::bytes::put;
 use nodes::FUNC_ROW;
-use nodes::FUNCTION;
+use nodes::VALUE;
 use nodes::byte;
 use nodes::cell;
-use nodes::data_at;
 use nodes::node_at;
 
-// A data term's value, and the place behind it.
-pub struct Valued {
-    pub value: usize,
-    pub next: usize,
+// Where the cells that are left to read end, and where the values begin.
+pub struct Reached {
+    pub end: usize,
+    pub top: usize,
+}
+
+fn smaller(a: usize, b: usize) -> usize
+    ensures { λ r. ⌜ r ≡ min a b ⌝ }
+{
+    if a < b { a } else { b }
+}
+
+// A cell; past the end nothing is written.
+fn store(cells: &mut [u16], i: usize, v: usize)
+    requires { ⌜ v < cell-limit ⌝ }
+    ensures { λ r. ⌜ now (cells .exit) ≡ set (now (cells .entry)) i v ⌝ }
+{
+    if i < cells.len() {
+        cells[i] = v as u16;
+    }
 }
 
 // The element x of the values of function f.
@@ -36,76 +52,101 @@ fn second(sizes: &[u8], funcs: &[u8], f: usize) -> usize
     byte(sizes, byte(funcs, FUNC_ROW * f + 2))
 }
 
-fn value(
-    sizes: &[u8],
-    funcs: &[u8],
-    values: &[u8],
-    places: &[u16],
-    cells: &[u16],
-    at: usize,
-) -> Valued
-    ensures { λ r. ⌜ (at ≤ r .next) × (r .value < cell-limit) ⌝ }
-    ensures { λ r. ⌜ Values (now (sizes .entry)) (now (funcs .entry)) (now (values .entry)) (now (places .entry)) (now (cells .entry)) at r ⌝ }
+// The place of y in row x, where the rows are of n elements.
+fn row(x: usize, n: usize, y: usize) -> usize
+    requires { ⌜ (x < cell-limit) × (n < byte-limit) × (y < cell-limit) ⌝ }
+    ensures { λ r. ⌜ (r ≡ x * n + y) × (r < far) ⌝ }
 {
-    if at >= cells.len() {
-        return Valued { value: 0, next: at };
-    }
-    let d = data_at(cells, at);
-    if d.tag != FUNCTION {
-        return Valued {
-            value: d.number,
-            next: d.next,
-        };
-    }
-    let f = d.number;
-    let a = value(sizes, funcs, values, places, cells, d.next);
-    if byte(funcs, FUNC_ROW * f) < 2 {
-        return Valued {
-            value: looked(values, places, f, a.value),
-            next: a.next,
-        };
-    }
-    let b = value(sizes, funcs, values, places, cells, a.next);
-    let x = a.value * second(sizes, funcs, f) + b.value;
-    Valued {
-        value: looked(values, places, f, x),
-        next: b.next,
-    }
+    x * n + y
 }
 
-// The values of n terms.
-fn put_values(
+// One symbol, which stands before place i; the values stand from t on. No count of arguments is a multiple of 4.
+fn step(
     sizes: &[u8],
     funcs: &[u8],
     values: &[u8],
     places: &[u16],
-    cells: &[u16],
+    cells: &mut [u16],
+    i: usize,
+    t: usize,
+) -> Reached
+    requires { ⌜ (0 < i) × (i ≤ t) × (t ≤ length (now cells)) ⌝ }
+    ensures { λ r. ⌜ Further (now (cells .entry)) i r ⌝ }
+    ensures { λ r. ⌜ Steps (now (sizes .entry)) (now (funcs .entry)) (now (values .entry)) (now (places .entry)) (now (cells .entry)) i t r (now (cells .exit)) ⌝ }
+{
+    let k = cell(cells, i - 1);
+    if k % 4 == VALUE {
+        let s = t - 1;
+        store(cells, s, k / 4);
+        return Reached { end: i - 1, top: s };
+    }
+    if i < 2 {
+        return Reached { end: 0, top: t };
+    }
+    let f = cell(cells, i - 2) / 4;
+    let x = cell(cells, t);
+    if k < 2 {
+        store(cells, t, looked(values, places, f, x));
+        return Reached { end: i - 2, top: t };
+    }
+    if t >= cells.len() {
+        return Reached { end: i - 2, top: t };
+    }
+    let u = t + 1;
+    let y = cell(cells, u);
+    let p = row(x, second(sizes, funcs, f), y);
+    store(cells, u, looked(values, places, f, p));
+    Reached { end: i - 2, top: u }
+}
+
+// The symbols from `at` to `end`; where their values begin.
+fn evaluate(
+    sizes: &[u8],
+    funcs: &[u8],
+    values: &[u8],
+    places: &[u16],
+    cells: &mut [u16],
     at: usize,
-    n: usize,
-    out: &mut [u8],
-    w: usize,
+    end: usize,
 ) -> usize
-    ensures { λ r. ⌜ PutsValues (now (sizes .entry)) (now (funcs .entry)) (now (values .entry)) (now (places .entry)) (now (cells .entry)) at n w (now (out .entry)) r (now (out .exit)) ⌝ }
+    requires { ⌜ end ≤ length (now cells) ⌝ }
+    ensures { λ r. ⌜ Evaluates (now (sizes .entry)) (now (funcs .entry)) (now (values .entry)) (now (places .entry)) (now (cells .entry)) at end r (now (cells .exit)) ⌝ }
+{
+    let mut i = end;
+    let mut t = end;
+    while at < i {
+        let r = step(sizes, funcs, values, places, cells, i, t);
+        i = r.end;
+        t = r.top;
+    }
+    t
+}
+
+// The n values from `at` on.
+fn put_values(cells: &[u16], at: usize, n: usize, out: &mut [u8], w: usize) -> usize
+    ensures { λ r. ⌜ PutsValues (now (cells .entry)) at n w (now (out .entry)) r (now (out .exit)) ⌝ }
 {
     let mut p = at;
     let mut v = w;
     let mut i: usize = 0;
     while i < n {
-        let d = value(sizes, funcs, values, places, cells, p);
-        v = put(out, v, low(d.value));
-        p = d.next;
+        if p >= cells.len() {
+            return v;
+        }
+        v = put(out, v, low(cell(cells, p)));
+        p += 1;
         i += 1;
     }
     v
 }
 
-// The call of init stands at `at`.
+// The call of init stands at `at`; its data are lost.
 pub fn put_start(
     sizes: &[u8],
     funcs: &[u8],
     values: &[u8],
     places: &[u16],
-    cells: &[u16],
+    cells: &mut [u16],
     at: usize,
     out: &mut [u8],
     w: usize,
@@ -117,15 +158,7 @@ pub fn put_start(
     }
     let d = node_at(cells, at);
     let v = put(out, w, low(d.number));
-    put_values(
-        sizes,
-        funcs,
-        values,
-        places,
-        cells,
-        d.terms,
-        d.datas,
-        out,
-        v,
-    )
+    let end = smaller(d.next, cells.len());
+    let t = evaluate(sizes, funcs, values, places, cells, d.terms, end);
+    put_values(cells, t, d.datas, out, v)
 }

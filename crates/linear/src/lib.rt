@@ -55,7 +55,7 @@ fn few_marks(rows: &[u32], n: usize) -> bool
     true
 }
 
-// The whole stream over the front of the lent bytes.
+// The whole stream over the front of the lent bytes; the data of init are lost.
 fn write_stream(
     s: &[u8],
     sizes: &[u8],
@@ -64,7 +64,7 @@ fn write_stream(
     places: &[u16],
     acts: &[u8],
     procs: &[u8],
-    cells: &[u16],
+    cells: &mut [u16],
     starts: &[u16],
     names: &[u16],
     n: Outline,
@@ -131,8 +131,14 @@ fn few_in(n: Outline) -> bool
     true
 }
 
-// The table of a sheet that was read: its stream over the front of the lent bytes.
-pub fn write_table(s: &[u8], rows: Rows, values: &[u8], cells: &[u16], out: &mut [u8]) -> Written
+// The table of a sheet that was read: its stream over the front of the lent bytes; the data of init are lost.
+pub fn write_table(
+    s: &[u8],
+    rows: Rows,
+    values: &[u8],
+    cells: &mut [u16],
+    out: &mut [u8],
+) -> Written
     requires { ⌜ length (now out) ≤ max-stream ⌝ }
     ensures { λ r. ⌜ WritesTable (now (s .entry)) rows (now (values .entry)) (now (cells .entry)) (now (out .entry)) r (now (out .exit)) ⌝ }
 {

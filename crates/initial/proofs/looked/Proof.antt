@@ -3,7 +3,7 @@ use borrow.Author.Needs.{needs}
 use mathlib.Core.Path.{_∙_, ap}
 use Prim.Native.Nat.{ℕ, _+_}
 use lib.ListN.{getD}
-use Rattle.initial.specs.Evaluating.{looked-at}
+use Rattle.initial.specs.Symbols.{looked-at}
 use Rattle.initial.proofs.looked.Statement.{statement}
 use Rattle.initial.proofs.looked.Tie as tie
 

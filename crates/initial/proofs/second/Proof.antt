@@ -3,7 +3,7 @@ use borrow.Author.Needs.{needs}
 use mathlib.Core.Path.{_∙_, ap}
 use Prim.Native.Nat.{ℕ}
 use lib.ListN.{getD}
-use Rattle.initial.specs.Evaluating.{second-size}
+use Rattle.initial.specs.Symbols.{second-size}
 use Rattle.initial.proofs.second.Statement.{statement}
 use Rattle.initial.proofs.second.Tie as tie
 

@@ -1,6 +1,5 @@
 -- The rows apart, each lent as it stands.
 use borrow.Author.Needs.{needs}
-use native.Mathlib.Omega.{arith}
 use mathlib.Core.Path.{refl}
 use borrow.Author.Tests.{not-true, not-false}
 use Rattle.laws.specs.Says.{said-yes, said-no}
@@ -43,14 +42,17 @@ slice-aggregate-write-stream-8 : tie.Need-slice-aggregate-write-stream-8
 slice-aggregate-write-stream-8 c = search needs
 
 write-stream-requires : tie.Need-write-stream-requires
-write-stream-requires c κs = (said-yes (c .before .before .before .before .before .before .before .before .before .before .few-in .result) (c .before .before .before .before .before .before .before .before .before .before .few-in .ensures) (not-false _ (c .before .before .before .before .before .before .before .before .before .if1 .left)), refl, c .before .before .before .before .before .before .before .before .before .before .before .before .before .before .before .before .before .before .before .before .before .before .pre)
+write-stream-requires c κs = (said-yes (c .before .before .before .before .before .before .before .before .before .before .before .few-in .result) (c .before .before .before .before .before .before .before .before .before .before .before .few-in .ensures) (not-false _ (c .before .before .before .before .before .before .before .before .before .before .if1 .left)), refl, c .before .before .before .before .before .before .before .before .before .before .before .before .before .before .before .before .before .before .before .before .before .before .before .pre)
 
 same-length : tie.Need-same-length
 same-length c = search needs
 
+same-length-2 : tie.Need-same-length-2
+same-length-2 c = search needs
+
 returns-2 : tie.Need-returns-2
 unfolding arrays
-returns-2 c = c .before .before .before .write-stream .ensures
+returns-2 c = c .before .before .before .before .before .write-stream .ensures
 
 pub write-table-spec : {M : Type 1} → statement M
 write-table-spec =
@@ -69,4 +71,5 @@ write-table-spec =
     slice-aggregate-write-stream-8
     write-stream-requires
     same-length
+    same-length-2
     returns-2)

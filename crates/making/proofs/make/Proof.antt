@@ -1,8 +1,8 @@
 -- Each way out by the question that decides it.
 use borrow.Author.Needs.{needs}
-use mathlib.Core.Path.{_≡_, refl, _∙_, sym, ap, subst}
+use mathlib.Core.Path.{_≡_, refl, _∙_, sym, ap}
 use mathlib.Core.List.{List}
-use Prim.Native.Nat.{ℕ, _-_, _≤_}
+use Prim.Native.Nat.{ℕ, _-_}
 use native.Mathlib.Omega.{arith}
 use borrow.Author.Tests.{not-true, not-false}
 use lib.ListN.{length, take}
@@ -29,8 +29,7 @@ same-length-4 : tie.Need-same-length-4
 same-length-4 c = search needs
 
 returns : tie.Need-returns
-returns c =
-    let a = c .before .before .before .before .before .before .before .before .before .before .before .before .before .before .before .before .before .before .before .before .before .before .args in let r = c .before .before .before .before .before .before .before .before .before .before .read-sheet in
+returns c = let a = c .before .before .before .before .before .before .before .before .before .before .before .before .before .before .before .before .before .before .before .before .before .before .args in let r = c .before .before .before .before .before .before .before .before .before .before .read-sheet in
     let e = made-refused (a .sheet .now) (r .result) (r .last .1 .1 .1 .0) (r .last .1 .1 .1 .1 .0) (r .ensures) (length (a .out .now)) (λ z. omega arith) in
     record { answer = λ d. answer-refused _ _ e; output = λ d. output-same _ _ (a .out .now) e; same = λ d. absurd (let z : _≡_ {A = ℕ} 0 1 = cc in omega arith); full = λ d. refl }
 
@@ -53,7 +52,7 @@ same-length-9 : tie.Need-same-length-9
 same-length-9 c = search needs
 
 returns-2 : tie.Need-returns-2
-returns-2 c = record { answer = λ d. absurd (let z : _≡_ {A = ℕ} 0 1 = cc in omega arith); output = λ d. absurd (let z : _≡_ {A = ℕ} 0 1 = cc in omega arith); same = λ d. refl; full = λ d. absurd (let k = c .before .before .before .before .before .write-table .kept .1 .1 .1 .1 .0 in let i = c .if3 in omega arith) }
+returns-2 c = record { answer = λ d. absurd (let z : _≡_ {A = ℕ} 0 1 = cc in omega arith); output = λ d. absurd (let z : _≡_ {A = ℕ} 0 1 = cc in omega arith); same = λ d. refl; full = λ d. absurd (let k = c .before .before .before .before .before .before .before .write-table .kept .1 .1 .1 .1 .0 in let i = c .if3 in omega arith) }
 
 same-length-10 : tie.Need-same-length-10
 same-length-10 c = search needs
@@ -71,7 +70,7 @@ same-length-14 : tie.Need-same-length-14
 same-length-14 c = search needs
 
 returns-3 : tie.Need-returns-3
-returns-3 c = let a = c .before .before .before .before .before .before .before .before .before .before .before .before .before .before .before .before .before .before .before .before .before .before .before .before .before .before .before .before .before .before .before .before .args in let r = c .before .before .before .before .before .before .before .before .before .before .before .before .before .before .before .before .before .before .before .before .read-sheet in let e = made-10 (a .sheet .now) (r .result) (r .last .1 .1 .1 .0) (r .last .1 .1 .1 .1 .0) (r .ensures) (length (a .out .now)) (let i = c .before .before .before .before .before .before .before .before .before .before .if1 in omega arith) (let k = r .kept .1 .1 .1 .1 .0 in let p = c .before .before .before .before .before .before .before .before .before .before .before .before .before .before .before .before .before .before .before .before .before .before .before .before .before .before .before .before .before .before .before .before .pre .0 .cells-few in omega arith) (a .stream .now) (c .before .before .before .before .before .write-table .last .1 .1 .1 .1 .0) (c .before .before .before .before .before .write-table .result) (c .before .before .before .before .before .write-table .ensures) (c .before .before .before .before .before .before .before .before .before .before .before .before .before .before .before .before .before .before .before .before .before .before .before .before .before .before .before .before .before .before .before .before .pre .1) (let k = c .before .before .before .before .before .write-table .kept .1 .1 .1 .1 .0 in let i = c .if3 in omega arith) (not-true _ (c .before .if2 .taken)) in record { answer = λ d. answer-refused _ _ e; output = λ d. output-same _ _ (a .out .now) e; same = λ d. absurd (let z : _≡_ {A = ℕ} 0 1 = cc in omega arith); full = λ d. refl }
+returns-3 c = let a = c .before .before .before .before .before .before .before .before .before .before .before .before .before .before .before .before .before .before .before .before .before .before .before .before .before .before .before .before .before .before .before .before .before .before .args in let r = c .before .before .before .before .before .before .before .before .before .before .before .before .before .before .before .before .before .before .before .before .before .before .read-sheet in let e = made-10 (a .sheet .now) (r .result) (r .last .1 .1 .1 .0) (r .last .1 .1 .1 .1 .0) (r .ensures) (length (a .out .now)) (let i = c .before .before .before .before .before .before .before .before .before .before .before .before .if1 in omega arith) (let k = r .kept .1 .1 .1 .1 .0 in let p = c .before .before .before .before .before .before .before .before .before .before .before .before .before .before .before .before .before .before .before .before .before .before .before .before .before .before .before .before .before .before .before .before .before .before .pre .0 .cells-few in omega arith) (a .stream .now) (c .before .before .before .before .before .before .before .write-table .last .1 .1 .1 .1 .0) (c .before .before .before .before .before .before .before .write-table .result) (c .before .before .before .before .before .before .before .write-table .ensures) (c .before .before .before .before .before .before .before .before .before .before .before .before .before .before .before .before .before .before .before .before .before .before .before .before .before .before .before .before .before .before .before .before .before .before .pre .1) (let k = c .before .before .before .before .before .before .before .write-table .kept .1 .1 .1 .1 .0 in let i = c .if3 in omega arith) (not-true _ (c .before .if2 .taken)) in record { answer = λ d. answer-refused _ _ e; output = λ d. output-same _ _ (a .out .now) e; same = λ d. absurd (let z : _≡_ {A = ℕ} 0 1 = cc in omega arith); full = λ d. refl }
 
 sub-write-file : tie.Need-sub-write-file
 sub-write-file c = search needs
@@ -80,10 +79,10 @@ part-write-file-start : tie.Need-part-write-file-start
 part-write-file-start c = search needs
 
 part-write-file-end : tie.Need-part-write-file-end
-part-write-file-end c = let a = c .before .before .before .before .before .before .before .before .before .before .before .before .before .before .before .before .before .before .before .before .before .before .before .before .before .before .before .before .before .before .before .before .args in let r = c .before .before .before .before .before .before .before .before .before .before .before .before .before .before .before .before .before .before .before .before .read-sheet in let g = wrote-length (a .sheet .now) (r .result) (r .last .1 .1 .1 .0) (r .last .1 .1 .1 .1 .0) (r .ensures) (length (a .out .now)) (let i = c .before .before .before .before .before .before .before .before .before .before .if1 in omega arith) (let k = r .kept .1 .1 .1 .1 .0 in let p = c .before .before .before .before .before .before .before .before .before .before .before .before .before .before .before .before .before .before .before .before .before .before .before .before .before .before .before .before .before .before .before .before .pre .0 .cells-few in omega arith) (a .stream .now) (c .before .before .before .before .before .write-table .last .1 .1 .1 .1 .0) (c .before .before .before .before .before .write-table .result) (c .before .before .before .before .before .write-table .ensures) (c .before .before .before .before .before .before .before .before .before .before .before .before .before .before .before .before .before .before .before .before .before .before .before .before .before .before .before .before .before .before .before .before .pre .1) (not-false _ (c .before .if2 .left)) in let k = c .before .before .before .before .before .write-table .kept .1 .1 .1 .1 .0 in omega arith
+part-write-file-end c = let a = c .before .before .before .before .before .before .before .before .before .before .before .before .before .before .before .before .before .before .before .before .before .before .before .before .before .before .before .before .before .before .before .before .before .before .args in let r = c .before .before .before .before .before .before .before .before .before .before .before .before .before .before .before .before .before .before .before .before .before .before .read-sheet in let g = wrote-length (a .sheet .now) (r .result) (r .last .1 .1 .1 .0) (r .last .1 .1 .1 .1 .0) (r .ensures) (length (a .out .now)) (let i = c .before .before .before .before .before .before .before .before .before .before .before .before .if1 in omega arith) (let k = r .kept .1 .1 .1 .1 .0 in let p = c .before .before .before .before .before .before .before .before .before .before .before .before .before .before .before .before .before .before .before .before .before .before .before .before .before .before .before .before .before .before .before .before .before .before .pre .0 .cells-few in omega arith) (a .stream .now) (c .before .before .before .before .before .before .before .write-table .last .1 .1 .1 .1 .0) (c .before .before .before .before .before .before .before .write-table .result) (c .before .before .before .before .before .before .before .write-table .ensures) (c .before .before .before .before .before .before .before .before .before .before .before .before .before .before .before .before .before .before .before .before .before .before .before .before .before .before .before .before .before .before .before .before .before .before .pre .1) (not-false _ (c .before .if2 .left)) in let k = c .before .before .before .before .before .before .before .write-table .kept .1 .1 .1 .1 .0 in omega arith
 
 write-file-requires : tie.Need-write-file-requires
-write-file-requires c κs = let a = c .before .before .before .before .before .before .before .before .before .before .before .before .before .before .before .before .before .before .before .before .before .before .before .before .before .before .before .before .before .before .before .before .before .before .args in let r = c .before .before .before .before .before .before .before .before .before .before .before .before .before .before .before .before .before .before .before .before .before .before .read-sheet in made-stream (a .sheet .now) (r .result) (r .last .1 .1 .1 .0) (r .last .1 .1 .1 .1 .0) (r .ensures) (length (a .out .now)) (let i = c .before .before .before .before .before .before .before .before .before .before .before .before .if1 in omega arith) (let k = r .kept .1 .1 .1 .1 .0 in let p = c .before .before .before .before .before .before .before .before .before .before .before .before .before .before .before .before .before .before .before .before .before .before .before .before .before .before .before .before .before .before .before .before .before .before .pre .0 .cells-few in omega arith) (a .stream .now) (c .before .before .before .before .before .before .before .write-table .last .1 .1 .1 .1 .0) (c .before .before .before .before .before .before .before .write-table .result) (c .before .before .before .before .before .before .before .write-table .ensures) (c .before .before .before .before .before .before .before .before .before .before .before .before .before .before .before .before .before .before .before .before .before .before .before .before .before .before .before .before .before .before .before .before .before .before .pre .1) (not-false _ (c .before .before .before .if2 .left)) .0
+write-file-requires c κs = let a = c .before .before .before .before .before .before .before .before .before .before .before .before .before .before .before .before .before .before .before .before .before .before .before .before .before .before .before .before .before .before .before .before .before .before .before .before .args in let r = c .before .before .before .before .before .before .before .before .before .before .before .before .before .before .before .before .before .before .before .before .before .before .before .before .read-sheet in made-stream (a .sheet .now) (r .result) (r .last .1 .1 .1 .0) (r .last .1 .1 .1 .1 .0) (r .ensures) (length (a .out .now)) (let i = c .before .before .before .before .before .before .before .before .before .before .before .before .before .before .if1 in omega arith) (let k = r .kept .1 .1 .1 .1 .0 in let p = c .before .before .before .before .before .before .before .before .before .before .before .before .before .before .before .before .before .before .before .before .before .before .before .before .before .before .before .before .before .before .before .before .before .before .before .before .pre .0 .cells-few in omega arith) (a .stream .now) (c .before .before .before .before .before .before .before .before .before .write-table .last .1 .1 .1 .1 .0) (c .before .before .before .before .before .before .before .before .before .write-table .result) (c .before .before .before .before .before .before .before .before .before .write-table .ensures) (c .before .before .before .before .before .before .before .before .before .before .before .before .before .before .before .before .before .before .before .before .before .before .before .before .before .before .before .before .before .before .before .before .before .before .before .before .pre .1) (not-false _ (c .before .before .before .if2 .left)) .0
 
 enum-known-f : tie.Need-enum-known-f
 enum-known-f c = search needs
@@ -110,9 +109,9 @@ same-length-20 : tie.Need-same-length-20
 same-length-20 c = search needs
 
 returns-4 : tie.Need-returns-4
-returns-4 c = let a = c .before .before .before .before .before .before .before .before .before .before .before .before .before .before .before .before .before .before .before .before .before .before .before .before .before .before .before .before .before .before .before .before .before .before .before .before .before .before .before .before .args in let r = c .before .before .before .before .before .before .before .before .before .before .before .before .before .before .before .before .before .before .before .before .before .before .before .before .before .before .before .before .read-sheet in
-    let e = made-stream (a .sheet .now) (r .result) (r .last .1 .1 .1 .0) (r .last .1 .1 .1 .1 .0) (r .ensures) (length (a .out .now)) (let i = c .before .before .before .before .before .before .before .before .before .before .before .before .before .before .before .before .before .before .if1 in omega arith) (let k = r .kept .1 .1 .1 .1 .0 in let p = c .before .before .before .before .before .before .before .before .before .before .before .before .before .before .before .before .before .before .before .before .before .before .before .before .before .before .before .before .before .before .before .before .before .before .before .before .before .before .before .before .pre .0 .cells-few in omega arith) (a .stream .now) (c .before .before .before .before .before .before .before .before .before .before .before .before .before .write-table .last .1 .1 .1 .1 .0) (c .before .before .before .before .before .before .before .before .before .before .before .before .before .write-table .result) (c .before .before .before .before .before .before .before .before .before .before .before .before .before .write-table .ensures) (c .before .before .before .before .before .before .before .before .before .before .before .before .before .before .before .before .before .before .before .before .before .before .before .before .before .before .before .before .before .before .before .before .before .before .before .before .before .before .before .before .pre .1) (not-false _ (c .before .before .before .before .before .before .before .before .before .if2 .left)) .1 in
-    let x : Result (List ℕ) = stream-filed (take (c .before .before .before .before .before .before .before .before .before .before .before .before .before .write-table .result .length - 0) (c .before .before .before .before .before .before .before .before .before .before .before .before .before .write-table .last .1 .1 .1 .1 .0)) (length (a .out .now)) in
+returns-4 c = let a = c .before .before .before .before .before .before .before .before .before .before .before .before .before .before .before .before .before .before .before .before .before .before .before .before .before .before .before .before .before .before .before .before .before .before .before .before .before .before .before .before .before .before .args in let r = c .before .before .before .before .before .before .before .before .before .before .before .before .before .before .before .before .before .before .before .before .before .before .before .before .before .before .before .before .before .before .read-sheet in
+    let e = made-stream (a .sheet .now) (r .result) (r .last .1 .1 .1 .0) (r .last .1 .1 .1 .1 .0) (r .ensures) (length (a .out .now)) (let i = c .before .before .before .before .before .before .before .before .before .before .before .before .before .before .before .before .before .before .before .before .if1 in omega arith) (let k = r .kept .1 .1 .1 .1 .0 in let p = c .before .before .before .before .before .before .before .before .before .before .before .before .before .before .before .before .before .before .before .before .before .before .before .before .before .before .before .before .before .before .before .before .before .before .before .before .before .before .before .before .before .before .pre .0 .cells-few in omega arith) (a .stream .now) (c .before .before .before .before .before .before .before .before .before .before .before .before .before .before .before .write-table .last .1 .1 .1 .1 .0) (c .before .before .before .before .before .before .before .before .before .before .before .before .before .before .before .write-table .result) (c .before .before .before .before .before .before .before .before .before .before .before .before .before .before .before .write-table .ensures) (c .before .before .before .before .before .before .before .before .before .before .before .before .before .before .before .before .before .before .before .before .before .before .before .before .before .before .before .before .before .before .before .before .before .before .before .before .before .before .before .before .before .before .pre .1) (not-false _ (c .before .before .before .before .before .before .before .before .before .if2 .left)) .1 in
+    let x : Result (List ℕ) = stream-filed (take (c .before .before .before .before .before .before .before .before .before .before .before .before .before .before .before .write-table .result .length - 0) (c .before .before .before .before .before .before .before .before .before .before .before .before .before .before .before .write-table .last .1 .1 .1 .1 .0)) (length (a .out .now)) in
     record { answer = λ d. filed-refused x (c .before .before .before .before .before .write-file .result) (c .before .f .given .0 .0) (c .before .f .given .1) (c .before .before .before .before .before .write-file .ensures .0) ∙ ap made-answer (sym e); output = λ d. c .before .before .before .before .before .write-file .ensures .1 ∙ ap (λ (y : Result (List ℕ)). output-after y (a .out .now)) (sym e); same = λ d. absurd (let z : _≡_ {A = ℕ} 0 1 = cc in omega arith); full = λ d. refl }
 
 same-length-21 : tie.Need-same-length-21
@@ -134,9 +133,9 @@ same-length-26 : tie.Need-same-length-26
 same-length-26 c = search needs
 
 returns-5 : tie.Need-returns-5
-returns-5 c = let a = c .before .before .before .before .before .before .before .before .before .before .before .before .before .before .before .before .before .before .before .before .before .before .before .before .before .before .before .before .before .before .before .before .before .before .before .before .before .before .before .before .args in let r = c .before .before .before .before .before .before .before .before .before .before .before .before .before .before .before .before .before .before .before .before .before .before .before .before .before .before .before .before .read-sheet in
-    let e = made-stream (a .sheet .now) (r .result) (r .last .1 .1 .1 .0) (r .last .1 .1 .1 .1 .0) (r .ensures) (length (a .out .now)) (let i = c .before .before .before .before .before .before .before .before .before .before .before .before .before .before .before .before .before .before .if1 in omega arith) (let k = r .kept .1 .1 .1 .1 .0 in let p = c .before .before .before .before .before .before .before .before .before .before .before .before .before .before .before .before .before .before .before .before .before .before .before .before .before .before .before .before .before .before .before .before .before .before .before .before .before .before .before .before .pre .0 .cells-few in omega arith) (a .stream .now) (c .before .before .before .before .before .before .before .before .before .before .before .before .before .write-table .last .1 .1 .1 .1 .0) (c .before .before .before .before .before .before .before .before .before .before .before .before .before .write-table .result) (c .before .before .before .before .before .before .before .before .before .before .before .before .before .write-table .ensures) (c .before .before .before .before .before .before .before .before .before .before .before .before .before .before .before .before .before .before .before .before .before .before .before .before .before .before .before .before .before .before .before .before .before .before .before .before .before .before .before .before .pre .1) (not-false _ (c .before .before .before .before .before .before .before .before .before .if2 .left)) .1 in
-    let x : Result (List ℕ) = stream-filed (take (c .before .before .before .before .before .before .before .before .before .before .before .before .before .write-table .result .length - 0) (c .before .before .before .before .before .before .before .before .before .before .before .before .before .write-table .last .1 .1 .1 .1 .0)) (length (a .out .now)) in
+returns-5 c = let a = c .before .before .before .before .before .before .before .before .before .before .before .before .before .before .before .before .before .before .before .before .before .before .before .before .before .before .before .before .before .before .before .before .before .before .before .before .before .before .before .before .before .before .args in let r = c .before .before .before .before .before .before .before .before .before .before .before .before .before .before .before .before .before .before .before .before .before .before .before .before .before .before .before .before .before .before .read-sheet in
+    let e = made-stream (a .sheet .now) (r .result) (r .last .1 .1 .1 .0) (r .last .1 .1 .1 .1 .0) (r .ensures) (length (a .out .now)) (let i = c .before .before .before .before .before .before .before .before .before .before .before .before .before .before .before .before .before .before .before .before .if1 in omega arith) (let k = r .kept .1 .1 .1 .1 .0 in let p = c .before .before .before .before .before .before .before .before .before .before .before .before .before .before .before .before .before .before .before .before .before .before .before .before .before .before .before .before .before .before .before .before .before .before .before .before .before .before .before .before .before .before .pre .0 .cells-few in omega arith) (a .stream .now) (c .before .before .before .before .before .before .before .before .before .before .before .before .before .before .before .write-table .last .1 .1 .1 .1 .0) (c .before .before .before .before .before .before .before .before .before .before .before .before .before .before .before .write-table .result) (c .before .before .before .before .before .before .before .before .before .before .before .before .before .before .before .write-table .ensures) (c .before .before .before .before .before .before .before .before .before .before .before .before .before .before .before .before .before .before .before .before .before .before .before .before .before .before .before .before .before .before .before .before .before .before .before .before .before .before .before .before .before .before .pre .1) (not-false _ (c .before .before .before .before .before .before .before .before .before .if2 .left)) .1 in
+    let x : Result (List ℕ) = stream-filed (take (c .before .before .before .before .before .before .before .before .before .before .before .before .before .before .before .write-table .result .length - 0) (c .before .before .before .before .before .before .before .before .before .before .before .before .before .before .before .write-table .last .1 .1 .1 .1 .0)) (length (a .out .now)) in
     record { answer = λ d. filed-bytes x (c .before .before .before .before .before .write-file .result) (c .before .f2 .given .0 .0) (c .before .f2 .given .1) (c .before .before .before .before .before .write-file .ensures .0) ∙ ap made-answer (sym e); output = λ d. c .before .before .before .before .before .write-file .ensures .1 ∙ ap (λ (y : Result (List ℕ)). output-after y (a .out .now)) (sym e); same = λ d. absurd (let z : _≡_ {A = ℕ} 0 1 = cc in omega arith); full = λ d. refl }
 
 pub make-spec : {M : Type 1} → statement M
