@@ -3,7 +3,7 @@
 use std::ffi::{c_int, c_void};
 
 /// Bytes of the painted stack.
-pub const SIZE: usize = 1 << 20;
+pub const SIZE: usize = 1 << 21;
 
 /// Painted in every byte.
 const PAINT: u8 = 0xc5;

@@ -1,32 +1,46 @@
-//! Looks for sheets whose tables take longest to make: changes the slowest ones and keeps what is slower.
-//! `cargo run --release --offline --bin slowest [SECONDS [SEED]]` prints the slowest of all.
+//! Looks for sheets whose tables take longest to make, or most stack: changes the dearest ones and keeps what is dearer.
+//! `cargo run --release --offline --bin slowest [SECONDS [SEED [stack]]]` prints the dearest of all.
 
 use std::time::{Duration, Instant};
 
 use library::common::random::Random;
 use library::common::{mutate, slow, worst};
+use library::painted::used;
 use library::timing::least;
 use library::{make_table, sheets};
 use reader::limits::{FILE_BYTES, SHEET_BYTES};
 
-/// So many of the slowest are kept.
+/// So many of the dearest are kept.
 const KEPT: usize = 12;
 
-/// A sheet and the time of its table.
-type Timed = (Duration, Vec<u8>);
+/// A sheet and what its table costs.
+type Priced = (u128, Vec<u8>);
 
-/// The shortest of a few calls.
-fn time(sheet: &[u8], calls: u32) -> Duration {
+/// What a sheet's table costs, by a few calls.
+type Price = fn(&[u8], u32) -> u128;
+
+/// Nanoseconds, the least of the calls.
+fn time(sheet: &[u8], calls: u32) -> u128 {
     let mut out = vec![0; FILE_BYTES];
     let mut written = 0;
     let mut call = || {
         make_table(sheet, &mut out, &mut written);
     };
-    least(&mut call, calls)
+    least(&mut call, calls).as_nanos()
 }
 
-/// Keeps the slowest, each time once.
-fn keep(kept: &mut Vec<Timed>, one: Timed) {
+/// Bytes of stack.
+fn stack(sheet: &[u8], _: u32) -> u128 {
+    let mut out = vec![0; FILE_BYTES];
+    let mut written = 0;
+    let bytes = used(|| {
+        make_table(sheet, &mut out, &mut written);
+    });
+    bytes as u128
+}
+
+/// Keeps the dearest, each once.
+fn keep(kept: &mut Vec<Priced>, one: Priced) {
     kept.push(one);
     kept.sort();
     kept.reverse();
@@ -67,7 +81,7 @@ fn rearranged(random: &mut Random, text: &[u8], other: &[u8]) -> Vec<u8> {
 }
 
 /// A changed sheet, cut to length by leaving pieces out.
-fn changed(random: &mut Random, kept: &[Timed]) -> Vec<u8> {
+fn changed(random: &mut Random, kept: &[Priced]) -> Vec<u8> {
     let (sheet, other) = (&random.pick(kept).1, &random.pick(kept).1);
     let mut text = sheet.clone();
     for _ in 0..1 + random.below(3) {
@@ -87,38 +101,44 @@ fn changed(random: &mut Random, kept: &[Timed]) -> Vec<u8> {
 }
 
 fn main() {
-    let mut words = std::env::args().skip(1);
-    let mut number = |otherwise| {
-        words
-            .next()
-            .map_or(otherwise, |word| word.parse().expect("a number"))
+    let words: Vec<String> = std::env::args().skip(1).collect();
+    let number = |place: usize, otherwise| match words.get(place) {
+        Some(word) => word.parse().expect("a number"),
+        None => otherwise,
     };
-    let (seconds, seed) = (number(60), number(1));
-    let mut random = Random::new(seed);
+    let (seconds, mut random) = (number(0, 60), Random::new(number(1, 1)));
+    let by_stack = words.get(2).is_some_and(|word| word == "stack");
+    let (price, unit): (Price, &str) = if by_stack {
+        (stack, "bytes")
+    } else {
+        (time, "ns")
+    };
     let cases = [worst::sheets(), slow::sheets()].concat();
     let known = cases.into_iter().map(|case| case.sheet);
     let usual = sheets::accepted().map(String::into_bytes);
     let mut kept = Vec::new();
     for sheet in known.chain(usual) {
-        keep(&mut kept, (time(&sheet, 5), sheet));
+        keep(&mut kept, (price(&sheet, 5), sheet));
     }
-    println!("the slowest known: {:.2?}", kept[0].0);
+    println!("the dearest known: {} {unit}", kept[0].0);
     let (end, mut tried) = (Instant::now() + Duration::from_secs(seconds), 0);
     while Instant::now() < end {
         let sheet = changed(&mut random, &kept);
         tried += 1;
         let fewest = kept[kept.len() - 1].0;
-        if time(&sheet, 1) > fewest && time(&sheet, 5) > fewest {
-            let taken = time(&sheet, 5);
-            if taken > kept[0].0 {
-                println!("{taken:.2?}");
+        if price(&sheet, 1) > fewest && price(&sheet, 5) > fewest {
+            let found = price(&sheet, 5);
+            if found > kept[0].0 {
+                println!("{found} {unit}");
             }
-            keep(&mut kept, (taken, sheet));
+            keep(&mut kept, (found, sheet));
         }
     }
-    let (taken, sheet) = &kept[0];
-    let answer = reader::make_table(sheet)
-        .map_or_else(|n| format!("refused {n}"), |f| format!("{} bytes", f.len()));
-    println!("{tried} tried; the slowest takes {taken:.2?}, {answer}:");
+    let (found, sheet) = &kept[0];
+    let answer = match reader::make_table(sheet) {
+        Ok(file) => format!("a file of {} bytes", file.len()),
+        Err(number) => format!("refused {number}"),
+    };
+    println!("{tried} tried; the dearest costs {found} {unit}, {answer}:");
     println!("{}", String::from_utf8_lossy(sheet));
 }

@@ -14,7 +14,8 @@ pub fn sheets() -> Vec<Case> {
         shared_lefts(),
         alternatives("a", 255),
         alternatives("a.X.a.X", 60),
-        behind_deltas(),
+        behind_deltas(0),
+        behind_deltas(15),
         deltas_everywhere(),
         nested_tests(),
         deep_left(),
@@ -67,11 +68,13 @@ fn alternatives(head: &str, count: usize) -> Case {
     Case::new(&format!("{count} alternatives {head}"), sheet, 0)
 }
 
-/// One head behind much that has none, called again and again.
-fn behind_deltas() -> Case {
-    let (calls, idle) = (repeated("Y", 254, "+"), "delta+".repeat(580));
-    let sheet = format!("act a;proc X={calls};proc Y={idle}a;init X;");
-    Case::new("a head behind 580 deltas, called 254 times", sheet, 0)
+/// One head behind much that has none, in brackets, called again and again.
+fn behind_deltas(brackets: usize) -> Case {
+    let (calls, idle) = (repeated("Y", 254, "+"), repeated("D", 1600, "+"));
+    let (open, close) = ("(".repeat(brackets), ")+D".repeat(brackets));
+    let sheet = format!("act a;proc X={calls};proc Y={open}{idle}{close}+a;proc D=delta;init X;");
+    let what = format!("a head behind 1,600 calls in {brackets} brackets, called 254 times");
+    Case::new(&what, sheet, 0)
 }
 
 /// A line of processes, each with much that has no heads.
