@@ -6,12 +6,14 @@ use Prim.Native.Nat.{ℕ, _+_, _-_, _<_, _≤_}
 use native.Mathlib.Omega.{arith}
 use lib.ListN.{length, drop, getD, length-append}
 use Rattle.pcrl.specs.Sheet.{Proc, delta, atom, alt, cond, sum, seq, call}
+use Rattle.pcrl.specs.Parts.{new-count}
 use Rattle.nodes.specs.declared.Node.{Node}
 use Rattle.nodes.specs.declared.Skipped.{Skipped}
 use Rattle.nodes.specs.Layout.{Item, enc, encs, seq-kind}
-use Rattle.nodes.specs.Nodes.{kind-of, node-number, node-kids}
+use Rattle.nodes.specs.Nodes.{kind-of, node-own, node-number, node-kids}
 use Rattle.nodes.specs.Views.{Views, Skips}
 use Rattle.nodes.proofs.Nodes.{one-item, items-end}
+use Rattle.nodes.proofs.NewParts.{new-all, new-open}
 use Rattle.counting.specs.declared.Counted.{Counted}
 use Rattle.counting.specs.Limits.{most-heads, cut}
 use Rattle.counting.specs.Count.{count-by, count-all, count-own, count-open, is-seq, cut-sum, cut-cut}
@@ -32,36 +34,39 @@ module _ (K : List ℕ) where
   leaf-right (seq p q) = refl
   leaf-right (call k ds) = refl
 
-  abbrev pub CountLeft : List ℕ → ℕ → ℕ → ℕ → ℕ → Type 0
-  CountLeft s at p need n =
+  abbrev pub CountLeft : List ℕ → ℕ → ℕ → ℕ → ℕ → ℕ → Type 0
+  CountLeft s at p need n m =
       (b : Bool) (q : Proc) (rest : List ℕ) → drop at s ≡ enc b q ++ rest
-      → (xs : List Item) × (length xs ≡ need) × (drop p s ≡ encs xs ++ rest) × (cut (n + count-all look-count xs) ≡ cut (count-by look-count q))
+      → (xs : List Item) × (length xs ≡ need) × (drop p s ≡ encs xs ++ rest) × (cut (n + count-all look-count xs) ≡ cut (count-by look-count q)) × (cut (m + new-all xs) ≡ cut (new-count b q))
 
-  pub count-start : (s : List ℕ) (at : ℕ) → CountLeft s at at 1 0
-  unfolding count-all
-  count-start s at b q rest e = let z : 0 + (count-by look-count q + 0) ≡ count-by look-count q = omega arith in ((b, q) ∷ [], refl, e ∙ one-item b q rest, ap cut z)
+  pub count-start : (s : List ℕ) (at : ℕ) → CountLeft s at at 1 0 0
+  unfolding count-all new-all
+  count-start s at b q rest e = let z : 0 + (count-by look-count q + 0) ≡ count-by look-count q = omega arith in
+      let y : 0 + (new-count b q + 0) ≡ new-count b q = omega arith in ((b, q) ∷ [], refl, e ∙ one-item b q rest, ap cut z, ap cut y)
 
-  module _ (s : List ℕ) (at p need n : ℕ) (left : CountLeft s at p need n) where
+  module _ (s : List ℕ) (at p need n m : ℕ) (left : CountLeft s at p need n m) where
     pub count-stuck : length s ≤ p → 0 < need → (r : Counted) → Counts s K at r
     count-stuck h k r b q rest e = let v = left b q rest e in absurd (items-end s p h (v .0) rest (omega (arith, v .1)) (v .2))
 
-    pub count-done : need ≡ 0 → n ≤ most-heads → Counts s K at (record { next = p; heads = n })
-    unfolding encs count-all cut
-    count-done z small b q rest e = go (left b q rest e .0) (left b q rest e .1) (left b q rest e .2) (left b q rest e .3)
+    pub count-done : need ≡ 0 → n ≤ most-heads → m ≤ most-heads → Counts s K at (record { next = p; heads = n; own = m })
+    unfolding encs count-all new-all cut
+    count-done z small low b q rest e = go (left b q rest e .0) (left b q rest e .1) (left b q rest e .2) (left b q rest e .3) (left b q rest e .4)
       where
-        go : (xs : List Item) → length xs ≡ need → drop p s ≡ encs xs ++ rest → cut (n + count-all look-count xs) ≡ cut (count-by look-count q)
-            → (n ≡ cut (count-by look-count q)) × (drop p s ≡ rest)
-        go [] a f g = let y : n ≡ cut (n + 0) = omega arith in (y ∙ g, f)
-        go (x ∷ xs) a f g = absurd (omega arith)
+        go : (xs : List Item) → length xs ≡ need → drop p s ≡ encs xs ++ rest → cut (n + count-all look-count xs) ≡ cut (count-by look-count q) → cut (m + new-all xs) ≡ cut (new-count b q)
+            → (n ≡ cut (count-by look-count q)) × (drop p s ≡ rest) × (m ≡ cut (new-count b q))
+        go [] a f g h = let y : n ≡ cut (n + 0) = omega arith in
+            let w : m ≡ cut (m + 0) = omega arith in (y ∙ g, f, w ∙ h)
+        go (x ∷ xs) a f g h = absurd (omega arith)
 
-    pub count-step : 0 < need → (d : Node) → Views s p d → (d .kind ≡ seq-kind → ⊥) → CountLeft s at (d .next) (need - 1 + d .kids) (cut (n + leaf-of K (d .kind) (d .number)))
-    count-step k d vw other b q rest e = go (left b q rest e .0) (left b q rest e .1) (left b q rest e .2) (left b q rest e .3)
+    pub count-step : 0 < need → (d : Node) → Views s p d → (d .kind ≡ seq-kind → ⊥) → CountLeft s at (d .next) (need - 1 + d .kids) (cut (n + leaf-of K (d .kind) (d .number))) (cut (m + d .own))
+    count-step k d vw other b q rest e = go (left b q rest e .0) (left b q rest e .1) (left b q rest e .2) (left b q rest e .3) (left b q rest e .4)
       where
-        go : (xs : List Item) → length xs ≡ need → drop p s ≡ encs xs ++ rest → cut (n + count-all look-count xs) ≡ cut (count-by look-count q)
+        go : (xs : List Item) → length xs ≡ need → drop p s ≡ encs xs ++ rest → cut (n + count-all look-count xs) ≡ cut (count-by look-count q) → cut (m + new-all xs) ≡ cut (new-count b q)
             → (xs : List Item) × (length xs ≡ need - 1 + d .kids) × (drop (d .next) s ≡ encs xs ++ rest)
             × (cut (cut (n + leaf-of K (d .kind) (d .number)) + count-all look-count xs) ≡ cut (count-by look-count q))
-        go [] a f g = absurd (omega arith)
-        go ((b′, x) ∷ xs) a f g =
+            × (cut (cut (m + d .own) + new-all xs) ≡ cut (new-count b q))
+        go [] a f g h = absurd (omega arith)
+        go ((b′, x) ∷ xs) a f g h =
             let o = vw b′ x xs rest f in
             let l : leaf-of K (d .kind) (d .number) ≡ count-own look-count x = ap₂ (leaf-of K) (o .kind-is) (o .number-is) ∙ leaf-right x in
             let u : count-all look-count ((b′, x) ∷ xs) ≡ count-own look-count x + count-all look-count (node-kids b′ x ++ xs) = count-open look-count b′ x xs (λ z. other (o .kind-is ∙ z)) in
@@ -70,28 +75,41 @@ module _ (K : List ℕ) where
               rw (length-append (node-kids b′ x) xs, ← o .kids-is) (omega arith),
               o .next-is,
               cut-sum _ (count-all look-count (node-kids b′ x ++ xs)) _ _ (cut-cut (n + leaf-of K (d .kind) (d .number))) refl ∙ ap cut w ∙ g,
+              (let v : m + d .own + new-all (node-kids b′ x ++ xs) ≡ m + new-all ((b′, x) ∷ xs) = omega (arith, o .own-is, new-open b′ x xs) in
+                  cut-sum _ (new-all (node-kids b′ x ++ xs)) _ _ (cut-cut (m + d .own)) refl ∙ ap cut v ∙ h),
             )
 
     pub count-seq : 0 < need → (d : Node) → Views s p d → d .kind ≡ seq-kind → (a : Counted) (k : Skipped) → Counts s K (d .next) a → Skips s (a .next) k
-        → CountLeft s at (k .next) (need - 1) (cut (n + a .heads))
-    unfolding encs node-kids count-all count-by
-    count-seq pos d vw ten a k ha hk b q rest e = go (left b q rest e .0) (left b q rest e .1) (left b q rest e .2) (left b q rest e .3)
+        → CountLeft s at (k .next) (need - 1) (cut (n + a .heads)) (cut (m + cut (a .own + k .own)))
+    unfolding encs node-kids node-own count-all count-by new-all
+    count-seq pos d vw ten a k ha hk b q rest e = go (left b q rest e .0) (left b q rest e .1) (left b q rest e .2) (left b q rest e .3) (left b q rest e .4)
       where
         shape : (b′ : Bool) (xs : List Item) (y z : Proc) → drop (d .next) s ≡ encs ((b′, y) ∷ (true, z) ∷ xs) ++ rest
-            → (a .heads ≡ cut (count-by look-count y)) × (drop (k .next) s ≡ encs xs ++ rest)
+            → (a .heads ≡ cut (count-by look-count y)) × (drop (k .next) s ≡ encs xs ++ rest) × (cut (a .own + k .own) ≡ cut (new-count b′ (seq y z)))
         shape b′ xs y z f =
             let f₁ : drop (d .next) s ≡ enc b′ y ++ (enc true z ++ (encs xs ++ rest)) = f ∙ simp append-assoc in
             let h₁ = ha b′ y (enc true z ++ (encs xs ++ rest)) f₁ in
-            (h₁ .0, hk true z (encs xs ++ rest) (h₁ .1) .1)
+            let h₂ = hk true z (encs xs ++ rest) (h₁ .1) in
+            let w : new-count b′ (seq y z) ≡ new-count b′ y + new-count true z = (let v = new-open b′ (seq y z) [] in omega arith) in
+            (h₁ .0, h₂ .1, cut-sum (a .own) (k .own) (new-count b′ y) (new-count true z) (ap cut (h₁ .2) ∙ cut-cut (new-count b′ y)) (ap cut (h₂ .0)) ∙ ap cut (sym w))
 
-        go : (xs : List Item) → length xs ≡ need → drop p s ≡ encs xs ++ rest → cut (n + count-all look-count xs) ≡ cut (count-by look-count q)
+        go : (xs : List Item) → length xs ≡ need → drop p s ≡ encs xs ++ rest → cut (n + count-all look-count xs) ≡ cut (count-by look-count q) → cut (m + new-all xs) ≡ cut (new-count b q)
             → (xs : List Item) × (length xs ≡ need - 1) × (drop (k .next) s ≡ encs xs ++ rest) × (cut (cut (n + a .heads) + count-all look-count xs) ≡ cut (count-by look-count q))
-        go [] c f g = absurd (omega arith)
-        go ((b′, x) ∷ xs) c f g =
+            × (cut (cut (m + cut (a .own + k .own)) + new-all xs) ≡ cut (new-count b q))
+        go [] c f g j = absurd (omega arith)
+        go ((b′, x) ∷ xs) c f g j =
             let o = vw b′ x xs rest f in
             let i = is-seq x (sym (o .kind-is) ∙ ten) in
             let h = shape b′ xs (i .0) (i .1) (o .next-is ∙ ap (λ (w : Proc). encs (node-kids b′ w ++ xs) ++ rest) (i .2)) in
             let u : cut (a .heads) ≡ cut (count-by look-count x) = ap cut (h .0) ∙ cut-cut (count-by look-count (i .0)) ∙ ap (λ (w : Proc). cut (count-by look-count w)) (sym (i .2)) in
             let w : cut (cut (n + a .heads)) ≡ cut (n + count-by look-count x) = cut-cut (n + a .heads) ∙ cut-sum n (a .heads) n (count-by look-count x) refl u in
             let z : n + count-by look-count x + count-all look-count xs ≡ n + (count-by look-count x + count-all look-count xs) = omega arith in
-            (xs, omega arith, h .1, cut-sum (cut (n + a .heads)) (count-all look-count xs) (n + count-by look-count x) (count-all look-count xs) w refl ∙ ap cut z ∙ g)
+            let y : cut (cut (a .own + k .own)) ≡ cut (new-count b′ x) = cut-cut (a .own + k .own) ∙ h .2 ∙ ap (λ (q : Proc). cut (new-count b′ q)) (sym (i .2)) in
+            let v : cut (cut (m + cut (a .own + k .own))) ≡ cut (m + new-count b′ x) = cut-cut (m + cut (a .own + k .own)) ∙ cut-sum m (cut (a .own + k .own)) m (new-count b′ x) refl y in
+            let r : m + new-count b′ x + new-all xs ≡ m + (new-count b′ x + new-all xs) = omega arith in (
+              xs,
+              omega arith,
+              h .1,
+              cut-sum (cut (n + a .heads)) (count-all look-count xs) (n + count-by look-count x) (count-all look-count xs) w refl ∙ ap cut z ∙ g,
+              cut-sum (cut (m + cut (a .own + k .own))) (new-all xs) (m + new-count b′ x) (new-all xs) v refl ∙ ap cut r ∙ j,
+            )

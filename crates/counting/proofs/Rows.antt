@@ -14,7 +14,7 @@ use Rattle.counting.specs.declared.Counted.{Counted}
 use Rattle.counting.specs.Limits.{row-width, counts-room, cut, row}
 use Rattle.counting.specs.Count.{count-by, cut-cut, cut-known}
 use Rattle.counting.specs.Heads.{called}
-use Rattle.counting.specs.Counting.{Counts, Placed, Tallied}
+use Rattle.counting.specs.Counting.{Counts, Placed, Tallied, SameRows, Repeated}
 
 pub row-at : (base : ℕ) (l : List ℕ) (k : ℕ) → k < row-width → getD (row base l) k 0 ≡ getD l (base + k) 0
 unfolding row
@@ -96,6 +96,33 @@ module _ (H : Sheet) (few : length (H .procs) ≤ row-width) where
           let z : j ≡ row-width * (f + 1) + (j - row-width * (f + 1)) = omega arith in
           ap (λ (x : ℕ). getD t x 0) z ∙ g .zeros (j - row-width * (f + 1)) (omega arith)
 
+  -- the rows from f on are all like row f
+  abbrev pub Steady : ℕ → Type 0
+  Steady f = (g : ℕ) × (f ≡ suc g) × ((k : ℕ) → cut (called H (suc g) k) ≡ cut (called H g k))
+
+  pub steady-first : (f : ℕ) (t : List ℕ) → Tallied H (f + 1) t → SameRows t f → Steady (f + 1)
+  steady-first f t tl same = (f, add-one f, λ k. go k (lt-or-le k row-width))
+    where
+      go : (k : ℕ) → (k < row-width) ⊎ (row-width ≤ k) → cut (called H (suc f) k) ≡ cut (called H f k)
+      go k (inl a) = sym (tl .rows (suc f) (omega arith) k a) ∙ (let z : row-width * suc f + k ≡ row-width * (f + 1) + k = omega arith in ap (λ (x : ℕ). getD t x 0) z) ∙ same k a ∙ tl .rows f (omega arith) k a
+      go k (inr a) = ap cut (none-past (suc f) k (omega arith)) ∙ sym (ap cut (none-past f k (omega arith)))
+
+  steady-same : (f : ℕ) → Steady f → (k : ℕ) → cut (called H (suc f) k) ≡ cut (called H f k)
+  unfolding called
+  steady-same f s = subst (λ (h : ℕ). (k : ℕ) → cut (called H (suc h) k) ≡ cut (called H h k)) (sym (s .1)) (λ k. cut-known (called H (suc (s .0))) (called H (s .0)) (s .2) (right H k))
+
+  pub steady-next : (f : ℕ) → Steady f → Steady (f + 1)
+  steady-next f s = (f, add-one f, steady-same f s)
+
+  pub tallied-again : (f : ℕ) (o t : List ℕ) → Tallied H f o → Steady f → Repeated f o t row-width → Tallied H (f + 1) t
+  tallied-again f o t tl s rp = record { rows = λ h l k w. row-of h l k w (lt-or-le h (f + 1)); zeros = λ j l. rp .after j (omega arith) ∙ tl .zeros j (omega arith) }
+    where
+      row-of : (h : ℕ) → h ≤ f + 1 → (k : ℕ) → k < row-width → (h < f + 1) ⊎ (f + 1 ≤ h) → getD t (row-width * h + k) 0 ≡ cut (called H h k)
+      row-of h l k w (inl a) = rp .before (row-width * h + k) (omega arith) ∙ tl .rows h (omega arith) k w
+      row-of h l k w (inr a) =
+          let z : h ≡ f + 1 = omega arith in
+          subst (λ (x : ℕ). getD t (row-width * x + k) 0 ≡ cut (called H x k)) (sym z) (rp .done k w ∙ tl .rows f (omega arith) k w ∙ sym (steady-same f s k) ∙ ap (λ (x : ℕ). cut (called H x k)) (sym (add-one f)))
+
   pub tallied-none : (l : List ℕ) → ((j : ℕ) → getD l j 0 ≡ 0) → Tallied H 0 l
   unfolding called cut
   tallied-none l z = record { rows = λ g h k w. z (row-width * g + k) ∙ zero-row g k (omega arith); zeros = λ j h. z j }
@@ -110,3 +137,27 @@ zeros-none n k = go (lt-or-le k n)
     go : (k < n) ⊎ (n ≤ k) → _≡_ {A = ℕ} (getD (replicate n 0) k 0) 0
     go (inl h) = getD-replicate n k 0 0 h
     go (inr h) = (let z : length (replicate {A = ℕ} n 0) ≤ k = omega (arith, length-replicate {A = ℕ} n 0) in List·getD-eq-default (replicate {A = ℕ} n 0) 0 z)
+
+-- A ROW ONCE MORE
+
+pub repeated-none : (f : ℕ) (o : List ℕ) → Repeated f o o 0
+repeated-none f o = record { done = λ j h. absurd (omega arith); before = λ j h. refl; after = λ j h. refl }
+
+pub repeated-more : (f : ℕ) (o t : List ℕ) (k : ℕ) → k < row-width → row-width * (f + 1) + k < length t → Repeated f o t k → Repeated f o (set t (row-width * (f + 1) + k) (getD t (row-width * f + k) 0)) (k + 1)
+repeated-more f o t k kl inside r = record {
+  done = λ j h. low j h (ℕ-discrete j k);
+  before = λ j h. getD-set-other t (row-width * (f + 1) + k) j (getD t (row-width * f + k) 0) 0 (λ e. omega arith) ∙ r .before j h;
+  after = λ j h. getD-set-other t (row-width * (f + 1) + k) j (getD t (row-width * f + k) 0) 0 (λ e. omega arith) ∙ r .after j (omega arith);
+}
+  where
+    low : (j : ℕ) → j < k + 1 → Dec (j ≡ k) → getD (set t (row-width * (f + 1) + k) (getD t (row-width * f + k) 0)) (row-width * (f + 1) + j) 0 ≡ getD o (row-width * f + j) 0
+    low j h (yes e) = rw e (getD-set-same t (row-width * (f + 1) + k) (getD t (row-width * f + k) 0) 0 inside ∙ r .before (row-width * f + k) (omega arith))
+    low j h (no ne) = getD-set-other t (row-width * (f + 1) + k) (row-width * (f + 1) + j) (getD t (row-width * f + k) 0) 0 (λ e. ne (omega arith)) ∙ r .done j (let z : j ≢ k = ne in omega arith)
+
+pub same-more : (t : List ℕ) (f k : ℕ) → ((j : ℕ) → j < k → getD t (row-width * (f + 1) + j) 0 ≡ getD t (row-width * f + j) 0) → getD t (row-width * (f + 1) + k) 0 ≡ getD t (row-width * f + k) 0
+    → (j : ℕ) → j < k + 1 → getD t (row-width * (f + 1) + j) 0 ≡ getD t (row-width * f + j) 0
+same-more t f k done e j h = go (ℕ-discrete j k)
+  where
+    go : Dec (j ≡ k) → getD t (row-width * (f + 1) + j) 0 ≡ getD t (row-width * f + j) 0
+    go (yes z) = subst (λ (i : ℕ). getD t (row-width * (f + 1) + i) 0 ≡ getD t (row-width * f + i) 0) (sym z) e
+    go (no z) = done j (let y : j ≢ k = z in omega arith)

@@ -6,7 +6,7 @@ use Prim.Native.Nat.{ℕ, _+_, _*_, _≤_, _<_}
 use lib.Dec.{eqb}
 use lib.ListN.{length, drop, getD}
 use Rattle.pcrl.specs.Sheet.{Data, Proc, Sheet, right}
-use Rattle.pcrl.specs.Parts.{first-new}
+use Rattle.pcrl.specs.Parts.{new-count, first-new}
 use Rattle.pcrl.specs.Heads.{heads}
 use Rattle.nodes.specs.Layout.{enc, atom-kind, call-kind}
 use Rattle.counting.specs.declared.Counted.{Counted}
@@ -22,10 +22,10 @@ pick false x y = y
 unfoldable pub leaf-of : List ℕ → ℕ → ℕ → ℕ
 leaf-of K kind number = pick (eqb kind atom-kind) 1 (pick (eqb kind call-kind) (getD K number 0) 0)
 
--- the heads of a term, where K has those of the processes
+-- the heads and the new equations of a term, where K has the heads of the processes
 abbrev pub Counts : List ℕ → List ℕ → ℕ → Counted → Type 0
 Counts cells K at r = (b : Bool) (p : Proc) (rest : List ℕ) → drop at cells ≡ enc b p ++ rest
-    → (r .heads ≡ cut (count-by (λ k. getD K k 0) p)) × (drop (r .next) cells ≡ rest)
+    → (r .heads ≡ cut (count-by (λ k. getD K k 0) p)) × (drop (r .next) cells ≡ rest) × (r .own ≡ cut (new-count b p))
 
 -- the right sides of a sheet's processes stand in the cells
 abbrev pub Placed : Sheet → List ℕ → List ℕ → Type 0
@@ -35,6 +35,15 @@ Placed H cells starts = (k : ℕ) → k < length (H .procs) → (rest : List ℕ
 pub record Tallied (H : Sheet) (f : ℕ) (counts : List ℕ) : Type 0 where
   pub rows : (g : ℕ) → g ≤ f → (k : ℕ) → k < row-width → getD counts (row-width * g + k) 0 ≡ cut (called H g k)
   pub zeros : (j : ℕ) → row-width * (f + 1) ≤ j → getD counts j 0 ≡ 0
+
+abbrev pub SameRows : List ℕ → ℕ → Type 0
+SameRows t f = (k : ℕ) → k < row-width → getD t (row-width * (f + 1) + k) 0 ≡ getD t (row-width * f + k) 0
+
+-- the first k of row f stand in row f + 1 too, and nothing else is changed
+pub record Repeated (f : ℕ) (o t : List ℕ) (k : ℕ) : Type 0 where
+  pub done : (j : ℕ) → j < k → getD t (row-width * (f + 1) + j) 0 ≡ getD o (row-width * f + j) 0
+  pub before : (j : ℕ) → j < row-width * (f + 1) → getD t j 0 ≡ getD o j 0
+  pub after : (j : ℕ) → row-width * (f + 1) + k ≤ j → getD t j 0 ≡ getD o j 0
 
 -- what the counts mean: how many heads the right side of process k has, where f calls may be followed from it
 abbrev pub HeadsCounted : Sheet → ℕ → List ℕ → Type 0

@@ -4,9 +4,9 @@ use mathlib.Core.List.{List}
 use lib.ListN.{take, drop}
 use Rattle.pcrl.specs.Limits.{max-processes}
 
--- more heads than this are not told apart; a summand has at least four bytes, so they fill no stream
+-- from this on counts are not told apart: a table has fewer summands and fewer equations
 abbrev pub most-heads : ℕ
-most-heads = 65535
+most-heads = 256
 
 -- a row of counts for each number of calls that may still be followed, from none to one more than there are processes
 abbrev pub row-width : ℕ

@@ -1,23 +1,25 @@
 // Heads counted, without writing any.
 ghost use mathlib.Core.Path.{_≡_};
+ghost use mathlib.Core.Bool.{true};
 ghost use Prim.Native.Nat.{ℕ, _+_, _*_, _≤_, _<_};
 ghost use lib.ListN.{length, getD};
 ghost use Rattle.pcrl.specs.Sheet.{Sheet};
 ghost use Rattle.nodes.specs.Layout.{cell-limit};
 ghost use Rattle.counting.specs.Limits.{most-heads, row-width, max-fuel, counts-room, cut, row};
-ghost use Rattle.counting.specs.Counting.{leaf-of, Counts, Placed, Tallied};
+ghost use Rattle.counting.specs.Counting.{leaf-of, Counts, Placed, Tallied, SameRows, Repeated};
 
-pub const MOST: usize = 65535;
+pub const MOST: usize = 256;
 
 // A row of counts for each number of calls that may be followed, as in Limits.
 pub const ROW: usize = 16;
 
 pub const ROOM: usize = 288;
 
-// How many heads a term has, and the place after it.
+// How many heads and new equations a term has, and the place after it.
 pub struct Counted {
     pub next: usize,
     pub heads: usize,
+    pub own: usize,
 }
 
 // The counts of all processes, in rows.
@@ -26,9 +28,12 @@ pub struct Tally {
 }
 
 fn add(a: usize, b: usize) -> usize
-    requires { ⌜ (a ≤ most-heads) × (b < cell-limit) ⌝ }
+    requires { ⌜ a ≤ most-heads ⌝ }
     ensures { λ r. ⌜ (r ≡ cut (a + b)) × (r ≤ most-heads) ⌝ }
 {
+    if b >= MOST {
+        return MOST;
+    }
     let s = a + b;
     if s < MOST { s } else { MOST }
 }
@@ -58,34 +63,45 @@ fn leaf(counts: &[u16], base: usize, kind: usize, number: usize) -> usize
     0
 }
 
-// How many heads a term has, given those of each process: a loop over what is left of it.
+// How many heads and new equations a term has, given the heads of each process: a loop over what is left of it.
 // Of a sequence the first part is counted and the rest is passed; only brackets go deeper.
 pub fn count(cells: &[u16], at: usize, counts: &[u16], base: usize) -> Counted
     requires { ⌜ base < cell-limit ⌝ }
-    ensures { λ r. ⌜ (at ≤ r .next) × (r .heads ≤ most-heads) ⌝ }
+    ensures { λ r. ⌜ (at ≤ r .next) × (r .heads ≤ most-heads) × (r .own ≤ most-heads) ⌝ }
     ensures { λ r. ⌜ Counts (now (cells .entry)) (row base (now (counts .entry))) at r ⌝ }
 {
     let mut p = at;
     let mut need: usize = 1;
     let mut n: usize = 0;
+    let mut m: usize = 0;
     while need > 0 {
         if p >= cells.len() {
-            return Counted { next: p, heads: n };
+            return Counted {
+                next: p,
+                heads: n,
+                own: m,
+            };
         }
         let d = nodes::node_at(cells, p);
         if d.kind == nodes::SEQ {
             let a = count(cells, d.next, counts, base);
             let b = nodes::skip(cells, a.next);
             n = add(n, a.heads);
+            m = add(m, add(a.own, b.own));
             need -= 1;
             p = b.next;
             continue;
         }
         n = add(n, leaf(counts, base, d.kind, d.number));
+        m = add(m, d.own);
         need = need - 1 + d.kids;
         p = d.next;
     }
-    Counted { next: p, heads: n }
+    Counted {
+        next: p,
+        heads: n,
+        own: m,
+    }
 }
 
 // One row more: calls followed once more.
@@ -106,7 +122,37 @@ fn round(cells: &[u16], starts: &[u16], n: usize, f: usize, old: Tally) -> Tally
     Tally { at: t }
 }
 
-// The rows 0 to `times`.
+// Are the rows f and f + 1 the same?
+fn same_rows(t: &[u16], f: usize) -> bool
+    requires { ⌜ f < max-fuel ⌝ }
+    ensures { λ r. ⌜ (r ≡ true → SameRows (now (t .entry)) f) ⌝ }
+{
+    let mut k: usize = 0;
+    while k < ROW {
+        if nodes::cell(t, ROW * (f + 1) + k) != nodes::cell(t, ROW * f + k) {
+            return false;
+        }
+        k += 1;
+    }
+    true
+}
+
+// The row f once more.
+fn repeat(f: usize, old: Tally) -> Tally
+    requires { ⌜ (f < max-fuel) × (length (old .at) ≡ counts-room) ⌝ }
+    ensures { λ r. ⌜ length (r .at) ≡ counts-room ⌝ }
+    ensures { λ r. ⌜ Repeated f (old .at) (r .at) row-width ⌝ }
+{
+    let mut t = old.at;
+    let mut k: usize = 0;
+    while k < ROW {
+        t[ROW * (f + 1) + k] = t[ROW * f + k];
+        k += 1;
+    }
+    Tally { at: t }
+}
+
+// The rows 0 to `times`. Once a row is like the one before it, so are those after it.
 pub fn rounds(cells: &[u16], starts: &[u16], n: usize, times: usize) -> Tally
     requires { ⌜ (n ≤ row-width) × (times ≤ max-fuel) ⌝ }
     ensures { λ r. ⌜ length (r .at) ≡ counts-room ⌝ }
@@ -114,8 +160,16 @@ pub fn rounds(cells: &[u16], starts: &[u16], n: usize, times: usize) -> Tally
 {
     let mut t = Tally { at: [0u16; ROOM] };
     let mut f: usize = 0;
+    let mut still = false;
     while f < times {
+        if still {
+            t = repeat(f, t);
+            f += 1;
+            continue;
+        }
         t = round(cells, starts, n, f, t);
+        let o = t.at;
+        still = same_rows(&o, f);
         f += 1;
     }
     t

@@ -2,7 +2,7 @@
 ghost use mathlib.Core.Path.{_≡_};
 ghost use mathlib.Core.Bool.{true};
 ghost use Prim.Native.Nat.{_+_, _*_, _≤_, _<_};
-ghost use lib.ListN.{length, take};
+ghost use lib.ListN.{length, take, drop};
 ghost use Rattle.pcrl.specs.Limits.{max-calls};
 ghost use Rattle.nodes.specs.Layout.{byte-limit};
 ghost use Rattle.nodes.specs.Scoped.{max-scope};
@@ -193,6 +193,7 @@ pub fn push_calls(
     requires { ⌜ (c < byte-limit) × (n ≤ max-scope) × (slot-width * n ≤ length (now slots)) × (nk ≤ max-calls) × (calls-room ≤ length (now after)) × (top ≤ length (now calls)) × (calls-room ≤ top + call-bytes * nk) ⌝ }
     ensures { λ r. ⌜ (r .n ≤ max-calls) × (r .top ≤ length (now (calls .entry))) × (calls-room ≤ r .top + call-bytes * r .n) ⌝ }
     ensures { λ r. ⌜ Pushes (now (cells .entry)) at c (now (slots .entry)) n nk (now (calls .entry)) top r (now (calls .exit)) ⌝ }
+    ensures { λ r. ⌜ (r .top ≤ top) × (drop top (now (calls .exit)) ≡ drop top (now (calls .entry))) ⌝ }
 {
     let r = put_calls(cells, at, c, slots, n, MAX_CALLS - nk, &mut *after);
     if !r.ok {

@@ -19,7 +19,7 @@ use Rattle.nodes.specs.Held.{HeldProcs, ProcAt}
 use Rattle.counting.specs.Counting.{Placed, Tallied, FirstNew}
 use Rattle.putting.specs.Slots.{Writable, WritableArguments}
 use Rattle.following.specs.Fine.{Fine, Few}
-use Rattle.heads.specs.Spots.{Ready}
+use Rattle.contexts.specs.Spots.{Ready}
 
 -- sizes of sorts, functions, actions and sorts are few
 pub record Small (S : Sig) : Type 0 where
@@ -114,6 +114,7 @@ unfolding right params
 ready H procs cells starts n F counts firsts held sorted few equations tl fn = record {
   placed = λ k h. at k h .right;
   procs-few = omega (arith, held .proc-count, held .few-procs);
+  params-four = λ k h. at k h .few;
   few = record { procs-few = omega (arith, held .proc-count, held .few-procs); params-few = λ k h. omega (arith, at k h .few) };
   tallied = tl;
   first-new-are = fn;

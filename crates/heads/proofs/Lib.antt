@@ -1,12 +1,4 @@
-pub mod Unfold
-pub mod Sides
-pub mod Down
-pub mod Choice
-pub mod Sequence
-pub mod Following
-pub mod Pieces
-pub mod Weights
-pub mod Several
 pub mod Accepted
-pub mod Numbers
 pub mod Parameters
+pub mod Walking
+pub mod Numbers

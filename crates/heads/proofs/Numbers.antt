@@ -2,14 +2,13 @@
 use mathlib.Core.Path.{_≡_, refl, sym, ap, _∙_, subst}
 use mathlib.Core.List.{List, [], _∷_, _++_}
 use mathlib.Core.Logic.{_≢_}
-use mathlib.Core.Bool.{Bool, true, false}
-use Prim.Native.Nat.{ℕ, zero, suc, _+_, _-_, _*_, _%_, _<_, _≤_, min}
+use mathlib.Core.Bool.{false}
+use Prim.Native.Nat.{ℕ, zero, suc, _+_, _-_, _%_, _<_, _≤_}
 use native.Mathlib.Numerals.{add-one}
 use native.Mathlib.Omega.{arith}
 use native.Mathlib.Decide.{ℕ-discrete}
 use lib.ListN.{length, drop, take, getD, set, length-set}
 use lib.Seq.{getD-set-same, getD-set-other}
-use Rattle.pcrl.specs.Tests.{Every}
 use Rattle.pcrl.specs.Reader.{all}
 use Rattle.pcrl.specs.Sheet.{Process, Sheet, right, no-process}
 use Rattle.pcrl.specs.Parts.{new-count, all-new-parts, first-new}
@@ -18,10 +17,9 @@ use Rattle.pcrl.specs.Heads.{heads}
 use Rattle.nodes.specs.declared.Skipped.{Skipped}
 use Rattle.nodes.specs.Layout.{byte-limit}
 use Rattle.nodes.specs.Views.{Skips}
-use Rattle.counting.specs.Limits.{most-heads, row-width, cut}
-use Rattle.counting.specs.Counting.{Placed, FirstNew}
+use Rattle.counting.specs.Limits.{cut}
+use Rattle.counting.specs.Counting.{Placed}
 use Rattle.putting.specs.declared.Done.{Done}
-use Rattle.putting.specs.Slots.{Adds}
 use Rattle.putting.proofs.Bytes.{cell-more, adds-then}
 use Rattle.putting.proofs.PutLaws.{never}
 use Rattle.heads.specs.Writing.{HeadsWritten, HeadsCounted, SummandsWritten, NumbersFirst}

@@ -27,8 +27,7 @@ use Rattle.counting.proofs.Rows.{row-counts}
 use Rattle.putting.specs.Slots.{slot-width, Slot, Slots}
 use Rattle.putting.proofs.PutLaws.{never}
 use Rattle.putting.proofs.Several.{slot-kept}
-use Rattle.heads.specs.declared.Side.{Side}
-use Rattle.heads.specs.Steps.{BytePut, param-of}
+use Rattle.heads.specs.Writing.{BytePut, param-of}
 use Rattle.nodes.specs.Bits.{odd}
 use Rattle.marking.specs.Marks.{bits}
 

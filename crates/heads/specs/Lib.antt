@@ -1,3 +1,1 @@
-pub mod Spots
-pub mod Steps
 pub mod Writing

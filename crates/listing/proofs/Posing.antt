@@ -22,7 +22,7 @@ use Rattle.nodes.specs.Held.{HeldProcs, ProcAt}
 use Rattle.counting.specs.Counting.{Tallied, FirstNew}
 use Rattle.counting.specs.Counting as C
 use Rattle.putting.specs.declared.Done.{Done}
-use Rattle.heads.specs.Spots.{Ready}
+use Rattle.contexts.specs.Spots.{Ready}
 use Rattle.heads.specs.Writing.{NumbersFirst}
 use Rattle.heads.proofs.Accepted.{Small, ready}
 use Rattle.emit.specs.Putting.{Puts}

@@ -26,7 +26,7 @@ use Rattle.counting.specs.Limits.{cut}
 use Rattle.marking.specs.Marks.{bits}
 use Rattle.putting.specs.declared.Done.{Done}
 use Rattle.putting.specs.Slots.{Slots}
-use Rattle.heads.specs.Spots.{Ready}
+use Rattle.contexts.specs.Spots.{Ready}
 use Rattle.heads.specs.Writing.{HeadsCounted, SummandsWritten}
 use Rattle.emit.proofs.Putting.{joined-last}
 use Rattle.emit.proofs.Signed.{joined-all}

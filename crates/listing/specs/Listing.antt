@@ -23,7 +23,7 @@ use Rattle.marking.specs.Marks.{bits}
 use Rattle.putting.specs.declared.Done.{Done}
 use Rattle.putting.specs.Slots.{Adds}
 use Rattle.following.specs.Fine.{Fine}
-use Rattle.heads.specs.Spots.{Ready}
+use Rattle.contexts.specs.Spots.{Ready}
 use Rattle.parts.specs.Rows.{row-width, RowsOf}
 use Rattle.parts.specs.Sheets.{Placed}
 use Rattle.listing.specs.declared.Source.{Source}

@@ -1,3 +1,4 @@
+-- `counting::known` meets its contract.
 use native.Mathlib.Omega.{arith}
 use mathlib.Core.Path.{refl, sym, ap, _∙_}
 use Rattle.counting.proofs.Rows.{row-at, row-end}

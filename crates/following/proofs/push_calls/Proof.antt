@@ -5,7 +5,7 @@ use mathlib.Core.List.{List}
 use mathlib.Core.Bool.{true, false}
 use borrow.Author.Tests.{not-true, not-false}
 use lib.ListN.{length, drop}
-use lib.Seq.{paste}
+use lib.Seq.{paste, drop-paste}
 use Rattle.following.specs.Follows.{Pushes}
 use Rattle.following.proofs.Parts.{push-fail, push-right}
 use borrow.Author.Needs.{needs}
@@ -32,7 +32,7 @@ same-length c = search needs
 returns : tie.Need-returns
 returns c =
     let q = c .before .before .before .before .before .before .before .before .before .before .pre in
-    (omega arith, push-fail (c .before .before .before .before .before .before .before .before .before .before .args .cells .now) (c .before .before .before .before .before .before .before .before .before .before .args .at) (c .before .before .before .before .before .before .before .before .before .before .args .c) (c .before .before .before .before .before .before .before .before .before .before .args .slots .now) (c .before .before .before .before .before .before .before .before .before .before .args .n) (c .before .before .before .before .before .before .before .before .before .before .args .nk) (c .before .before .before .before .before .before .before .before .before .before .args .calls .now) (c .before .before .before .before .before .before .before .before .before .before .args .top) (c .before .before .before .before .before .before .before .before .before .before .args .after .now) (c .before .before .before .before .put-calls .last .1 .1 .1 .1 .1 .1 .0) (c .before .before .before .before .put-calls .result) (c .before .before .before .before .put-calls .ensures .1) (omega arith) (not-true _ (c .if1 .taken)) (c .before .before .before .before .before .before .before .before .before .before .args .top) (c .before .before .before .before .before .before .before .before .before .before .args .nk) (c .before .before .before .before .before .before .before .before .before .before .args .calls .now))
+    (omega arith, (push-fail (c .before .before .before .before .before .before .before .before .before .before .args .cells .now) (c .before .before .before .before .before .before .before .before .before .before .args .at) (c .before .before .before .before .before .before .before .before .before .before .args .c) (c .before .before .before .before .before .before .before .before .before .before .args .slots .now) (c .before .before .before .before .before .before .before .before .before .before .args .n) (c .before .before .before .before .before .before .before .before .before .before .args .nk) (c .before .before .before .before .before .before .before .before .before .before .args .calls .now) (c .before .before .before .before .before .before .before .before .before .before .args .top) (c .before .before .before .before .before .before .before .before .before .before .args .after .now) (c .before .before .before .before .put-calls .last .1 .1 .1 .1 .1 .1 .0) (c .before .before .before .before .put-calls .result) (c .before .before .before .before .put-calls .ensures .1) (omega arith) (not-true _ (c .if1 .taken)) (c .before .before .before .before .before .before .before .before .before .before .args .top) (c .before .before .before .before .before .before .before .before .before .before .args .nk) (c .before .before .before .before .before .before .before .before .before .before .args .calls .now), (omega arith, refl)))
 
 -- src/lib.rt:160:47
 sub-copy : tie.Need-sub-copy
@@ -65,8 +65,17 @@ returns-2 c =
     let u = c .before .before .before .before .before .before .before .before .before .before .put-calls .ensures .0 in
     let k = c .before .before .before .before .before .before .before .before .before .before .put-calls .kept .1 .1 .1 .1 .1 .1 .0 in (
       omega arith,
-      subst (λ (x : List ℕ). Pushes (c .before .before .before .before .before .before .before .before .before .before .before .before .before .before .before .before .args .cells .now) (c .before .before .before .before .before .before .before .before .before .before .before .before .before .before .before .before .args .at) (c .before .before .before .before .before .before .before .before .before .before .before .before .before .before .before .before .args .c) (c .before .before .before .before .before .before .before .before .before .before .before .before .before .before .before .before .args .slots .now) (c .before .before .before .before .before .before .before .before .before .before .before .before .before .before .before .before .args .n) (c .before .before .before .before .before .before .before .before .before .before .before .before .before .before .before .before .args .nk) (c .before .before .before .before .before .before .before .before .before .before .before .before .before .before .before .before .args .calls .now) (c .before .before .before .before .before .before .before .before .before .before .before .before .before .before .before .before .args .top) (record { ok = true; top = c .before .before .before .before .before .before .before .before .before .before .before .before .before .before .before .before .args .top - c .before .before .before .before .before .before .before .before .before .before .put-calls .result .w; n = c .before .before .before .before .before .before .before .before .before .before .before .before .before .before .before .before .args .nk + c .before .before .before .before .before .before .before .before .before .before .put-calls .result .n }) x) (sym (c .before .before .before .copy .ensures))
-          (push-right (c .before .before .before .before .before .before .before .before .before .before .before .before .before .before .before .before .args .cells .now) (c .before .before .before .before .before .before .before .before .before .before .before .before .before .before .before .before .args .at) (c .before .before .before .before .before .before .before .before .before .before .before .before .before .before .before .before .args .c) (c .before .before .before .before .before .before .before .before .before .before .before .before .before .before .before .before .args .slots .now) (c .before .before .before .before .before .before .before .before .before .before .before .before .before .before .before .before .args .n) (c .before .before .before .before .before .before .before .before .before .before .before .before .before .before .before .before .args .nk) (c .before .before .before .before .before .before .before .before .before .before .before .before .before .before .before .before .args .calls .now) (c .before .before .before .before .before .before .before .before .before .before .before .before .before .before .before .before .args .top) (c .before .before .before .before .before .before .before .before .before .before .before .before .before .before .before .before .args .after .now) (c .before .before .before .before .before .before .before .before .before .before .put-calls .last .1 .1 .1 .1 .1 .1 .0) (c .before .before .before .before .before .before .before .before .before .before .put-calls .result) (c .before .before .before .before .before .before .before .before .before .before .put-calls .ensures .1) (omega arith) (not-false _ (c .before .before .before .before .before .before .if1 .left)) (omega arith) (omega arith) (omega arith)),
+      (
+        subst (λ (x : List ℕ). Pushes (c .before .before .before .before .before .before .before .before .before .before .before .before .before .before .before .before .args .cells .now) (c .before .before .before .before .before .before .before .before .before .before .before .before .before .before .before .before .args .at) (c .before .before .before .before .before .before .before .before .before .before .before .before .before .before .before .before .args .c) (c .before .before .before .before .before .before .before .before .before .before .before .before .before .before .before .before .args .slots .now) (c .before .before .before .before .before .before .before .before .before .before .before .before .before .before .before .before .args .n) (c .before .before .before .before .before .before .before .before .before .before .before .before .before .before .before .before .args .nk) (c .before .before .before .before .before .before .before .before .before .before .before .before .before .before .before .before .args .calls .now) (c .before .before .before .before .before .before .before .before .before .before .before .before .before .before .before .before .args .top) (record { ok = true; top = c .before .before .before .before .before .before .before .before .before .before .before .before .before .before .before .before .args .top - c .before .before .before .before .before .before .before .before .before .before .put-calls .result .w; n = c .before .before .before .before .before .before .before .before .before .before .before .before .before .before .before .before .args .nk + c .before .before .before .before .before .before .before .before .before .before .put-calls .result .n }) x) (sym (c .before .before .before .copy .ensures))
+            (push-right (c .before .before .before .before .before .before .before .before .before .before .before .before .before .before .before .before .args .cells .now) (c .before .before .before .before .before .before .before .before .before .before .before .before .before .before .before .before .args .at) (c .before .before .before .before .before .before .before .before .before .before .before .before .before .before .before .before .args .c) (c .before .before .before .before .before .before .before .before .before .before .before .before .before .before .before .before .args .slots .now) (c .before .before .before .before .before .before .before .before .before .before .before .before .before .before .before .before .args .n) (c .before .before .before .before .before .before .before .before .before .before .before .before .before .before .before .before .args .nk) (c .before .before .before .before .before .before .before .before .before .before .before .before .before .before .before .before .args .calls .now) (c .before .before .before .before .before .before .before .before .before .before .before .before .before .before .before .before .args .top) (c .before .before .before .before .before .before .before .before .before .before .before .before .before .before .before .before .args .after .now) (c .before .before .before .before .before .before .before .before .before .before .put-calls .last .1 .1 .1 .1 .1 .1 .0) (c .before .before .before .before .before .before .before .before .before .before .put-calls .result) (c .before .before .before .before .before .before .before .before .before .before .put-calls .ensures .1) (omega arith) (not-false _ (c .before .before .before .before .before .before .if1 .left)) (omega arith) (omega arith) (omega arith)),
+        (
+          omega arith,
+          (let z : c .before .before .before .before .before .before .before .before .before .before .before .before .before .before .before .before .args .top - c .before .before .before .before .before .before .before .before .before .before .put-calls .result .w + c .before .before .before .before .before .before .before .before .before .before .put-calls .result .w ≡ c .before .before .before .before .before .before .before .before .before .before .before .before .before .before .before .before .args .top = omega arith in
+              ap (λ (x : List ℕ). drop (c .before .before .before .before .before .before .before .before .before .before .before .before .before .before .before .before .args .top) x) (c .before .before .before .copy .ensures)
+              ∙ subst (λ (i : ℕ). drop i (paste (c .before .before .before .before .before .before .before .before .before .before .before .before .before .before .before .before .args .calls .now) (c .before .before .before .before .before .before .before .before .before .before .before .before .before .before .before .before .args .top - c .before .before .before .before .before .before .before .before .before .before .put-calls .result .w) (c .before .before .before .before .before .before .before .before .before .before .put-calls .last .1 .1 .1 .1 .1 .1 .0) (c .before .before .before .before .before .before .before .before .before .before .put-calls .result .w)) ≡ drop i (c .before .before .before .before .before .before .before .before .before .before .before .before .before .before .before .before .args .calls .now)) z
+              (drop-paste (c .before .before .before .before .before .before .before .before .before .before .before .before .before .before .before .before .args .calls .now) (c .before .before .before .before .before .before .before .before .before .before .before .before .before .before .before .before .args .top - c .before .before .before .before .before .before .before .before .before .before .put-calls .result .w) (c .before .before .before .before .before .before .before .before .before .before .put-calls .last .1 .1 .1 .1 .1 .1 .0) (c .before .before .before .before .before .before .before .before .before .before .put-calls .result .w) (omega arith) (omega arith))),
+        ),
+      ),
     )
 
 pub push-calls-spec : {M : Type 1} → statement M

@@ -1,4 +1,5 @@
-use Rattle.heads.proofs.Sides.{counted}
+-- `heads::count_heads` meets its contract.
+use Rattle.heads.proofs.Walking.{counted}
 use borrow.Author.Needs.{needs}
 use Rattle.heads.proofs.count_heads.Statement.{statement}
 use Rattle.heads.proofs.count_heads.Tie as tie

@@ -1,9 +1,10 @@
+-- `heads::param_code` meets its contract.
 use native.Mathlib.Omega.{arith}
 use Prim.Native.Nat.{ℕ}
 use mathlib.Core.Path.{_≡_, ap}
 use Rattle.pcrl.specs.Stream.{encode-data}
 use Rattle.nodes.specs.Bits.{odd}
-use Rattle.heads.specs.Steps.{param-of}
+use Rattle.heads.specs.Writing.{param-of}
 use borrow.Author.Needs.{needs}
 use Rattle.heads.proofs.param_code.Statement.{statement}
 use Rattle.heads.proofs.param_code.Tie as tie

@@ -1,51 +1,37 @@
-use native.Mathlib.Omega.{arith}
-use Prim.Native.Nat.{ℕ, _+_, _%_}
-use mathlib.Core.Path.{_∙_}
-use lib.ListN.{length, length-set}
-use Rattle.heads.proofs.Numbers.{list-full, list-right}
+-- `heads::write_summands` meets its contract.
 use borrow.Author.Needs.{needs}
+use native.Mathlib.Omega.{arith}
+use Prim.Native.Nat.{_-_, _%_}
+use mathlib.Core.Path.{_∙_}
+use lib.ListN.{length-set}
+use Rattle.heads.proofs.Numbers.{list-full, list-right}
 use Rattle.heads.proofs.write_summands.Statement.{statement}
 use Rattle.heads.proofs.write_summands.Tie as tie
-use Rattle.heads.proofs.write_summands.Reads as reads
-use Rattle.heads.proofs.write_summands.Lts as lts
-use Rattle.heads.proofs.count_heads.Reads as count-heads-reads
-use Rattle.heads.proofs.write_heads.Reads as write-heads-reads
 
--- src/lib.rt:325:9
 count-heads-requires : tie.Need-count-heads-requires
 count-heads-requires c κs = search needs
 
--- src/lib.rt:327:9
 returns : tie.Need-returns
-returns c =
-    (omega arith, list-full (c .before .before .before .before .before .before .before .before .args .cells .now) (c .before .before .before .before .before .before .before .before .args .starts .now) (c .before .before .before .before .before .before .before .before .args .counts .now) (c .before .before .before .before .before .before .before .before .args .firsts .now) (c .before .before .before .before .before .before .before .before .args .fuel) (c .before .before .before .before .before .before .before .before .args .at) (c .before .before .before .before .before .before .before .before .args .c) (c .before .before .before .before .before .before .before .before .args .slots .now) (c .before .before .before .before .before .before .before .before .args .n) (c .before .before .before .before .before .before .before .before .args .m) (c .before .before .before .before .before .before .before .before .args .w) (c .before .before .before .before .before .before .before .before .args .out .now) (omega arith) (c .before .before .before .before .before .before .before .before .args .w) (c .before .before .before .before .before .before .before .before .args .out .now))
+returns c = (omega arith, list-full (c .before .before .before .before .before .before .before .before .args .cells .now) (c .before .before .before .before .before .before .before .before .args .starts .now) (c .before .before .before .before .before .before .before .before .args .counts .now) (c .before .before .before .before .before .before .before .before .args .firsts .now) (c .before .before .before .before .before .before .before .before .args .fuel) (c .before .before .before .before .before .before .before .before .args .at) (c .before .before .before .before .before .before .before .before .args .c) (c .before .before .before .before .before .before .before .before .args .slots .now) (c .before .before .before .before .before .before .before .before .args .n) (c .before .before .before .before .before .before .before .before .args .m) (c .before .before .before .before .before .before .before .before .args .w) (c .before .before .before .before .before .before .before .before .args .out .now) (omega arith) (c .before .before .before .before .before .before .before .before .args .w) (c .before .before .before .before .before .before .before .before .args .out .now))
 
--- src/lib.rt:329:14
 cast-out : tie.Need-cast-out
 cast-out c = search needs
 
--- src/lib.rt:329:5
 slice-write-out : tie.Need-slice-write-out
 slice-write-out c = search needs
 
--- src/lib.rt:330:85
 add-write-heads : tie.Need-add-write-heads
 add-write-heads c = search needs
 
--- src/lib.rt:330:5
 write-heads-requires : tie.Need-write-heads-requires
-write-heads-requires c κs =
-    let q = c .before .before .before .before .before .before .before .before .before .pre in omega (arith, length-set (c .before .before .before .before .before .before .before .before .before .args .out .now) (c .before .before .before .before .before .before .before .before .before .args .w) (c .before .before .count-heads .result % 256))
+write-heads-requires c κs = let q = c .before .before .before .before .before .before .before .before .before .pre in omega (arith, length-set (c .before .before .before .before .before .before .before .before .before .args .out .now) (c .before .before .before .before .before .before .before .before .before .args .w) (c .before .before .count-heads .result % 256))
 
--- src/lib.rt:320:1
 same-length : tie.Need-same-length
-same-length c =
-    c .before .before .write-heads .kept .1 .1 .1 .1 .1 .1 .1 .1 .1 .1 .0 ∙ length-set (c .before .before .before .before .before .before .before .before .before .before .before .before .args .out .now) (c .before .before .before .before .before .before .before .before .before .before .before .before .args .w) (c .before .before .before .before .before .count-heads .result % 256)
+same-length c = c .before .before .write-heads .kept .1 .1 .1 .1 .1 .1 .1 .1 .1 .1 .0 ∙ length-set (c .before .before .before .before .before .before .before .before .before .before .before .before .args .out .now) (c .before .before .before .before .before .before .before .before .before .before .before .before .args .w) (c .before .before .before .before .before .count-heads .result % 256)
 
--- src/lib.rt:320:1
 returns-2 : tie.Need-returns-2
-returns-2 c =
-    let q = c .before .before .before .before .before .before .before .before .before .before .before .before .pre in let u = c .before .before .write-heads .ensures .0 in
+returns-2 c = let q = c .before .before .before .before .before .before .before .before .before .before .before .before .pre in
+    let u = c .before .before .write-heads .ensures .0 in
     (omega (arith, length-set (c .before .before .before .before .before .before .before .before .before .before .before .before .args .out .now) (c .before .before .before .before .before .before .before .before .before .before .before .before .args .w) (c .before .before .before .before .before .count-heads .result % 256)), list-right (c .before .before .before .before .before .before .before .before .before .before .before .before .args .cells .now) (c .before .before .before .before .before .before .before .before .before .before .before .before .args .starts .now) (c .before .before .before .before .before .before .before .before .before .before .before .before .args .counts .now) (c .before .before .before .before .before .before .before .before .before .before .before .before .args .firsts .now) (c .before .before .before .before .before .before .before .before .before .before .before .before .args .fuel) (c .before .before .before .before .before .before .before .before .before .before .before .before .args .at) (c .before .before .before .before .before .before .before .before .before .before .before .before .args .c) (c .before .before .before .before .before .before .before .before .before .before .before .before .args .slots .now) (c .before .before .before .before .before .before .before .before .before .before .before .before .args .n) (c .before .before .before .before .before .before .before .before .before .before .before .before .args .m) (c .before .before .before .before .before .before .before .before .before .before .before .before .args .w) (c .before .before .before .before .before .before .before .before .before .before .before .before .args .out .now) (c .before .before .before .before .before .count-heads .result) (c .before .before .before .before .before .count-heads .ensures) (omega arith) (c .before .before .write-heads .result) (c .before .before .write-heads .last .1 .1 .1 .1 .1 .1 .1 .1 .1 .1 .0) (c .before .before .write-heads .ensures .1))
 
 pub write-summands-spec : {M : Type 1} → statement M
