@@ -10,13 +10,14 @@ use library::stepping::{ask, ask_all, start, Answer, ANSWER};
 use library::{check_sheet, check_table, large, make_table, sheets};
 
 /// Bytes of stack that `make_table` and the checks may use, for any input.
-const MOST: usize = 512 << 10;
+const MOST: usize = 576 << 10;
 
 /// Bytes of stack that the stepping functions may use, for any input.
-const MOST_STEPPING: usize = 512 << 10;
+const MOST_STEPPING: usize = 72 << 10;
 
-/// The same as the first for a sheet of up to 64 bytes.
-const MOST_SHORT: usize = 224 << 10;
+/// The same as the first for a sheet of up to 64 bytes, but for one that is refused by 10: that one is
+/// tried again with the long arrays.
+const MOST_SHORT: usize = 32 << 10;
 
 /// A sheet of up to so many bytes is short.
 const SHORT: usize = 64;
@@ -36,7 +37,7 @@ fn held(what: &str, sheet: &[u8]) -> usize {
         black_box(check_sheet(sheet));
     });
     let making = making(sheet);
-    let most = if sheet.len() <= SHORT {
+    let most = if sheet.len() <= SHORT && check_sheet(sheet) != 10 {
         MOST_SHORT
     } else {
         MOST

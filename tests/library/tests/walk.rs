@@ -13,6 +13,22 @@ fn document_01() {
 }
 
 #[test]
+fn examples_get_their_walks() {
+    let folder = std::path::Path::new(env!("CARGO_MANIFEST_DIR")).join("../../examples");
+    let mut walks = 0;
+    for entry in std::fs::read_dir(folder).expect("the examples") {
+        let path = entry.expect("an example").path();
+        if path.extension().is_some_and(|end| end == "pcrl") {
+            let sheet = std::fs::read(&path).expect("a sheet");
+            let walk = std::fs::read_to_string(path.with_extension("walk")).expect("its walk");
+            assert_eq!(written(&sheet), walk, "{}", path.display());
+            walks += 1;
+        }
+    }
+    assert!(walks >= 7);
+}
+
+#[test]
 fn vectors_get_their_walks() {
     for case in vectors("sheets.jsonl") {
         let (name, sheet) = (case.text("name"), case.bytes("sheet"));
