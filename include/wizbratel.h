@@ -1,12 +1,18 @@
 /* Wizbratel: linear tables from pCRL process sheets, and steps through them.
  *
- * Every function takes any bytes whatever and always returns. A pointer leads to as many elements as
- * the length beside it says, and nothing else writes them meanwhile; what a function may write does
- * not overlap anything else that it is lent. Nothing else is asked of the caller.
+ *     sheet   a text that says what a process may do            wizbratel_check_sheet, wizbratel_make_table
+ *     table   the file that is made of it, 512 to 65,536 bytes  wizbratel_check_table
+ *     stack   64 frames and a depth: where the process stands   wizbratel_start, wizbratel_ask, wizbratel_ask_all
  *
- * A function answers 0, or the number of the first question of document 01 that fails. After such a
- * refusal every byte and every frame that was lent is as it was. There is no state: any number of
- * threads may call at once. */
+ * Answer      0, or the number of the first question that fails: see WIZBRATEL_Q_* below.
+ * Refusal     After an answer other than 0 every byte, frame and count that was lent is as it was.
+ * Input       Any bytes whatever, of any length. Every call returns; none allocates, reads a file or prints.
+ * Pointers    A pointer leads to as many elements as the length beside it says. With length 0 it may be
+ *             NULL. `written`, `depth` and `answer` are never NULL. What a function writes overlaps
+ *             nothing else that it is lent, and no other thread writes what is lent during the call.
+ * Threads     There is no state: any number of threads may call at once.
+ * Times       On one core of a server, the least of many calls. They are measured, not proved, and so is the stack.
+ * Linking     libwizbratel.a, for x86-64 Linux; it needs memcpy and memset and nothing else. */
 #ifndef WIZBRATEL_H
 #define WIZBRATEL_H
 
@@ -17,12 +23,44 @@
 extern "C" {
 #endif
 
+#define WIZBRATEL_VERSION "0.1.0"
+#define WIZBRATEL_VERSION_MAJOR 0
+#define WIZBRATEL_VERSION_MINOR 1
+#define WIZBRATEL_VERSION_PATCH 0
+
 /* The longest sheet, and the longest table file: an output of WIZBRATEL_MAX_FILE bytes is never too short. */
 #define WIZBRATEL_MAX_SHEET 4096
 #define WIZBRATEL_MAX_FILE 65536
 
 /* Frames of a stack. */
 #define WIZBRATEL_FRAMES 64
+
+/* The questions, in the order in which they are put. A function answers the number of the first one that
+ * has to be answered with no. */
+
+/* Of a sheet: */
+#define WIZBRATEL_Q_TOO_LONG 1     /* Has it at most 4,096 bytes? */
+#define WIZBRATEL_Q_BYTE 2         /* Is each byte printable ASCII (20 to 7E hex) or a line feed? No tabs, no CR. */
+#define WIZBRATEL_Q_TOKEN 3        /* Is all of it names (to 16 characters), numerals (to 255) and marks? */
+#define WIZBRATEL_Q_BRACKETS 4     /* Are never more than 16 round brackets open? */
+#define WIZBRATEL_Q_FORM 5         /* Is its form right: sort, func, act, proc, init lines, each closed by `;`? */
+#define WIZBRATEL_Q_COUNT 6        /* At most 8 sorts of size 1 to 16, 16 func, 32 act, 16 proc, 4 parameters? */
+#define WIZBRATEL_Q_NAME 7         /* Is each declared name new, each used name of the kind its place needs? */
+#define WIZBRATEL_Q_SORT 8         /* Are argument counts, sorts, numerals and function values right? */
+#define WIZBRATEL_Q_CIRCLE 9       /* Does no process come back to itself at the head, before any action? */
+#define WIZBRATEL_Q_TABLE_LIMIT 10 /* Is its table within its limits (64 equations, 255 summands, ..)? */
+
+/* Of the output that is lent for the table: */
+#define WIZBRATEL_Q_NO_ROOM 11 /* Is it long enough? */
+
+/* Of a table file: */
+#define WIZBRATEL_Q_FILE_LENGTH 12 /* Is it 512 to 65,536 bytes long, a multiple of 512? */
+#define WIZBRATEL_Q_BLOCK 13       /* Are each block's number, block count and check right? */
+#define WIZBRATEL_Q_STREAM 14      /* Do the blocks hold a right table, within all limits, and zeros behind it? */
+
+/* Of a stack: */
+#define WIZBRATEL_Q_FRAMES 15   /* 64 frames, depth 0 to 64, used frames right for this table, all else zero? */
+#define WIZBRATEL_Q_TOO_DEEP 16 /* Are there at most 64 frames after the step? */
 
 /* A frame: an equation and the values of its parameters, spare ones 0. Of the lent frames the first
  * `depth` are used, the top one last; the others are zero. */
@@ -32,9 +70,9 @@ typedef struct {
 } wizbratel_frame;
 
 /* What is answered to a step question. */
-#define WIZBRATEL_ENDED 0    /* the stack is empty */
-#define WIZBRATEL_NONE 1     /* the stack has no step k */
-#define WIZBRATEL_STEP 2     /* step k was taken */
+#define WIZBRATEL_ENDED 0     /* the stack is empty */
+#define WIZBRATEL_NONE 1      /* the stack has no step k */
+#define WIZBRATEL_STEP 2      /* step k was taken */
 #define WIZBRATEL_TOO_DEEP 16 /* in a list only: step k exists, and its next stack has more than 64 frames */
 
 /* The fields behind `kind` are those of a step; for the other kinds they are 0. */
@@ -44,33 +82,69 @@ typedef struct {
     uint8_t value_count; /* 0 to 2 */
     uint8_t values[2];   /* of the label */
     uint8_t name_length; /* 1 to 16 */
-    char name[18];       /* the action's name, or "tau"; zeros behind it */
+    char name[18];       /* the action's name, or "tau"; zeros behind it, so it is a C string */
 } wizbratel_answer;
 
-/* Check a sheet, questions 1 to 10: it is accepted exactly if its table can be made. */
+/* Check a sheet.
+ *
+ * Answers  0 if its table can be made, else 1 to 10. No bytes at all: 5.
+ * Leaves   Nothing is written.
+ * Time     1 us for 25 bytes, 12 us for 500, 0.12 ms for 4,096; the dearest sheets found 34 ms.
+ * Stack    At most 576 KB; usual sheets 27 to 205 KB. */
 uint8_t wizbratel_check_sheet(const uint8_t *sheet, size_t length);
 
-/* Make a table, questions 1 to 11: the sheet's table file over the front of `out`, and its length in
- * `*written`. What is behind it in `out` is untouched. */
+/* Make the table file of a sheet.
+ *
+ * Answers  0, or 1 to 10 for the sheet, or 11 if the file is longer than `room` bytes. A good sheet with
+ *          no output (`out` NULL, `room` 0) gets 11.
+ * Leaves   After 0 the file over the front of `out` and its length in `*written`; what is behind it in
+ *          `out` is untouched. One sheet gives the same bytes every time.
+ * Time     As check_sheet.
+ * Stack    As check_sheet, at most 576 KB. */
 uint8_t wizbratel_make_table(const uint8_t *sheet, size_t length, uint8_t *out, size_t room, size_t *written);
 
-/* Check a table file, questions 12 to 14. */
+/* Check a table file.
+ *
+ * Answers  0 if it is exactly a file that could have been made of a right table, else 12 to 14. No bytes: 12.
+ * Leaves   Nothing is written.
+ * Time     1.3 us for 512 bytes, 0.8 ms for 65,536.
+ * Stack    At most 72 KB. */
 uint8_t wizbratel_check_table(const uint8_t *file, size_t length);
 
-/* Start a stack, questions 12 to 15 (of 15 only that `count` is 64): the table's start in the first
- * frame, zeros behind it, and *depth is 1. */
+/* Start a stack.
+ *
+ * Answers  0, or 12 to 14 for the file, or 15 if `count` is not 64. What the frames and `*depth` held does
+ *          not matter.
+ * Leaves   After 0 the table's start in the first frame, zeros in the others, and 1 in `*depth`.
+ * Time     As check_table.
+ * Stack    At most 72 KB. */
 uint8_t wizbratel_start(const uint8_t *file, size_t length, wizbratel_frame *frames, size_t count, size_t *depth);
 
-/* Ask for step k (from 0), questions 12 to 16: what is answered goes into `answer`. After a step the
- * frames hold the new stack, zeros behind it, and *depth is its depth; after ended and none they are
- * as they were. */
+/* Ask for step k, from 0, and take it.
+ *
+ * Answers  0, or 12 to 14 for the file, 15 for the frames and the depth, 16 if the step exists and the stack
+ *          would get too deep. Too large a k is no refusal: the kind is then WIZBRATEL_NONE.
+ * Leaves   After 0 `*answer`, all of it. If its kind is WIZBRATEL_STEP the frames hold the new stack, zeros
+ *          behind it, and `*depth` is its depth; after ENDED and NONE they are as they were.
+ * Time     The file is checked at each call: 1.4 us with 512 bytes, 0.7 ms with 65,536. Then the steps before
+ *          k are counted: 0.05 to 0.2 us for usual tables. The dearest table found, 230 summands with four
+ *          sums of 16 values and eight long conditions each, takes 9 s if k is too large. So look at a table
+ *          of unknown origin in a thread that may wait.
+ * Stack    At most 72 KB. */
 uint8_t wizbratel_ask(const uint8_t *file, size_t length, wizbratel_frame *frames, size_t count, size_t *depth, uint64_t k,
                       wizbratel_answer *answer);
 
-/* Ask a list, questions 12 to 15 once, then each question in turn, on the frames and the depth that
- * the one before it left: the fast way to take many steps. `bytes` is the size of `answers` in bytes;
- * as many questions are put as there is room for whole answers, and what is behind the last answer is
- * untouched. A question that would be refused by 16 is answered WIZBRATEL_TOO_DEEP and leaves the stack. */
+/* Ask a list: each question in turn, on the frames and the depth that the one before it left. The fast way to
+ * take many steps, since the file is checked once.
+ *
+ * Answers  0, or 12 to 14 for the file, 15 for the frames and the depth. Never 16: such a question is answered
+ *          WIZBRATEL_TOO_DEEP, leaves the stack as it was, and the list goes on.
+ * Leaves   After 0 an answer for each question that was put, and the frames and `*depth` after the last one.
+ *          `bytes` is the size of `answers` in bytes: as many questions are put as there is room for whole
+ *          answers, and what is behind the last answer is untouched. With no questions, or no room, the
+ *          stack is only checked.
+ * Time     As check_table once, then 0.05 to 0.2 us a question for usual tables; at the worst as ask.
+ * Stack    At most 72 KB. */
 uint8_t wizbratel_ask_all(const uint8_t *file, size_t length, wizbratel_frame *frames, size_t count, size_t *depth,
                           const uint64_t *questions, size_t question_count, wizbratel_answer *answers, size_t bytes);
 

@@ -30,7 +30,7 @@ static long rest(size_t from) {
 static const char *shown(const wizbratel_answer *answer) {
     static char text[64];
     if (answer->kind == WIZBRATEL_ENDED || answer->kind == WIZBRATEL_NONE || answer->kind == WIZBRATEL_TOO_DEEP) {
-        static const wizbratel_answer zero;
+        static wizbratel_answer zero;
         const char *word = answer->kind == WIZBRATEL_ENDED ? "ended" : answer->kind == WIZBRATEL_NONE ? "none" : "16";
         int clean = !memcmp((const char *)answer + 1, (const char *)&zero + 1, sizeof zero - 1);
         return clean ? word : "fields that are not zero";
