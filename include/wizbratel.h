@@ -89,7 +89,7 @@ typedef struct {
  *
  * Answers  0 if its table can be made, else 1 to 10. No bytes at all: 5.
  * Leaves   Nothing is written.
- * Time     1 us for 25 bytes, 12 us for 500, 0.12 ms for 4,096; the dearest sheets found 34 ms.
+ * Time     Not more than make_table.
  * Stack    At most 576 KB; usual sheets 27 to 205 KB. */
 uint8_t wizbratel_check_sheet(const uint8_t *sheet, size_t length);
 
@@ -99,8 +99,8 @@ uint8_t wizbratel_check_sheet(const uint8_t *sheet, size_t length);
  *          no output (`out` NULL, `room` 0) gets 11.
  * Leaves   After 0 the file over the front of `out` and its length in `*written`; what is behind it in
  *          `out` is untouched. One sheet gives the same bytes every time.
- * Time     As check_sheet.
- * Stack    As check_sheet, at most 576 KB. */
+ * Time     1.3 us for 25 bytes, 12 us for 500, 0.12 ms for 4,096; the dearest sheets found 34 ms.
+ * Stack    At most 576 KB; usual sheets 27 to 205 KB. */
 uint8_t wizbratel_make_table(const uint8_t *sheet, size_t length, uint8_t *out, size_t room, size_t *written);
 
 /* Check a table file.
@@ -116,7 +116,7 @@ uint8_t wizbratel_check_table(const uint8_t *file, size_t length);
  * Answers  0, or 12 to 14 for the file, or 15 if `count` is not 64. What the frames and `*depth` held does
  *          not matter.
  * Leaves   After 0 the table's start in the first frame, zeros in the others, and 1 in `*depth`.
- * Time     As check_table.
+ * Time     As check_table, and half a microsecond.
  * Stack    At most 72 KB. */
 uint8_t wizbratel_start(const uint8_t *file, size_t length, wizbratel_frame *frames, size_t count, size_t *depth);
 
