@@ -9,10 +9,10 @@ use library::questions::{usual, Question};
 use library::stepping::{ask, ask_all, start, Answer, ANSWER};
 use library::{check_sheet, check_table, large, make_table, sheets};
 
-/// Bytes of stack that `make_table` and the checks may use, for any input.
+/// Bytes of stack that `make_table` and `check_sheet` may use, for any input.
 const MOST: usize = 576 << 10;
 
-/// Bytes of stack that the stepping functions may use, for any input.
+/// Bytes of stack that the check of a table file and the stepping functions may use, for any input.
 const MOST_STEPPING: usize = 72 << 10;
 
 /// The same as the first for a sheet of up to 64 bytes, but for one that is refused by 10: that one is
@@ -81,7 +81,7 @@ fn the_largest_table_file() {
         black_box(check_table(&file));
     });
     println!("a table file of {} bytes: {bytes} of stack", file.len());
-    assert!(bytes <= MOST);
+    assert!(bytes <= MOST_STEPPING);
 }
 
 #[test]
