@@ -23,7 +23,7 @@ product-pos (suc l) [] h = omega arith
 product-pos zero (n ∷ s) h = mul-pos (h 0 (omega arith)) (product-pos 0 s (λ i k. h (suc i) (omega arith)))
 product-pos (suc l) (n ∷ s) h = product-pos l s (λ i k. h (suc i) (omega arith))
 
-product-split : (l : ℕ) (s : List ℕ) → product s ≡ product (drop l s) * product (take l s)
+pub product-split : (l : ℕ) (s : List ℕ) → product s ≡ product (drop l s) * product (take l s)
 product-split zero s = sym (mul-one (product s))
 product-split (suc l) [] = refl
 product-split (suc l) (n ∷ s) = ap (λ (x : ℕ). n * x) (product-split l s) ∙ sym (mul-assoc n (product (drop l s)) (product (take l s))) ∙ ap (λ (x : ℕ). x * product (take l s)) (mul-comm n (product (drop l s))) ∙ mul-assoc (product (drop l s)) n (product (take l s))
@@ -39,7 +39,7 @@ same-values (suc l) [] i j h v k = refl
 same-values (suc l) (n ∷ s) i j h zero k = ap (λ (x : ℕ). x % n) (coarser l s i j h)
 same-values (suc l) (n ∷ s) i j h (suc v) k = same-values l s i j h v (omega arith)
 
-split-at : (p : ℕ) (a w : List ℕ) → p ≤ length a → (v : ℕ) → p ≤ v → getD (env p a w) v 0 ≡ getD w (v - p) 0
+pub split-at : (p : ℕ) (a w : List ℕ) → p ≤ length a → (v : ℕ) → p ≤ v → getD (env p a w) v 0 ≡ getD w (v - p) 0
 split-at p a w h v k =
     let e : v ≡ length (take p a) + (v - p) = simp (length-take-le p a h) (omega arith) in
     ap (λ (x : ℕ). getD (env p a w) x 0) e ∙ getD-append-add (take p a) w (v - p) 0
@@ -85,7 +85,7 @@ one-false (suc n) t m h e = go (ltb m n) refl (λ k. one-false n t m k e)
 
 -- WHAT A TEST OF THE CONDITIONS SAYS OF A WHOLE BLOCK
 
-module _ (s funcs froms ends blocks : List ℕ) (n p reach : ℕ) (sizes a : List ℕ) (few : p ≤ length a) (ready : (i : ℕ) → i < n → Ready s p sizes froms ends blocks reach i) where
+module _ (s funcs froms ends blocks : List ℕ) (n p reach low : ℕ) (sizes a : List ℕ) (few : p ≤ length a) (ready : (i : ℕ) → i < n → Ready s p sizes froms ends blocks reach low i) where
   abbrev holds-in : List ℕ → ℕ → Bool
   holds-in e i = holds s funcs e (getD froms i 0) (getD ends i 0)
 
@@ -106,7 +106,7 @@ module _ (s funcs froms ends blocks : List ℕ) (n p reach : ℕ) (sizes a : Lis
         → met s funcs froms ends n (env p a (valuesOf sizes i)) ≡ true
     accepted d t h i q =
         all-true n (holds-in (env p a (valuesOf sizes i))) (λ m k.
-        let r = ready m k .low in
+        let r = ready m k .below in
         holds-same (env p a (valuesOf sizes i)) f m (λ v w. env-agree p a sizes f i j few alike (reach - p) q v (omega arith)) ∙ t .all-pass h m k)
 
 -- A TEST, CONDITION BY CONDITION
@@ -149,5 +149,5 @@ pub tried-fails : (x y block out : ℕ) → out < block → (x ≡ y → ⊥) �
 tried-fails x y block out l e = rw (lt-ltb out block l, ne-eqb x y e) refl
 
 -- blocks are of one assignment at least
-pub block-pos : (s : List ℕ) (p : ℕ) (sizes froms ends blocks : List ℕ) (reach i : ℕ) → Sizes sizes → length sizes ≡ 4 → Ready s p sizes froms ends blocks reach i → 0 < getD blocks i 0
-block-pos s p sizes froms ends blocks reach i z l r = rw (r .block-is) (product-pos (peak (code s (getD froms i 0) (getD ends i 0)) - p) sizes (λ m h. z m (omega arith) .0))
+pub block-pos : (s : List ℕ) (p : ℕ) (sizes froms ends blocks : List ℕ) (reach low i : ℕ) → Sizes sizes → length sizes ≡ 4 → Ready s p sizes froms ends blocks reach low i → 0 < getD blocks i 0
+block-pos s p sizes froms ends blocks reach low i z l r = rw (r .block-is) (product-pos (peak (code s (getD froms i 0) (getD ends i 0)) - p) sizes (λ m h. z m (omega arith) .0))

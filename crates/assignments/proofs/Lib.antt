@@ -1,3 +1,4 @@
 pub mod Counter
 pub mod Passing
 pub mod Blocks
+pub mod Periods

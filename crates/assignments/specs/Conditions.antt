@@ -8,7 +8,7 @@ use lib.Dec.{eqb, ltb}
 use lib.ListN.{length, getD, take, drop, getElem?}
 use Rattle.pcrl.specs.Limits.{max-nodes}
 use Rattle.pcrl.specs.Tests.{and}
-use Rattle.evaluation.specs.Run.{pick, top, run, peak}
+use Rattle.evaluation.specs.Run.{pick, top, run, peak, foot}
 use Rattle.assignments.specs.Places.{product, places}
 
 -- the parameters' values, and behind them those of the sum variables
@@ -32,13 +32,14 @@ abbrev pub met : List ℕ → List ℕ → List ℕ → List ℕ → ℕ → Lis
 met s funcs froms ends n e = all-below n (λ i. holds s funcs e (getD froms i 0) (getD ends i 0))
 
 -- Condition i stands in the stream; if it fails, it fails on a block of assignments: those that differ only in variables after its last.
--- `reach`: no condition names a variable from it on.
-pub record Ready (s : List ℕ) (p : ℕ) (sizes froms ends blocks : List ℕ) (reach i : ℕ) : Type 0 where
+-- `reach`: no condition names a variable from it on; `low`: none names a sum variable before it.
+pub record Ready (s : List ℕ) (p : ℕ) (sizes froms ends blocks : List ℕ) (reach low i : ℕ) : Type 0 where
   pub some-term : getD froms i 0 + 1 ≤ getD ends i 0
   pub short : getD ends i 0 ≤ getD froms i 0 + 1 + max-nodes
   pub inside : getD ends i 0 ≤ length s
   pub block-is : getD blocks i 0 ≡ product (drop (peak (code s (getD froms i 0) (getD ends i 0)) - p) sizes)
-  pub low : peak (code s (getD froms i 0) (getD ends i 0)) ≤ reach
+  pub below : peak (code s (getD froms i 0) (getD ends i 0)) ≤ reach
+  pub above : low ≤ foot p (code s (getD froms i 0) (getD ends i 0))
 
 -- the larger of `out` and the block, if the condition fails
 abbrev pub tried-of : Bool → ℕ → ℕ → ℕ

@@ -19,13 +19,14 @@ pub struct Eight {
 }
 
 // The conditions of a summand: where each begins and ends, the block of assignments that it fails on as a whole;
-// how many there are, one more than the highest variable that they name, and where they all end.
+// how many there are, one more than the highest variable that they name, the lowest sum variable that they name, and where they all end.
 pub struct Conditions {
     pub froms: [usize; 8],
     pub ends: [usize; 8],
     pub blocks: [u32; 8],
     pub count: usize,
     pub reach: usize,
+    pub low: usize,
     pub end: usize,
 }
 
@@ -155,7 +156,7 @@ fn test(
     n: usize,
 ) -> u32
     requires { ⌜ n ≤ max-conditions ⌝ }
-    ensures { λ r. ⌜ ((p : ℕ) (sizes : List ℕ) (reach : ℕ) → Sizes sizes → length sizes ≡ max-variables → ((i : ℕ) → i < n → Ready (now (s .entry)) p sizes (now (froms .entry)) (now (ends .entry)) (now (blocks .entry)) reach i) → Tested (λ i. holds (now (s .entry)) (now (funcs .entry)) (now (e .entry)) (getD (now (froms .entry)) i 0) (getD (now (ends .entry)) i 0)) (now (blocks .entry)) n r) ⌝ }
+    ensures { λ r. ⌜ ((p : ℕ) (sizes : List ℕ) (reach low : ℕ) → Sizes sizes → length sizes ≡ max-variables → ((i : ℕ) → i < n → Ready (now (s .entry)) p sizes (now (froms .entry)) (now (ends .entry)) (now (blocks .entry)) reach low i) → Tested (λ i. holds (now (s .entry)) (now (funcs .entry)) (now (e .entry)) (getD (now (froms .entry)) i 0) (getD (now (ends .entry)) i 0)) (now (blocks .entry)) n r) ⌝ }
 {
     let mut out: u32 = 0;
     let mut i: usize = 0;
@@ -172,31 +173,30 @@ fn wide_block(x: u32) -> usize
     x as usize
 }
 
-// The k-th assignment that meets the conditions, or how much of k is left.
-pub fn find(
+// The k-th of the assignments below `total` that meet the n conditions, or how much of k is left; what they say changes only between blocks of g.
+fn find_in(
     s: &[u8],
     funcs: &[u16],
     params: Eight,
     p: usize,
     sizes: Four,
-    c: Conditions,
+    froms: &[usize; 8],
+    ends: &[usize; 8],
+    blocks: &[u32; 8],
+    n: usize,
+    g: usize,
+    total: usize,
     k: u64,
 ) -> Found
-    requires { ⌜ (p ≤ frame-width) × (((i : ℕ) → p ≤ i → getD (params .at) i 0 ≡ 0) × ((c .count ≤ max-conditions) × Sizes (sizes .at))) ⌝ }
-    ensures { λ r. ⌜ (((i : ℕ) → i < c .count → Ready (now (s .entry)) p (sizes .at) (c .froms) (c .ends) (c .blocks) (c .reach) i) → Finds (places (λ j. met (now (s .entry)) (now (funcs .entry)) (c .froms) (c .ends) (c .count) (env p (params .at) (valuesOf (sizes .at) j))) (product (sizes .at)) 0) k (r .found) (r .at) (r .left)) ⌝ }
+    requires { ⌜ (p ≤ frame-width) × (((i : ℕ) → p ≤ i → getD (params .at) i 0 ≡ 0) × ((n ≤ max-conditions) × (Sizes (sizes .at) × ((total ≤ 65536) × ((0 < g) × (g ≤ 65536)))))) ⌝ }
+    ensures { λ r. ⌜ (r .at ≤ 65536) × ((r .left ≤ k) × ((reach low : ℕ) → g ≡ product (drop (reach - p) (sizes .at)) → ((i : ℕ) → i < n → Ready (now (s .entry)) p (sizes .at) (now (froms .entry)) (now (ends .entry)) (now (blocks .entry)) reach low i) → Finds (places (λ j. met (now (s .entry)) (now (funcs .entry)) (now (froms .entry)) (now (ends .entry)) n (env p (params .at) (valuesOf (sizes .at) j))) total 0) k (r .found) (r .at) (r .left))) ⌝ }
 {
-    let froms = c.froms;
-    let ends = c.ends;
-    let blocks = c.blocks;
-    let n = c.count;
-    let total = block_size(sizes, 0);
-    let g = grain(sizes, c.reach, p);
     let mut j: usize = 0;
     let mut left = k;
     while j < total {
         let e = environment(params, p, values(sizes, j));
         let a = e.at;
-        let d = test(s, funcs, &a, &froms, &ends, &blocks, n);
+        let d = test(s, funcs, &a, froms, ends, blocks, n);
         if d == 0 {
             let r = evaluation::smaller(next(j, g), total);
             let m = (r - j) as u64;
@@ -217,5 +217,79 @@ pub fn find(
         found: false,
         at: 0,
         left: left,
+    }
+}
+
+// The k-th assignment that meets the conditions, or how much of k is left: they say the same again after each round of the variables from `low` on.
+pub fn find(
+    s: &[u8],
+    funcs: &[u16],
+    params: Eight,
+    p: usize,
+    sizes: Four,
+    c: Conditions,
+    k: u64,
+) -> Found
+    requires { ⌜ (p ≤ frame-width) × (((i : ℕ) → p ≤ i → getD (params .at) i 0 ≡ 0) × ((c .count ≤ max-conditions) × Sizes (sizes .at))) ⌝ }
+    ensures { λ r. ⌜ (((i : ℕ) → i < c .count → Ready (now (s .entry)) p (sizes .at) (c .froms) (c .ends) (c .blocks) (c .reach) (c .low) i) → Finds (places (λ j. met (now (s .entry)) (now (funcs .entry)) (c .froms) (c .ends) (c .count) (env p (params .at) (valuesOf (sizes .at) j))) (product (sizes .at)) 0) k (r .found) (r .at) (r .left)) ⌝ }
+{
+    let froms = c.froms;
+    let ends = c.ends;
+    let blocks = c.blocks;
+    let n = c.count;
+    let g = grain(sizes, c.reach, p);
+    let round = grain(sizes, c.low, p);
+    let total = block_size(sizes, 0);
+    let r = find_in(
+        s,
+        funcs,
+        params,
+        p,
+        sizes,
+        &froms,
+        &ends,
+        &blocks,
+        n,
+        g,
+        round,
+        k,
+    );
+    if r.found {
+        return r;
+    }
+    let m = k - r.left;
+    if m == 0 {
+        return r;
+    }
+    if round == total {
+        return r;
+    }
+    let q = k / m;
+    let rounds = (total / round) as u64;
+    if rounds <= q {
+        return Found {
+            found: false,
+            at: 0,
+            left: k - m * rounds,
+        };
+    }
+    let f = find_in(
+        s,
+        funcs,
+        params,
+        p,
+        sizes,
+        &froms,
+        &ends,
+        &blocks,
+        n,
+        g,
+        round,
+        k % m,
+    );
+    Found {
+        found: true,
+        at: (q as usize) * round + f.at,
+        left: 0,
     }
 }

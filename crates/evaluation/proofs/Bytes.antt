@@ -9,12 +9,12 @@ use native.Mathlib.Omega.{arith}
 use lib.Dec.{ltb}
 use lib.ListN.{length, getD, drop, take, set, length-set, drop-of-length-le}
 use lib.Seq.{drop-cons, drop-drop, getD-drop}
-use borrow.Author.Tests.{eq-eqb, ne-eqb, ltb-true, ltb-false}
+use borrow.Author.Tests.{eq-eqb, ne-eqb, ltb-true, ltb-false, lt-ltb, le-ltb}
 use Rattle.pcrl.specs.Stream.{variable-code, function-code}
 use Rattle.pcrl.specs.Decode.{Node, value, variable, function, node-of}
 use Rattle.codec.specs.TermLaws.{node-value, node-variable, node-function}
 use Rattle.terms.proofs.Stack.{push-at}
-use Rattle.evaluation.specs.Run.{argument-count, extent, worth-of, run, named, peak}
+use Rattle.evaluation.specs.Run.{pick, argument-count, extent, worth-of, run, named, peak, lowered, foot}
 
 -- A BYTE'S KIND
 
@@ -34,6 +34,23 @@ below-functions P b h f g = go (ltb b variable-code) refl
     go : (t : Bool) → ltb b variable-code ≡ t → P (node-of b)
     go true e = rw (is-value b (ltb-true b variable-code e)) (f b)
     go false e = rw (is-variable b (ltb-false b variable-code e) h) (g (b - variable-code))
+
+-- what is lowered is no higher than either
+lowered-le : (p n m i : ℕ) → m ≤ i → lowered p n m ≤ i
+lowered-le p n m i h = go (ltb p n)
+  where
+    go : (t : Bool) → pick t (min (n - 1) m) m ≤ i
+    go true = omega arith
+    go false = h
+
+lowered-is : (p n m i : ℕ) → p < n → n ≡ suc i → lowered p n m ≤ i
+lowered-is p n m i l e = rw (lt-ltb p n l) (omega arith)
+
+pub lowered-yes : (p n m r : ℕ) → p < n → r ≡ min (n - 1) m → r ≡ lowered p n m
+lowered-yes p n m r l e = rw (lt-ltb p n l) e
+
+pub lowered-no : (p n m : ℕ) → n ≤ p → m ≡ lowered p n m
+lowered-no p n m l = rw (le-ltb p n l) refl
 
 module _ (s funcs : List ℕ) where
   pub no-arguments : (b : ℕ) → b < function-code → 0 ≡ argument-count s funcs (node-of b)
@@ -110,7 +127,22 @@ module _ (s funcs : List ℕ) where
         let r = run-same c (λ i k. h i (omega arith)) in
         rw r (ap (λ (v : ℕ). v ∷ drop (argument-count s funcs (node-of b)) (run s funcs f c)) (worth-same (node-of b) _ _ (λ i k. h i (omega arith))))
 
--- THE HIGHEST VARIABLE
+  -- A term's value hangs on no variable between the first p and its foot.
+  module _ (e f : List ℕ) (p : ℕ) where
+    worth-past : (n : Node) (m x y : ℕ) → ((i : ℕ) → (p ≤ i → lowered p (named n) m ≤ i) → getD e i 0 ≡ getD f i 0) → worth-of s funcs e n x y ≡ worth-of s funcs f n x y
+    unfolding worth-of named
+    worth-past (value v) m x y h = refl
+    worth-past (variable i) m x y h = h i (λ k. lowered-is p (suc i) m i (omega arith) (omega arith))
+    worth-past (function g) m x y h = refl
+
+    pub run-past : (c : List ℕ) → ((i : ℕ) → (p ≤ i → foot p c ≤ i) → getD e i 0 ≡ getD f i 0) → run s funcs e c ≡ run s funcs f c
+    unfolding run foot
+    run-past [] h = refl
+    run-past (b ∷ c) h =
+        let r = run-past c (λ i k. h i (λ l. lowered-le p (named (node-of b)) (foot p c) i (k l))) in
+        rw r (ap (λ (v : ℕ). v ∷ drop (argument-count s funcs (node-of b)) (run s funcs f c)) (worth-past (node-of b) (foot p c) _ _ h))
+
+-- THE HIGHEST AND THE LOWEST VARIABLE
 
 pub named-value : (b : ℕ) → b < variable-code → 0 ≡ named (node-of b)
 unfolding named
@@ -131,6 +163,14 @@ peak-none c i n h = rw h refl
 pub peak-more : (c : List ℕ) (i n : ℕ) → i < length c → peak (take (suc n) (drop i c)) ≡ max (named (node-of (getD c i 0))) (peak (take n (drop (i + 1) c)))
 unfolding peak
 peak-more c i n h = rw (drop-cons c i 0 h, add-one i) refl
+
+pub foot-none : (p : ℕ) (c : List ℕ) (i n : ℕ) → n ≡ 0 → 8 ≡ foot p (take n (drop i c))
+unfolding foot
+foot-none p c i n h = rw h refl
+
+pub foot-more : (p : ℕ) (c : List ℕ) (i n : ℕ) → i < length c → foot p (take (suc n) (drop i c)) ≡ lowered p (named (node-of (getD c i 0))) (foot p (take n (drop (i + 1) c)))
+unfolding foot
+foot-more p c i n h = rw (drop-cons c i 0 h, add-one i) refl
 
 -- THE STACK OF VALUES, from t on
 

@@ -2,8 +2,8 @@
 -- A byte's kind is that of `node-of`; a function is known by its place in the stream, where its arity, sorts, result and values stand.
 use mathlib.Core.List.{List, [], _∷_}
 use mathlib.Core.Bool.{Bool, true, false}
-use Prim.Native.Nat.{ℕ, zero, suc, _+_, _*_, max}
-use lib.Dec.{eqb}
+use Prim.Native.Nat.{ℕ, zero, suc, _+_, _-_, _*_, max, min}
+use lib.Dec.{eqb, ltb}
 use lib.ListN.{getD, drop}
 use Rattle.pcrl.specs.Decode.{Node, value, variable, function, node-of}
 
@@ -54,3 +54,12 @@ named (function f) = 0
 unfoldable pub peak : List ℕ → ℕ
 peak [] = 0
 peak (b ∷ c) = max (named (node-of b)) (peak c)
+
+-- the lower of m and the variable before n, if that is none of the first p
+abbrev pub lowered : ℕ → ℕ → ℕ → ℕ
+lowered p n m = pick (ltb p n) (min (n - 1) m) m
+
+-- the lowest variable from p on that is named in the bytes, 8 if none
+unfoldable pub foot : ℕ → List ℕ → ℕ
+foot p [] = 8
+foot p (b ∷ c) = lowered p (named (node-of b)) (foot p c)

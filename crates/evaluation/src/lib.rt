@@ -4,7 +4,7 @@ ghost use Prim.Native.Nat.{_+_, _-_, _*_, _≤_, _<_, max, min};
 ghost use lib.ListN.{length, getD, take, drop};
 ghost use Rattle.pcrl.specs.Limits.{max-nodes, max-stream};
 ghost use Rattle.pcrl.specs.Decode.{node-of};
-ghost use Rattle.evaluation.specs.Run.{argument-count, worth-of, extent, run, top, named, peak};
+ghost use Rattle.evaluation.specs.Run.{argument-count, worth-of, extent, run, top, named, peak, lowered, foot};
 
 // The codes of a term's bytes: values, then variables, then functions.
 const VARIABLE: usize = 0x20;
@@ -110,6 +110,29 @@ pub fn highest(s: &[u8], at: usize, end: usize) -> usize
         high = larger(variable(s[i]), high);
     }
     high
+}
+
+// The lower of m and the variable before n, if that is none of the first p.
+fn lower(p: usize, n: usize, m: usize) -> usize
+    ensures { λ r. ⌜ r ≡ lowered p n m ⌝ }
+{
+    if p < n {
+        return smaller(n - 1, m);
+    }
+    m
+}
+
+// The lowest variable from p on that is named from at to end, 8 if none.
+pub fn lowest(s: &[u8], at: usize, end: usize, p: usize) -> usize
+    ensures { λ r. ⌜ (at ≤ end → end ≤ length (now (s .entry)) → r ≡ foot p (take (end - at) (drop at (now (s .entry))))) ⌝ }
+{
+    let mut low: usize = 8;
+    let mut i = smaller(end, s.len());
+    while at < i {
+        i -= 1;
+        low = lower(p, variable(s[i]), low);
+    }
+    low
 }
 
 // Where the stack begins after its first value was put on it and k were taken.

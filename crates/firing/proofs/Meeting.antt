@@ -87,11 +87,11 @@ module _ (S : Sig) (s funcs Δ vs : List ℕ) (h : Summand) (known : KnownTerms 
   whole-alike p first e j = subst (λ (l : List ℕ). Alike (l ++ valuesOf (sizes-of S (h .vars)) j) (whole j)) (sym e) (append-alike vs (valuesOf (sizes-of S (h .vars)) j) (valuesOf ns j) (sizes-values S (h .vars) j))
 
   module _ (conds : Every (RightCond S Γ) (h .conds)) (p : ℕ) (first : List ℕ) (e : take p first ≡ vs) (rest : List ℕ) (c : Conditions) (prepared : Prepared s p (sizes-of S (h .vars)) (h .conds) rest c) where
-    pub ready : (i : ℕ) → i < c .count → Ready s p (sizes-of S (h .vars)) (c .froms) (c .ends) (c .blocks) (c .reach) i
+    pub ready : (i : ℕ) → i < c .count → Ready s p (sizes-of S (h .vars)) (c .froms) (c .ends) (c .blocks) (c .reach) (c .low) i
     ready i k =
         let n = prepared .count-is in
         let t = prepared .stood i (omega arith) in
-        record { some-term = t .some-term; short = t .short; inside = t .inside; block-is = t .block-is; low = t .low }
+        record { some-term = t .some-term; short = t .short; inside = t .inside; block-is = t .block-is; below = t .below; above = t .above }
 
     abbrev pub acc : ℕ → Bool
     acc j = met s funcs (c .froms) (c .ends) (c .count) (env p first (valuesOf (sizes-of S (h .vars)) j))

@@ -108,7 +108,7 @@ module _ (S : Sig) (Ps : List (List ℕ)) (s funcs acts params Δ vs : List ℕ)
   module _ (p : ℕ) (first : List ℕ) (e : take p first ≡ vs) (sizes : List ℕ) (ez : sizes ≡ sizes-of S (h .vars)) (c : Conditions)
       (conds : (S : Sig) (Γ : List ℕ) (cs : List (ℕ × Data)) (rest : List ℕ) → KnownTerms S s funcs → length Γ ≤ variable-code → Every (RightCond S Γ) cs → length cs ≤ max-conditions → drop (at + 1 + getD s at 0) s ≡ encode-list encode-cond cs ++ rest → Prepared s p sizes cs rest c)
       (k : ℕ) (found : Bool) (j left : ℕ)
-      (finds : ((i : ℕ) → i < c .count → Ready s p sizes (c .froms) (c .ends) (c .blocks) (c .reach) i) → Finds (places (λ i. met s funcs (c .froms) (c .ends) (c .count) (env p first (valuesOf sizes i))) (product sizes) 0) k found j left) where
+      (finds : ((i : ℕ) → i < c .count → Ready s p sizes (c .froms) (c .ends) (c .blocks) (c .reach) (c .low) i) → Finds (places (λ i. met s funcs (c .froms) (c .ends) (c .count) (env p first (valuesOf sizes i))) (product sizes) 0) k found j left) where
     prepared : Prepared s p (sizes-of S (h .vars)) (h .conds) rest-of c
     prepared = subst (λ (z : List ℕ). Prepared s p z (h .conds) rest-of c) ez (conds S (Δ ++ h .vars) (h .conds) rest-of known (short S s funcs Δ vs h known few in-Δ sorts few-vars) conds-right few-conds (conds-here (at + 1 + getD s at 0) refl))
 
@@ -120,7 +120,7 @@ module _ (S : Sig) (Ps : List (List ℕ)) (s funcs acts params Δ vs : List ℕ)
     answered =
         let r = ready S s funcs Δ vs h known few in-Δ sorts few-vars conds-right p first e rest-of c prepared in
         subst (λ (z : List ℕ). Finds (places (λ i. met s funcs (c .froms) (c .ends) (c .count) (env p first (valuesOf z i))) (product z) 0) k found j left) ez
-        (finds (subst (λ (z : List ℕ). (i : ℕ) → i < c .count → Ready s p z (c .froms) (c .ends) (c .blocks) (c .reach) i) (sym ez) r))
+        (finds (subst (λ (z : List ℕ). (i : ℕ) → i < c .count → Ready s p z (c .froms) (c .ends) (c .blocks) (c .reach) (c .low) i) (sym ez) r))
 
     gives : ℕ → Label × List Frame
     gives i = outcome frame-width S (whole S s funcs Δ vs h known few in-Δ sorts few-vars i) h
@@ -205,7 +205,7 @@ module _ (s funcs acts params first : List ℕ) (p row k n : ℕ) where
       (sized : (S : Sig) (funcs vars : List ℕ) → KnownTerms S s funcs → Stands s at (encode-numbers vars) → AreSorts (S .sorts) vars → length vars ≤ max-variables → sizes ≡ sizes-of S vars)
       (conds : (S : Sig) (Γ : List ℕ) (cs : List (ℕ × Data)) (rest : List ℕ) → KnownTerms S s funcs → length Γ ≤ variable-code → Every (RightCond S Γ) cs → length cs ≤ max-conditions → drop b s ≡ encode-list encode-cond cs ++ rest → Prepared s p sizes cs rest c)
       (found : Bool) (j left′ : ℕ)
-      (finds : ((i : ℕ) → i < c .count → Ready s p sizes (c .froms) (c .ends) (c .blocks) (c .reach) i) → Finds (places (λ i. met s funcs (c .froms) (c .ends) (c .count) (env p first (valuesOf sizes i))) (product sizes) 0) left found j left′) where
+      (finds : ((i : ℕ) → i < c .count → Ready s p sizes (c .froms) (c .ends) (c .blocks) (c .reach) (c .low) i) → Finds (places (λ i. met s funcs (c .froms) (c .ends) (c .count) (env p first (valuesOf sizes i))) (product sizes) 0) left found j left′) where
     conds′ : (S : Sig) (Γ : List ℕ) (cs : List (ℕ × Data)) (rest : List ℕ) → KnownTerms S s funcs → length Γ ≤ variable-code → Every (RightCond S Γ) cs → length cs ≤ max-conditions → drop (at + 1 + getD s at 0) s ≡ encode-list encode-cond cs ++ rest → Prepared s p sizes cs rest c
     conds′ S Γ cs rest kn sh ev fw he = conds S Γ cs rest kn sh ev fw (ap (λ (x : ℕ). drop x s) eb ∙ he)
 

@@ -17,7 +17,7 @@ use Rattle.pcrl.specs.Table.{nodes}
 use Rattle.pcrl.specs.Stream.{variable-code, encode-data, encode-list, encode-cond}
 use Rattle.pcrl.specs.Right.{RightCond}
 use Rattle.laws.specs.Every.{every-at}
-use Rattle.evaluation.specs.Run.{extent, peak}
+use Rattle.evaluation.specs.Run.{extent, peak, foot}
 use Rattle.evaluation.specs.Known.{KnownTerms}
 use Rattle.evaluation.proofs.Bytes.{extent-none}
 use Rattle.evaluation.proofs.Terms.{extent-data, data-length}
@@ -63,40 +63,43 @@ module _ (S : Sig) (s funcs : List ℕ) (known : KnownTerms S s funcs) (Γ : Lis
     inside : end ≤ length s
     inside = let l = ap length behind-wanted in let e = ends in omega (arith, length-drop (a + 1) s, length-drop a s, length-append (encode-data d) more, some-byte)
 
-    pub cond-stood : (p reach h block : ℕ) (sizes : List ℕ) → h ≤ reach → (a + 1 ≤ end → end ≤ length s → h ≡ peak (take (end - (a + 1)) (drop (a + 1) s))) → block ≡ product (drop (h - p) sizes) → Stood s p sizes reach c a end block
+    pub cond-stood : (p reach low h f block : ℕ) (sizes : List ℕ) → h ≤ reach → low ≤ f → (a + 1 ≤ end → end ≤ length s → h ≡ peak (take (end - (a + 1)) (drop (a + 1) s))) → (a + 1 ≤ end → end ≤ length s → f ≡ foot p (take (end - (a + 1)) (drop (a + 1) s))) → block ≡ product (drop (h - p) sizes) → Stood s p sizes reach low c a end block
     unfolding RightCond
-    cond-stood p reach h block sizes low eh eb =
+    cond-stood p reach low h f block sizes up down eh ef eb =
         let e = ends in
         let n = data-length d in
         let m : nodes d ≤ max-nodes = right .1 .1 in
         let q : h ≡ peak (code s a end) = eh (omega arith) inside in
+        let v : f ≡ foot p (code s a end) = ef (omega arith) inside in
         record {
           some-term = omega arith;
           short = omega arith;
           inside = inside;
           block-is = eb ∙ ap (λ (x : ℕ). product (drop (x - p) sizes)) q;
-          low = omega arith;
+          below = omega arith;
+          above = omega arith;
           code-is = the-code;
           wanted-is = wanted;
         }
 
 -- one more condition is kept
 module _ (s : List ℕ) (p : ℕ) (sizes : List ℕ) where
-  higher : (reach reach′ : ℕ) (c : ℕ × Data) (from end block : ℕ) → reach ≤ reach′ → Stood s p sizes reach c from end block → Stood s p sizes reach′ c from end block
-  higher reach reach′ c from end block h t =
-      let l = t .low in
-      record { some-term = t .some-term; short = t .short; inside = t .inside; block-is = t .block-is; low = omega arith; code-is = t .code-is; wanted-is = t .wanted-is }
+  wider : (reach reach′ low low′ : ℕ) (c : ℕ × Data) (from end block : ℕ) → reach ≤ reach′ → low′ ≤ low → Stood s p sizes reach low c from end block → Stood s p sizes reach′ low′ c from end block
+  wider reach reach′ low low′ c from end block h k t =
+      let l = t .below in
+      let m = t .above in
+      record { some-term = t .some-term; short = t .short; inside = t .inside; block-is = t .block-is; below = omega arith; above = omega arith; code-is = t .code-is; wanted-is = t .wanted-is }
 
-  pub stood-more : (cs : List (ℕ × Data)) (froms ends blocks : List ℕ) (n reach reach′ a end b : ℕ) → n < length froms → n < length ends → n < length blocks → reach ≤ reach′
-      → ((m : ℕ) → m < n → Stood s p sizes reach (getD cs m no-cond) (getD froms m 0) (getD ends m 0) (getD blocks m 0)) → Stood s p sizes reach′ (getD cs n no-cond) a end b
-      → (m : ℕ) → m < n + 1 → Stood s p sizes reach′ (getD cs m no-cond) (getD (set froms n a) m 0) (getD (set ends n end) m 0) (getD (set blocks n b) m 0)
-  stood-more cs froms ends blocks n reach reach′ a end b hf he hb up old new m h = go (ltb m n) refl
+  pub stood-more : (cs : List (ℕ × Data)) (froms ends blocks : List ℕ) (n reach reach′ low low′ a end b : ℕ) → n < length froms → n < length ends → n < length blocks → reach ≤ reach′ → low′ ≤ low
+      → ((m : ℕ) → m < n → Stood s p sizes reach low (getD cs m no-cond) (getD froms m 0) (getD ends m 0) (getD blocks m 0)) → Stood s p sizes reach′ low′ (getD cs n no-cond) a end b
+      → (m : ℕ) → m < n + 1 → Stood s p sizes reach′ low′ (getD cs m no-cond) (getD (set froms n a) m 0) (getD (set ends n end) m 0) (getD (set blocks n b) m 0)
+  stood-more cs froms ends blocks n reach reach′ low low′ a end b hf he hb up down old new m h = go (ltb m n) refl
     where
-      go : (t : Bool) → ltb m n ≡ t → Stood s p sizes reach′ (getD cs m no-cond) (getD (set froms n a) m 0) (getD (set ends n end) m 0) (getD (set blocks n b) m 0)
+      go : (t : Bool) → ltb m n ≡ t → Stood s p sizes reach′ low′ (getD cs m no-cond) (getD (set froms n a) m 0) (getD (set ends n end) m 0) (getD (set blocks n b) m 0)
       go true q =
           let k = ltb-true m n q in
           let ne : m ≡ n → ⊥ = λ e. omega arith in
-          rw (getD-set-other froms n m a 0 ne, getD-set-other ends n m end 0 ne, getD-set-other blocks n m b 0 ne) (higher reach reach′ (getD cs m no-cond) (getD froms m 0) (getD ends m 0) (getD blocks m 0) up (old m k))
+          rw (getD-set-other froms n m a 0 ne, getD-set-other ends n m end 0 ne, getD-set-other blocks n m b 0 ne) (wider reach reach′ low low′ (getD cs m no-cond) (getD froms m 0) (getD ends m 0) (getD blocks m 0) up down (old m k))
       go false q =
           let k = ltb-false m n q in
           let z : m ≡ n = omega arith in
@@ -110,23 +113,23 @@ conds-start s at cs rest here =
     (ap (λ (x : ℕ). getD s x 0) (sym z) ∙ sym (getD-drop at s 0 0) ∙ ap (λ (x : List ℕ). getD x 0 0) here, sym (drop-drop 1 at s) ∙ ap (drop 1) here)
 
 -- what is known of the conditions before the i-th, which begins at a
-unfoldable pub Gone : List ℕ → List ℕ → ℕ → ℕ → List ℕ → ℕ → List ℕ → List ℕ → List ℕ → ℕ → ℕ → ℕ → Type 0
-Gone s funcs at p sizes n froms ends blocks reach a i =
+unfoldable pub Gone : List ℕ → List ℕ → ℕ → ℕ → List ℕ → ℕ → List ℕ → List ℕ → List ℕ → ℕ → ℕ → ℕ → ℕ → Type 0
+Gone s funcs at p sizes n froms ends blocks reach low a i =
     (S : Sig) (Γ : List ℕ) (cs : List (ℕ × Data)) (rest : List ℕ) → KnownTerms S s funcs → length Γ ≤ variable-code → Every (RightCond S Γ) cs → length cs ≤ max-conditions → drop at s ≡ encode-list encode-cond cs ++ rest
-    → (n ≡ length cs) × ((drop a s ≡ all encode-cond (drop i cs) ++ rest) × ((m : ℕ) → m < i → Stood s p sizes reach (getD cs m no-cond) (getD froms m 0) (getD ends m 0) (getD blocks m 0)))
+    → (n ≡ length cs) × ((drop a s ≡ all encode-cond (drop i cs) ++ rest) × ((m : ℕ) → m < i → Stood s p sizes reach low (getD cs m no-cond) (getD froms m 0) (getD ends m 0) (getD blocks m 0)))
 
 module _ (s funcs : List ℕ) (at p : ℕ) (sizes : List ℕ) (n : ℕ) where
-  pub gone-none : (froms ends blocks : List ℕ) → n ≡ min (getD s at 0) max-conditions → Gone s funcs at p sizes n froms ends blocks 0 (at + 1) 0
+  pub gone-none : (froms ends blocks : List ℕ) → n ≡ min (getD s at 0) max-conditions → Gone s funcs at p sizes n froms ends blocks 0 8 (at + 1) 0
   unfolding Gone
   gone-none froms ends blocks e S Γ cs rest known short ev few here =
       let w = conds-start s at cs rest here in
       (omega (arith, w .0), (w .1, λ m h. absurd (omega arith)))
 
-  pub gone-more : (froms ends blocks : List ℕ) (reach a i b end h g reach′ : ℕ) → i < n → length froms ≡ 8 → length ends ≡ 8 → length blocks ≡ 8 → n ≤ max-conditions
-      → b ≡ a + 1 → end ≡ b + extent s funcs (drop b s) 1 → (b ≤ end → end ≤ length s → h ≡ peak (take (end - b) (drop b s))) → g ≡ product (drop (h - p) sizes) → reach′ ≡ max reach h
-      → Gone s funcs at p sizes n froms ends blocks reach a i → Gone s funcs at p sizes n (set froms i a) (set ends i end) (set blocks i g) reach′ end (i + 1)
+  pub gone-more : (froms ends blocks : List ℕ) (reach low a i b end h f g reach′ low′ : ℕ) → i < n → length froms ≡ 8 → length ends ≡ 8 → length blocks ≡ 8 → n ≤ max-conditions
+      → b ≡ a + 1 → end ≡ b + extent s funcs (drop b s) 1 → (b ≤ end → end ≤ length s → h ≡ peak (take (end - b) (drop b s))) → (b ≤ end → end ≤ length s → f ≡ foot p (take (end - b) (drop b s))) → g ≡ product (drop (h - p) sizes) → reach′ ≡ max reach h → low′ ≡ min low f
+      → Gone s funcs at p sizes n froms ends blocks reach low a i → Gone s funcs at p sizes n (set froms i a) (set ends i end) (set blocks i g) reach′ low′ end (i + 1)
   unfolding Gone
-  gone-more froms ends blocks reach a i b end h g reach′ l nf ne nb few8 eb ee eh eg er gone S Γ cs rest known short ev few here =
+  gone-more froms ends blocks reach low a i b end h f g reach′ low′ l nf ne nb few8 eb ee eh ef eg er el gone S Γ cs rest known short ev few here =
       let (en, (left, old)) = gone S Γ cs rest known short ev few here in
       let c : ℕ × Data = getD cs i no-cond in
       let k : i < length cs = omega arith in
@@ -134,16 +137,17 @@ module _ (s funcs : List ℕ) (at p : ℕ) (sizes : List ℕ) (n : ℕ) where
       let more : List ℕ = all encode-cond (drop (i + 1) cs) ++ rest in
       let here′ : drop a s ≡ encode-cond c ++ more = left ∙ all-first encode-cond cs i no-cond rest k in
       let ee′ : end ≡ a + 1 + extent s funcs (drop (a + 1) s) 1 = ee ∙ ap (λ (x : ℕ). x + extent s funcs (drop x s) 1) eb in
-      let eh′ : a + 1 ≤ end → end ≤ length s → h ≡ peak (take (end - (a + 1)) (drop (a + 1) s)) = λ u v. eh (omega arith) v ∙ ap (λ (x : ℕ). peak (take (end - x) (drop x s))) eb in (
+      let eh′ : a + 1 ≤ end → end ≤ length s → h ≡ peak (take (end - (a + 1)) (drop (a + 1) s)) = λ u v. eh (omega arith) v ∙ ap (λ (x : ℕ). peak (take (end - x) (drop x s))) eb in
+      let ef′ : a + 1 ≤ end → end ≤ length s → f ≡ foot p (take (end - (a + 1)) (drop (a + 1) s)) = λ u v. ef (omega arith) v ∙ ap (λ (x : ℕ). foot p (take (end - x) (drop x s))) eb in (
         en,
         (
           cond-rest S s funcs known Γ short c right a more here′ end ee′,
-          stood-more s p sizes cs froms ends blocks i reach reach′ a end g (omega arith) (omega arith) (omega arith) (omega arith) old (cond-stood S s funcs known Γ short c right a more here′ end ee′ p reach′ h g sizes (omega arith) eh′ eg),
+          stood-more s p sizes cs froms ends blocks i reach reach′ low low′ a end g (omega arith) (omega arith) (omega arith) (omega arith) (omega arith) old (cond-stood S s funcs known Γ short c right a more here′ end ee′ p reach′ low′ h f g sizes (omega arith) (omega arith) eh′ ef′ eg),
         ),
       )
 
 -- all conditions were gone through
-pub gone-all : (s funcs : List ℕ) (at p : ℕ) (sizes : List ℕ) (r : Conditions) (i : ℕ) → i ≡ r .count → Gone s funcs at p sizes (r .count) (r .froms) (r .ends) (r .blocks) (r .reach) (r .end) i
+pub gone-all : (s funcs : List ℕ) (at p : ℕ) (sizes : List ℕ) (r : Conditions) (i : ℕ) → i ≡ r .count → Gone s funcs at p sizes (r .count) (r .froms) (r .ends) (r .blocks) (r .reach) (r .low) (r .end) i
     → (S : Sig) (Γ : List ℕ) (cs : List (ℕ × Data)) (rest : List ℕ) → KnownTerms S s funcs → length Γ ≤ variable-code → Every (RightCond S Γ) cs → length cs ≤ max-conditions → drop at s ≡ encode-list encode-cond cs ++ rest → Prepared s p sizes cs rest r
 unfolding Gone all
 gone-all s funcs at p sizes r i e gone S Γ cs rest known short ev few here =

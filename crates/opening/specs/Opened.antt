@@ -6,7 +6,7 @@ use lib.ListN.{length, getD, drop, replicate}
 use Rattle.pcrl.specs.Limits.{max-nodes, max-variables}
 use Rattle.pcrl.specs.Sheet.{Data, val, Sig, size}
 use Rattle.pcrl.specs.Stream.{encode-data}
-use Rattle.evaluation.specs.Run.{peak}
+use Rattle.evaluation.specs.Run.{peak, foot}
 use Rattle.assignments.specs.Places.{product}
 use Rattle.assignments.specs.Conditions.{code}
 use Rattle.assignments.specs.declared.Conditions.{Conditions}
@@ -19,17 +19,18 @@ abbrev pub no-cond : ℕ × Data
 no-cond = (0, val 0)
 
 -- a condition stands in the stream up to `end`, with its block and what it names
-pub record Stood (s : List ℕ) (p : ℕ) (sizes : List ℕ) (reach : ℕ) (c : ℕ × Data) (from end block : ℕ) : Type 0 where
+pub record Stood (s : List ℕ) (p : ℕ) (sizes : List ℕ) (reach low : ℕ) (c : ℕ × Data) (from end block : ℕ) : Type 0 where
   pub some-term : from + 1 ≤ end
   pub short : end ≤ from + 1 + max-nodes
   pub inside : end ≤ length s
   pub block-is : block ≡ product (drop (peak (code s from end) - p) sizes)
-  pub low : peak (code s from end) ≤ reach
+  pub below : peak (code s from end) ≤ reach
+  pub above : low ≤ foot p (code s from end)
   pub code-is : code s from end ≡ encode-data (c .1)
   pub wanted-is : getD s from 0 ≡ c .0
 
 -- the conditions cs, found in the stream
 pub record Prepared (s : List ℕ) (p : ℕ) (sizes : List ℕ) (cs : List (ℕ × Data)) (rest : List ℕ) (r : Conditions) : Type 0 where
   pub count-is : r .count ≡ length cs
-  pub stood : (i : ℕ) → i < length cs → Stood s p sizes (r .reach) (getD cs i no-cond) (getD (r .froms) i 0) (getD (r .ends) i 0) (getD (r .blocks) i 0)
+  pub stood : (i : ℕ) → i < length cs → Stood s p sizes (r .reach) (r .low) (getD cs i no-cond) (getD (r .froms) i 0) (getD (r .ends) i 0) (getD (r .blocks) i 0)
   pub ends-at : drop (r .end) s ≡ rest

@@ -18,6 +18,9 @@ ghost use Rattle.opening.specs.Opened.{sizes-of, Prepared};
 // Conditions of a summand, at the most.
 const CONDITIONS: usize = 8;
 
+// Variables of a summand with the parameters before them, at the most.
+const VARIABLES: usize = 8;
+
 // Values of a sort, at the most.
 const SIZE: u8 = 16;
 
@@ -70,6 +73,7 @@ pub fn conditions(s: &[u8], funcs: &[u16], at: usize, p: usize, z: Four) -> Cond
     let mut ends = [0usize; 8];
     let mut blocks = [0u32; 8];
     let mut reach: usize = 0;
+    let mut low: usize = VARIABLES;
     let mut a = at + 1;
     let mut i: usize = 0;
     while i < n {
@@ -80,6 +84,7 @@ pub fn conditions(s: &[u8], funcs: &[u16], at: usize, p: usize, z: Four) -> Cond
         ends[i] = end;
         blocks[i] = narrow(assignments::grain(z, h, p));
         reach = evaluation::larger(reach, h);
+        low = evaluation::smaller(low, evaluation::lowest(s, b, end, p));
         a = end;
         i += 1;
     }
@@ -89,6 +94,7 @@ pub fn conditions(s: &[u8], funcs: &[u16], at: usize, p: usize, z: Four) -> Cond
         blocks: blocks,
         count: n,
         reach: reach,
+        low: low,
         end: a,
     }
 }

@@ -1,143 +1,107 @@
--- A block that fails is gone over, one that passes is counted: what is left of k behind j follows from what was asked.
+-- What is found in one round of the variables from `low` on is found in each.
+use borrow.Author.Needs.{needs}
+use native.Mathlib.Omega.{arith}
+use native.Mathlib.Nat.{mul-le-mul, mul-le-mul-left, mul-div-le, div-le-self}
+use Prim.Native.Nat.{ℕ, _-_, _/_, _≤_, _<_}
+use mathlib.Core.Path.{refl, ap}
+use lib.ListN.{length, getD}
+use Rattle.assignments.proofs.Counter.{four-length, eight-length}
+use Rattle.assignments.proofs.Blocks.{product-pos}
+use Rattle.assignments.proofs.Periods.{search-whole, search-first, search-none, search-past, search-later}
 use Rattle.assignments.proofs.find.Statement.{statement}
 use Rattle.assignments.proofs.find.Tie as tie
-use native.Mathlib.Omega.{arith}
-use Prim.Native.Nat.{ℕ, _+_, _-_, _/_, _≤_, _<_}
-use mathlib.Core.Path.{_≡_, refl, sym, _∙_, ap, subst}
-use mathlib.Core.List.{List}
-use mathlib.Core.Bool.{Bool, true, false}
-use lib.ListN.{length, drop, getD, getElem?}
-use mathlib.Core.Option.{some}
-use Rattle.evaluation.specs.Known.{Alike}
-use Rattle.assignments.specs.Places.{product, valuesOf, places}
-use Rattle.assignments.specs.Conditions.{env, met, Ready, Finds}
-use Rattle.assignments.proofs.Counter.{four-length, eight-length}
-use Rattle.assignments.proofs.Passing.{Going, going-start, going-skip, going-on, going-found, going-end}
-use Rattle.assignments.proofs.Blocks.{blocked, accepted, product-pos}
-use borrow.Author.Needs.{needs}
 
-abbrev Inv-loop : tie.InvT-loop
-Inv-loop s funcs params p sizes k froms ends blocks n total g j₀ left₀ j left = (reach : ℕ) → g ≡ product (drop (reach - p) (sizes .at)) → ((i : ℕ) → i < n → Ready s p (sizes .at) froms ends blocks reach i) → Going (λ i. met s funcs froms ends n (env p (params .at) (valuesOf (sizes .at) i))) total k j left
+grain-requires : tie.Need-grain-requires
+grain-requires c κs = search needs
 
-abbrev μ-loop : tie.MeasureT-loop
-μ-loop s funcs params p sizes k froms ends blocks n total g j₀ left₀ j left = total - j
+grain-requires-2 : tie.Need-grain-requires-2
+grain-requires-2 c κs = search needs
 
-block-size-requires : tie.Need-block-size-requires Inv-loop μ-loop
-block-size-requires c κs = c .before .before .before .before .before .pre .1 .1 .1
+block-size-requires : tie.Need-block-size-requires
+block-size-requires c κs = search needs
 
-grain-requires : tie.Need-grain-requires Inv-loop μ-loop
-grain-requires c κs = c .before .before .before .before .before .before .pre .1 .1 .1
+find-in-requires : tie.Need-find-in-requires
+find-in-requires c κs = let a = c .before .before .before .before .before .before .before .before .before .before .before .args in let len = four-length (a .sizes) _ (c .before .before .before .before .before .before .before .before .before .before .before .good .1 .1 .1 .1 .0) in
+    let positive : (i : ℕ) → i < length (a .sizes .at) → 0 < getD (a .sizes .at) i 0 = λ i h. c .before .before .before .before .before .before .before .before .before .before .before .pre .1 .1 .1 i (omega arith) .0 in (c .before .before .before .before .before .before .before .before .before .before .before .pre .0, (c .before .before .before .before .before .before .before .before .before .before .before .pre .1 .0, (c .before .before .before .before .before .before .before .before .before .before .before .pre .1 .1 .0, (c .before .before .before .before .before .before .before .before .before .before .before .pre .1 .1 .1, (c .before .before .before .before .grain2 .ensures .1, (omega (arith, c .before .before .before .before .before .grain .ensures .0, product-pos (a .c .reach - a .p) (a .sizes .at) positive), c .before .before .before .before .before .grain .ensures .1))))))
 
-loop-holds : tie.Need-loop-holds Inv-loop μ-loop
-loop-holds c = λ reach e r. going-start _ _ _
+returns : tie.Need-returns
+returns c = λ ready. let q = c .before .before .before .before .before .before .before .before .before .before .before .before .before .args .c in let a = c .before .before .before .before .before .before .before .before .before .before .before .before .before .args in let len = four-length (a .sizes) _ (c .before .before .before .before .before .before .before .before .before .before .before .before .before .good .1 .1 .1 .1 .0) in
+    let positive : (i : ℕ) → i < length (a .sizes .at) → 0 < getD (a .sizes .at) i 0 = λ i h. c .before .before .before .before .before .before .before .before .before .before .before .before .before .pre .1 .1 .1 i (omega arith) .0 in
+    let few : a .p ≤ length (a .params .at) = let w = eight-length (a .params) _ (c .before .before .before .before .before .before .before .before .before .before .before .before .before .good .1 .1 .0) in omega (arith, c .before .before .before .before .before .before .before .before .before .before .before .before .before .pre .0) in
+    search-first (a .s .now) (a .funcs .now) (q .froms) (q .ends) (q .blocks) (q .count) (a .p) (q .reach) (q .low) (a .sizes .at) (a .params .at) few positive ready (c .before .before .before .before .before .before .grain2 .result) (c .before .before .before .before .before .before .grain2 .ensures .0) (a .k) (c .before .find-in .result .found) (c .before .find-in .result .at) (c .before .find-in .result .left) (c .before .find-in .ensures .1 .1 (q .reach) (q .low) (c .before .before .before .before .before .before .before .grain .ensures .0) ready) (c .if1 .taken)
 
-values-requires : tie.Need-values-requires Inv-loop μ-loop
-values-requires c κs = λ i h. c .before .before .before .before .before .before .before .before .before .pre .1 .1 .1 i h .0
+sub-m : tie.Need-sub-m
+sub-m c = search needs
 
-environment-requires : tie.Need-environment-requires Inv-loop μ-loop
-environment-requires c κs = (c .before .before .before .before .before .before .before .before .before .before .pre .0, c .before .before .before .before .before .before .before .before .before .before .pre .1 .0)
+returns-2 : tie.Need-returns-2
+returns-2 c = λ ready. let q = c .before .before .before .before .before .before .before .before .before .before .before .before .before .before .before .args .c in let a = c .before .before .before .before .before .before .before .before .before .before .before .before .before .before .before .args in let len = four-length (a .sizes) _ (c .before .before .before .before .before .before .before .before .before .before .before .before .before .before .before .good .1 .1 .1 .1 .0) in
+    let positive : (i : ℕ) → i < length (a .sizes .at) → 0 < getD (a .sizes .at) i 0 = λ i h. c .before .before .before .before .before .before .before .before .before .before .before .before .before .before .before .pre .1 .1 .1 i (omega arith) .0 in
+    let few : a .p ≤ length (a .params .at) = let w = eight-length (a .params) _ (c .before .before .before .before .before .before .before .before .before .before .before .before .before .before .before .good .1 .1 .0) in omega (arith, c .before .before .before .before .before .before .before .before .before .before .before .before .before .before .before .pre .0) in
+    search-none (a .s .now) (a .funcs .now) (q .froms) (q .ends) (q .blocks) (q .count) (a .p) (q .reach) (q .low) (a .sizes .at) (a .params .at) few positive ready (c .before .before .before .before .before .before .before .before .grain2 .result) (c .before .before .before .before .before .before .before .before .grain2 .ensures .0) (a .k) (c .before .before .before .find-in .result .found) (c .before .before .before .find-in .result .at) (c .before .before .before .find-in .result .left) (c .before .before .before .find-in .ensures .1 .1 (q .reach) (q .low) (c .before .before .before .before .before .before .before .before .before .grain .ensures .0) ready) (c .before .before .if1 .left) (c .before .before .before .before .before .before .before .before .before .before .before .before .before .before .before .args .k - c .before .before .before .find-in .result .left) refl (omega arith)
 
-slice-aggregate-test : tie.Need-slice-aggregate-test Inv-loop μ-loop
-slice-aggregate-test c = search needs
+returns-3 : tie.Need-returns-3
+returns-3 c = λ ready. let q = c .before .before .before .before .before .before .before .before .before .before .before .before .before .before .before .before .args .c in let a = c .before .before .before .before .before .before .before .before .before .before .before .before .before .before .before .before .args in let len = four-length (a .sizes) _ (c .before .before .before .before .before .before .before .before .before .before .before .before .before .before .before .before .good .1 .1 .1 .1 .0) in
+    let positive : (i : ℕ) → i < length (a .sizes .at) → 0 < getD (a .sizes .at) i 0 = λ i h. c .before .before .before .before .before .before .before .before .before .before .before .before .before .before .before .before .pre .1 .1 .1 i (omega arith) .0 in
+    let few : a .p ≤ length (a .params .at) = let w = eight-length (a .params) _ (c .before .before .before .before .before .before .before .before .before .before .before .before .before .before .before .before .good .1 .1 .0) in omega (arith, c .before .before .before .before .before .before .before .before .before .before .before .before .before .before .before .before .pre .0) in
+    search-whole (a .s .now) (a .funcs .now) (q .froms) (q .ends) (q .blocks) (q .count) (a .p) (q .reach) (q .low) (a .sizes .at) (a .params .at) few positive ready (c .before .before .before .before .before .before .before .before .before .grain2 .result) (c .before .before .before .before .before .before .before .before .before .grain2 .ensures .0) (a .k) (c .before .before .before .before .find-in .result .found) (c .before .before .before .before .find-in .result .at) (c .before .before .before .before .find-in .result .left) (c .before .before .before .before .find-in .ensures .1 .1 (q .reach) (q .low) (c .before .before .before .before .before .before .before .before .before .before .grain .ensures .0) ready) (omega (arith, c .before .before .before .before .before .before .before .before .block-size .ensures .0))
 
-test-requires : tie.Need-test-requires Inv-loop μ-loop
-test-requires c κs = c .before .before .before .before .before .before .before .before .before .before .before .before .before .before .before .before .pre .1 .1 .0
+div-q : tie.Need-div-q
+div-q c = search needs
 
-next-requires : tie.Need-next-requires Inv-loop μ-loop
-next-requires c κs = let a = c .before .before .before .before .before .before .before .before .before .before .before .before .before .before .before .before .before .before .args in let len = four-length (a .sizes) _ (c .before .before .before .before .before .before .before .before .before .before .before .before .before .before .before .before .before .before .good .1 .1 .1 .1 .0) in
-    let pos = product-pos (a .c .reach - a .p) (a .sizes .at) (λ i h. c .before .before .before .before .before .before .before .before .before .before .before .before .before .before .before .before .before .before .pre .1 .1 .1 i (omega arith) .0) in (omega (arith, c .before .before .before .before .before .before .before .before .before .before .before .grain .ensures .0), (omega (arith, c .before .before .before .before .before .before .before .before .before .before .before .grain .ensures .1), omega (arith, c .before .before .before .before .before .before .before .before .before .before .before .before .block-size .ensures .1)))
+div-rounds : tie.Need-div-rounds
+div-rounds c = let a = c .before .before .before .before .before .before .before .before .before .before .before .before .before .before .before .before .args in let len = four-length (a .sizes) _ (c .before .before .before .before .before .before .before .before .before .before .before .before .before .before .before .before .good .1 .1 .1 .1 .0) in
+    let positive : (i : ℕ) → i < length (a .sizes .at) → 0 < getD (a .sizes .at) i 0 = λ i h. c .before .before .before .before .before .before .before .before .before .before .before .before .before .before .before .before .pre .1 .1 .1 i (omega arith) .0 in omega (arith, c .before .before .before .before .before .before .before .before .before .grain2 .ensures .0, product-pos (a .c .low - a .p) (a .sizes .at) positive)
 
-smaller-requires : tie.Need-smaller-requires Inv-loop μ-loop
-smaller-requires c κs = search needs
+mul-t25 : tie.Need-mul-t25
+mul-t25 c = omega (arith, mul-le-mul-left (c .before .before .before .before .before .before .before .before .before .before .before .before .before .before .before .before .before .args .k - c .before .before .before .before .before .find-in .result .left) (let h : c .before .before .before .before .before .before .before .before .before .block-size .result / c .before .before .before .before .before .before .before .before .before .before .grain2 .result ≤ (c .before .before .before .before .before .before .before .before .before .before .before .before .before .before .before .before .before .args .k) / (c .before .before .before .before .before .before .before .before .before .before .before .before .before .before .before .before .before .args .k - c .before .before .before .before .before .find-in .result .left) = omega arith in h), mul-div-le (c .before .before .before .before .before .before .before .before .before .before .before .before .before .before .before .before .before .args .k) (c .before .before .before .before .before .before .before .before .before .before .before .before .before .before .before .before .before .args .k - c .before .before .before .before .before .find-in .result .left))
 
-sub-m : tie.Need-sub-m Inv-loop μ-loop
-sub-m c = omega (arith, c .smaller .ensures, c .before .next .ensures .0)
+sub-t26 : tie.Need-sub-t26
+sub-t26 c = omega (arith, mul-le-mul-left (c .before .before .before .before .before .before .before .before .before .before .before .before .before .before .before .before .before .args .k - c .before .before .before .before .before .find-in .result .left) (let h : c .before .before .before .before .before .before .before .before .before .block-size .result / c .before .before .before .before .before .before .before .before .before .before .grain2 .result ≤ (c .before .before .before .before .before .before .before .before .before .before .before .before .before .before .before .before .before .args .k) / (c .before .before .before .before .before .before .before .before .before .before .before .before .before .before .before .before .before .args .k - c .before .before .before .before .before .find-in .result .left) = omega arith in h), mul-div-le (c .before .before .before .before .before .before .before .before .before .before .before .before .before .before .before .before .before .args .k) (c .before .before .before .before .before .before .before .before .before .before .before .before .before .before .before .before .before .args .k - c .before .before .before .before .before .find-in .result .left))
 
-add-t31 : tie.Need-add-t31 Inv-loop μ-loop
-add-t31 c = omega (arith, c .before .smaller .ensures, c .before .before .before .before .before .before .before .before .before .before .before .before .before .before .before .block-size .ensures)
+returns-4 : tie.Need-returns-4
+returns-4 c = λ ready. let q = c .before .before .before .before .before .before .before .before .before .before .before .before .before .before .before .before .before .args .c in let a = c .before .before .before .before .before .before .before .before .before .before .before .before .before .before .before .before .before .args in let len = four-length (a .sizes) _ (c .before .before .before .before .before .before .before .before .before .before .before .before .before .before .before .before .before .good .1 .1 .1 .1 .0) in
+    let positive : (i : ℕ) → i < length (a .sizes .at) → 0 < getD (a .sizes .at) i 0 = λ i h. c .before .before .before .before .before .before .before .before .before .before .before .before .before .before .before .before .before .pre .1 .1 .1 i (omega arith) .0 in
+    let few : a .p ≤ length (a .params .at) = let w = eight-length (a .params) _ (c .before .before .before .before .before .before .before .before .before .before .before .before .before .before .before .before .before .good .1 .1 .0) in omega (arith, c .before .before .before .before .before .before .before .before .before .before .before .before .before .before .before .before .before .pre .0) in
+    search-past (a .s .now) (a .funcs .now) (q .froms) (q .ends) (q .blocks) (q .count) (a .p) (q .reach) (q .low) (a .sizes .at) (a .params .at) few positive ready (c .before .before .before .before .before .before .before .before .before .before .grain2 .result) (c .before .before .before .before .before .before .before .before .before .before .grain2 .ensures .0) (a .k) (c .before .before .before .before .before .find-in .result .found) (c .before .before .before .before .before .find-in .result .at) (c .before .before .before .before .before .find-in .result .left) (c .before .before .before .before .before .find-in .ensures .1 .1 (q .reach) (q .low) (c .before .before .before .before .before .before .before .before .before .before .before .grain .ensures .0) ready) (c .before .before .before .before .if1 .left) (c .before .before .before .before .before .before .before .before .before .before .before .before .before .before .before .before .before .args .k - c .before .before .before .before .before .find-in .result .left) refl (omega arith) (c .before .before .before .before .before .before .before .before .before .block-size .result / c .before .before .before .before .before .before .before .before .before .before .grain2 .result) (ap (λ (x : ℕ). x / c .before .before .before .before .before .before .before .before .before .before .grain2 .result) (c .before .before .before .before .before .before .before .before .before .block-size .ensures .0)) (omega arith) 0
 
-returns : tie.Need-returns Inv-loop μ-loop
-unfolding Finds
-returns c = λ ready. let a = c .before .before .before .before .before .before .before .before .before .before .before .before .before .before .before .before .before .before .before .before .before .args in let l = c .before .before .before .before .before .before .before .before .before .before .before .before .before .loop in let s = a .s .now in let fs = a .funcs .now in let q = a .c in
-    let acc : ℕ → Bool = λ i. met s fs (q .froms) (q .ends) (q .count) (env (a .p) (a .params .at) (valuesOf (a .sizes .at) i)) in
-    let len = four-length (a .sizes) _ (c .before .before .before .before .before .before .before .before .before .before .before .before .before .before .before .before .before .before .before .before .before .good .1 .1 .1 .1 .0) in
-    let few : a .p ≤ length (a .params .at) = let w = eight-length (a .params) _ (c .before .before .before .before .before .before .before .before .before .before .before .before .before .before .before .before .before .before .before .before .before .good .1 .1 .0) in omega (arith, c .before .before .before .before .before .before .before .before .before .before .before .before .before .before .before .before .before .before .before .before .before .pre .0) in
-    let alike : Alike (c .before .before .before .before .before .before .before .before .before .before .environment .result .at) (env (a .p) (a .params .at) (valuesOf (a .sizes .at) (l .j))) = λ v. c .before .before .before .before .before .before .before .before .before .before .environment .ensures v ∙ ap (λ (w : List ℕ). getD (env (a .p) (a .params .at) w) v 0) (c .before .before .before .before .before .before .before .before .before .before .before .values .ensures) in
-    let reach = q .reach in
-    let e : c .before .before .before .before .before .before .before .before .before .before .before .before .before .before .grain .result ≡ product (drop (reach - a .p) (a .sizes .at)) = c .before .before .before .before .before .before .before .before .before .before .before .before .before .before .grain .ensures .0 in
-    let taken : (i : ℕ) → l .j ≤ i → i < c .before .smaller .result → acc i ≡ true = λ i u v.
-    let tested = c .before .before .before .before .test .ensures (a .p) (a .sizes .at) reach (c .before .before .before .before .before .before .before .before .before .before .before .before .before .before .before .before .before .before .before .before .before .pre .1 .1 .1) len ready in
-    let same : i / product (drop (reach - a .p) (a .sizes .at)) ≡ l .j / product (drop (reach - a .p) (a .sizes .at)) =
-    ap (λ (x : ℕ). i / x) (sym e) ∙ c .before .before .next .ensures .1 i u (omega (arith, c .before .smaller .ensures)) ∙ ap (λ (x : ℕ). l .j / x) e in
-    accepted s fs (q .froms) (q .ends) (q .blocks) (q .count) (a .p) reach (a .sizes .at) (a .params .at) few ready (c .before .before .before .before .before .before .before .before .before .before .environment .result .at) (l .j) alike (c .before .before .before .before .test .result) tested (c .before .before .before .if1 .taken) i same in
-    subst (λ (x : ℕ). getElem? (places acc x 0) (a .k) ≡ some (l .j + l .left)) (c .before .before .before .before .before .before .before .before .before .before .before .before .before .before .before .block-size .ensures .0)
-    (going-found acc (c .before .before .before .before .before .before .before .before .before .before .before .before .before .before .before .block-size .result) (a .k) (l .j) (l .left) (c .before .smaller .result) (l .j + l .left) (omega (arith, c .before .before .next .ensures .0, c .before .smaller .ensures)) (omega (arith, c .before .smaller .ensures)) taken (c .if2 .taken) refl (l .inv reach e ready))
+rem-find-in : tie.Need-rem-find-in
+rem-find-in c = search needs
 
-loop-less : tie.Need-loop-less Inv-loop μ-loop
-loop-less c = omega (arith, c .before .smaller .ensures, c .before .before .next .ensures .0)
+find-in-requires-2 : tie.Need-find-in-requires-2
+find-in-requires-2 c κs = let a = c .before .before .before .before .before .before .before .before .before .before .before .before .before .before .before .before .before .before .before .before .args in let len = four-length (a .sizes) _ (c .before .before .before .before .before .before .before .before .before .before .before .before .before .before .before .before .before .before .before .before .good .1 .1 .1 .1 .0) in
+    let positive : (i : ℕ) → i < length (a .sizes .at) → 0 < getD (a .sizes .at) i 0 = λ i h. c .before .before .before .before .before .before .before .before .before .before .before .before .before .before .before .before .before .before .before .before .pre .1 .1 .1 i (omega arith) .0 in (c .before .before .before .before .before .before .before .before .before .before .before .before .before .before .before .before .before .before .before .before .pre .0, (c .before .before .before .before .before .before .before .before .before .before .before .before .before .before .before .before .before .before .before .before .pre .1 .0, (c .before .before .before .before .before .before .before .before .before .before .before .before .before .before .before .before .before .before .before .before .pre .1 .1 .0, (c .before .before .before .before .before .before .before .before .before .before .before .before .before .before .before .before .before .before .before .before .pre .1 .1 .1, (c .before .before .before .before .before .before .before .before .before .before .before .before .before .grain2 .ensures .1, (omega (arith, c .before .before .before .before .before .before .before .before .before .before .before .before .before .before .grain .ensures .0, product-pos (a .c .reach - a .p) (a .sizes .at) positive), c .before .before .before .before .before .before .before .before .before .before .before .before .before .before .grain .ensures .1))))))
 
-loop-again : tie.Need-loop-again Inv-loop μ-loop
-loop-again c = λ reach e ready. let a = c .before .before .before .before .before .before .before .before .before .before .before .before .before .before .before .before .before .before .before .before .before .args in let l = c .before .before .before .before .before .before .before .before .before .before .before .before .before .loop in let s = a .s .now in let fs = a .funcs .now in let q = a .c in
-    let acc : ℕ → Bool = λ i. met s fs (q .froms) (q .ends) (q .count) (env (a .p) (a .params .at) (valuesOf (a .sizes .at) i)) in
-    let len = four-length (a .sizes) _ (c .before .before .before .before .before .before .before .before .before .before .before .before .before .before .before .before .before .before .before .before .before .good .1 .1 .1 .1 .0) in
-    let few : a .p ≤ length (a .params .at) = let w = eight-length (a .params) _ (c .before .before .before .before .before .before .before .before .before .before .before .before .before .before .before .before .before .before .before .before .before .good .1 .1 .0) in omega (arith, c .before .before .before .before .before .before .before .before .before .before .before .before .before .before .before .before .before .before .before .before .before .pre .0) in
-    let alike : Alike (c .before .before .before .before .before .before .before .before .before .before .environment .result .at) (env (a .p) (a .params .at) (valuesOf (a .sizes .at) (l .j))) = λ v. c .before .before .before .before .before .before .before .before .before .before .environment .ensures v ∙ ap (λ (w : List ℕ). getD (env (a .p) (a .params .at) w) v 0) (c .before .before .before .before .before .before .before .before .before .before .before .values .ensures) in
-    let taken : (i : ℕ) → l .j ≤ i → i < c .before .smaller .result → acc i ≡ true = λ i u v.
-    let tested = c .before .before .before .before .test .ensures (a .p) (a .sizes .at) reach (c .before .before .before .before .before .before .before .before .before .before .before .before .before .before .before .before .before .before .before .before .before .pre .1 .1 .1) len ready in
-    let same : i / product (drop (reach - a .p) (a .sizes .at)) ≡ l .j / product (drop (reach - a .p) (a .sizes .at)) =
-    ap (λ (x : ℕ). i / x) (sym e) ∙ c .before .before .next .ensures .1 i u (omega (arith, c .before .smaller .ensures)) ∙ ap (λ (x : ℕ). l .j / x) e in
-    accepted s fs (q .froms) (q .ends) (q .blocks) (q .count) (a .p) reach (a .sizes .at) (a .params .at) few ready (c .before .before .before .before .before .before .before .before .before .before .environment .result .at) (l .j) alike (c .before .before .before .before .test .result) tested (c .before .before .before .if1 .taken) i same in
-    going-on acc (c .before .before .before .before .before .before .before .before .before .before .before .before .before .before .before .block-size .result) (a .k) (l .j) (l .left) (c .before .smaller .result) (l .left - (c .before .smaller .result - l .j)) (omega (arith, c .before .before .next .ensures .0, c .before .smaller .ensures)) (omega (arith, c .before .smaller .ensures)) taken (omega (arith, c .if2 .left)) refl (l .inv reach e ready)
+mul-t31 : tie.Need-mul-t31
+mul-t31 c = let q : (c .before .before .before .before .before .before .before .before .before .before .before .before .before .before .before .before .before .before .before .before .before .args .k) / (c .before .before .before .before .before .before .before .before .before .before .before .before .before .before .before .before .before .before .before .before .before .args .k - c .before .before .before .before .before .before .before .before .before .find-in .result .left) ≤ 65536 = omega (arith, c .before .before .before .before .before .before .before .before .before .before .before .before .before .block-size .ensures .1, div-le-self (c .before .before .before .before .before .before .before .before .before .before .before .before .before .block-size .result) (c .before .before .before .before .before .before .before .before .before .before .before .before .before .before .grain2 .result)) in omega (arith, mul-le-mul q (c .before .before .before .before .before .before .before .before .before .before .before .before .before .before .grain2 .ensures .1))
 
-wide-block-requires : tie.Need-wide-block-requires Inv-loop μ-loop
-wide-block-requires c κs = search needs
+add-t32 : tie.Need-add-t32
+add-t32 c = let q : (c .before .before .before .before .before .before .before .before .before .before .before .before .before .before .before .before .before .before .before .before .before .before .args .k) / (c .before .before .before .before .before .before .before .before .before .before .before .before .before .before .before .before .before .before .before .before .before .before .args .k - c .before .before .before .before .before .before .before .before .before .before .find-in .result .left) ≤ 65536 = omega (arith, c .before .before .before .before .before .before .before .before .before .before .before .before .before .before .block-size .ensures .1, div-le-self (c .before .before .before .before .before .before .before .before .before .before .before .before .before .before .block-size .result) (c .before .before .before .before .before .before .before .before .before .before .before .before .before .before .before .grain2 .result)) in omega (arith, mul-le-mul q (c .before .before .before .before .before .before .before .before .before .before .before .before .before .before .before .grain2 .ensures .1), c .before .find-in2 .ensures .0)
 
-next-requires-2 : tie.Need-next-requires-2 Inv-loop μ-loop
-next-requires-2 c κs = (omega (arith, c .wide-block .ensures .0, c .before .if1 .left), (c .wide-block .ensures .1, omega (arith, c .before .before .before .before .before .before .before .before .before .before .before .before .before .block-size .ensures .1)))
-
-loop-less-2 : tie.Need-loop-less-2 Inv-loop μ-loop
-loop-less-2 c = omega (arith, c .next2 .ensures .0)
-
-loop-again-2 : tie.Need-loop-again-2 Inv-loop μ-loop
-loop-again-2 c = λ reach e ready. let a = c .before .before .before .before .before .before .before .before .before .before .before .before .before .before .before .before .before .before .before .before .args in let l = c .before .before .before .before .before .before .before .before .before .before .before .before .loop in let s = a .s .now in let fs = a .funcs .now in let q = a .c in
-    let acc : ℕ → Bool = λ i. met s fs (q .froms) (q .ends) (q .count) (env (a .p) (a .params .at) (valuesOf (a .sizes .at) i)) in
-    let len = four-length (a .sizes) _ (c .before .before .before .before .before .before .before .before .before .before .before .before .before .before .before .before .before .before .before .before .good .1 .1 .1 .1 .0) in
-    let few : a .p ≤ length (a .params .at) = let w = eight-length (a .params) _ (c .before .before .before .before .before .before .before .before .before .before .before .before .before .before .before .before .before .before .before .before .good .1 .1 .0) in omega (arith, c .before .before .before .before .before .before .before .before .before .before .before .before .before .before .before .before .before .before .before .before .pre .0) in
-    let alike : Alike (c .before .before .before .before .before .before .before .before .before .environment .result .at) (env (a .p) (a .params .at) (valuesOf (a .sizes .at) (l .j))) = λ v. c .before .before .before .before .before .before .before .before .before .environment .ensures v ∙ ap (λ (w : List ℕ). getD (env (a .p) (a .params .at) w) v 0) (c .before .before .before .before .before .before .before .before .before .before .values .ensures) in
-    let none : (i : ℕ) → l .j ≤ i → i < c .next2 .result → acc i ≡ false = λ i u v.
-    let tested = c .before .before .before .test .ensures (a .p) (a .sizes .at) reach (c .before .before .before .before .before .before .before .before .before .before .before .before .before .before .before .before .before .before .before .before .pre .1 .1 .1) len ready in
-    let same : i / c .before .before .before .test .result ≡ l .j / c .before .before .before .test .result = ap (λ (x : ℕ). i / x) (sym (c .before .wide-block .ensures .0)) ∙ c .next2 .ensures .1 i u v ∙ ap (λ (x : ℕ). l .j / x) (c .before .wide-block .ensures .0) in
-    blocked s fs (q .froms) (q .ends) (q .blocks) (q .count) (a .p) reach (a .sizes .at) (a .params .at) few ready (c .before .before .before .before .before .before .before .before .before .environment .result .at) (l .j) alike (c .before .before .before .test .result) tested (omega (arith, c .before .before .if1 .left)) i same in
-    going-skip acc (c .before .before .before .before .before .before .before .before .before .before .before .before .before .before .block-size .result) (a .k) (l .j) (l .left) (c .next2 .result) (omega (arith, c .next2 .ensures .0)) none (l .inv reach e ready)
-
-returns-2 : tie.Need-returns-2 Inv-loop μ-loop
-unfolding Finds
-returns-2 c = λ ready. let a = c .before .before .before .before .before .before .before .before .before .args in let l = c .before .loop in let s = a .s .now in let fs = a .funcs .now in let q = a .c in
-    let acc : ℕ → Bool = λ i. met s fs (q .froms) (q .ends) (q .count) (env (a .p) (a .params .at) (valuesOf (a .sizes .at) i)) in
-    subst (λ (x : ℕ). a .k ≡ l .left + length (places acc x 0)) (c .before .before .before .block-size .ensures .0) (going-end acc (c .before .before .before .block-size .result) (a .k) (l .j) (l .left) (c .loop-test .left) (l .inv (q .reach) (c .before .before .grain .ensures .0) ready))
+returns-5 : tie.Need-returns-5
+returns-5 c = λ ready. let q = c .before .before .before .before .before .before .before .before .before .before .before .before .before .before .before .before .before .before .before .before .before .before .args .c in let a = c .before .before .before .before .before .before .before .before .before .before .before .before .before .before .before .before .before .before .before .before .before .before .args in let len = four-length (a .sizes) _ (c .before .before .before .before .before .before .before .before .before .before .before .before .before .before .before .before .before .before .before .before .before .before .good .1 .1 .1 .1 .0) in
+    let positive : (i : ℕ) → i < length (a .sizes .at) → 0 < getD (a .sizes .at) i 0 = λ i h. c .before .before .before .before .before .before .before .before .before .before .before .before .before .before .before .before .before .before .before .before .before .before .pre .1 .1 .1 i (omega arith) .0 in
+    let few : a .p ≤ length (a .params .at) = let w = eight-length (a .params) _ (c .before .before .before .before .before .before .before .before .before .before .before .before .before .before .before .before .before .before .before .before .before .before .good .1 .1 .0) in omega (arith, c .before .before .before .before .before .before .before .before .before .before .before .before .before .before .before .before .before .before .before .before .before .before .pre .0) in
+    search-later (a .s .now) (a .funcs .now) (q .froms) (q .ends) (q .blocks) (q .count) (a .p) (q .reach) (q .low) (a .sizes .at) (a .params .at) few positive ready (c .before .before .before .before .before .before .before .before .before .before .before .before .before .before .before .grain2 .result) (c .before .before .before .before .before .before .before .before .before .before .before .before .before .before .before .grain2 .ensures .0) (a .k) (c .before .before .before .before .before .before .before .before .before .before .find-in .result .found) (c .before .before .before .before .before .before .before .before .before .before .find-in .result .at) (c .before .before .before .before .before .before .before .before .before .before .find-in .result .left) (c .before .before .before .before .before .before .before .before .before .before .find-in .ensures .1 .1 (q .reach) (q .low) (c .before .before .before .before .before .before .before .before .before .before .before .before .before .before .before .before .grain .ensures .0) ready) (c .before .before .before .before .before .before .before .before .before .if1 .left) (c .before .before .before .before .before .before .before .before .before .before .before .before .before .before .before .before .before .before .before .before .before .before .args .k - c .before .before .before .before .before .before .before .before .before .before .find-in .result .left) refl (omega arith) (c .before .before .before .before .before .before .before .before .before .before .before .before .before .before .block-size .result / c .before .before .before .before .before .before .before .before .before .before .before .before .before .before .before .grain2 .result) (ap (λ (x : ℕ). x / c .before .before .before .before .before .before .before .before .before .before .before .before .before .before .before .grain2 .result) (c .before .before .before .before .before .before .before .before .before .before .before .before .before .before .block-size .ensures .0)) (omega arith) (c .before .find-in2 .result .found) (c .before .find-in2 .result .at) (c .before .find-in2 .result .left) (c .before .find-in2 .ensures .1 .1 (q .reach) (q .low) (c .before .before .before .before .before .before .before .before .before .before .before .before .before .before .before .before .grain .ensures .0) ready) 0
 
 pub find-spec : {M : Type 1} → statement M
 find-spec =
     tie.close
     (tie.spec
-    Inv-loop
-    μ-loop
-    block-size-requires
     grain-requires
-    loop-holds
-    values-requires
-    environment-requires
-    slice-aggregate-test
-    test-requires
-    next-requires
-    smaller-requires
-    sub-m
-    add-t31
+    grain-requires-2
+    block-size-requires
+    find-in-requires
     returns
-    loop-less
-    loop-again
-    wide-block-requires
-    next-requires-2
-    loop-less-2
-    loop-again-2
-    returns-2)
+    sub-m
+    returns-2
+    returns-3
+    div-q
+    div-rounds
+    mul-t25
+    sub-t26
+    returns-4
+    rem-find-in
+    find-in-requires-2
+    mul-t31
+    add-t32
+    returns-5)

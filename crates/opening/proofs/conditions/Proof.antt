@@ -1,19 +1,19 @@
 -- Each condition stands where the one before it ends.
-use Rattle.opening.proofs.conditions.Statement.{statement}
-use Rattle.opening.proofs.conditions.Tie as tie
+use borrow.Author.Needs.{needs}
 use native.Mathlib.Omega.{arith}
 use Prim.Native.Nat.{ℕ, _+_, _-_, _≤_, min}
 use mathlib.Core.Path.{_≡_, refl, _∙_, ap}
 use lib.ListN.{length, length-set}
 use Rattle.pcrl.specs.Limits.{max-stream}
 use Rattle.opening.proofs.Standing.{Gone, gone-none, gone-more, gone-all}
-use borrow.Author.Needs.{needs}
+use Rattle.opening.proofs.conditions.Statement.{statement}
+use Rattle.opening.proofs.conditions.Tie as tie
 
 abbrev Inv-loop : tie.InvT-loop
-Inv-loop s funcs at p z n froms₀ ends₀ blocks₀ reach₀ a₀ i₀ froms ends blocks reach a i = (i ≤ n) × ((a ≤ max-stream + max-stream + 1 + i) × ((length froms ≡ 8) × ((length ends ≡ 8) × ((length blocks ≡ 8) × Gone s funcs at p (z .at) n froms ends blocks reach a i))))
+Inv-loop s funcs at p z n froms₀ ends₀ blocks₀ reach₀ low₀ a₀ i₀ froms ends blocks reach low a i = (i ≤ n) × ((a ≤ max-stream + max-stream + 1 + i) × ((length froms ≡ 8) × ((length ends ≡ 8) × ((length blocks ≡ 8) × Gone s funcs at p (z .at) n froms ends blocks reach low a i))))
 
 abbrev μ-loop : tie.MeasureT-loop
-μ-loop s funcs at p z n froms₀ ends₀ blocks₀ reach₀ a₀ i₀ froms ends blocks reach a i = n - i
+μ-loop s funcs at p z n froms₀ ends₀ blocks₀ reach₀ low₀ a₀ i₀ froms ends blocks reach low a i = n - i
 
 peek-requires : tie.Need-peek-requires Inv-loop μ-loop
 peek-requires c κs = search needs
@@ -66,6 +66,12 @@ array-write-blocks c = omega (arith, c .before .before .before .before .before .
 larger-requires : tie.Need-larger-requires Inv-loop μ-loop
 larger-requires c κs = search needs
 
+lowest-requires : tie.Need-lowest-requires Inv-loop μ-loop
+lowest-requires c κs = search needs
+
+smaller-requires-2 : tie.Need-smaller-requires-2 Inv-loop μ-loop
+smaller-requires-2 c κs = search needs
+
 add-i : tie.Need-add-i Inv-loop μ-loop
 add-i c = omega arith
 
@@ -73,18 +79,18 @@ loop-less : tie.Need-loop-less Inv-loop μ-loop
 loop-less c = omega arith
 
 loop-again : tie.Need-loop-again Inv-loop μ-loop
-loop-again c = let a = c .before .before .before .before .before .before .before .before .before .before .before .before .args in let l = c .before .before .before .before .before .before .loop in let v = l .inv in (
+loop-again c = let a = c .before .before .before .before .before .before .before .before .before .before .before .before .before .before .args in let l = c .before .before .before .before .before .before .before .before .loop in let v = l .inv in (
   omega arith,
   (
-    omega (arith, c .before .before .before .before .skip .ensures .1 .1, c .before .before .before .before .before .before .before .before .before .before .before .before .pre .0),
+    omega (arith, c .before .before .before .before .before .before .skip .ensures .1 .1, c .before .before .before .before .before .before .before .before .before .before .before .before .before .before .pre .0),
     (
       simp length-set (v .1 .1 .0),
       (
         simp length-set (v .1 .1 .1 .0),
         (
           simp length-set (v .1 .1 .1 .1 .0),
-          gone-more (a .s .now) (a .funcs .now) (a .at) (a .p) (a .z .at) (c .before .before .before .before .before .before .before .smaller .result) (l .froms) (l .ends) (l .blocks) (l .reach) (l .a) (l .i) (l .a + 1) (c .before .before .before .before .skip .result) (c .before .before .before .highest .result) (c .before .narrow .result) (c .larger .result)
-              (c .before .before .before .before .before .loop-test .taken) (v .1 .1 .0) (v .1 .1 .1 .0) (v .1 .1 .1 .1 .0) (omega (arith, c .before .before .before .before .before .before .before .smaller .ensures)) refl (c .before .before .before .before .skip .ensures .0) (c .before .before .before .highest .ensures) (c .before .narrow .ensures ∙ c .before .before .grain .ensures .0) (c .larger .ensures) (v .1 .1 .1 .1 .1),
+          gone-more (a .s .now) (a .funcs .now) (a .at) (a .p) (a .z .at) (c .before .before .before .before .before .before .before .before .before .smaller .result) (l .froms) (l .ends) (l .blocks) (l .reach) (l .low) (l .a) (l .i) (l .a + 1) (c .before .before .before .before .before .before .skip .result) (c .before .before .before .before .before .highest .result) (c .before .lowest .result) (c .before .before .before .narrow .result) (c .before .before .larger .result) (c .smaller2 .result)
+              (c .before .before .before .before .before .before .before .loop-test .taken) (v .1 .1 .0) (v .1 .1 .1 .0) (v .1 .1 .1 .1 .0) (omega (arith, c .before .before .before .before .before .before .before .before .before .smaller .ensures)) refl (c .before .before .before .before .before .before .skip .ensures .0) (c .before .before .before .before .before .highest .ensures) (c .before .lowest .ensures) (c .before .before .before .narrow .ensures ∙ c .before .before .before .before .grain .ensures .0) (c .before .before .larger .ensures) (c .smaller2 .ensures) (v .1 .1 .1 .1 .1),
         ),
       ),
     ),
@@ -124,6 +130,8 @@ conditions-spec =
     mul-blocks
     array-write-blocks
     larger-requires
+    lowest-requires
+    smaller-requires-2
     add-i
     loop-less
     loop-again
