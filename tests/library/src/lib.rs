@@ -4,7 +4,10 @@ pub mod asked;
 #[path = "../../reader/tests/common/mod.rs"]
 pub mod common;
 pub mod files;
+pub mod followed;
+pub mod inputs;
 pub mod large;
+pub mod listings;
 pub mod made;
 pub mod painted;
 pub mod program;

@@ -5,7 +5,7 @@ use reader::Label;
 
 /// `wizbratel_frame`.
 #[repr(C)]
-#[derive(Clone, Copy, Debug, Default, PartialEq, Eq)]
+#[derive(Clone, Copy, Debug, Default, PartialEq, Eq, Hash)]
 pub struct Frame {
     pub equation: u8,
     pub values: [u8; PARAMETERS],
@@ -161,16 +161,20 @@ impl Answer {
         [&fields[..], &ends].concat()
     }
 
-    /// The label of a step, as text.
-    pub fn label(&self) -> String {
+    /// The label of a step.
+    pub fn shown(&self) -> Label {
         let name = &self.name[..usize::from(self.name_length)];
         let values = &self.values[..usize::from(self.value_count)];
         let name = String::from_utf8(name.to_vec()).expect("a name");
-        let label = if name == "tau" {
+        if name == "tau" {
             Label::Tau
         } else {
             Label::Action(name, values.to_vec())
-        };
-        label.to_string()
+        }
+    }
+
+    /// The label of a step, as text.
+    pub fn label(&self) -> String {
+        self.shown().to_string()
     }
 }

@@ -1,0 +1,180 @@
+//! Every listing of the README, of docs/RULES.md and of docs/LANGUAGE.md, checked by the programs and the library. How
+//! listings are marked stands at the end of docs/RULES.md.
+
+use std::collections::BTreeMap;
+use std::path::Path;
+
+use library::followed::Followed;
+use library::inputs::{answer, in_words};
+use library::listings::{listings, stream, Listing};
+use library::program::written;
+use reader::equal_to;
+
+/// Listings that are no input of Wizbratel.
+const OTHERS: [&str; 6] = ["c", "rust", "sh", "text", "toml", "dot"];
+
+/// A listing without a number has not more stacks than this.
+const MOST: usize = 100;
+
+/// How many listings there are of each kind.
+type Counts = BTreeMap<String, usize>;
+
+fn document(name: &str) -> String {
+    let root = Path::new(env!("CARGO_MANIFEST_DIR")).join("../..");
+    std::fs::read_to_string(root.join(name)).expect("a document")
+}
+
+fn same<T: PartialEq + std::fmt::Debug>(got: T, wanted: T) -> Result<(), String> {
+    if got == wanted {
+        Ok(())
+    } else {
+        Err(format!("{got:?}, and not {wanted:?}"))
+    }
+}
+
+fn number(word: &str) -> Result<usize, String> {
+    word.parse().map_err(|_| format!("no number: {word}"))
+}
+
+fn followed(sheet: &str) -> Result<Followed, String> {
+    Followed::of(sheet.as_bytes()).map_err(in_words)
+}
+
+/// A sheet is answered so by the program and by the library.
+fn sheet_is(sheet: &str, wanted: &str) -> Result<(), String> {
+    let words = in_words(library::check_sheet(sheet.as_bytes()));
+    same(words.as_str(), wanted)?;
+    same(
+        written("check_sheet", sheet.as_bytes()),
+        format!("{wanted}\n"),
+    )
+}
+
+/// The stream bytes of the sheet's file are these, and then zeros.
+fn stream_is(sheet: &str, shown: &[u8]) -> Result<(), String> {
+    let file = followed(sheet)?.file;
+    let mut bytes: Vec<u8> = file
+        .chunks(512)
+        .flat_map(|block| block[4..510].to_vec())
+        .collect();
+    let rest = bytes.split_off(shown.len());
+    same(&bytes[..], shown)?;
+    same(rest.iter().any(|&byte| byte != 0), false)
+}
+
+/// The starts of two sheets, an empty line between them, are equal to so many steps, or are not.
+fn equal_is(sheets: &str, n: &str, wanted: bool) -> Result<(), String> {
+    let (left, right) = sheets.split_once("\n\n").ok_or("one sheet")?;
+    let (left, right) = (followed(left)?, followed(right)?);
+    let starts = (left.start(), right.start());
+    let equal = equal_to(number(n)?, (&left, &starts.0), (&right, &starts.1));
+    same((n, equal), (n, wanted))
+}
+
+/// Checks one listing, behind this sheet.
+fn check(listing: &Listing, sheet: Option<&str>) -> Result<(), String> {
+    let text = listing.text.as_str();
+    let before = || sheet.ok_or("no sheet before it");
+    let words: Vec<&str> = listing.words.split(' ').collect();
+    match words[..] {
+        ["pcrl", "accepted"] => sheet_is(text, "accepted"),
+        ["pcrl", "refused", n] => sheet_is(text, &format!("refused {n}")),
+        ["pcrl", "equal", n] => equal_is(text, n, true),
+        ["pcrl", "equal", n, "not", m] => {
+            equal_is(text, n, true).and_then(|()| equal_is(text, m, false))
+        }
+        ["walk"] => same(written("walk", before()?.as_bytes()).as_str(), text),
+        ["stream"] => stream_is(before()?, &stream(text)),
+        ["steps"] => {
+            let followed = followed(before()?)?;
+            same(followed.reached(MOST).as_str(), text)?;
+            same(followed.reached(MOST + 1).as_str(), text)
+        }
+        ["steps", n] => same(followed(before()?)?.reached(number(n)?).as_str(), text),
+        ["input", ..] => same(format!("input {}", answer(text)?), listing.words.clone()),
+        [other, ..] if OTHERS.contains(&other) => Ok(()),
+        _ => Err("words that mark no listing".to_string()),
+    }
+}
+
+/// Checks all listings of a document; how many there are of each kind.
+fn check_all(document: &str) -> Result<Counts, String> {
+    let mut counts = Counts::new();
+    let mut sheet: Option<String> = None;
+    for listing in listings(document)? {
+        let place = |wrong| format!("line {}, {}: {wrong}", listing.line, listing.words);
+        check(&listing, sheet.as_deref()).map_err(place)?;
+        let kind = listing.words.split(' ').next().unwrap_or_default();
+        if ["pcrl accepted", "pcrl refused"]
+            .iter()
+            .any(|words| listing.words.starts_with(words))
+        {
+            sheet = Some(listing.text.clone());
+        }
+        *counts.entry(kind.to_string()).or_default() += 1;
+    }
+    Ok(counts)
+}
+
+#[test]
+fn every_listing() {
+    for (name, kinds) in [
+        ("README.md", &["pcrl", "stream", "walk"][..]),
+        ("docs/RULES.md", &["input", "pcrl", "stream", "walk"]),
+        ("docs/LANGUAGE.md", &["pcrl", "steps", "walk"]),
+    ] {
+        let counts = check_all(&document(name)).unwrap_or_else(|wrong| panic!("{name}, {wrong}"));
+        println!("{name}: {counts:?}");
+        for &kind in kinds {
+            assert!(counts.contains_key(kind), "{name} has no {kind}");
+        }
+    }
+}
+
+/// Under the heading of each question there is an input that fails it.
+#[test]
+fn every_question_has_an_input_that_fails_it() {
+    let found = listings(&document("docs/RULES.md")).expect("listings");
+    for question in 1..=16 {
+        let fails = |listing: &&Listing| {
+            listing.heading == format!("### Question {question}")
+                && listing.words.ends_with(&format!(" refused {question}"))
+        };
+        assert!(found.iter().any(|listing| fails(&listing)), "{question}");
+    }
+}
+
+/// A wrong listing is found, and so is one that is not marked rightly.
+#[test]
+fn wrong_listings_are_found() {
+    let sheet = "```pcrl accepted\nact a;act b;proc X=a.b;init X;\n```\n";
+    let right = [
+        "```walk\n1 a 1\n2 b 0\nended\n```\n",
+        "```steps\n0 a 1\n1 b 2\n2 ended\n```\n",
+    ];
+    for listing in right {
+        assert!(check_all(&format!("{sheet}{listing}")).is_ok(), "{listing}");
+        assert!(check_all(listing).is_err(), "{listing}");
+    }
+    for listing in [
+        "```walk\n1 a 1\n2 b 0\nended\n",
+        "```walk\n1 a 1\n2 b 0\nended\n\n```\n",
+        "```walk\n1 a 1\n2 b 1\nended\n```\n",
+        "```walks\n1 a 1\n2 b 0\nended\n```\n",
+        "```\n1 a 1\n2 b 0\nended\n```\n",
+        "```steps\n0 a 1\n1 b 2\n```\n",
+        "```stream\n01 02 00 03\n```\n",
+        "```pcrl refused 7\nact a;proc X=a;init X;\n```\n",
+        "```pcrl refused 7\nproc X=X;init X;\n```\n",
+        "```pcrl accepted\nproc X=a;init X;\n```\n",
+        "```pcrl equal 2\nact a;proc X=a;init X;\n\nact a;proc X=a.a;init X;\n```\n",
+        "```pcrl equal 0 not 1\nact a;proc X=a;init X;\n\nact a;proc X=a+a;init X;\n```\n",
+        "```input refused 13\nsheet act a;proc X=a;init X;\nlength 100\n```\n",
+        "```input refused 13\nsheet act a;proc X=a;init X;\nwide 100\n```\n",
+    ] {
+        assert!(
+            check_all(&format!("{sheet}{listing}")).is_err(),
+            "{listing}"
+        );
+    }
+}
