@@ -38,28 +38,47 @@ impl Followed {
         (answer.kind == STEP).then(|| (answer.shown(), frames))
     }
 
-    /// The steps of the stacks reached from the start, nearest first, of so many stacks at the most: a line has the number of
-    /// a stack, a label and the number of the next stack, or the number of a stack and `ended` or `stuck`.
-    pub fn reached(&self, most: usize) -> String {
+    /// The stacks reached from the start, nearest first, and the steps of so many of them at the most: each the place of a
+    /// stack, the label, and the place of the next stack.
+    fn graph(&self, most: usize) -> (Vec<Vec<Frame>>, Vec<(usize, Label, usize)>) {
         let mut stacks = vec![self.start()];
-        let mut text = String::new();
+        let mut arrows = Vec::new();
         let mut at = 0;
         while at < stacks.len().min(most) {
-            let steps = self.steps(&stacks[at]);
-            if self.ended(&stacks[at]) {
-                text += &format!("{at} ended\n");
-            } else if steps.is_empty() {
-                text += &format!("{at} stuck\n");
-            }
-            for (label, next) in steps {
+            for (label, next) in self.steps(&stacks[at]) {
                 let known = stacks.iter().position(|stack| *stack == next);
                 let place = known.unwrap_or(stacks.len());
                 if known.is_none() {
                     stacks.push(next);
                 }
-                text += &format!("{at} {label} {place}\n");
+                arrows.push((at, label, place));
             }
             at += 1;
+        }
+        (stacks, arrows)
+    }
+
+    /// The stacks reached from the start, nearest first, by the steps of so many of them at the most.
+    pub fn stacks(&self, most: usize) -> Vec<Vec<Frame>> {
+        self.graph(most).0
+    }
+
+    /// The steps of these stacks as text: a line has the number of a stack, a label and the number of the next stack, or
+    /// the number of a stack and `ended` or `stuck`.
+    pub fn reached(&self, most: usize) -> String {
+        let (stacks, arrows) = self.graph(most);
+        let mut text = String::new();
+        for (at, stack) in stacks.iter().take(most).enumerate() {
+            let own = arrows.iter().filter(|arrow| arrow.0 == at);
+            let lines: Vec<String> = own
+                .map(|(at, label, next)| format!("{at} {label} {next}\n"))
+                .collect();
+            if self.ended(stack) {
+                text += &format!("{at} ended\n");
+            } else if lines.is_empty() {
+                text += &format!("{at} stuck\n");
+            }
+            text += &lines.concat();
         }
         text
     }

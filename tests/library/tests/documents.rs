@@ -1,13 +1,15 @@
-//! Every listing of the README, of docs/RULES.md and of docs/LANGUAGE.md, checked by the programs and the library. How
-//! listings are marked stands at the end of docs/RULES.md.
+//! Every listing of the README, of docs/RULES.md and of docs/LANGUAGE.md, checked by the programs and the library, and the
+//! pictures. How listings are marked stands at the end of docs/RULES.md.
 
 use std::collections::BTreeMap;
-use std::path::Path;
+use std::path::{Path, PathBuf};
+use std::process::Command;
 
 use library::followed::Followed;
 use library::inputs::{answer, in_words};
 use library::listings::{listings, stream, Listing};
 use library::program::written;
+use library::stepping::Frame;
 use reader::equal_to;
 
 /// Listings that are no input of Wizbratel.
@@ -19,9 +21,12 @@ const MOST: usize = 100;
 /// How many listings there are of each kind.
 type Counts = BTreeMap<String, usize>;
 
+fn root() -> PathBuf {
+    Path::new(env!("CARGO_MANIFEST_DIR")).join("../..")
+}
+
 fn document(name: &str) -> String {
-    let root = Path::new(env!("CARGO_MANIFEST_DIR")).join("../..");
-    std::fs::read_to_string(root.join(name)).expect("a document")
+    std::fs::read_to_string(root().join(name)).expect("a document")
 }
 
 fn same<T: PartialEq + std::fmt::Debug>(got: T, wanted: T) -> Result<(), String> {
@@ -177,4 +182,47 @@ fn wrong_listings_are_found() {
             "{listing}"
         );
     }
+}
+
+/// The titles of the charger's picture are its reached stacks, frame by frame, and their steps.
+#[test]
+fn the_picture_of_the_charger() {
+    let picture = document("docs/charger.svg");
+    let titles = picture.split("<title>").skip(2).map(|rest| {
+        let title = rest.split("</title>").next();
+        title.expect("a title").to_string()
+    });
+    let (mut stacks, mut steps): (Vec<String>, Vec<String>) =
+        titles.partition(|title| title.starts_with("stack "));
+    let charger = followed(&document("examples/charger.pcrl")).expect("a table");
+    let frame = |frame: &Frame| {
+        let values = frame.values.map(|value| value.to_string());
+        format!("{} {}", frame.equation, values.join(" "))
+    };
+    let reached = charger.stacks(MOST).into_iter().enumerate();
+    let mut wanted_stacks: Vec<String> = reached
+        .map(|(number, stack)| {
+            let frames: Vec<String> = stack.iter().map(frame).collect();
+            format!("stack {number}: {}", frames.join(" / "))
+        })
+        .collect();
+    let lines = charger.reached(MOST);
+    let mut wanted_steps: Vec<String> = lines.lines().map(str::to_string).collect();
+    for list in [
+        &mut stacks,
+        &mut steps,
+        &mut wanted_stacks,
+        &mut wanted_steps,
+    ] {
+        list.sort();
+    }
+    assert_eq!((stacks, steps), (wanted_stacks, wanted_steps));
+}
+
+/// The pictures are those that tools/pictures draws, and the layers are those of crates.txt.
+#[test]
+fn the_pictures_are_drawn_by_the_tool() {
+    let tool = root().join("tools/pictures");
+    let status = Command::new(tool).arg("--check").status();
+    assert!(status.expect("python3").success());
 }
