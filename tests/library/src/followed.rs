@@ -7,6 +7,9 @@ use crate::asked::lent;
 use crate::made::made_whole;
 use crate::stepping::{ask, start, Answer, Frame, STEP};
 
+/// A step between reached stacks: the place of a stack, the label, the place of the next stack.
+type Arrow = (usize, Label, usize);
+
 /// A table file that the library made of a sheet.
 pub struct Followed {
     pub file: Vec<u8>,
@@ -38,9 +41,8 @@ impl Followed {
         (answer.kind == STEP).then(|| (answer.shown(), frames))
     }
 
-    /// The stacks reached from the start, nearest first, and the steps of so many of them at the most: each the place of a
-    /// stack, the label, and the place of the next stack.
-    fn graph(&self, most: usize) -> (Vec<Vec<Frame>>, Vec<(usize, Label, usize)>) {
+    /// The stacks reached from the start, nearest first, and the steps of so many of them at the most.
+    fn graph(&self, most: usize) -> (Vec<Vec<Frame>>, Vec<Arrow>) {
         let mut stacks = vec![self.start()];
         let mut arrows = Vec::new();
         let mut at = 0;

@@ -13,7 +13,7 @@ use library::stepping::Frame;
 use reader::equal_to;
 
 /// Listings that are no input of Wizbratel.
-const OTHERS: [&str; 6] = ["c", "rust", "sh", "text", "toml", "dot"];
+const OTHERS: [&str; 8] = ["c", "cpp", "console", "dot", "rust", "sh", "text", "toml"];
 
 /// A listing without a number has not more stacks than this.
 const MOST: usize = 100;
@@ -55,6 +55,17 @@ fn sheet_is(sheet: &str, wanted: &str) -> Result<(), String> {
     )
 }
 
+/// Each line is a number and a sheet that is refused so, or accepted where it is 0.
+fn cases_are(lines: &str) -> Result<(), String> {
+    for line in lines.lines() {
+        let (number, sheet) = line.split_once(' ').unwrap_or((line, ""));
+        let number = number.parse().map_err(|_| format!("no number: {line}"))?;
+        let wrong = |wrong| format!("{line}: {wrong}");
+        sheet_is(sheet, &in_words(number)).map_err(wrong)?;
+    }
+    Ok(())
+}
+
 /// The stream bytes of the sheet's file are these, and then zeros.
 fn stream_is(sheet: &str, shown: &[u8]) -> Result<(), String> {
     let file = followed(sheet)?.file;
@@ -84,6 +95,7 @@ fn check(listing: &Listing, sheet: Option<&str>) -> Result<(), String> {
     match words[..] {
         ["pcrl", "accepted"] => sheet_is(text, "accepted"),
         ["pcrl", "refused", n] => sheet_is(text, &format!("refused {n}")),
+        ["cases"] => cases_are(text),
         ["pcrl", "equal", n] => equal_is(text, n, true),
         ["pcrl", "equal", n, "not", m] => {
             equal_is(text, n, true).and_then(|()| equal_is(text, m, false))
@@ -125,7 +137,10 @@ fn check_all(document: &str) -> Result<Counts, String> {
 fn every_listing() {
     for (name, kinds) in [
         ("README.md", &["pcrl", "stream", "walk"][..]),
-        ("docs/RULES.md", &["input", "pcrl", "stream", "walk"]),
+        (
+            "docs/RULES.md",
+            &["cases", "input", "pcrl", "stream", "walk"],
+        ),
         ("docs/LANGUAGE.md", &["pcrl", "steps", "walk"]),
     ] {
         let counts = check_all(&document(name)).unwrap_or_else(|wrong| panic!("{name}, {wrong}"));
@@ -172,6 +187,7 @@ fn wrong_listings_are_found() {
         "```pcrl refused 7\nact a;proc X=a;init X;\n```\n",
         "```pcrl refused 7\nproc X=X;init X;\n```\n",
         "```pcrl accepted\nproc X=a;init X;\n```\n",
+        "```cases\n9 proc X=X;init X;\n0 proc X=X;init X;\n```\n",
         "```pcrl equal 2\nact a;proc X=a;init X;\n\nact a;proc X=a.a;init X;\n```\n",
         "```pcrl equal 0 not 1\nact a;proc X=a;init X;\n\nact a;proc X=a+a;init X;\n```\n",
         "```input refused 13\nsheet act a;proc X=a;init X;\nlength 100\n```\n",
