@@ -1,0 +1,155 @@
+//! The exported functions of the proved library, with the structs of `include/wizbratel.h`, called safely.
+//!
+//! The library asks three things of a caller, and of each call below they hold for one reason. A pointer leads to as
+//! many elements as the length beside it says: both are those of one slice, or the pointer is a reference's. Nothing
+//! else writes there meanwhile: what is read is lent by `&`, what is written by `&mut`. What is written overlaps
+//! nothing else that is lent: two `&mut`, or a `&` and a `&mut`, never overlap. Whatever bytes come back are values
+//! of their types, since all of them are integers or structs of bytes.
+
+use std::mem::{align_of, size_of, size_of_val};
+
+/// The longest sheet, in bytes.
+pub const MAX_SHEET: usize = 4096;
+
+/// The longest table file, in bytes: an output of this length is never too short.
+pub const MAX_FILE: usize = 65_536;
+
+/// The frames that a stack has room for.
+pub const FRAMES: usize = 64;
+
+/// A frame of a stack: an equation, and the values of its parameters with zeros behind them.
+#[repr(C)]
+#[derive(Clone, Copy, Debug, Default, PartialEq, Eq, Hash, PartialOrd, Ord)]
+pub struct Frame {
+    /// The equation's number.
+    pub equation: u8,
+    /// The values of its parameters, spare ones 0.
+    pub values: [u8; 4],
+}
+
+/// `wizbratel_answer`.
+#[repr(C)]
+#[derive(Clone, Copy, Default)]
+pub(crate) struct Answer {
+    pub kind: u8,
+    pub depth: u8,
+    pub value_count: u8,
+    pub values: [u8; 2],
+    pub name_length: u8,
+    pub name: [u8; 18],
+}
+
+/// Kinds of an answer.
+pub(crate) const ENDED: u8 = 0;
+pub(crate) const NONE: u8 = 1;
+pub(crate) const STEP: u8 = 2;
+pub(crate) const TOO_DEEP: u8 = 16;
+
+// The sizes that C gives the structs: bytes only, so no padding and no alignment.
+const _: () = assert!(size_of::<Frame>() == 5 && align_of::<Frame>() == 1);
+const _: () = assert!(size_of::<Answer>() == 24 && align_of::<Answer>() == 1);
+
+extern "C" {
+    fn wizbratel_check_sheet(sheet: *const u8, length: usize) -> u8;
+    fn wizbratel_make_table(
+        sheet: *const u8,
+        length: usize,
+        out: *mut u8,
+        room: usize,
+        written: *mut usize,
+    ) -> u8;
+    fn wizbratel_check_table(file: *const u8, length: usize) -> u8;
+    fn wizbratel_start(
+        file: *const u8,
+        length: usize,
+        frames: *mut Frame,
+        count: usize,
+        depth: *mut usize,
+    ) -> u8;
+    fn wizbratel_ask(
+        file: *const u8,
+        length: usize,
+        frames: *mut Frame,
+        count: usize,
+        depth: *mut usize,
+        k: u64,
+        answer: *mut Answer,
+    ) -> u8;
+    fn wizbratel_ask_all(
+        file: *const u8,
+        length: usize,
+        frames: *mut Frame,
+        count: usize,
+        depth: *mut usize,
+        questions: *const u64,
+        question_count: usize,
+        answers: *mut Answer,
+        bytes: usize,
+    ) -> u8;
+}
+
+/// Questions 1 to 10 of a sheet.
+pub(crate) fn check_sheet(sheet: &[u8]) -> u8 {
+    // SAFETY: pointer and length are the slice's, which the function only reads.
+    unsafe { wizbratel_check_sheet(sheet.as_ptr(), sheet.len()) }
+}
+
+/// Questions 1 to 11: the sheet's table file over the front of the output, and its length.
+pub(crate) fn make_table(sheet: &[u8], out: &mut [u8], written: &mut usize) -> u8 {
+    let (room, out) = (out.len(), out.as_mut_ptr());
+    // SAFETY: pointers and lengths are the slices'; `out` and `written` are lent mutably, so apart from all else.
+    unsafe { wizbratel_make_table(sheet.as_ptr(), sheet.len(), out, room, written) }
+}
+
+/// Questions 12 to 14 of a table file.
+pub(crate) fn check_table(file: &[u8]) -> u8 {
+    // SAFETY: pointer and length are the slice's, which the function only reads.
+    unsafe { wizbratel_check_table(file.as_ptr(), file.len()) }
+}
+
+/// Questions 12 to 15: the table's start in the frames, and depth 1.
+pub(crate) fn start(file: &[u8], frames: &mut [Frame], depth: &mut usize) -> u8 {
+    let (count, frames) = (frames.len(), frames.as_mut_ptr());
+    // SAFETY: pointers and lengths are the slices'; `frames` and `depth` are lent mutably, so apart from all else.
+    unsafe { wizbratel_start(file.as_ptr(), file.len(), frames, count, depth) }
+}
+
+/// Questions 12 to 16: step k, taken.
+pub(crate) fn ask(
+    file: &[u8],
+    frames: &mut [Frame],
+    depth: &mut usize,
+    k: u64,
+    answer: &mut Answer,
+) -> u8 {
+    let (count, frames) = (frames.len(), frames.as_mut_ptr());
+    // SAFETY: as in `start`; `answer` is lent mutably too, and has the size and the fields of C's.
+    unsafe { wizbratel_ask(file.as_ptr(), file.len(), frames, count, depth, k, answer) }
+}
+
+/// Questions 12 to 15 once, then each question in turn, as far as there is room for answers.
+pub(crate) fn ask_all(
+    file: &[u8],
+    frames: &mut [Frame],
+    depth: &mut usize,
+    questions: &[u64],
+    answers: &mut [Answer],
+) -> u8 {
+    let (count, frames) = (frames.len(), frames.as_mut_ptr());
+    let (bytes, answers) = (size_of_val(answers), answers.as_mut_ptr());
+    let (asked, questions) = (questions.len(), questions.as_ptr());
+    // SAFETY: as in `ask`; the room for answers is given in bytes, as many as the slice has.
+    unsafe {
+        wizbratel_ask_all(
+            file.as_ptr(),
+            file.len(),
+            frames,
+            count,
+            depth,
+            questions,
+            asked,
+            answers,
+            bytes,
+        )
+    }
+}

@@ -1,0 +1,124 @@
+//! Sheets, tables and table files.
+
+use std::fmt;
+
+use crate::stack::Stack;
+use crate::sys::{self, Frame, FRAMES, MAX_FILE};
+use crate::Refused;
+
+/// Checks a sheet, questions 1 to 10: it is accepted exactly if its table can be made.
+///
+/// ```
+/// assert!(wizbratel::check(b"act a; proc X = a.X; init X;").is_ok());
+/// assert_eq!(wizbratel::check(b"").unwrap_err().number(), 5);
+/// ```
+pub fn check(sheet: &[u8]) -> Result<(), Refused> {
+    Refused::unless_zero(sys::check_sheet(sheet))
+}
+
+/// Makes a sheet's table file over the front of an output, questions 1 to 11, and says how long it is. What is behind
+/// it in the output stays, and a refusal leaves all of it. An output of [`MAX_FILE`] bytes is never too short.
+///
+/// ```
+/// let mut out = [0; 512];
+/// let sheet = b"act a; proc X = a.X; init X;";
+/// assert_eq!(wizbratel::make_into(sheet, &mut out), Ok(512));
+/// assert_eq!(wizbratel::make_into(sheet, &mut out[..511]).unwrap_err().number(), 11);
+/// ```
+pub fn make_into(sheet: &[u8], out: &mut [u8]) -> Result<usize, Refused> {
+    let mut written = 0;
+    Refused::unless_zero(sys::make_table(sheet, out, &mut written))?;
+    Ok(written)
+}
+
+/// A table, held as its file.
+#[derive(Clone, PartialEq, Eq, Hash)]
+pub struct Table {
+    file: Box<[u8]>,
+}
+
+impl Table {
+    /// Makes the table of a sheet, questions 1 to 10.
+    ///
+    /// ```
+    /// let table = wizbratel::Table::make(b"act a; proc X = a.X; init X;")?;
+    /// assert_eq!(table.file().len(), 512);
+    /// # Ok::<(), wizbratel::Refused>(())
+    /// ```
+    pub fn make(sheet: &[u8]) -> Result<Table, Refused> {
+        let mut file = vec![0; MAX_FILE];
+        let written = make_into(sheet, &mut file)?;
+        let file = file[..written].into();
+        Ok(Table { file })
+    }
+
+    /// Reads a table file, questions 12 to 14.
+    ///
+    /// ```
+    /// use wizbratel::Table;
+    /// let table = Table::make(b"act a; proc X = a.X; init X;")?;
+    /// assert_eq!(Table::read(table.file())?, table);
+    /// assert_eq!(Table::read(&table.file()[1..]).unwrap_err().number(), 12);
+    /// # Ok::<(), wizbratel::Refused>(())
+    /// ```
+    pub fn read(file: &[u8]) -> Result<Table, Refused> {
+        Refused::unless_zero(sys::check_table(file))?;
+        Ok(Table { file: file.into() })
+    }
+
+    /// The table file: whole blocks of 512 bytes.
+    pub fn file(&self) -> &[u8] {
+        &self.file
+    }
+
+    /// The stack with which the table starts, of one frame.
+    pub fn start(&self) -> Stack<'_> {
+        let (mut frames, mut depth) = ([Frame::default(); FRAMES], 0);
+        promised(sys::start(&self.file, &mut frames, &mut depth));
+        Stack::new(self, frames, depth)
+    }
+
+    /// The stack of these frames, the bottom first and the top last, question 15.
+    ///
+    /// ```
+    /// use wizbratel::{Frame, Table};
+    /// let table = Table::make(b"act a; proc X = a.X; init X;")?;
+    /// let two = table.stack(&[Frame::default(); 2])?;
+    /// assert_eq!(two.depth(), 2);
+    /// let wrong = Frame { equation: 1, values: [0; 4] };
+    /// assert_eq!(table.stack(&[wrong]).unwrap_err().number(), 15);
+    /// # Ok::<(), wizbratel::Refused>(())
+    /// ```
+    pub fn stack(&self, used: &[Frame]) -> Result<Stack<'_>, Refused> {
+        let mut depth = used.len();
+        let mut lent = used.to_vec();
+        // more frames than a stack has are lent as they are: it is the library that refuses them
+        lent.resize(FRAMES.max(depth), Frame::default());
+        // a list of no questions puts 12 to 15
+        Refused::unless_zero(sys::ask_all(
+            &self.file,
+            &mut lent,
+            &mut depth,
+            &[],
+            &mut [],
+        ))?;
+        let mut frames = [Frame::default(); FRAMES];
+        frames.copy_from_slice(&lent);
+        Ok(Stack::new(self, frames, depth))
+    }
+}
+
+impl fmt::Debug for Table {
+    fn fmt(&self, f: &mut fmt::Formatter<'_>) -> fmt::Result {
+        write!(f, "Table({} bytes)", self.file.len())
+    }
+}
+
+/// The library's number where it is proved to be 0: a table that was made or read passes 12 to 14, and the frames that
+/// it leaves pass 15 again.
+pub(crate) fn promised(number: u8) {
+    assert_eq!(
+        number, 0,
+        "the library refuses a table or a stack of its own"
+    );
+}
