@@ -9,8 +9,8 @@ use crate::question;
 /// ```
 /// let refused = wizbratel::check(b"act a; proc X = b; init X;").unwrap_err();
 /// assert_eq!(refused.number(), 7);
-/// assert!(refused.question().starts_with("every declared name is new"));
-/// assert!(refused.to_string().starts_with("refused by question 7: every declared name is new"));
+/// assert!(refused.question().starts_with("every declared name new"));
+/// assert!(refused.to_string().starts_with("refused by question 7: every declared name new"));
 /// ```
 #[derive(Clone, Copy, Debug, PartialEq, Eq, Hash, PartialOrd, Ord)]
 pub struct Refused(u8);

@@ -53,7 +53,7 @@ fn outputs_that_are_too_short() {
 #[test]
 fn refusals_say_what_was_asked() {
     let refused = check(&[b' '; 4097]).unwrap_err();
-    let text = "refused by question 1: the sheet has at most 4,096 bytes";
+    let text = "refused by question 1: at most 4,096 bytes in the sheet?";
     assert_eq!(refused.to_string(), text);
     let error: Box<dyn std::error::Error> = Box::new(refused);
     assert_eq!(error.to_string(), text);
