@@ -1,0 +1,72 @@
+//! `ask TABLE --stack HEX -k K`: one step question to a stack.
+
+use std::ffi::OsString;
+
+use wizbratel::{Asked, Frame, Refused, Table};
+
+use crate::args::{Args, Options};
+use crate::frames;
+use crate::input::{self, Kind, SHEET, TABLE};
+use crate::out;
+use crate::stop::{misuse, Status, Stop, GOOD};
+use crate::walk::refused_line;
+
+const STACK: &str = "--stack";
+const K: &str = "-k";
+const OPTIONS: Options = Options {
+    flags: &[TABLE, SHEET],
+    valued: &[STACK, K],
+};
+
+/// Prints `ended`, `none`, `LABEL DEPTH HEX` or `refused N`.
+pub fn run(words: &[OsString]) -> Result<Status, Stop> {
+    let args = Args::parse(words, &OPTIONS)?;
+    let name = args.file("TABLE")?;
+    let kind = match Kind::of(&args, name)? {
+        Kind::Sheet if args.has(SHEET) => Kind::Sheet,
+        _ => Kind::Table,
+    };
+    let used = stack(&args)?;
+    let Some(k) = args.number(K)? else {
+        return Err(misuse("-k K is missing: the step's number, from 0"));
+    };
+    let answer = input::table(name, kind).and_then(|table| {
+        let answer = answer(&table, &used, k);
+        answer.map_err(|refused| Stop::Refused(input::shown(name), refused))
+    });
+    match answer {
+        Ok(line) => out::print(&line).map(|()| GOOD),
+        Err(stop) => {
+            if let Stop::Refused(_, refused) = &stop {
+                refused_line(refused.number())?;
+            }
+            Err(stop)
+        }
+    }
+}
+
+/// The frames that `--stack` gives.
+fn stack(args: &Args) -> Result<Vec<Frame>, Stop> {
+    let Some(text) = args.value(STACK) else {
+        let what = "used frames in hex, 5 bytes each, the top last";
+        return Err(misuse(format!("{STACK} HEX is missing: {what}")));
+    };
+    let text = text.to_string_lossy();
+    frames::from_hex(&text).ok_or_else(|| {
+        let what = "frames in hex are 10 digits each: the equation and four values";
+        misuse(format!("{STACK}: `{text}`: {what}"))
+    })
+}
+
+/// What the library answers, as a line.
+fn answer(table: &Table, used: &[Frame], k: u64) -> Result<String, Refused> {
+    Ok(match table.stack(used)?.ask(k)? {
+        Asked::Ended => "ended\n".to_string(),
+        Asked::None => "none\n".to_string(),
+        Asked::Step { label, stack } => {
+            let (depth, hex) = (stack.depth(), frames::hex(stack.frames()));
+            let line = format!("{label} {depth} {hex}");
+            format!("{}\n", line.trim_end())
+        }
+    })
+}

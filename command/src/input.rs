@@ -1,0 +1,77 @@
+//! Files read: sheets and table files, by name or from standard input.
+
+use std::ffi::OsStr;
+use std::fs::File;
+use std::io::{self, Read};
+use std::path::Path;
+
+use wizbratel::{Table, MAX_FILE};
+
+use crate::args::Args;
+use crate::stop::{misuse, Stop};
+
+/// So many bytes are read, one more than the longest right file has. The first question to a sheet and to a table file
+/// is for its length, so a longer one gets the same answer, whatever stands behind these bytes.
+const READ: u64 = MAX_FILE as u64 + 1;
+
+/// The options that say what a file is.
+pub const TABLE: &str = "--table";
+pub const SHEET: &str = "--sheet";
+
+/// What a file is taken for.
+#[derive(Clone, Copy, Debug, PartialEq, Eq)]
+pub enum Kind {
+    Sheet,
+    Table,
+}
+
+impl Kind {
+    /// What the options say of all files, else what the name says: a name that ends in `.table` is a table file's.
+    pub fn of(args: &Args, name: &OsStr) -> Result<Kind, Stop> {
+        match (args.has(TABLE), args.has(SHEET)) {
+            (true, true) => Err(misuse(format!("{TABLE} and {SHEET} exclude each other"))),
+            (true, false) => Ok(Kind::Table),
+            (false, true) => Ok(Kind::Sheet),
+            (false, false) if name.as_encoded_bytes().ends_with(b".table") => Ok(Kind::Table),
+            (false, false) => Ok(Kind::Sheet),
+        }
+    }
+}
+
+/// Whether the name stands for standard input or output.
+pub fn is_standard(name: &OsStr) -> bool {
+    name == "-"
+}
+
+/// The name of a file in messages.
+pub fn shown(name: &OsStr) -> String {
+    if is_standard(name) {
+        "standard input".to_string()
+    } else {
+        Path::new(name).display().to_string()
+    }
+}
+
+/// The bytes of a file, or of standard input; of a long one only as many as are looked at.
+pub fn read(name: &OsStr) -> Result<Vec<u8>, Stop> {
+    let mut bytes = Vec::new();
+    let read = if is_standard(name) {
+        io::stdin().lock().take(READ).read_to_end(&mut bytes)
+    } else {
+        File::open(name).and_then(|file| file.take(READ).read_to_end(&mut bytes))
+    };
+    match read {
+        Ok(_) => Ok(bytes),
+        Err(error) => Err(misuse(format!("{} cannot be read: {error}", shown(name)))),
+    }
+}
+
+/// The table of a sheet or of a table file.
+pub fn table(name: &OsStr, kind: Kind) -> Result<Table, Stop> {
+    let bytes = read(name)?;
+    let table = match kind {
+        Kind::Sheet => Table::make(&bytes),
+        Kind::Table => Table::read(&bytes),
+    };
+    table.map_err(|refused| Stop::Refused(shown(name), refused))
+}

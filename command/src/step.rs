@@ -1,0 +1,187 @@
+//! `step SHEET|TABLE`: steps taken by hand or by a script. On a terminal the steps are listed before every prompt.
+
+use std::ffi::OsString;
+use std::io::{BufRead, IsTerminal, Write};
+
+use wizbratel::{Frame, Stack, Table};
+
+use crate::args::{Args, Options};
+use crate::frames::{stack_shown, width};
+use crate::input::{self, is_standard, Kind, SHEET, TABLE};
+use crate::out::written;
+use crate::random::Random;
+use crate::stop::{misuse, say, Status, Stop, GOOD, REFUSED};
+use crate::words::{Word, Words};
+
+const SEED: &str = "--seed";
+const OPTIONS: Options = Options {
+    flags: &[TABLE, SHEET],
+    valued: &[SEED],
+};
+
+/// Steps that are listed; the others can be taken too.
+const LISTED: usize = 40;
+
+const COMMANDS: &str =
+    "a number takes that step; u undoes, r takes one at random, l lists the steps, q ends";
+
+/// Reads commands from standard input until `q` or its end.
+pub fn run(words: &[OsString]) -> Result<Status, Stop> {
+    let args = Args::parse(words, &OPTIONS)?;
+    let name = args.file("SHEET or TABLE")?;
+    if is_standard(name) {
+        let text = "step reads commands from standard input: the sheet needs a name";
+        return Err(misuse(text));
+    }
+    let table = input::table(name, Kind::of(&args, name)?)?;
+    let random = Random::new(args.number(SEED)?);
+    let terminal = std::io::stdin().is_terminal();
+    let out = std::io::stdout().lock();
+    Session::new(&table, random, terminal, out).follow(std::io::stdin().lock())
+}
+
+/// Where somebody stands who steps through a table.
+struct Session<'t, W> {
+    table: &'t Table,
+    stack: Stack<'t>,
+    /// The used frames before each step taken.
+    before: Vec<Box<[Frame]>>,
+    random: Random,
+    terminal: bool,
+    out: W,
+    status: Status,
+}
+
+impl<'t, W: Write> Session<'t, W> {
+    fn new(table: &'t Table, random: Random, terminal: bool, out: W) -> Self {
+        Session {
+            table,
+            stack: table.start(),
+            before: Vec::new(),
+            random,
+            terminal,
+            out,
+            status: GOOD,
+        }
+    }
+
+    /// Follows the commands of an input to its end.
+    fn follow(mut self, input: impl BufRead) -> Result<Status, Stop> {
+        let mut words = Words::new(input);
+        self.prompt()?;
+        loop {
+            let word = words
+                .read()
+                .map_err(|error| misuse(format!("standard input cannot be read: {error}")))?;
+            match word {
+                Some(Word::Line) => self.prompt()?,
+                Some(Word::Text(text)) if text != "q" => self.command(&text)?,
+                _ => break,
+            }
+        }
+        written(self.out.flush())?;
+        Ok(self.status)
+    }
+
+    /// On a terminal, the steps and a prompt.
+    fn prompt(&mut self) -> Result<(), Stop> {
+        if !self.terminal {
+            return Ok(());
+        }
+        self.list()?;
+        written(write!(self.out, "> ").and_then(|()| self.out.flush()))
+    }
+
+    /// Follows one command. One that is unknown ends a script, but not a person's steps.
+    fn command(&mut self, text: &str) -> Result<(), Stop> {
+        match text {
+            "u" => self.undo(),
+            "r" => self.chance(),
+            "l" => self.list(),
+            "?" | "h" => self.line(COMMANDS),
+            _ => match text.parse() {
+                Ok(k) => self.take(k),
+                Err(_) if self.terminal => {
+                    say(&format!("`{text}`? {COMMANDS}"));
+                    Ok(())
+                }
+                Err(_) => Err(misuse(format!("`{text}`: {COMMANDS}"))),
+            },
+        }
+    }
+
+    /// Takes step k: its number on this way, the label, the depth after it; else why it was not taken.
+    fn take(&mut self, k: u64) -> Result<(), Stop> {
+        let before = self.stack.frames().into();
+        match self.stack.take(k) {
+            Ok(Some(label)) => {
+                self.before.push(before);
+                let (number, depth) = (self.before.len(), self.stack.depth());
+                self.line(&format!("{number} {label} {depth}"))
+            }
+            Ok(None) if self.stack.is_ended() => self.line("ended"),
+            Ok(None) => self.line("none"),
+            Err(refused) => {
+                if !self.terminal {
+                    self.status = REFUSED;
+                }
+                say(&refused.to_string());
+                self.line(&format!("refused {}", refused.number()))
+            }
+        }
+    }
+
+    /// Takes one of all steps, each as likely as another.
+    fn chance(&mut self) -> Result<(), Stop> {
+        match self.stack.step_count() {
+            0 => self.take(0),
+            count => {
+                let k = self.random.below(count);
+                self.take(k)
+            }
+        }
+    }
+
+    /// Goes back to the stack before the last step.
+    fn undo(&mut self) -> Result<(), Stop> {
+        let Some(frames) = self.before.pop() else {
+            return self.line("none");
+        };
+        let stack = self.table.stack(&frames);
+        self.stack = stack.map_err(|refused| Stop::Refused("a stack".into(), refused))?;
+        self.line(&format!("undone {}", self.stack.depth()))
+    }
+
+    /// The stack, top first, and its steps.
+    fn list(&mut self) -> Result<(), Stop> {
+        if self.stack.is_ended() {
+            return self.line("ended");
+        }
+        let depth = self.stack.depth();
+        let shown = stack_shown(self.stack.frames(), width);
+        self.line(&format!("depth {depth}: {shown}"))?;
+        let mut steps = self.stack.steps();
+        let mut none = true;
+        for step in steps.by_ref().take(LISTED) {
+            none = false;
+            let k = step.k;
+            self.line(&match step.way {
+                Ok((label, next)) => format!("  {k} {label} {}", next.depth()),
+                Err(refused) => format!("  {k} refused {}", refused.number()),
+            })?;
+        }
+        if none {
+            self.line("  stuck: no step")?;
+        }
+        if steps.next().is_some() {
+            let count = self.stack.step_count();
+            self.line(&format!("  .. {} is the last", count - 1))?;
+        }
+        Ok(())
+    }
+
+    /// A line of output.
+    fn line(&mut self, text: &str) -> Result<(), Stop> {
+        written(writeln!(self.out, "{text}"))
+    }
+}
