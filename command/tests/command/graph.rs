@@ -1,0 +1,116 @@
+//! `graph`: an example whole, limits and marks, and the stacks that the reader reaches.
+
+use std::collections::HashSet;
+
+use crate::common::{closed, example, fed, run, run_into, Folder, LOOP};
+
+const CHARGER: &str = r#"// 6 stacks, 10 steps
+digraph wizbratel {
+  node [shape=box];
+  s0 [label="0", style=bold];
+  s1 [label="1(0)"];
+  s2 [label="1(1)"];
+  s3 [label="1(2)"];
+  s4 [label="1(3)"];
+  s5 [label="2 . 0"];
+  s0 -> s1 [label="plug"];
+  s1 -> s2 [label="charge(0)"];
+  s1 -> s0 [label="unplug"];
+  s2 -> s3 [label="charge(1)"];
+  s2 -> s0 [label="unplug"];
+  s3 -> s4 [label="charge(2)"];
+  s3 -> s0 [label="unplug"];
+  s4 -> s5 [label="ready"];
+  s4 -> s0 [label="unplug"];
+  s5 -> s0 [label="unplug"];
+}
+"#;
+
+#[test]
+fn the_charger() {
+    let folder = Folder::new();
+    run(&["graph", &example("charger.pcrl")]).prints(CHARGER);
+    let sheet = std::fs::read(example("charger.pcrl")).unwrap();
+    fed(&["graph", "-"], &sheet).prints(CHARGER);
+    let made = reader::make_table(&sheet).unwrap();
+    let table = folder.file("charger.table", made).display().to_string();
+    run(&["graph", "--limit", "6", &table]).prints(CHARGER);
+}
+
+/// How many stacks, and how many steps to them, the reader reaches.
+fn counted(sheet: &[u8]) -> (usize, usize) {
+    let file = reader::make_table(sheet).unwrap();
+    let table = reader::read_table(&file).unwrap();
+    let (mut queue, mut seen, mut steps) = (vec![table.start_stack()], HashSet::new(), 0);
+    while let Some(stack) = queue.pop() {
+        if seen.insert(stack.clone()) {
+            let next = reader::all_steps(&table, &stack);
+            steps += next.len();
+            queue.extend(
+                next.into_iter()
+                    .map(|(_, stack)| stack)
+                    .filter(|next| next.len() <= 64),
+            );
+        }
+    }
+    (seen.len(), steps)
+}
+
+#[test]
+fn as_many_as_the_reader_reaches() {
+    for name in ["calls", "charger", "coil", "processor", "sampler", "stuck"] {
+        let sheet = example(&format!("{name}.pcrl"));
+        let (stacks, steps) = counted(&std::fs::read(&sheet).unwrap());
+        let ran = run(&["graph", &sheet, "--limit", "5000"]);
+        let first = format!("// {stacks} stacks, {steps} steps\n");
+        assert!(ran.text().starts_with(&first), "{name}: {}", ran.text());
+        assert_eq!((ran.status, &ran.err[..]), (0, ""));
+    }
+}
+
+#[test]
+fn cut_at_a_limit() {
+    let ran = run(&["graph", &example("calls.pcrl"), "--limit", "3"]);
+    assert_eq!(ran.status, 0);
+    assert!(ran.err.contains("cut at 3 stacks"), "{}", ran.err);
+    assert!(ran.text().starts_with("// 3 stacks, "));
+    assert!(ran.text().contains("[label=\"cut\", shape=plaintext];"));
+    assert!(ran.text().contains("style=dashed"));
+    let many = "sort D 16;act a:D#D;proc X=sum(d:D,sum(e:D,a(d,e).X));init X;";
+    let ran = fed(&["graph", "-", "--limit=2"], many.as_bytes());
+    assert!(ran.text().starts_with("// 1 stacks, 33 steps, cut\n"));
+    let all = fed(&["graph", "-", "--limit=16"], many.as_bytes());
+    assert!(all.text().starts_with("// 1 stacks, 256 steps\n"));
+}
+
+#[test]
+fn ended_stuck_and_too_deep() {
+    let ended = fed(&["graph", "-"], b"act a;proc X=a+a.delta;init X;");
+    assert!(ended
+        .text()
+        .contains("s1 [label=\"ended\", shape=doublecircle];"));
+    let deep = fed(&["graph", "-"], b"act a;proc X=a.X.X;init X;");
+    assert!(deep.text().starts_with("// 64 stacks, 64 steps\n"));
+    assert!(deep
+        .text()
+        .contains("[label=\"refused 16\", shape=plaintext];"));
+}
+
+#[test]
+fn misuse_and_nobody_reads() {
+    let charger = example("charger.pcrl");
+    for limit in ["0", "x", "-1", ""] {
+        run(&["graph", &charger, "--limit", limit]).fails(2, &["--limit"]);
+    }
+    run(&["graph"]).fails(2, &["missing"]);
+    run(&["graph", &example("circle.pcrl")]).fails(1, &["question 9"]);
+    let ran = run_into(&["graph", &charger], closed());
+    assert_eq!((ran.status, &ran.err[..]), (0, ""));
+    let full = std::fs::OpenOptions::new().write(true).open("/dev/full");
+    run_into(&["graph", &charger], full.unwrap()).fails(2, &["standard output"]);
+    let last = u64::MAX.to_string();
+    assert_eq!(
+        fed(&["graph", "-", "--limit", &last], LOOP.as_bytes()).status,
+        0
+    );
+}
