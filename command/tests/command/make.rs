@@ -76,7 +76,7 @@ fn a_file_without_the_right_to_read() {
     use std::os::unix::fs::PermissionsExt;
     let folder = Folder::new();
     let sheet = folder.file("x.pcrl", LOOP);
-    fs::set_permissions(&sheet, fs::Permissions::from_mode(0)).unwrap();
+    fs::set_permissions(&sheet, fs::Permissions::from_mode(0o000)).unwrap();
     // root reads it all the same
     if fs::read(&sheet).is_err() {
         run(&words("make", &[&sheet])).fails(2, &["Permission denied"]);
