@@ -37,10 +37,8 @@ pub fn run(words: &[OsString]) -> Result<Status, Stop> {
     let mut out = BufWriter::new(std::io::stdout().lock());
     written(graph.write(&mut out).and_then(|()| out.flush()))?;
     if graph.cut {
-        let (name, stacks, edges) = (input::shown(name), graph.stacks.len(), graph.edges.len());
-        say(&format!(
-            "{name}: cut at {stacks} stacks and {edges} steps; --limit N allows more"
-        ));
+        let (name, counts) = (input::shown(name), graph.counts());
+        say(&format!("{name}: {counts}; --limit N allows more"));
     }
     Ok(GOOD)
 }
@@ -122,6 +120,14 @@ impl<'t> Graph<'t> {
         self.edges.push(Edge { from, label, to });
     }
 
+    /// What is in the graph, in words.
+    fn counts(&self) -> String {
+        let whole = |edge: &&Edge| !matches!(edge.to, End::Cut);
+        let (stacks, steps) = (self.stacks.len(), self.edges.iter().filter(whole).count());
+        let cut = if self.cut { ", cut" } else { "" };
+        format!("stacks {stacks}, steps {steps}{cut}")
+    }
+
     /// The values that are shown of each equation's frames: up to the last that is ever not 0.
     fn widths(&self) -> [usize; 256] {
         let mut widths = [0; 256];
@@ -134,9 +140,7 @@ impl<'t> Graph<'t> {
 
     /// Writes the graph in the language of Graphviz.
     fn write(&self, out: &mut impl Write) -> Io<()> {
-        let (stacks, steps) = (self.stacks.len(), self.edges.len());
-        let cut = if self.cut { ", cut" } else { "" };
-        writeln!(out, "// {stacks} stacks, {steps} steps{cut}")?;
+        writeln!(out, "// {}", self.counts())?;
         writeln!(out, "digraph wizbratel {{")?;
         writeln!(out, "  node [shape=box];")?;
         let widths = self.widths();

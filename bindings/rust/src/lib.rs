@@ -48,3 +48,8 @@ pub use stack::{Asked, Stack, Taken};
 pub use steps::{Step, Steps};
 pub use sys::{Frame, FRAMES, MAX_FILE, MAX_SHEET};
 pub use table::{check, make_into, Table};
+
+/// The README's example, run as those of the documentation are.
+#[cfg(doctest)]
+#[doc = include_str!("../README.md")]
+struct Readme;

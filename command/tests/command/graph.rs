@@ -4,7 +4,7 @@ use std::collections::HashSet;
 
 use crate::common::{closed, example, fed, run, run_into, Folder, LOOP};
 
-const CHARGER: &str = r#"// 6 stacks, 10 steps
+const CHARGER: &str = r#"// stacks 6, steps 10
 digraph wizbratel {
   node [shape=box];
   s0 [label="0", style=bold];
@@ -62,7 +62,7 @@ fn as_many_as_the_reader_reaches() {
         let sheet = example(&format!("{name}.pcrl"));
         let (stacks, steps) = counted(&std::fs::read(&sheet).unwrap());
         let ran = run(&["graph", &sheet, "--limit", "5000"]);
-        let first = format!("// {stacks} stacks, {steps} steps\n");
+        let first = format!("// stacks {stacks}, steps {steps}\n");
         assert!(ran.text().starts_with(&first), "{name}: {}", ran.text());
         assert_eq!((ran.status, &ran.err[..]), (0, ""));
     }
@@ -72,15 +72,20 @@ fn as_many_as_the_reader_reaches() {
 fn cut_at_a_limit() {
     let ran = run(&["graph", &example("calls.pcrl"), "--limit", "3"]);
     assert_eq!(ran.status, 0);
-    assert!(ran.err.contains("cut at 3 stacks"), "{}", ran.err);
-    assert!(ran.text().starts_with("// 3 stacks, "));
+    assert!(
+        ran.err.contains("stacks 3, steps 2, cut; --limit N"),
+        "{}",
+        ran.err
+    );
+    assert!(ran.text().starts_with("// stacks 3, steps 2, cut\n"));
     assert!(ran.text().contains("[label=\"cut\", shape=plaintext];"));
-    assert!(ran.text().contains("style=dashed"));
+    let marked = "  s1 -> m3 [label=\"work\", style=dashed];\n";
+    assert!(ran.text().contains(marked), "{}", ran.text());
     let many = "sort D 16;act a:D#D;proc X=sum(d:D,sum(e:D,a(d,e).X));init X;";
     let ran = fed(&["graph", "-", "--limit=2"], many.as_bytes());
-    assert!(ran.text().starts_with("// 1 stacks, 33 steps, cut\n"));
+    assert!(ran.text().starts_with("// stacks 1, steps 32, cut\n"));
     let all = fed(&["graph", "-", "--limit=16"], many.as_bytes());
-    assert!(all.text().starts_with("// 1 stacks, 256 steps\n"));
+    assert!(all.text().starts_with("// stacks 1, steps 256\n"));
 }
 
 #[test]
@@ -90,7 +95,7 @@ fn ended_stuck_and_too_deep() {
         .text()
         .contains("s1 [label=\"ended\", shape=doublecircle];"));
     let deep = fed(&["graph", "-"], b"act a;proc X=a.X.X;init X;");
-    assert!(deep.text().starts_with("// 64 stacks, 64 steps\n"));
+    assert!(deep.text().starts_with("// stacks 64, steps 64\n"));
     assert!(deep
         .text()
         .contains("[label=\"refused 16\", shape=plaintext];"));
