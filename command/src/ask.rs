@@ -9,7 +9,6 @@ use crate::frames;
 use crate::input::{self, Kind, SHEET, TABLE};
 use crate::out;
 use crate::stop::{misuse, Status, Stop, GOOD};
-use crate::walk::refused_line;
 
 const STACK: &str = "--stack";
 const K: &str = "-k";
@@ -38,7 +37,7 @@ pub fn run(words: &[OsString]) -> Result<Status, Stop> {
         Ok(line) => out::print(&line).map(|()| GOOD),
         Err(stop) => {
             if let Stop::Refused(_, refused) = &stop {
-                refused_line(refused.number())?;
+                out::refused(*refused)?;
             }
             Err(stop)
         }

@@ -38,7 +38,7 @@ fn accepted(name: &OsStr, kind: Kind) -> Result<(), Stop> {
         Kind::Sheet => "sheet",
         Kind::Table => "table",
     };
-    out::print(&format!("{}: {what} accepted\n", input::shown(name)))
+    out::offer(&format!("{}: {what} accepted\n", input::shown(name)))
 }
 
 /// Puts one file its questions.

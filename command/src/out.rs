@@ -2,6 +2,8 @@
 
 use std::io::{ErrorKind, Result as Io, Write};
 
+use wizbratel::Refused;
+
 use crate::stop::{misuse, Stop};
 
 /// What a write to standard output came to.
@@ -24,4 +26,17 @@ pub fn write(bytes: &[u8]) -> Result<(), Stop> {
 /// Writes a text to standard output.
 pub fn print(text: &str) -> Result<(), Stop> {
     write(text.as_bytes())
+}
+
+/// Writes a text that nobody need read: what the command does, and its status, stay the same.
+pub fn offer(text: &str) -> Result<(), Stop> {
+    match print(text) {
+        Err(Stop::Closed) => Ok(()),
+        other => other,
+    }
+}
+
+/// The line `refused` and a number.
+pub fn refused(refused: Refused) -> Result<(), Stop> {
+    offer(&format!("refused {}\n", refused.number()))
 }

@@ -24,18 +24,10 @@ pub fn run(words: &[OsString]) -> Result<Status, Stop> {
         Ok(table) => out::print(&text(&table)).map(|()| GOOD),
         Err(stop) => {
             if let Stop::Refused(_, refused) = &stop {
-                refused_line(refused.number())?;
+                out::refused(*refused)?;
             }
             Err(stop)
         }
-    }
-}
-
-/// The line `refused` and a number; a reader who has gone does not change the status.
-pub fn refused_line(number: u8) -> Result<(), Stop> {
-    match out::print(&format!("refused {number}\n")) {
-        Err(Stop::Closed) => Ok(()),
-        other => other,
     }
 }
 

@@ -1,5 +1,6 @@
 //! `check`: sheets and table files told apart, and the status of the worst.
 
+use crate::common::large::large_file;
 use crate::common::{closed, fed, run, run_into, Folder, CIRCLE, LOOP};
 
 #[test]
@@ -61,4 +62,23 @@ fn nobody_reads() {
     let good = folder.file("good", LOOP).display().to_string();
     let ran = run_into(&["check", &good, &good], closed());
     assert_eq!((ran.status, &ran.err[..]), (0, ""));
+    let circle = folder.file("circle", CIRCLE).display().to_string();
+    let ran = run_into(&["check", &good, &circle, &good], closed());
+    assert_eq!((ran.status, ran.err.lines().count()), (1, 1));
+}
+
+#[test]
+fn the_longest_table_and_sheet() {
+    let folder = Folder::new();
+    let mut file = large_file();
+    assert_eq!(file.len(), 65_536);
+    let table = folder.file("x.table", &file).display().to_string();
+    run(&["check", &table]).prints(&format!("{table}: table accepted\n"));
+    file.push(0);
+    folder.file("x.table", &file);
+    run(&["check", &table]).fails(1, &["question 12:"]);
+    let longest = format!("{LOOP:4096}");
+    assert_eq!(fed(&["check", "-"], longest.as_bytes()).status, 0);
+    let longer = format!("{LOOP:4097}");
+    fed(&["check", "-"], longer.as_bytes()).fails(1, &["question 1:"]);
 }

@@ -2,6 +2,8 @@
 
 #[path = "../../../tests/reader/tests/common/json.rs"]
 pub mod json;
+#[path = "../../../tests/library/src/large.rs"]
+pub mod large;
 
 use std::ffi::OsStr;
 use std::fs;
