@@ -17,6 +17,10 @@ wizbratel: linear tables of pCRL process sheets, and steps through them
                               prints `ended`, `none`, `LABEL DEPTH HEX` or `refused N`
   graph SHEET|TABLE           prints the stacks that are reached and their steps for Graphviz;
         [--limit N]           stops at N stacks (1000) and 16 N steps, with marks where it was cut
+  renew DIR                   makes each table of a collection that is missing or differs: a sheet NAME.pcrl has
+                              its table NAME.table beside it; removes nothing
+  audit DIR                   writes nothing; fails unless every sheet has exactly its own table and every table
+                              its sheet
   help, --version
 
 `-` is standard input, or output behind -o. A file whose name ends in .table is taken for a table file, any other

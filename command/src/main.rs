@@ -6,6 +6,7 @@
 mod args;
 mod ask;
 mod check;
+mod collection;
 mod example;
 mod explain;
 mod frames;
@@ -49,6 +50,8 @@ fn run(words: &[OsString]) -> Result<Status, Stop> {
         "step" => step::run(rest),
         "ask" => ask::run(rest),
         "graph" => graph::run(rest),
+        "renew" => Ok(collection::renew(rest)),
+        "audit" => Ok(collection::audit(rest)),
         "help" | "--help" | "-h" => out::print(help::TEXT).map(|()| GOOD),
         "version" | "--version" | "-V" => out::print(help::VERSION).map(|()| GOOD),
         _ => {

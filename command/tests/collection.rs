@@ -1,0 +1,225 @@
+//! `renew` and `audit` over collections made here.
+
+#[path = "collection/cabinet.rs"]
+mod cabinet;
+#[path = "collection/many.rs"]
+mod many;
+#[path = "collection/odd.rs"]
+mod odd;
+
+use cabinet::{bad, good, Cabinet, Ran};
+use std::fs::{self, Permissions};
+use std::os::unix::fs::PermissionsExt;
+use std::path::Path;
+
+fn check(ran: &Ran, status: i32, counts: &str, faults: &[&str]) {
+    assert_eq!(ran.faults, faults, "{ran:?}");
+    assert_eq!(ran.counts, format!("{counts}\n"), "{ran:?}");
+    assert_eq!(ran.status, Some(status), "{ran:?}");
+}
+
+#[test]
+fn makes_what_is_missing_and_leaves_the_rest() {
+    let cabinet = Cabinet::new("makes");
+    cabinet.put("a.pcrl", good(1));
+    cabinet.put("deep/er/b.pcrl", good(2));
+    cabinet.put("deep/note.txt", "kept");
+    let faults = ["a.table: missing", "deep/er/b.table: missing"];
+    let counts = "sheets 2: right 0, missing 2, differs 0, refused 0, unread 0, no sheet 0";
+    check(&cabinet.audit(), 1, counts, &faults);
+    assert!(!cabinet.path("a.table").exists());
+
+    let counts =
+        "sheets 2: right 0, made 2, mended 0, refused 0, unread 0, unwritten 0, no sheet 0";
+    check(&cabinet.renew(), 0, counts, &[]);
+    cabinet.assert_right("a", &good(1));
+    cabinet.assert_right("deep/er/b", &good(2));
+    assert_eq!(
+        cabinet.names(),
+        [
+            "a.pcrl",
+            "a.table",
+            "deep/er/b.pcrl",
+            "deep/er/b.table",
+            "deep/note.txt"
+        ]
+    );
+
+    let before = fs::metadata(cabinet.path("a.table"))
+        .unwrap()
+        .modified()
+        .unwrap();
+    let counts =
+        "sheets 2: right 2, made 0, mended 0, refused 0, unread 0, unwritten 0, no sheet 0";
+    check(&cabinet.renew(), 0, counts, &[]);
+    assert_eq!(
+        fs::metadata(cabinet.path("a.table"))
+            .unwrap()
+            .modified()
+            .unwrap(),
+        before
+    );
+    let counts = "sheets 2: right 2, missing 0, differs 0, refused 0, unread 0, no sheet 0";
+    check(&cabinet.audit(), 0, counts, &[]);
+}
+
+#[test]
+fn a_table_under_another_sheet_is_found_and_mended() {
+    let cabinet = Cabinet::new("renamed");
+    cabinet.put("a.pcrl", good(1));
+    cabinet.put("b.pcrl", good(2));
+    assert_eq!(cabinet.renew().status, Some(0));
+    fs::rename(cabinet.path("a.table"), cabinet.path("b.table")).unwrap();
+    let counts = "sheets 2: right 0, missing 1, differs 1, refused 0, unread 0, no sheet 0";
+    check(
+        &cabinet.audit(),
+        1,
+        counts,
+        &["a.table: missing", "b.table: differs"],
+    );
+    let counts =
+        "sheets 2: right 0, made 1, mended 1, refused 0, unread 0, unwritten 0, no sheet 0";
+    check(&cabinet.renew(), 0, counts, &[]);
+    cabinet.assert_right("a", &good(1));
+    cabinet.assert_right("b", &good(2));
+}
+
+#[test]
+fn every_change_of_a_table_is_found() {
+    let cabinet = Cabinet::new("changed");
+    cabinet.put("a.pcrl", good(1));
+    let right = cabinet::table(&good(1));
+    let mut changes = vec![
+        Vec::new(),
+        [&right[..], b"x"].concat(),
+        right[..right.len() - 1].to_vec(),
+        vec![0; 1 << 20],
+    ];
+    changes.extend((0..right.len()).step_by(61).map(|at| {
+        let mut change = right.clone();
+        change[at] ^= 1;
+        change
+    }));
+    for change in changes {
+        cabinet.put("a.table", &change);
+        assert_eq!(cabinet.audit().faults, ["a.table: differs"]);
+        assert_eq!(
+            fs::read(cabinet.path("a.table")).unwrap(),
+            change,
+            "an audit writes nothing"
+        );
+        assert_eq!(cabinet.renew().status, Some(0));
+        cabinet.assert_right("a", &good(1));
+    }
+}
+
+#[test]
+fn refused_sheets_and_tables_without_a_sheet_are_listed_and_kept() {
+    let cabinet = Cabinet::new("refused");
+    cabinet.put("a.pcrl", good(1));
+    cabinet.put("circle.pcrl", "proc X=X;init X;");
+    cabinet.put("circle.table", cabinet::table(&good(3)));
+    cabinet.put("empty.pcrl", "");
+    cabinet.put("stray.table", "whatever");
+    let huge = cabinet.put("huge.pcrl", "");
+    fs::File::options()
+        .write(true)
+        .open(huge)
+        .unwrap()
+        .set_len(1 << 30)
+        .unwrap();
+    let faults = [
+        bad("circle.pcrl", b"proc X=X;init X;"),
+        "circle.table: no sheet: it stands without a right one, that beside it is refused"
+            .to_string(),
+        bad("empty.pcrl", b""),
+        bad("huge.pcrl", &[0; 5000]),
+        "stray.table: no sheet".to_string(),
+    ];
+    assert!(faults[0].starts_with("circle.pcrl: refused 9: "));
+    let faults: Vec<&str> = faults.iter().map(String::as_str).collect();
+    let counts = "sheets 4: right 0, missing 1, differs 0, refused 3, unread 0, no sheet 2";
+    let mut with_missing = vec!["a.table: missing"];
+    with_missing.extend(&faults);
+    check(&cabinet.audit(), 1, counts, &with_missing);
+    let counts =
+        "sheets 4: right 0, made 1, mended 0, refused 3, unread 0, unwritten 0, no sheet 2";
+    check(&cabinet.renew(), 1, counts, &faults);
+    assert_eq!(
+        fs::read(cabinet.path("circle.table")).unwrap(),
+        cabinet::table(&good(3))
+    );
+    assert_eq!(fs::read(cabinet.path("stray.table")).unwrap(), b"whatever");
+}
+
+#[test]
+fn a_sheet_of_the_greatest_length_and_one_byte_more() {
+    let cabinet = Cabinet::new("long");
+    let mut sheet = good(1);
+    sheet.resize(4096, b' ');
+    cabinet.put("most.pcrl", &sheet);
+    sheet.push(b' ');
+    cabinet.put("over.pcrl", &sheet);
+    assert_eq!(cabinet.renew().faults, [bad("over.pcrl", &sheet)]);
+    cabinet.assert_right("most", &good(1));
+    assert!(!cabinet.path("over.table").exists());
+}
+
+#[test]
+fn misuse() {
+    let cabinet = Cabinet::new("misuse");
+    let file = cabinet.put("a.pcrl", good(1));
+    for task in ["renew", "audit"] {
+        for path in [file.as_path(), &cabinet.path("none"), Path::new("")] {
+            let ran = Cabinet::run(task, path);
+            assert_eq!(
+                (ran.status, ran.counts.as_str(), ran.faults.len()),
+                (Some(2), "", 1),
+                "{ran:?}"
+            );
+        }
+        for more in ["", "x y"] {
+            let ran = cabinet.shell(&format!("exec \"$0\" {task} {more}"));
+            assert_eq!(
+                (ran.status, ran.faults),
+                (Some(2), vec![format!("usage: wizbratel {task} DIR")])
+            );
+        }
+    }
+    let ran = cabinet.shell("cd \"$1\" && exec \"$0\" renew .");
+    assert_eq!(ran.status, Some(0), "{ran:?}");
+    let ran = Cabinet::run("audit", &Cabinet::new("misuse-empty").folder);
+    let counts = "sheets 0: right 0, missing 0, differs 0, refused 0, unread 0, no sheet 0";
+    check(&ran, 0, counts, &[]);
+}
+
+#[test]
+fn a_table_is_no_more_open_than_its_sheet() {
+    let cabinet = Cabinet::new("modes");
+    let sheet = cabinet.put("a.pcrl", good(1));
+    fs::set_permissions(sheet, Permissions::from_mode(0o700)).unwrap();
+    assert_eq!(cabinet.renew().status, Some(0));
+    assert_eq!(
+        fs::metadata(cabinet.path("a.table"))
+            .unwrap()
+            .permissions()
+            .mode()
+            & 0o777,
+        0o600
+    );
+}
+
+#[test]
+fn a_bar_on_a_terminal_only() {
+    let cabinet = Cabinet::new("bar");
+    cabinet.put("a.pcrl", good(1));
+    cabinet.put("b.table", "");
+    let ran = cabinet.shell("script -qec \"'$0' audit '$1'\" /dev/null </dev/null");
+    assert!(ran.counts.starts_with("\r[##"), "{ran:?}");
+    assert!(ran.counts.contains("] 1 of 1\r "), "{ran:?}");
+    assert!(ran.counts.ends_with("no sheet 1\r\n"), "{ran:?}");
+    assert_eq!(
+        cabinet.audit().faults,
+        ["a.table: missing", "b.table: no sheet"]
+    );
+}
