@@ -13,7 +13,8 @@ fn main() {
     println!("cargo:rerun-if-changed={}", archive.display());
     if !archive.is_file() {
         let folder = folder.display();
-        eprintln!("no {ARCHIVE} in {folder}: `rt staticlib wizbratel` writes it to target/staticlib; or {VARIABLE} names its folder, by a whole path");
+        eprintln!("no {ARCHIVE} in {folder}: `rt staticlib wizbratel` writes it to target/staticlib;");
+        eprintln!("or {VARIABLE} names its folder, by a whole path");
         std::process::exit(1);
     }
     println!("cargo:rustc-link-search=native={}", folder.display());

@@ -47,7 +47,8 @@ const EXPLAINED: [Explained; 16] = [
     ),
     entry(
         Sheet("act power-on;proc X=power-on.X;init X;"),
-        "Look for marks that the language does not have, names of more than 16 characters, and numerals that are above 255 or begin with 0.",
+        "Look for marks that the language does not have, names of more than 16 characters, and numerals that are \
+         above 255 or begin with 0.",
         Sheet("act power_on;proc X=power_on.X;init X;"),
     ),
     entry(
@@ -57,7 +58,8 @@ const EXPLAINED: [Explained; 16] = [
     ),
     entry(
         Sheet("act a;proc X=a.X init X;"),
-        "Look for a semicolon or a bracket that is missing, lines that are out of order, and an empty list. The order is sort, func, act, proc, init.",
+        "Look for a semicolon or a bracket that is missing, lines that are out of order, and an empty list. The \
+         order is sort, func, act, proc, init.",
         Sheet(LOOP),
     ),
     entry(
@@ -67,12 +69,14 @@ const EXPLAINED: [Explained; 16] = [
     ),
     entry(
         Sheet("act a;proc X=a.b.X;init X;"),
-        "Declare the name, or give one of two equal names another. A variable may not be named as anything that is declared, also further down.",
+        "Declare the name, or give one of two equal names another. A variable may not be named as anything that is \
+         declared, also further down.",
         Sheet("act a;act b;proc X=a.b.X;init X;"),
     ),
     entry(
         Sheet("sort D 3;act a:D;proc X=a(3);init X;"),
-        "Values of a sort of size n are 0 to n - 1. Give each action, process and function as many data as its line says, of those sorts; a function needs one value for each choice of arguments.",
+        "Values of a sort of size n are 0 to n - 1. Give each action, process and function as many data as its line \
+         says, of those sorts; a function needs one value for each choice of arguments.",
         Sheet("sort D 3;act a:D;proc X=a(2);init X;"),
     ),
     entry(
@@ -87,7 +91,8 @@ const EXPLAINED: [Explained; 16] = [
     ),
     entry(
         Room(LOOP, 511),
-        "Lend more: 65,536 bytes are always enough. The command and Table::make lend so many, and never meet this question.",
+        "Lend more: 65,536 bytes are always enough. The command and Table::make lend so many, and never meet this \
+         question.",
         Room(LOOP, 512),
     ),
     entry(
@@ -105,12 +110,14 @@ const EXPLAINED: [Explained; 16] = [
             file[5] = 3;
             file[510..].copy_from_slice(&[0xaf, 0x0f]);
         }),
-        "The file was not written by this library, or by a writer that keeps other rules. Make it again from its sheet.",
+        "The file was not written by this library, or by a writer that keeps other rules. Make it again from its \
+         sheet.",
         File("as it was made", |_| {}),
     ),
     entry(
         Asked(LOOP, 1, 1),
-        "Lend 64 frames that come from a start or from a step of this table, and change none of them; zeros stand in all that is not used.",
+        "Lend 64 frames that come from a start or from a step of this table, and change none of them; zeros stand in \
+         all that is not used.",
         Asked(LOOP, 0, 1),
     ),
     entry(

@@ -7,11 +7,11 @@ const QUESTIONS: [&str; 16] = [
     "all of the text tokens: names of at most 16 characters that begin with a letter, numerals up to 255 without \
      leading zeros, the marks ( ) , ; : # = + . -> <| |>?",
     "never more than 16 round brackets open?",
-    "the form of a sheet: lines sort, func, act, proc and init in this order, each closed by a semicolon, at least one \
-     proc, just one init?",
+    "the form of a sheet: lines sort, func, act, proc and init in this order, each closed by a semicolon, at least \
+     one proc, just one init?",
     "at most 8 sorts with Bool, sizes 1 to 16, 16 functions, 32 actions, 16 processes, 4 parameters a process?",
-    "every declared name new, each variable unlike all declared names and all variables in scope, each used name of the \
-     kind that its place needs?",
+    "every declared name new, each variable unlike all declared names and all variables in scope, each used name of \
+     the kind that its place needs?",
     "argument counts and sorts right, conditions Bool, numerals below their sort's size, function values complete and \
      in range?",
     "no process that comes back to itself through first parts alone, without an action before it?",
