@@ -13,7 +13,9 @@ fn main() {
     println!("cargo:rerun-if-changed={}", archive.display());
     if !archive.is_file() {
         let folder = folder.display();
-        eprintln!("no {ARCHIVE} in {folder}: `rt staticlib wizbratel` writes it to target/staticlib;");
+        eprintln!(
+            "no {ARCHIVE} in {folder}: `rt staticlib wizbratel` writes it to target/staticlib;"
+        );
         eprintln!("or {VARIABLE} names its folder, by a whole path");
         std::process::exit(1);
     }
