@@ -11,20 +11,15 @@ ghost use Rattle.tables.specs.Indexed.{Indexed};
 ghost use Rattle.stacks.specs.Lent.{frames-in, stack-bytes};
 ghost use Rattle.asking.specs.Encoding.{answer-bytes, filled, encode-answer};
 ghost use Rattle.asking.specs.Replies.{AskIs, AllIs, answer-told};
-
-// Bytes of a frame, and frames of a stack.
-const FRAME: usize = 5;
-
-const LIMIT: usize = 64;
+use firing::TAU;
+use stacks::FRAME;
+use stacks::LIMIT;
 
 // Bytes of the frames of 8 calls.
 const MADE: usize = 40;
 
 // Bytes of an answer.
-const ANSWER: usize = 24;
-
-// The byte of tau in a table.
-const TAU: u8 = 255;
+pub const ANSWER: usize = 24;
 
 // What is answered where no question refuses.
 const ENDED: u8 = 0;

@@ -26,8 +26,15 @@ const CHECK_HIGH: usize = 510;
 
 const CHECK_LOW: usize = 511;
 
-// 128 blocks.
-const MAX_FILE: usize = 65536;
+// 128 blocks, and their stream.
+pub const MAX_FILE: usize = 65536;
+
+pub const MAX_STREAM: usize = 64768;
+
+// 8 blocks, and their stream: a short file takes a short array.
+pub const SHORT_FILE: usize = 4096;
+
+pub const SHORT_STREAM: usize = 4048;
 
 // The answer of a writer: the number of the question that failed, or how many bytes were written.
 pub enum Filed {

@@ -15,8 +15,7 @@ ghost use Rattle.contexts.specs.Steps.{VariablePut, call-room, terms-roo
 use nodes::Node;
 use putting::Done;
 use putting::SLOT;
-
-const SCOPE: usize = 32;
+use putting::VARIABLE_CODE;
 
 const WIDTH: usize = 4;
 
@@ -25,8 +24,6 @@ const MAX_VARIABLES: usize = 4;
 const MAX_CONDITIONS: usize = 8;
 
 const MAX_ARITY: usize = 2;
-
-const VARIABLE_CODE: usize = 32;
 
 // Where the walk stands: at which node, how many calls may be followed; how many slots there are, the numbers of the next variable
 // and of the first new equation; how many sum variables, conditions and calls stand around it, where the conditions end and the
@@ -99,7 +96,7 @@ fn down_sum(d: Node, s: Spot, slots: &mut [u8], vars: &mut [u8]) -> Spot
     if nv >= MAX_VARIABLES {
         return fail(s);
     }
-    if n >= SCOPE {
+    if n >= nodes::MAX_SCOPE {
         return fail(s);
     }
     put_variable(&mut *slots, n, s.m);

@@ -5,14 +5,9 @@ ghost use lib.ListN.{length, getD, take, drop};
 ghost use Rattle.pcrl.specs.Limits.{max-nodes, max-stream};
 ghost use Rattle.pcrl.specs.Decode.{node-of};
 ghost use Rattle.evaluation.specs.Run.{argument-count, worth-of, extent, run, top, named, peak, lowered, foot};
-
-// The codes of a term's bytes: values, then variables, then functions.
-const VARIABLE: usize = 0x20;
-
-const FUNCTION: usize = 0x40;
-
-// Nodes of a term, at the most.
-const NODES: usize = 31;
+use terms::FUNCTION;
+use terms::NODES;
+use terms::VARIABLE;
 
 // How many arguments stand behind a byte.
 fn arguments(s: &[u8], funcs: &[u16], b: u8) -> usize

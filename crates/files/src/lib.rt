@@ -6,13 +6,9 @@ ghost use Rattle.pcrl.specs.Limits.{max-stream};
 ghost use Rattle.pcrl.specs.Result.{refusal};
 ghost use Rattle.pcrl.specs.Blocks.{block-bytes, block-stream};
 ghost use Rattle.pcrl.specs.Answers.{table-checked};
-
-// The longest stream of a file, and that of one of 8 blocks.
-const MAX_STREAM: usize = 64768;
-
-const SHORT_STREAM: usize = 4048;
-
-const SHORT_FILE: usize = 4096;
+use blocks::MAX_STREAM;
+use blocks::SHORT_FILE;
+use blocks::SHORT_STREAM;
 
 // Question 14: "the stream of the layout .. within all limits, rightly sorted, fewest blocks, zeros after it?"
 const NO_TABLE: u8 = 14;

@@ -25,7 +25,7 @@ ghost use Rattle.firing.specs.Known.{Valued, KnownParts, AtRow};
 ghost use Rattle.firing.specs.Fires.{frame-bytes, listing, act-of, InBounds, Gives, Fires};
 
 // The code of tau, where an action's number stands.
-const TAU: u8 = 0xFF;
+pub const TAU: u8 = 0xFF;
 
 // Values of an action, at the most.
 const ARITY: u8 = 2;

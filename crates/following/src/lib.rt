@@ -10,8 +10,6 @@ ghost use Rattle.putting.specs.Slots.{term-bytes, slot-width};
 ghost use Rattle.following.specs.Follows.{call-bytes, calls-room, OnePut, MarkedPut, CallPut, CallsPut, Pushes};
 use putting::Done;
 
-const SCOPE: usize = 32;
-
 pub const MAX_CALLS: usize = 8;
 
 // The most bytes of a call, and of all calls of a summand.
@@ -104,7 +102,7 @@ fn put_call(
     let d = nodes::node_at(cells, at);
     if d.kind == nodes::CALL {
         let count = d.datas;
-        if count > SCOPE {
+        if count > nodes::MAX_SCOPE {
             return Done { ok: false, w: w };
         }
         out[w] = (d.number % 256) as u8;

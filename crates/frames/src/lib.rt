@@ -5,6 +5,8 @@ ghost use lib.ListN.{length, set};
 ghost use Rattle.pcrl.specs.Limits.{frame-width};
 ghost use Rattle.stacks.specs.Lent.{frame-bytes, frame-at, frames-in, stack-bytes};
 ghost use Rattle.frames.specs.Lists.{no-frames, over, taken, frame-of, frames-of};
+use stacks::FRAME;
+use stacks::LIMIT;
 
 // "A frame is an equation number and four values, spare ones 0."
 #[repr(C)]
@@ -12,11 +14,6 @@ pub struct Frame {
     pub equation: u8,
     pub values: [u8; 4],
 }
-
-// Bytes of a frame, and frames of a stack.
-const FRAME: usize = 5;
-
-const LIMIT: usize = 64;
 
 // 64 frames by value.
 pub struct Stack {

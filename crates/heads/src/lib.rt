@@ -21,8 +21,7 @@ use contexts::Spot;
 use nodes::Node;
 use putting::Done;
 use putting::SLOT;
-
-const VARIABLE_CODE: usize = 32;
+use putting::VARIABLE_CODE;
 
 // A term without heads is done; one with heads has not the limits.
 fn ended(cells: &[u16], counts: &[u16], fuel: usize, at: usize, w: usize) -> Done

@@ -9,14 +9,13 @@ ghost use Rattle.counting.specs.Limits.{max-fuel};
 ghost use Rattle.listing.specs.Listing.{Bounded, WrittenSource, PartSource, Sources, EquationPut, count-cut, CountsAll, PutsAll};
 ghost use Rattle.listing.specs.Summands.{PutsSummands};
 use marking::many;
+use nodes::MAX_SCOPE;
 use nodes::Outline;
 use nodes::PROC_ROW;
 use nodes::byte;
 use nodes::cell;
 use parts::row::ROW;
 use putting::Done;
-
-const MAX_SCOPE: usize = 32;
 
 const MAX_SUMMANDS: usize = 255;
 

@@ -8,6 +8,7 @@ ghost use Rattle.sheets.specs.Reading.{Room};
 ghost use Rattle.pcrl.specs.Result.{refusal};
 ghost use Rattle.making.specs.Making.{made-answer, Tries};
 use blocks::Filed;
+use blocks::MAX_STREAM;
 use blocks::write_file;
 use linear::write_table;
 use sheets::read::read_sheet;
@@ -15,8 +16,6 @@ use sheets::read::read_sheet;
 const NOT_WITHIN: u8 = 10;
 
 const NO_ROOM: u8 = 11;
-
-const MAX_STREAM: usize = 64768;
 
 // Arrays of three sizes: for sheets below these lengths the short and the middle ones. To clear the long ones would take
 // longer than to read a short sheet.

@@ -38,6 +38,11 @@ pub const ACT_ROW: usize = 3;
 
 pub const PROC_ROW: usize = 5;
 
+// Numbers of variables in scope, and cells, are below these.
+pub const MAX_SCOPE: usize = 32;
+
+pub const CELL_LIMIT: usize = 65536;
+
 // How many sorts, functions, actions and processes a held sheet has, and where init stands in its cells.
 pub struct Outline {
     pub sorts: usize,

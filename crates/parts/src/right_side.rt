@@ -12,13 +12,11 @@ use crate::params::put_params;
 use crate::row::put_part_row;
 use emit::bytes::low;
 use marking::marks;
+use nodes::CELL_LIMIT;
+use nodes::MAX_SCOPE;
 use nodes::SUM;
 use nodes::cell;
 use nodes::node_at;
-
-const MAX_SCOPE: usize = 32;
-
-const CELL_LIMIT: usize = 65536;
 
 // A number as a cell.
 fn short(n: usize) -> u16

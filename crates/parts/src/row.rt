@@ -3,10 +3,9 @@ ghost use mathlib.Core.Path.{_≡_};
 ghost use Prim.Native.Nat.{_<_};
 ghost use Rattle.nodes.specs.Layout.{cell-limit};
 ghost use Rattle.parts.specs.Rows.{RowPut};
+use nodes::CELL_LIMIT;
 
 pub const ROW: usize = 3;
-
-const CELL_LIMIT: usize = 65536;
 
 // A number below the limit of cells.
 fn word(n: usize) -> u32

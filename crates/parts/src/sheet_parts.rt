@@ -16,6 +16,8 @@ use emit::bytes::low;
 use emit::bytes::put;
 use emit::bytes::put_row;
 use lexer::bytes::byte_at;
+use nodes::CELL_LIMIT;
+use nodes::MAX_SCOPE;
 use nodes::Outline;
 use nodes::PROC_ROW;
 use nodes::byte;
@@ -24,10 +26,6 @@ use nodes::skip;
 
 // One more than there may be equations: counts are cut here.
 const COUNT_CUT: usize = 65;
-
-const MAX_SCOPE: usize = 32;
-
-const CELL_LIMIT: usize = 65536;
 
 // A sum, cut.
 fn cut_sum(a: usize, b: usize) -> usize

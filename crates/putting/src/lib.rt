@@ -20,6 +20,8 @@ pub const SLOT: usize = 33;
 // The mark of a term with too many nodes.
 const LONG: u8 = 255;
 
+pub const VARIABLE_CODE: usize = 32;
+
 const FUNCTION_CODE: usize = 64;
 
 // How many nodes and bytes a node comes to.

@@ -20,6 +20,9 @@ pub const FRAME: usize = 5;
 // "exactly 64 frames lent"
 pub const LIMIT: usize = 64;
 
+// Bytes of all frames.
+pub const BYTES: usize = 320;
+
 // Does the value v fit at place i of a frame whose equation's parameters have these sorts?
 fn fits(sizes: &[u8], sorts: &[u8], i: usize, v: u8) -> bool
     ensures { λ r. ⌜ Says r (FitsAt (now (sizes .entry)) (now (sorts .entry)) i v) ⌝ }

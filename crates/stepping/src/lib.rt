@@ -8,23 +8,13 @@ ghost use Rattle.pcrl.specs.Answers.{table-checked, started, asked, asked-all};
 ghost use Rattle.stacks.specs.Lent.{frames-in};
 ghost use Rattle.asking.specs.Encoding.{answer-after, answers-after};
 ghost use Rattle.stepping.specs.Promises.{Loads, Replied, put-questions};
-
-// The longest stream of a file, and that of one of 8 blocks: a short file takes a short array.
-const MAX_STREAM: usize = 64768;
-
-const SHORT_STREAM: usize = 4048;
-
-const SHORT_FILE: usize = 4096;
-
-// Bytes of a frame, frames of a stack, and bytes of these.
-const FRAME: usize = 5;
-
-const LIMIT: usize = 64;
-
-const BYTES: usize = 320;
-
-// Bytes of an answer.
-const ANSWER: usize = 24;
+use asking::ANSWER;
+use blocks::MAX_STREAM;
+use blocks::SHORT_FILE;
+use blocks::SHORT_STREAM;
+use stacks::BYTES;
+use stacks::FRAME;
+use stacks::LIMIT;
 
 // The questions that refuse here.
 const NO_TABLE: u8 = 14;

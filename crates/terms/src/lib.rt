@@ -13,12 +13,12 @@ ghost use Rattle.terms.specs.Ends.{rests, ended, stack, top, below};
 ghost use Rattle.terms.specs.Numbers.{read-list, ListEnds};
 
 // The codes of a term's bytes: values, then variables, then functions.
-const VARIABLE: usize = 0x20;
+pub const VARIABLE: usize = 0x20;
 
-const FUNCTION: usize = 0x40;
+pub const FUNCTION: usize = 0x40;
 
 // Nodes of a term, at the most.
-const NODES: usize = 31;
+pub const NODES: usize = 31;
 
 // Where a piece ends, if it is right.
 pub struct Next {

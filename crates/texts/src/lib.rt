@@ -10,9 +10,7 @@ ghost use Rattle.tables.specs.Indexed.{Indexed};
 ghost use Rattle.labels.specs.Labels.{label-of};
 ghost use Rattle.texts.specs.Wrote.{Wrote};
 ghost use Rattle.texts.specs.Pieces.{bracketed};
-
-// The byte of tau in a table.
-const TAU: u8 = 255;
+use firing::TAU;
 
 pub fn put_byte(out: &mut [u8], at: usize, b: u8) -> usize
     requires { ⌜ at ≤ length (now out) ⌝ }

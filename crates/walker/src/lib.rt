@@ -16,25 +16,17 @@ ghost use Rattle.stacks.specs.Lent.{frames-in, stack-bytes};
 ghost use Rattle.asking.specs.Replies.{label-told};
 ghost use Rattle.texts.specs.Wrote.{Wrote};
 ghost use Rattle.walker.specs.Moves.{moved-by};
+use blocks::MAX_FILE;
+use blocks::MAX_STREAM;
+use blocks::SHORT_FILE;
+use blocks::SHORT_STREAM;
+use stacks::BYTES;
 
 // "takes step 0 up to 8 times"
 const STEPS: usize = 8;
 
-// The longest stream of a file, and that of one of 8 blocks: a short file takes a short array.
-const MAX_STREAM: usize = 64768;
-
-const SHORT_STREAM: usize = 4048;
-
-const SHORT_FILE: usize = 4096;
-
-// The longest file.
-const MAX_FILE: usize = 65536;
-
 // No text of a walk is longer: 8 lines of 29 bytes and a closing word.
 const TEXT_LIMIT: usize = 238;
-
-// Bytes of 64 frames.
-const BYTES: usize = 320;
 
 // "A walk holds its depth, its steps taken and its last answer."
 pub struct Walk {

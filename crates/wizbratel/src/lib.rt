@@ -9,11 +9,8 @@ ghost use Rattle.stepping.specs.Promises.{Replied, put-questions};
 ghost use Rattle.frames.specs.declared.Frame.{Frame};
 ghost use Rattle.frames.specs.Lists.{over, taken, frames-of};
 ghost use Rattle.wizbratel.specs.Tables.{MakePromise};
-
-// Frames of a stack, and bytes of these.
-const LIMIT: usize = 64;
-
-const BYTES: usize = 320;
+use stacks::BYTES;
+use stacks::LIMIT;
 
 // Check a sheet, questions 1 to 10: the number of the first that fails, or 0. So it is accepted exactly if its table can be made.
 #[no_mangle]

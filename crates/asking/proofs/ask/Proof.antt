@@ -2,9 +2,7 @@
 use borrow.Author.Needs.{needs}
 use Rattle.asking.proofs.ask.Statement.{statement}
 use Rattle.asking.proofs.ask.Tie as tie
-use Rattle.asking.proofs.ask.Reads as reads
 use Rattle.asking.proofs.ask.Lts as lts
-use Rattle.asking.proofs.plain.Reads as plain-reads
 use Rattle.firing.proofs.fire.Reads as fire-reads
 use Rattle.stacks.proofs.part.Reads as part-reads
 use Rattle.stacks.proofs.replace.Reads as replace-reads

@@ -6,23 +6,18 @@ use Rattle.contexts.specs.Steps.{act-code}
 use borrow.Author.Needs.{needs}
 use Rattle.contexts.proofs.code_of.Statement.{statement}
 use Rattle.contexts.proofs.code_of.Tie as tie
-use Rattle.contexts.proofs.code_of.Reads as reads
 use Rattle.contexts.proofs.code_of.Lts as lts
 
--- src/lib.rt:214:9
 returns : tie.Need-returns
 unfolding act-code
 returns c = let z : c .before .args .number ≡ 0 = omega arith in sym (ap act-code z)
 
--- src/lib.rt:216:7
 sub-result : tie.Need-sub-result
 sub-result c = search needs
 
--- src/lib.rt:216:5
 cast-result : tie.Need-cast-result
 cast-result c = search needs
 
--- src/lib.rt:210:1
 returns-2 : tie.Need-returns-2
 unfolding act-code
 returns-2 c =

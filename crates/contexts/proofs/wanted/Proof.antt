@@ -3,15 +3,12 @@ use mathlib.Core.Path.{sym, ap}
 use Rattle.contexts.specs.Spots.{wanted-of}
 use Rattle.contexts.proofs.wanted.Statement.{statement}
 use Rattle.contexts.proofs.wanted.Tie as tie
-use Rattle.contexts.proofs.wanted.Reads as reads
 use Rattle.contexts.proofs.wanted.Lts as lts
 
--- src/lib.rt:86:1
 returns : tie.Need-returns
 unfolding wanted-of
 returns c = ap wanted-of (sym (c .if1 .taken))
 
--- src/lib.rt:86:1
 returns-2 : tie.Need-returns-2
 unfolding wanted-of
 returns-2 c = ap wanted-of (sym (c .if1 .left))

@@ -5,24 +5,19 @@ use Rattle.counting.proofs.Rows.{row-at, row-end}
 use borrow.Author.Needs.{needs}
 use Rattle.counting.proofs.known.Statement.{statement}
 use Rattle.counting.proofs.known.Tie as tie
-use Rattle.counting.proofs.known.Reads as reads
 use Rattle.counting.proofs.known.Lts as lts
 use Rattle.nodes.proofs.cell.Reads as cell-reads
 
--- src/lib.rt:41:38
 add-cell : tie.Need-add-cell
 add-cell c = search needs
 
--- src/lib.rt:41:18
 cell-requires : tie.Need-cell-requires
 cell-requires c κs = search needs
 
--- src/lib.rt:37:1
 returns : tie.Need-returns
 returns c =
     (c .cell .ensures .0 ∙ sym (row-at (c .before .before .before .args .base) (c .before .before .before .args .counts .now) (c .before .before .before .args .k) (omega arith)), c .cell .ensures .1)
 
--- src/lib.rt:37:1
 returns-2 : tie.Need-returns-2
 returns-2 c =
     (sym (row-end (c .before .before .args .base) (c .before .before .args .counts .now) (c .before .before .args .k) (omega arith)), omega arith)

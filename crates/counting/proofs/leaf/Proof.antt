@@ -6,26 +6,20 @@ use Rattle.counting.specs.Counting.{leaf-of, pick}
 use borrow.Author.Needs.{needs}
 use Rattle.counting.proofs.leaf.Statement.{statement}
 use Rattle.counting.proofs.leaf.Tie as tie
-use Rattle.counting.proofs.leaf.Reads as reads
 use Rattle.counting.proofs.leaf.Lts as lts
-use Rattle.counting.proofs.known.Reads as known-reads
 
--- src/lib.rt:49:9
 returns : tie.Need-returns
 unfolding leaf-of pick
 returns c = (rw (eq-eqb (c .before .before .args .kind) 4 (omega arith)), omega arith)
 
--- src/lib.rt:52:9
 known-requires : tie.Need-known-requires
 known-requires c κs = search needs
 
--- src/lib.rt:52:9
 returns-2 : tie.Need-returns-2
 unfolding leaf-of pick
 returns-2 c =
     (rw (ne-eqb (c .before .before .before .before .args .kind) 4 (omega arith), eq-eqb (c .before .before .before .before .args .kind) 8 (omega arith)) (c .known .ensures .0), omega arith)
 
--- src/lib.rt:44:1
 returns-3 : tie.Need-returns-3
 unfolding leaf-of pick
 returns-3 c =

@@ -9,9 +9,7 @@ use Rattle.counting.specs.Counting.{Placed, Counts, Tallied}
 use Rattle.counting.proofs.Rows.{Filled, filled-none, filled-more, filled-all}
 use Rattle.counting.proofs.round.Statement.{statement}
 use Rattle.counting.proofs.round.Tie as tie
-use Rattle.counting.proofs.round.Reads as reads
 use Rattle.counting.proofs.round.Lts as lts
-use Rattle.counting.proofs.count.Reads as count-reads
 use Rattle.nodes.proofs.cell.Reads as cell-reads
 
 abbrev Inv-loop : tie.InvT-loop
@@ -21,60 +19,46 @@ Inv-loop cells starts n f o t₀ k₀ t k =
 abbrev μ-loop : tie.MeasureT-loop
 μ-loop cells starts n f o t₀ k₀ t k = n - k
 
--- src/lib.rt:96:5
 loop-holds : tie.Need-loop-holds Inv-loop μ-loop
 loop-holds c =
     ((omega arith, c .before .before .before .before .pre .2), λ H e l p t. filled-none H l (c .before .before .before .before .args .f) (c .before .before .before .before .args .old .at) t)
 
--- src/lib.rt:97:13
 cell-requires : tie.Need-cell-requires Inv-loop μ-loop
 cell-requires c κs = omega arith
 
--- src/lib.rt:98:33
 slice-aggregate-count : tie.Need-slice-aggregate-count Inv-loop μ-loop
 slice-aggregate-count c = sym (c .before .before .before .before .before .before .before .before .pre .2)
 
--- src/lib.rt:98:37
 mul-count : tie.Need-mul-count Inv-loop μ-loop
 mul-count c = omega arith
 
--- src/lib.rt:98:13
 count-requires : tie.Need-count-requires Inv-loop μ-loop
 count-requires c κs = omega arith
 
--- src/lib.rt:99:32
 cast-t : tie.Need-cast-t Inv-loop μ-loop
 cast-t c = omega arith
 
--- src/lib.rt:99:18
 add-t : tie.Need-add-t Inv-loop μ-loop
 add-t c = omega arith
 
--- src/lib.rt:99:11
 mul-t : tie.Need-mul-t Inv-loop μ-loop
 mul-t c = omega arith
 
--- src/lib.rt:99:11
 add-t-2 : tie.Need-add-t-2 Inv-loop μ-loop
 add-t-2 c = omega arith
 
--- src/lib.rt:99:9
 mul-t-2 : tie.Need-mul-t-2 Inv-loop μ-loop
 mul-t-2 c = omega arith
 
--- src/lib.rt:99:9
 array-write-t : tie.Need-array-write-t Inv-loop μ-loop
 array-write-t c = omega arith
 
--- src/lib.rt:100:9
 add-k : tie.Need-add-k Inv-loop μ-loop
 add-k c = omega arith
 
--- src/lib.rt:96:5
 loop-less : tie.Need-loop-less Inv-loop μ-loop
 loop-less c = omega arith
 
--- src/lib.rt:96:5
 loop-again : tie.Need-loop-again Inv-loop μ-loop
 loop-again c = (
   (omega arith, length-set (c .before .before .before .before .before .loop .t) _ _ ∙ c .before .before .before .before .before .loop .inv .0 .1),
@@ -82,7 +66,6 @@ loop-again c = (
       (subst (λ (x : ℕ). Counts (c .before .before .before .before .before .before .before .before .before .before .args .cells .now) (row (row-width * c .before .before .before .before .before .before .before .before .before .before .args .f) (c .before .before .before .before .before .before .before .before .before .before .args .old .at)) x (c .before .count .result)) (c .before .before .before .cell .ensures .0) (c .before .count .ensures .1)),
 )
 
--- src/lib.rt:88:1
 returns : tie.Need-returns Inv-loop μ-loop
 returns c = (
   c .before .loop .inv .0 .1,

@@ -1,3 +1,4 @@
+-- The calls of the rest are written apart, and copied to before those that stand there.
 use native.Mathlib.Omega.{arith}
 use Prim.Native.Nat.{ℕ, _+_, _*_, _-_, _≤_, _<_}
 use mathlib.Core.Path.{_≡_, refl, sym, ap, _∙_, subst}
@@ -11,54 +12,41 @@ use Rattle.following.proofs.Parts.{push-fail, push-right}
 use borrow.Author.Needs.{needs}
 use Rattle.following.proofs.push_calls.Statement.{statement}
 use Rattle.following.proofs.push_calls.Tie as tie
-use Rattle.following.proofs.push_calls.Reads as reads
 use Rattle.following.proofs.push_calls.Lts as lts
-use Rattle.following.proofs.put_calls.Reads as put-calls-reads
 use Rattle.putting.proofs.copy.Reads as copy-reads
 
--- src/lib.rt:155:47
 sub-put-calls : tie.Need-sub-put-calls
 sub-put-calls c = search needs
 
--- src/lib.rt:155:9
 put-calls-requires : tie.Need-put-calls-requires
 put-calls-requires c κs = search needs
 
--- src/lib.rt:157:9
 same-length : tie.Need-same-length
 same-length c = search needs
 
--- src/lib.rt:157:9
 returns : tie.Need-returns
 returns c =
     let q = c .before .before .before .before .before .before .before .before .before .before .pre in
     (omega arith, (push-fail (c .before .before .before .before .before .before .before .before .before .before .args .cells .now) (c .before .before .before .before .before .before .before .before .before .before .args .at) (c .before .before .before .before .before .before .before .before .before .before .args .c) (c .before .before .before .before .before .before .before .before .before .before .args .slots .now) (c .before .before .before .before .before .before .before .before .before .before .args .n) (c .before .before .before .before .before .before .before .before .before .before .args .nk) (c .before .before .before .before .before .before .before .before .before .before .args .calls .now) (c .before .before .before .before .before .before .before .before .before .before .args .top) (c .before .before .before .before .before .before .before .before .before .before .args .after .now) (c .before .before .before .before .put-calls .last .1 .1 .1 .1 .1 .1 .0) (c .before .before .before .before .put-calls .result) (c .before .before .before .before .put-calls .ensures .1) (omega arith) (not-true _ (c .if1 .taken)) (c .before .before .before .before .before .before .before .before .before .before .args .top) (c .before .before .before .before .before .before .before .before .before .before .args .nk) (c .before .before .before .before .before .before .before .before .before .before .args .calls .now), (omega arith, refl)))
 
--- src/lib.rt:160:47
 sub-copy : tie.Need-sub-copy
 sub-copy c = search needs
 
--- src/lib.rt:160:5
 copy-requires : tie.Need-copy-requires
 copy-requires c κs = search needs
 
--- src/lib.rt:161:29
 sub-t12 : tie.Need-sub-t12
 sub-t12 c = search needs
 
--- src/lib.rt:161:41
 add-t21 : tie.Need-add-t21
 add-t21 c = search needs
 
--- src/lib.rt:150:1
 same-length-2 : tie.Need-same-length-2
 same-length-2 c = search needs
 
--- src/lib.rt:150:1
 same-length-3 : tie.Need-same-length-3
 same-length-3 c = search needs
 
--- src/lib.rt:150:1
 returns-2 : tie.Need-returns-2
 returns-2 c =
     let q = c .before .before .before .before .before .before .before .before .before .before .before .before .before .before .before .before .pre in

@@ -1,3 +1,4 @@
+-- A call of a process as it stands; any other part by its marked variables.
 use native.Mathlib.Omega.{arith}
 use Prim.Native.Nat.{ℕ, _+_, _*_, _%_}
 use mathlib.Core.Path.{refl, sym, ap, _∙_}
@@ -9,46 +10,36 @@ use Rattle.following.proofs.CallLaws.{call-wide, call-put, part-put}
 use borrow.Author.Needs.{needs}
 use Rattle.following.proofs.put_call.Statement.{statement}
 use Rattle.following.proofs.put_call.Tie as tie
-use Rattle.following.proofs.put_call.Reads as reads
 use Rattle.following.proofs.put_call.Lts as lts
-use Rattle.following.proofs.put_marked.Reads as put-marked-reads
 use Rattle.marking.proofs.marks.Reads as marks-reads
 use Rattle.nodes.proofs.node_at.Reads as node-at-reads
 use Rattle.putting.proofs.put_terms.Reads as put-terms-reads
 
--- src/lib.rt:96:9
 node-at-requires : tie.Need-node-at-requires
 node-at-requires c κs = search needs
 
--- src/lib.rt:100:13
 returns : tie.Need-returns
 returns c =
     let q = c .before .before .before .before .before .before .before .pre in
     (omega arith, (refl, call-wide (c .before .before .before .before .before .before .before .args .cells .now) (c .before .before .before .before .before .before .before .args .at) (c .before .before .before .before .before .before .before .args .c) (c .before .before .before .before .before .before .before .args .slots .now) (c .before .before .before .before .before .before .before .args .n) (c .before .before .before .before .before .before .before .args .w) (c .before .before .before .before .before .before .before .args .out .now) (omega arith) (c .before .before .before .node-at .result) (c .before .before .before .node-at .ensures .1) (omega arith) (omega arith) (record { ok = false; w = c .before .before .before .before .before .before .before .args .w }) (c .before .before .before .before .before .before .before .args .out .now)))
 
--- src/lib.rt:102:18
 cast-out : tie.Need-cast-out
 cast-out c = search needs
 
--- src/lib.rt:102:9
 slice-write-out : tie.Need-slice-write-out
 slice-write-out c = search needs
 
--- src/lib.rt:103:80
 add-put-terms : tie.Need-add-put-terms
 add-put-terms c = search needs
 
--- src/lib.rt:103:13
 put-terms-requires : tie.Need-put-terms-requires
 put-terms-requires c κs =
     let q = c .before .before .before .before .before .before .before .before .before .pre in omega (arith, length-set (c .before .before .before .before .before .before .before .before .before .args .out .now) (c .before .before .before .before .before .before .before .before .before .args .w) (c .before .before .before .before .before .node-at .result .number % 256))
 
--- src/lib.rt:104:9
 same-length : tie.Need-same-length
 same-length c =
     c .before .before .put-terms .kept .1 .1 .1 .1 .1 .0 ∙ length-set (c .before .before .before .before .before .before .before .before .before .before .before .before .args .out .now) (c .before .before .before .before .before .before .before .before .before .before .before .before .args .w) (c .before .before .before .before .before .before .before .before .node-at .result .number % 256)
 
--- src/lib.rt:104:9
 returns-2 : tie.Need-returns-2
 returns-2 c =
     let q = c .before .before .before .before .before .before .before .before .before .before .before .before .pre in
@@ -61,33 +52,26 @@ returns-2 c =
       ),
     )
 
--- src/lib.rt:106:9
 marks-requires : tie.Need-marks-requires
 marks-requires c κs = search needs
 
--- src/lib.rt:107:14
 cast-out-2 : tie.Need-cast-out-2
 cast-out-2 c = search needs
 
--- src/lib.rt:107:5
 slice-write-out-2 : tie.Need-slice-write-out-2
 slice-write-out-2 c = search needs
 
--- src/lib.rt:108:40
 add-put-marked : tie.Need-add-put-marked
 add-put-marked c = search needs
 
--- src/lib.rt:108:5
 put-marked-requires : tie.Need-put-marked-requires
 put-marked-requires c κs =
     let q = c .before .before .before .before .before .before .before .before .pre in omega (arith, length-set (c .before .before .before .before .before .before .before .before .args .out .now) (c .before .before .before .before .before .before .before .before .args .w) (c .before .before .before .before .before .before .before .before .args .c))
 
--- src/lib.rt:90:1
 same-length-2 : tie.Need-same-length-2
 same-length-2 c =
     c .before .before .put-marked .kept .1 .1 .1 .0 ∙ length-set (c .before .before .before .before .before .before .before .before .before .before .before .args .out .now) (c .before .before .before .before .before .before .before .before .before .before .before .args .w) (c .before .before .before .before .before .before .before .before .before .before .before .args .c)
 
--- src/lib.rt:90:1
 returns-3 : tie.Need-returns-3
 returns-3 c =
     let q = c .before .before .before .before .before .before .before .before .before .before .before .pre in

@@ -1,3 +1,4 @@
+-- One part after another, however the sequences are nested. The measure is what is left of the cells.
 use native.Mathlib.Omega.{arith}
 use Prim.Native.Nat.{ℕ, _+_, _*_, _-_, _≤_, _<_}
 use mathlib.Core.Path.{_≡_, refl, sym, ap, _∙_}
@@ -9,9 +10,7 @@ use Rattle.following.specs.Follows.{call-bytes}
 use Rattle.following.proofs.Parts.{Left, parts-start, parts-stuck, parts-done, parts-seq, parts-many, parts-on, parts-long}
 use Rattle.following.proofs.put_calls.Statement.{statement}
 use Rattle.following.proofs.put_calls.Tie as tie
-use Rattle.following.proofs.put_calls.Reads as reads
 use Rattle.following.proofs.put_calls.Lts as lts
-use Rattle.following.proofs.later.Reads as later-reads
 use Rattle.following.proofs.put_call.Reads as put-call-reads
 use Rattle.nodes.proofs.node_at.Reads as node-at-reads
 use Rattle.nodes.proofs.skip.Reads as skip-reads
@@ -23,85 +22,67 @@ Inv-loop cells at c slots n most out₀ p₀ need₀ k₀ e₀ v₀ out p need k
 abbrev μ-loop : tie.MeasureT-loop
 μ-loop cells at c slots n most out₀ p₀ need₀ k₀ e₀ v₀ out p need k e v = 2 * (length cells - p) + need
 
--- src/lib.rt:122:5
 loop-holds : tie.Need-loop-holds Inv-loop μ-loop
 loop-holds c =
     ((omega arith, omega arith, omega arith, omega arith, c .before .before .before .pre .0, refl), parts-start (c .before .before .before .args .cells .now) (c .before .before .before .args .at) (c .before .before .before .args .c) (c .before .before .before .args .slots .now) (c .before .before .before .args .n) (c .before .before .before .args .most) (c .before .before .before .args .out .now))
 
--- src/lib.rt:124:13
 same-length : tie.Need-same-length Inv-loop μ-loop
 same-length c = c .before .before .loop .inv .0 .5
 
--- src/lib.rt:124:13
 returns : tie.Need-returns Inv-loop μ-loop
 returns c =
     (omega arith, parts-stuck (c .before .before .before .before .before .before .args .cells .now) (c .before .before .before .before .before .before .args .at) (c .before .before .before .before .before .before .args .c) (c .before .before .before .before .before .before .args .slots .now) (c .before .before .before .before .before .before .args .n) (c .before .before .before .before .before .before .args .most) (c .before .before .before .before .before .before .args .out .now) (c .before .before .loop .p) (c .before .before .loop .need) (c .before .before .loop .k) (c .before .before .loop .e) (c .before .before .loop .v) (c .before .before .loop .out) (c .before .before .loop .inv .1) (omega arith) (omega arith) (record { ok = false; w = 0; n = 0 }) (c .before .before .loop .out))
 
--- src/lib.rt:126:13
 node-at-requires : tie.Need-node-at-requires Inv-loop μ-loop
 node-at-requires c κs = omega arith
 
--- src/lib.rt:128:13
 add-need : tie.Need-add-need Inv-loop μ-loop
 add-need c = omega arith
 
--- src/lib.rt:122:5
 loop-less : tie.Need-loop-less Inv-loop μ-loop
 loop-less c = omega arith
 
--- src/lib.rt:122:5
 loop-again : tie.Need-loop-again Inv-loop μ-loop
 loop-again c =
     ((omega arith, omega arith, omega arith, omega arith, c .before .before .before .before .before .loop .inv .0 .4, c .before .before .before .before .before .loop .inv .0 .5), parts-seq (c .before .before .before .before .before .before .before .before .before .args .cells .now) (c .before .before .before .before .before .before .before .before .before .args .at) (c .before .before .before .before .before .before .before .before .before .args .c) (c .before .before .before .before .before .before .before .before .before .args .slots .now) (c .before .before .before .before .before .before .before .before .before .args .n) (c .before .before .before .before .before .before .before .before .before .args .most) (c .before .before .before .before .before .before .before .before .before .args .out .now) (c .before .before .before .before .before .loop .p) (c .before .before .before .before .before .loop .need) (c .before .before .before .before .before .loop .k) (c .before .before .before .before .before .loop .e) (c .before .before .before .before .before .loop .v) (c .before .before .before .before .before .loop .out) (c .before .before .before .before .before .loop .inv .1) (omega arith) (c .before .before .node-at .result) (c .before .before .node-at .ensures .1) (omega arith))
 
--- src/lib.rt:133:13
 same-length-2 : tie.Need-same-length-2 Inv-loop μ-loop
 same-length-2 c = c .before .before .before .before .before .before .loop .inv .0 .5
 
--- src/lib.rt:133:13
 returns-2 : tie.Need-returns-2 Inv-loop μ-loop
 returns-2 c =
     (omega arith, parts-many (c .before .before .before .before .before .before .before .before .before .before .args .cells .now) (c .before .before .before .before .before .before .before .before .before .before .args .at) (c .before .before .before .before .before .before .before .before .before .before .args .c) (c .before .before .before .before .before .before .before .before .before .before .args .slots .now) (c .before .before .before .before .before .before .before .before .before .before .args .n) (c .before .before .before .before .before .before .before .before .before .before .args .most) (c .before .before .before .before .before .before .before .before .before .before .args .out .now) (c .before .before .before .before .before .before .loop .p) (c .before .before .before .before .before .before .loop .need) (c .before .before .before .before .before .before .loop .k) (c .before .before .before .before .before .before .loop .e) (c .before .before .before .before .before .before .loop .v) (c .before .before .before .before .before .before .loop .out) (c .before .before .before .before .before .before .loop .inv .1) (omega arith) (c .before .before .before .node-at .result) (c .before .before .before .node-at .ensures .1) (λ z. omega arith) (omega arith) 0 0 (c .before .before .before .before .before .before .loop .out))
 
--- src/lib.rt:135:13
 put-call-requires : tie.Need-put-call-requires Inv-loop μ-loop
 put-call-requires c κs =
     let q = c .before .before .before .before .before .before .before .before .before .before .before .pre in let i = c .before .before .before .before .before .before .before .loop .inv .0 in (omega arith, omega arith, omega arith, omega arith, omega arith)
 
--- src/lib.rt:137:13
 same-length-3 : tie.Need-same-length-3 Inv-loop μ-loop
 same-length-3 c =
     c .before .before .before .before .put-call .kept .1 .1 .1 .1 .1 .0 ∙ c .before .before .before .before .before .before .before .before .before .before .before .before .loop .inv .0 .5
 
--- src/lib.rt:137:13
 returns-3 : tie.Need-returns-3 Inv-loop μ-loop
 returns-3 c =
     (omega arith, parts-long (c .before .before .before .before .before .before .before .before .before .before .before .before .before .before .before .before .args .cells .now) (c .before .before .before .before .before .before .before .before .before .before .before .before .before .before .before .before .args .at) (c .before .before .before .before .before .before .before .before .before .before .before .before .before .before .before .before .args .c) (c .before .before .before .before .before .before .before .before .before .before .before .before .before .before .before .before .args .slots .now) (c .before .before .before .before .before .before .before .before .before .before .before .before .before .before .before .before .args .n) (c .before .before .before .before .before .before .before .before .before .before .before .before .before .before .before .before .args .most) (c .before .before .before .before .before .before .before .before .before .before .before .before .before .before .before .before .args .out .now) (c .before .before .before .before .before .before .before .before .before .before .before .before .loop .p) (c .before .before .before .before .before .before .before .before .before .before .before .before .loop .need) (c .before .before .before .before .before .before .before .before .before .before .before .before .loop .k) (c .before .before .before .before .before .before .before .before .before .before .before .before .loop .e) (c .before .before .before .before .before .before .before .before .before .before .before .before .loop .v) (c .before .before .before .before .before .before .before .before .before .before .before .before .loop .out) (c .before .before .before .before .before .before .before .before .before .before .before .before .loop .inv .1) (omega arith) (c .before .before .before .before .before .before .before .before .before .node-at .result) (c .before .before .before .before .before .before .before .before .before .node-at .ensures .1) (λ z. omega arith) (c .before .before .before .before .put-call .result) (c .before .before .before .before .put-call .last .1 .1 .1 .1 .1 .0) (c .before .before .before .before .put-call .ensures .1 .1) (not-true _ (c .if4 .taken)) 0 0 (c .before .before .before .before .put-call .last .1 .1 .1 .1 .1 .0))
 
--- src/lib.rt:139:13
 skip-requires : tie.Need-skip-requires Inv-loop μ-loop
 skip-requires c κs = omega arith
 
--- src/lib.rt:141:9
 later-requires : tie.Need-later-requires Inv-loop μ-loop
 later-requires c κs =
     c .before .before .before .before .before .before .before .before .before .before .before .before .before .loop .inv .0 .4
 
--- src/lib.rt:142:9
 sub-need : tie.Need-sub-need Inv-loop μ-loop
 sub-need c = omega arith
 
--- src/lib.rt:143:9
 add-k : tie.Need-add-k Inv-loop μ-loop
 add-k c =
     let i = c .before .before .before .before .before .before .before .before .before .before .before .before .before .before .loop .inv .0 in let q = c .before .before .before .before .before .before .before .before .before .before .before .before .before .before .before .before .before .before .pre in omega arith
 
--- src/lib.rt:122:5
 loop-less-2 : tie.Need-loop-less-2 Inv-loop μ-loop
 loop-less-2 c =
     let sk = c .before .skip .ensures .0 in let i = c .before .before .before .before .before .before .before .before .before .before .before .before .before .before .loop .inv .0 in omega arith
 
--- src/lib.rt:122:5
 loop-again-2 : tie.Need-loop-again-2 Inv-loop μ-loop
 loop-again-2 c =
     let q = c .before .before .before .before .before .before .before .before .before .before .before .before .before .before .before .before .before .before .pre in let i = c .before .before .before .before .before .before .before .before .before .before .before .before .before .before .loop .inv .0 in let u = c .before .before .before .before .before .before .put-call .ensures .0 in let sk = c .before .skip .ensures .0 in (
@@ -109,11 +90,9 @@ loop-again-2 c =
       parts-on (c .before .before .before .before .before .before .before .before .before .before .before .before .before .before .before .before .before .before .args .cells .now) (c .before .before .before .before .before .before .before .before .before .before .before .before .before .before .before .before .before .before .args .at) (c .before .before .before .before .before .before .before .before .before .before .before .before .before .before .before .before .before .before .args .c) (c .before .before .before .before .before .before .before .before .before .before .before .before .before .before .before .before .before .before .args .slots .now) (c .before .before .before .before .before .before .before .before .before .before .before .before .before .before .before .before .before .before .args .n) (c .before .before .before .before .before .before .before .before .before .before .before .before .before .before .before .before .before .before .args .most) (c .before .before .before .before .before .before .before .before .before .before .before .before .before .before .before .before .before .before .args .out .now) (c .before .before .before .before .before .before .before .before .before .before .before .before .before .before .loop .p) (c .before .before .before .before .before .before .before .before .before .before .before .before .before .before .loop .need) (c .before .before .before .before .before .before .before .before .before .before .before .before .before .before .loop .k) (c .before .before .before .before .before .before .before .before .before .before .before .before .before .before .loop .e) (c .before .before .before .before .before .before .before .before .before .before .before .before .before .before .loop .v) (c .before .before .before .before .before .before .before .before .before .before .before .before .before .before .loop .out) (c .before .before .before .before .before .before .before .before .before .before .before .before .before .before .loop .inv .1) (omega arith) (c .before .before .before .before .before .before .before .before .before .before .before .node-at .result) (c .before .before .before .before .before .before .before .before .before .before .before .node-at .ensures .1) (λ z. omega arith) (c .before .before .before .before .before .before .put-call .result) (c .before .before .before .before .before .before .put-call .last .1 .1 .1 .1 .1 .0) (c .before .before .before .before .before .before .put-call .ensures .1 .1) (not-false _ (c .before .before .if4 .left)) (c .before .skip .result) (c .before .skip .ensures .1) (c .later .result) (c .later .ensures .1),
     )
 
--- src/lib.rt:112:1
 same-length-4 : tie.Need-same-length-4 Inv-loop μ-loop
 same-length-4 c = c .before .loop .inv .0 .5
 
--- src/lib.rt:112:1
 returns-4 : tie.Need-returns-4 Inv-loop μ-loop
 returns-4 c =
     (omega arith, parts-done (c .before .before .before .before .before .args .cells .now) (c .before .before .before .before .before .args .at) (c .before .before .before .before .before .args .c) (c .before .before .before .before .before .args .slots .now) (c .before .before .before .before .before .args .n) (c .before .before .before .before .before .args .most) (c .before .before .before .before .before .args .out .now) (c .before .loop .p) (c .before .loop .need) (c .before .loop .k) (c .before .loop .e) (c .before .loop .v) (c .before .loop .out) (c .before .loop .inv .1) (omega arith))

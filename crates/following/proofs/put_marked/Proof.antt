@@ -1,3 +1,4 @@
+-- The lowest mark is the next one. The measure is what is left of the marks.
 use native.Mathlib.Omega.{arith}
 use Prim.Native.Nat.{ℕ, _+_, _*_, _-_, _≤_, _<_, _^_}
 use mathlib.Core.Path.{_≡_, refl, sym, ap, _∙_}
@@ -9,9 +10,7 @@ use Rattle.putting.proofs.Bytes.{kept-front}
 use Rattle.following.proofs.MarkedLaws.{Left, marked-start, marked-done, marked-out, marked-on, marked-long, rest-less}
 use Rattle.following.proofs.put_marked.Statement.{statement}
 use Rattle.following.proofs.put_marked.Tie as tie
-use Rattle.following.proofs.put_marked.Reads as reads
 use Rattle.following.proofs.put_marked.Lts as lts
-use Rattle.following.proofs.put_one.Reads as put-one-reads
 
 abbrev Inv-loop : tie.InvT-loop
 Inv-loop m slots n out₀ w rest₀ at₀ v₀ out rest at v =
@@ -20,38 +19,30 @@ Inv-loop m slots n out₀ w rest₀ at₀ v₀ out rest at v =
 abbrev μ-loop : tie.MeasureT-loop
 μ-loop m slots n out₀ w rest₀ at₀ v₀ out rest at v = rest
 
--- src/lib.rt:72:5
 loop-holds : tie.Need-loop-holds Inv-loop μ-loop
 loop-holds c =
     ((omega arith, omega arith, omega arith, c .before .before .fits .m .fits, refl), refl, marked-start (c .before .before .args .m) (c .before .before .args .slots .now) (c .before .before .args .n) (c .before .before .args .w) (c .before .before .args .out .now))
 
--- src/lib.rt:74:23
 cast-i : tie.Need-cast-i Inv-loop μ-loop
 cast-i c = omega (arith, trailing-le 32 (c .before .loop .rest))
 
--- src/lib.rt:74:17
 add-i : tie.Need-add-i Inv-loop μ-loop
 add-i c = omega (arith, trailing-le 32 (c .before .loop .rest))
 
--- src/lib.rt:76:13
 same-length : tie.Need-same-length Inv-loop μ-loop
 same-length c = c .before .before .loop .inv .0 .4
 
--- src/lib.rt:76:13
 returns : tie.Need-returns Inv-loop μ-loop
 returns c =
     (omega arith, (c .before .before .loop .inv .1, marked-out (c .before .before .before .before .before .args .m) (c .before .before .before .before .before .args .slots .now) (c .before .before .before .before .before .args .n) (c .before .before .before .before .before .args .w) (c .before .before .before .before .before .args .out .now) (c .before .before .loop .rest) (c .before .before .loop .at) (c .before .before .loop .v) (c .before .before .loop .out) (c .before .before .loop .inv .2) (omega arith) (c .before .before .loop .inv .0 .3) (c .before .before .loop .at + trailingZeros 32 (c .before .before .loop .rest)) refl (omega arith) (omega arith)))
 
--- src/lib.rt:78:13
 put-one-requires : tie.Need-put-one-requires Inv-loop μ-loop
 put-one-requires c κs = omega arith
 
--- src/lib.rt:80:13
 same-length-2 : tie.Need-same-length-2 Inv-loop μ-loop
 same-length-2 c =
     c .before .before .before .before .put-one .kept .1 .1 .0 ∙ c .before .before .before .before .before .before .before .before .loop .inv .0 .4
 
--- src/lib.rt:80:13
 returns-2 : tie.Need-returns-2 Inv-loop μ-loop
 returns-2 c =
     let o = c .before .before .before .before .put-one .last .1 .1 .0 in (
@@ -62,21 +53,17 @@ returns-2 c =
       ),
     )
 
--- src/lib.rt:83:17
 shr-rest : tie.Need-shr-rest Inv-loop μ-loop
 shr-rest c =
     omega (arith, trailing-le 32 (c .before .before .before .before .before .before .before .before .loop .rest))
 
--- src/lib.rt:84:14
 add-at : tie.Need-add-at Inv-loop μ-loop
 add-at c = omega arith
 
--- src/lib.rt:72:5
 loop-less : tie.Need-loop-less Inv-loop μ-loop
 loop-less c =
     rest-less (c .before .before .before .before .before .before .before .before .loop .rest) (trailingZeros 32 (c .before .before .before .before .before .before .before .before .loop .rest)) (omega arith)
 
--- src/lib.rt:72:5
 loop-again : tie.Need-loop-again Inv-loop μ-loop
 loop-again c =
     let o = c .before .before .before .before .put-one .last .1 .1 .0 in
@@ -88,11 +75,9 @@ loop-again c =
       marked-on (c .before .before .before .before .before .before .before .before .before .before .before .args .m) (c .before .before .before .before .before .before .before .before .before .before .before .args .slots .now) (c .before .before .before .before .before .before .before .before .before .before .before .args .n) (c .before .before .before .before .before .before .before .before .before .before .before .args .w) (c .before .before .before .before .before .before .before .before .before .before .before .args .out .now) (c .before .before .before .before .before .before .before .before .loop .rest) (c .before .before .before .before .before .before .before .before .loop .at) (c .before .before .before .before .before .before .before .before .loop .v) (c .before .before .before .before .before .before .before .before .loop .out) (c .before .before .before .before .before .before .before .before .loop .inv .2) (omega arith) (c .before .before .before .before .before .before .before .before .loop .inv .0 .3) (c .before .before .before .before .before .before .before .before .loop .at + trailingZeros 32 (c .before .before .before .before .before .before .before .before .loop .rest)) refl (omega arith) (omega arith) (c .before .before .before .before .put-one .result) o (c .before .before .before .before .put-one .ensures .1 .1) (not-false _ (c .if2 .left)),
     )
 
--- src/lib.rt:63:1
 same-length-3 : tie.Need-same-length-3 Inv-loop μ-loop
 same-length-3 c = c .before .loop .inv .0 .4
 
--- src/lib.rt:63:1
 returns-3 : tie.Need-returns-3 Inv-loop μ-loop
 returns-3 c =
     (omega arith, (c .before .loop .inv .1, marked-done (c .before .before .before .before .args .m) (c .before .before .before .before .args .slots .now) (c .before .before .before .before .args .n) (c .before .before .before .before .args .w) (c .before .before .before .before .args .out .now) (c .before .loop .rest) (c .before .loop .at) (c .before .loop .v) (c .before .loop .out) (c .before .loop .inv .2) (omega arith)))

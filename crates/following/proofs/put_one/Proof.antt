@@ -1,3 +1,4 @@
+-- The bytes of a slot are copied, or its term is too long.
 use native.Mathlib.Omega.{arith}
 use Prim.Native.Nat.{ℕ, _+_, _*_}
 use mathlib.Core.Path.{refl, sym, ap, _∙_, subst}
@@ -12,62 +13,48 @@ use Rattle.following.proofs.MarkedLaws.{one-long, one-wide, one-put}
 use borrow.Author.Needs.{needs}
 use Rattle.following.proofs.put_one.Statement.{statement}
 use Rattle.following.proofs.put_one.Tie as tie
-use Rattle.following.proofs.put_one.Reads as reads
 use Rattle.following.proofs.put_one.Lts as lts
 use Rattle.nodes.proofs.byte.Reads as byte-reads
 use Rattle.putting.proofs.copy.Reads as copy-reads
 
--- src/lib.rt:50:32
 mul-byte : tie.Need-mul-byte
 mul-byte c = search needs
 
--- src/lib.rt:50:9
 byte-requires : tie.Need-byte-requires
 byte-requires c κs = search needs
 
--- src/lib.rt:52:9
 returns : tie.Need-returns
 returns c =
     (omega arith, (refl, one-long (c .before .before .before .before .args .slots .now) (c .before .before .before .before .args .i) (c .before .before .before .before .args .w) (c .before .before .before .before .args .out .now) (omega arith) (c .before .before .before .before .args .w) (c .before .before .before .before .args .out .now)))
 
--- src/lib.rt:54:32
 mul-byte-2 : tie.Need-mul-byte-2
 mul-byte-2 c = search needs
 
--- src/lib.rt:54:32
 add-byte : tie.Need-add-byte
 add-byte c = search needs
 
--- src/lib.rt:54:9
 byte-requires-2 : tie.Need-byte-requires-2
 byte-requires-2 c κs = search needs
 
--- src/lib.rt:56:9
 returns-2 : tie.Need-returns-2
 returns-2 c =
     (omega arith, (refl, one-wide (c .before .before .before .before .before .before .args .slots .now) (c .before .before .before .before .before .before .args .i) (c .before .before .before .before .before .before .args .w) (c .before .before .before .before .before .before .args .out .now) (omega arith) (omega arith) (record { ok = false; w = c .before .before .before .before .before .before .args .w }) _))
 
--- src/lib.rt:58:26
 mul-copy : tie.Need-mul-copy
 mul-copy c = search needs
 
--- src/lib.rt:58:26
 add-copy : tie.Need-add-copy
 add-copy c = search needs
 
--- src/lib.rt:58:5
 copy-requires : tie.Need-copy-requires
 copy-requires c κs = search needs
 
--- src/lib.rt:59:25
 add-t9 : tie.Need-add-t9
 add-t9 c = search needs
 
--- src/lib.rt:44:1
 same-length : tie.Need-same-length
 same-length c = search needs
 
--- src/lib.rt:44:1
 returns-3 : tie.Need-returns-3
 returns-3 c =
     let e = c .before .before .copy .ensures in (

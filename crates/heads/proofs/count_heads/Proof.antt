@@ -3,19 +3,15 @@ use Rattle.heads.proofs.Walking.{counted}
 use borrow.Author.Needs.{needs}
 use Rattle.heads.proofs.count_heads.Statement.{statement}
 use Rattle.heads.proofs.count_heads.Tie as tie
-use Rattle.heads.proofs.count_heads.Reads as reads
 use Rattle.heads.proofs.count_heads.Lts as lts
 use Rattle.counting.proofs.count.Reads as count-reads
 
--- src/lib.rt:315:48
 mul-count : tie.Need-mul-count
 mul-count c = search needs
 
--- src/lib.rt:315:9
 count-requires : tie.Need-count-requires
 count-requires c κs = search needs
 
--- src/lib.rt:311:1
 returns : tie.Need-returns
 returns c =
     λ H F b p rest σ m k few t l e. counted (c .before .before .before .args .cells .now) (c .before .before .before .args .counts .now) (c .before .before .before .args .at) (c .before .before .before .args .fuel) (c .count .result) (c .count .ensures .1) H F b p rest σ m k few t l e

@@ -7,7 +7,6 @@ use Rattle.nodes.specs.Layout.{byte-limit}
 use Rattle.heads.proofs.Numbers.{Numbering, numbering-start, numbering-on, numbering-done}
 use Rattle.heads.proofs.first_numbers.Statement.{statement}
 use Rattle.heads.proofs.first_numbers.Tie as tie
-use Rattle.heads.proofs.first_numbers.Reads as reads
 use Rattle.heads.proofs.first_numbers.Lts as lts
 use Rattle.following.proofs.later.Reads as later-reads
 use Rattle.nodes.proofs.cell.Reads as cell-reads
@@ -19,47 +18,37 @@ Inv-loop cells starts n t₀ k₀ c₀ t k c = ((k ≤ n) × (c < byte-limit) ×
 abbrev μ-loop : tie.MeasureT-loop
 μ-loop cells starts n t₀ k₀ c₀ t k c = n - k
 
--- src/lib.rt:345:5
 loop-holds : tie.Need-loop-holds Inv-loop μ-loop
 loop-holds c =
     ((omega arith, omega arith, length-replicate {A = ℕ} 16 0), numbering-start (c .before .before .args .cells .now) (c .before .before .args .starts .now) (c .before .before .args .n) _)
 
--- src/lib.rt:346:13
 cell-requires : tie.Need-cell-requires Inv-loop μ-loop
 cell-requires c κs = omega arith
 
--- src/lib.rt:347:13
 skip-requires : tie.Need-skip-requires Inv-loop μ-loop
 skip-requires c κs = omega arith
 
--- src/lib.rt:348:16
 cast-t : tie.Need-cast-t Inv-loop μ-loop
 cast-t c = omega arith
 
--- src/lib.rt:348:9
 array-write-t : tie.Need-array-write-t Inv-loop μ-loop
 array-write-t c = omega arith
 
--- src/lib.rt:349:9
 later-requires : tie.Need-later-requires Inv-loop μ-loop
 later-requires c κs = omega arith
 
--- src/lib.rt:350:9
 add-k : tie.Need-add-k Inv-loop μ-loop
 add-k c = omega arith
 
--- src/lib.rt:345:5
 loop-less : tie.Need-loop-less Inv-loop μ-loop
 loop-less c = omega arith
 
--- src/lib.rt:345:5
 loop-again : tie.Need-loop-again Inv-loop μ-loop
 loop-again c = (
   (omega arith, c .later .ensures .0, length-set (c .before .before .before .before .loop .t) _ _ ∙ c .before .before .before .before .loop .inv .0 .2),
   numbering-on (c .before .before .before .before .before .before .before .args .cells .now) (c .before .before .before .before .before .before .before .args .starts .now) (c .before .before .before .before .before .before .before .args .n) (c .before .before .before .before .loop .k) (c .before .before .before .before .loop .c) (c .before .before .before .before .loop .t) (c .before .before .before .before .loop .inv .1) (omega arith) (omega arith) (c .before .before .cell .result) (c .before .before .cell .ensures .0) (c .before .skip .result) (c .before .skip .ensures .1) (c .later .result) (c .later .ensures .1),
 )
 
--- src/lib.rt:338:1
 returns : tie.Need-returns Inv-loop μ-loop
 returns c =
     numbering-done (c .before .before .before .before .args .cells .now) (c .before .before .before .before .args .starts .now) (c .before .before .before .before .args .n) (c .before .loop .k) (c .before .loop .c) (c .before .loop .t) (c .before .loop .inv .1) (omega arith)

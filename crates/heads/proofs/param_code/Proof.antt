@@ -8,24 +8,19 @@ use Rattle.heads.specs.Writing.{param-of}
 use borrow.Author.Needs.{needs}
 use Rattle.heads.proofs.param_code.Statement.{statement}
 use Rattle.heads.proofs.param_code.Tie as tie
-use Rattle.heads.proofs.param_code.Reads as reads
 use Rattle.heads.proofs.param_code.Lts as lts
 
--- src/lib.rt:659:9
 returns : tie.Need-returns
 unfolding param-of odd encode-data
 returns c =
     let z : c .before .args .marked ≡ 0 = omega arith in ap (λ (j : ℕ). encode-data (param-of (odd j) (c .before .args .k))) z
 
--- src/lib.rt:661:6
 add-result : tie.Need-add-result
 add-result c = search needs
 
--- src/lib.rt:661:5
 cast-result : tie.Need-cast-result
 cast-result c = search needs
 
--- src/lib.rt:654:1
 returns-2 : tie.Need-returns-2
 unfolding param-of odd encode-data
 returns-2 c =

@@ -8,39 +8,30 @@ use Rattle.heads.proofs.Parameters.{byte-put}
 use borrow.Author.Needs.{needs}
 use Rattle.heads.proofs.put_byte.Statement.{statement}
 use Rattle.heads.proofs.put_byte.Tie as tie
-use Rattle.heads.proofs.put_byte.Reads as reads
 use Rattle.heads.proofs.put_byte.Lts as lts
 
--- src/lib.rt:647:13
 mul-b : tie.Need-mul-b
 mul-b c = search needs
 
--- src/lib.rt:648:5
 slice-write-slots : tie.Need-slice-write-slots
 slice-write-slots c = search needs
 
--- src/lib.rt:649:11
 add-slots : tie.Need-add-slots
 add-slots c = search needs
 
--- src/lib.rt:649:5
 slice-write-slots-2 : tie.Need-slice-write-slots-2
 slice-write-slots-2 c = omega (arith, length-set (c .args .slots .now) (slot-width * c .args .n) 1)
 
--- src/lib.rt:650:11
 add-slots-2 : tie.Need-add-slots-2
 add-slots-2 c = search needs
 
--- src/lib.rt:650:5
 slice-write-slots-3 : tie.Need-slice-write-slots-3
 slice-write-slots-3 c =
     omega (arith, length-set (c .args .slots .now) (slot-width * c .args .n) 1, length-set (set (c .args .slots .now) (slot-width * c .args .n) 1) (slot-width * c .args .n + 1) 1)
 
--- src/lib.rt:643:1
 same-length : tie.Need-same-length
 same-length c = search needs
 
--- src/lib.rt:643:1
 returns : tie.Need-returns
 returns c =
     byte-put (c .args .slots .now) (c .args .n) (c .args .x) (slot-width * c .args .n) refl (omega arith)

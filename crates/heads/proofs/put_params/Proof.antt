@@ -9,9 +9,7 @@ use Rattle.putting.specs.Slots.{Slots}
 use Rattle.heads.proofs.Parameters.{Params, params-start, params-on}
 use Rattle.heads.proofs.put_params.Statement.{statement}
 use Rattle.heads.proofs.put_params.Tie as tie
-use Rattle.heads.proofs.put_params.Reads as reads
 use Rattle.heads.proofs.put_params.Lts as lts
-use Rattle.heads.proofs.param_code.Reads as param-code-reads
 use Rattle.heads.proofs.put_byte.Reads as put-byte-reads
 
 abbrev Inv-loop : tie.InvT-loop
@@ -20,46 +18,36 @@ Inv-loop slots₀ m n rest₀ k₀ i₀ slots rest k i = ((i ≤ n) × (k ≤ i)
 abbrev μ-loop : tie.MeasureT-loop
 μ-loop slots₀ m n rest₀ k₀ i₀ slots rest k i = n - i
 
--- src/lib.rt:672:5
 loop-holds : tie.Need-loop-holds Inv-loop μ-loop
 loop-holds c = ((omega arith, omega arith, refl), params-start (c .before .args .m) (c .before .args .slots .now))
 
--- src/lib.rt:674:34
 param-code-requires : tie.Need-param-code-requires Inv-loop μ-loop
 param-code-requires c κs = omega arith
 
--- src/lib.rt:674:9
 put-byte-requires : tie.Need-put-byte-requires Inv-loop μ-loop
 put-byte-requires c κs =
     let q = c .before .before .before .before .before .pre in let i = c .before .before .before .loop .inv .0 in omega (arith, i .2)
 
--- src/lib.rt:675:14
 cast-k : tie.Need-cast-k Inv-loop μ-loop
 cast-k c = omega arith
 
--- src/lib.rt:675:9
 add-k : tie.Need-add-k Inv-loop μ-loop
 add-k c = omega arith
 
--- src/lib.rt:677:9
 add-i : tie.Need-add-i Inv-loop μ-loop
 add-i c = omega arith
 
--- src/lib.rt:672:5
 loop-less : tie.Need-loop-less Inv-loop μ-loop
 loop-less c = omega arith
 
--- src/lib.rt:672:5
 loop-again : tie.Need-loop-again Inv-loop μ-loop
 loop-again c =
     let i = c .before .before .before .before .before .before .loop .inv .0 in
     ((omega arith, omega arith, c .before .before .put-byte .kept .0 ∙ i .2), params-on (c .before .before .before .before .before .before .before .before .args .m) (c .before .before .before .before .before .before .loop .i) (c .before .before .before .before .before .before .loop .k) (c .before .before .before .before .before .before .loop .rest) (c .before .before .before .before .before .before .loop .slots) (c .before .before .put-byte .last .0) (c .before .before .before .before .before .before .loop .inv .1) (c .before .before .before .param-code .result) (c .before .before .before .param-code .ensures) (c .before .before .put-byte .ensures))
 
--- src/lib.rt:665:1
 same-length : tie.Need-same-length Inv-loop μ-loop
 same-length c = c .before .loop .inv .0 .2
 
--- src/lib.rt:665:1
 returns : tie.Need-returns Inv-loop μ-loop
 returns c =
     let z : c .before .loop .i ≡ c .before .before .before .args .n = omega arith in subst (λ (j : ℕ). Slots (as-params (bits j (c .before .before .before .args .m)) 0) (c .before .loop .slots) j) z (c .before .loop .inv .1 .held)

@@ -1,16 +1,14 @@
+-- The bits that are set are the marks.
 use native.Mathlib.Omega.{arith}
 use lib.Count.{ones, ones-le}
 use Rattle.marking.proofs.MarkLaws.{bits-count}
 use Rattle.marking.proofs.many.Statement.{statement}
 use Rattle.marking.proofs.many.Tie as tie
-use Rattle.marking.proofs.many.Reads as reads
 use Rattle.marking.proofs.many.Lts as lts
 
--- src/lib.rt:70:5
 cast-result : tie.Need-cast-result
 cast-result c = let m = c .args .m in omega (arith, ones-le 32 m (c .fits .m .fits))
 
--- src/lib.rt:67:1
 returns : tie.Need-returns
 returns c = let m = c .args .m in bits-count 32 m (c .fits .m .fits)
 

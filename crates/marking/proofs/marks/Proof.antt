@@ -1,3 +1,4 @@
+-- The marks of a term are those of its nodes, one after another.
 use mathlib.Core.Path.{refl, _∙_}
 use Rattle.marking.specs.Marks.{HighBits}
 use native.Mathlib.Omega.{arith}
@@ -6,9 +7,7 @@ use lib.ListN.{length}
 use Rattle.marking.proofs.MarkLaws.{MarkLeft, mark-start, mark-stuck, mark-done, mark-step}
 use Rattle.marking.proofs.marks.Statement.{statement}
 use Rattle.marking.proofs.marks.Tie as tie
-use Rattle.marking.proofs.marks.Reads as reads
 use Rattle.marking.proofs.marks.Lts as lts
-use Rattle.marking.proofs.data_marks.Reads as data-marks-reads
 use Rattle.nodes.proofs.node_at.Reads as node-at-reads
 
 abbrev Inv-loop : tie.InvT-loop
@@ -17,41 +16,32 @@ Inv-loop cells at n p₀ need₀ x₀ p need x = ((at ≤ p) × (need + at ≤ 1
 abbrev μ-loop : tie.MeasureT-loop
 μ-loop cells at n p₀ need₀ x₀ p need x = length cells - p
 
--- src/lib.rt:54:5
 loop-holds : tie.Need-loop-holds Inv-loop μ-loop
 loop-holds c = (omega arith, mark-start (c .before .args .cells .now) (c .before .args .at) (c .before .args .n), λ i h. refl)
 
--- src/lib.rt:56:13
 returns : tie.Need-returns Inv-loop μ-loop
 returns c =
     (mark-stuck (c .before .before .before .before .args .cells .now) (c .before .before .before .before .args .at) (c .before .before .before .before .args .n) (c .before .before .loop .p) (c .before .before .loop .need) (c .before .before .loop .x) (c .before .before .loop .inv .1) (omega arith) (omega arith) _, c .before .before .loop .inv .2)
 
--- src/lib.rt:58:13
 node-at-requires : tie.Need-node-at-requires Inv-loop μ-loop
 node-at-requires c κs = omega arith
 
--- src/lib.rt:59:9
 data-marks-requires : tie.Need-data-marks-requires Inv-loop μ-loop
 data-marks-requires c κs = omega arith
 
--- src/lib.rt:60:16
 sub-need : tie.Need-sub-need Inv-loop μ-loop
 sub-need c = omega arith
 
--- src/lib.rt:60:16
 add-need : tie.Need-add-need Inv-loop μ-loop
 add-need c = omega arith
 
--- src/lib.rt:54:5
 loop-less : tie.Need-loop-less Inv-loop μ-loop
 loop-less c = omega arith
 
--- src/lib.rt:54:5
 loop-again : tie.Need-loop-again Inv-loop μ-loop
 loop-again c =
     (omega arith, mark-step (c .before .before .before .before .before .before .before .args .cells .now) (c .before .before .before .before .before .before .before .args .at) (c .before .before .before .before .before .before .before .args .n) (c .before .before .before .before .before .loop .p) (c .before .before .before .before .before .loop .need) (c .before .before .before .before .before .loop .x) (c .before .before .before .before .before .loop .inv .1) (omega arith) (c .before .before .node-at .result) (c .before .before .node-at .ensures .1) (c .before .data-marks .result) (c .before .data-marks .ensures .0), λ i h. c .before .data-marks .ensures .1 i h ∙ c .before .before .before .before .before .loop .inv .2 i h)
 
--- src/lib.rt:47:1
 returns-2 : tie.Need-returns-2 Inv-loop μ-loop
 returns-2 c =
     (mark-done (c .before .before .before .args .cells .now) (c .before .before .before .args .at) (c .before .before .before .args .n) (c .before .loop .p) (c .before .loop .need) (c .before .loop .x) (c .before .loop .inv .1) (omega arith), c .before .loop .inv .2)

@@ -1,3 +1,4 @@
+-- Byte by byte: what is copied so far is pasted. The measure is what is left.
 use native.Mathlib.Omega.{arith}
 use Prim.Native.Nat.{ℕ, _+_, _-_, _≤_}
 use mathlib.Core.Path.{_≡_, refl, sym, ap, _∙_}
@@ -7,7 +8,6 @@ use lib.Seq.{paste, paste-zero}
 use Rattle.putting.proofs.Bytes.{copy-more}
 use Rattle.putting.proofs.copy.Statement.{statement}
 use Rattle.putting.proofs.copy.Tie as tie
-use Rattle.putting.proofs.copy.Reads as reads
 use Rattle.putting.proofs.copy.Lts as lts
 
 abbrev Inv-loop : tie.InvT-loop
@@ -16,36 +16,28 @@ Inv-loop s from l out₀ w j₀ out j = ((j ≤ l) × (length out ≡ length out
 abbrev μ-loop : tie.MeasureT-loop
 μ-loop s from l out₀ w j₀ out j = l - j
 
--- src/lib.rt:48:5
 loop-holds : tie.Need-loop-holds Inv-loop μ-loop
 loop-holds c =
     ((omega arith, refl), paste-zero (c .args .out .now) (c .args .w) (drop (c .args .from) (c .args .s .now)))
 
--- src/lib.rt:49:24
 add-out : tie.Need-add-out Inv-loop μ-loop
 add-out c = omega arith
 
--- src/lib.rt:49:22
 shared-slice-read-out : tie.Need-shared-slice-read-out Inv-loop μ-loop
 shared-slice-read-out c = omega arith
 
--- src/lib.rt:49:13
 add-out-2 : tie.Need-add-out-2 Inv-loop μ-loop
 add-out-2 c = omega arith
 
--- src/lib.rt:49:9
 slice-write-out : tie.Need-slice-write-out Inv-loop μ-loop
 slice-write-out c = omega arith
 
--- src/lib.rt:50:9
 add-j : tie.Need-add-j Inv-loop μ-loop
 add-j c = omega arith
 
--- src/lib.rt:48:5
 loop-less : tie.Need-loop-less Inv-loop μ-loop
 loop-less c = omega arith
 
--- src/lib.rt:48:5
 loop-again : tie.Need-loop-again Inv-loop μ-loop
 loop-again c = (
   (omega arith, length-set (c .before .before .loop .out) _ _ ∙ c .before .before .loop .inv .0 .1),
@@ -53,11 +45,9 @@ loop-again c = (
       ∙ copy-more (c .before .before .before .args .s .now) (c .before .before .before .args .out .now) (c .before .before .before .args .from) (c .before .before .before .args .w) (c .before .before .loop .j) (omega arith) (omega arith),
 )
 
--- src/lib.rt:43:1
 same-length : tie.Need-same-length Inv-loop μ-loop
 same-length c = c .before .loop .inv .0 .1
 
--- src/lib.rt:43:1
 returns : tie.Need-returns Inv-loop μ-loop
 returns c =
     let z : c .before .loop .j ≡ c .before .before .args .l = omega arith in c .before .loop .inv .1 ∙ ap (λ (j : ℕ). paste (c .before .before .args .out .now) (c .before .before .args .w) (drop (c .before .before .args .from) (c .before .before .args .s .now)) j) z

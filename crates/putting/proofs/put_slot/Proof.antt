@@ -1,3 +1,4 @@
+-- A term behind its two counts, or only the mark that it is too long.
 use native.Mathlib.Omega.{arith}
 use borrow.Author.Tests.{not-true, not-false}
 use Prim.Native.Nat.{ℕ, _+_, _*_, _-_}
@@ -10,31 +11,23 @@ use Rattle.putting.proofs.Several.{slot-long, slot-whole}
 use borrow.Author.Needs.{needs}
 use Rattle.putting.proofs.put_slot.Statement.{statement}
 use Rattle.putting.proofs.put_slot.Tie as tie
-use Rattle.putting.proofs.put_slot.Reads as reads
 use Rattle.putting.proofs.put_slot.Lts as lts
-use Rattle.putting.proofs.put_term.Reads as put-term-reads
 
--- src/lib.rt:151:13
 mul-b : tie.Need-mul-b
 mul-b c = search needs
 
--- src/lib.rt:152:54
 add-put-term : tie.Need-add-put-term
 add-put-term c = search needs
 
--- src/lib.rt:152:9
 put-term-requires : tie.Need-put-term-requires
 put-term-requires c κs = search needs
 
--- src/lib.rt:154:9
 slice-write-out : tie.Need-slice-write-out
 slice-write-out c = search needs
 
--- src/lib.rt:155:9
 same-length : tie.Need-same-length
 same-length c = search needs
 
--- src/lib.rt:155:9
 returns : tie.Need-returns
 returns c =
     let q = c .before .before .before .before .before .before .before .before .before .pre in
@@ -44,31 +37,24 @@ returns c =
       slot-long (c .before .before .before .before .before .before .before .before .before .args .cells .now) (c .before .before .before .before .before .before .before .before .before .args .at) (c .before .before .before .before .before .before .before .before .before .args .slots .now) (c .before .before .before .before .before .before .before .before .before .args .n) (slot-width * c .before .before .before .before .before .before .before .before .before .args .j) (c .before .before .before .before .before .before .before .before .before .args .out .now) (c .before .before .before .before .put-term .result) o (omega arith) (c .before .before .before .before .put-term .ensures .1 .1) (not-true _ (c .if1 .taken)),
     )
 
--- src/lib.rt:157:14
 cast-out : tie.Need-cast-out
 cast-out c = search needs
 
--- src/lib.rt:157:5
 slice-write-out-2 : tie.Need-slice-write-out-2
 slice-write-out-2 c = search needs
 
--- src/lib.rt:158:26
 add-out : tie.Need-add-out
 add-out c = search needs
 
--- src/lib.rt:158:19
 sub-out : tie.Need-sub-out
 sub-out c = search needs
 
--- src/lib.rt:158:18
 cast-out-2 : tie.Need-cast-out-2
 cast-out-2 c = search needs
 
--- src/lib.rt:158:9
 add-out-2 : tie.Need-add-out-2
 add-out-2 c = search needs
 
--- src/lib.rt:158:5
 slice-write-out-3 : tie.Need-slice-write-out-3
 slice-write-out-3 c =
     let q = c .before .before .before .before .before .before .before .before .before .before .before .pre in
@@ -76,11 +62,9 @@ slice-write-out-3 c =
     let l = c .before .before .before .before .before .before .put-term .kept .1 .1 .1 .1 .0 in
     omega (arith, length-set o (slot-width * c .before .before .before .before .before .before .before .before .before .before .before .args .j) (c .before .before .before .before .before .before .put-term .result .nodes))
 
--- src/lib.rt:146:1
 same-length-2 : tie.Need-same-length-2
 same-length-2 c = search needs
 
--- src/lib.rt:146:1
 returns-2 : tie.Need-returns-2
 returns-2 c =
     let q = c .before .before .before .before .before .before .before .before .before .before .before .pre in

@@ -1,3 +1,4 @@
+-- One term after another.
 use native.Mathlib.Omega.{arith}
 use borrow.Author.Tests.{not-true, not-false}
 use Prim.Native.Nat.{ℕ, _+_, _*_, _-_, _≤_, _<_}
@@ -8,9 +9,7 @@ use Rattle.putting.proofs.Bytes.{kept-front}
 use Rattle.putting.proofs.Several.{AllLeft, terms-start, terms-done, terms-on, terms-long}
 use Rattle.putting.proofs.put_terms.Statement.{statement}
 use Rattle.putting.proofs.put_terms.Tie as tie
-use Rattle.putting.proofs.put_terms.Reads as reads
 use Rattle.putting.proofs.put_terms.Lts as lts
-use Rattle.nodes.proofs.skip_data.Reads as skip-data-reads
 use Rattle.putting.proofs.put_term.Reads as put-term-reads
 
 abbrev Inv-loop : tie.InvT-loop
@@ -20,21 +19,17 @@ Inv-loop cells at count slots n out₀ w p₀ j₀ v₀ out p j v =
 abbrev μ-loop : tie.MeasureT-loop
 μ-loop cells at count slots n out₀ w p₀ j₀ v₀ out p j v = count - j
 
--- src/lib.rt:133:5
 loop-holds : tie.Need-loop-holds Inv-loop μ-loop
 loop-holds c =
     ((omega arith, omega arith, omega arith, refl), refl, terms-start (c .before .before .before .args .cells .now) (c .before .before .before .args .at) (c .before .before .before .args .count) (c .before .before .before .args .slots .now) (c .before .before .before .args .n) (c .before .before .before .args .w) (c .before .before .before .args .out .now))
 
--- src/lib.rt:134:13
 put-term-requires : tie.Need-put-term-requires Inv-loop μ-loop
 put-term-requires c κs = omega arith
 
--- src/lib.rt:136:13
 same-length : tie.Need-same-length Inv-loop μ-loop
 same-length c =
     c .before .before .before .before .put-term .kept .1 .1 .1 .1 .0 ∙ c .before .before .before .before .before .before .before .loop .inv .0 .3
 
--- src/lib.rt:136:13
 returns : tie.Need-returns Inv-loop μ-loop
 returns c =
     let o = c .before .before .before .before .put-term .last .1 .1 .1 .1 .0 in (
@@ -45,19 +40,15 @@ returns c =
       ),
     )
 
--- src/lib.rt:138:9
 skip-data-requires : tie.Need-skip-data-requires Inv-loop μ-loop
 skip-data-requires c κs = omega arith
 
--- src/lib.rt:140:9
 add-j : tie.Need-add-j Inv-loop μ-loop
 add-j c = omega arith
 
--- src/lib.rt:133:5
 loop-less : tie.Need-loop-less Inv-loop μ-loop
 loop-less c = omega arith
 
--- src/lib.rt:133:5
 loop-again : tie.Need-loop-again Inv-loop μ-loop
 loop-again c =
     let o = c .before .before .before .before .before .put-term .last .1 .1 .1 .1 .0 in
@@ -68,11 +59,9 @@ loop-again c =
       terms-on (c .before .before .before .before .before .before .before .before .before .before .before .before .args .cells .now) (c .before .before .before .before .before .before .before .before .before .before .before .before .args .at) (c .before .before .before .before .before .before .before .before .before .before .before .before .args .count) (c .before .before .before .before .before .before .before .before .before .before .before .before .args .slots .now) (c .before .before .before .before .before .before .before .before .before .before .before .before .args .n) (c .before .before .before .before .before .before .before .before .before .before .before .before .args .w) (c .before .before .before .before .before .before .before .before .before .before .before .before .args .out .now) (c .before .before .before .before .before .before .before .before .loop .p) (c .before .before .before .before .before .before .before .before .loop .j) (c .before .before .before .before .before .before .before .before .loop .v) (c .before .before .before .before .before .before .before .before .loop .out) (c .before .before .before .before .before .before .before .before .loop .inv .2) (omega arith) (c .before .before .before .before .before .put-term .result) o (c .before .before .before .before .before .put-term .ensures .1 .1) (not-false _ (c .before .if1 .left)) (c .skip-data .result) (c .skip-data .ensures .1),
     )
 
--- src/lib.rt:124:1
 same-length-2 : tie.Need-same-length-2 Inv-loop μ-loop
 same-length-2 c = c .before .loop .inv .0 .3
 
--- src/lib.rt:124:1
 returns-2 : tie.Need-returns-2 Inv-loop μ-loop
 returns-2 c =
     (omega arith, (c .before .loop .inv .1, terms-done (c .before .before .before .before .before .args .cells .now) (c .before .before .before .before .before .args .at) (c .before .before .before .before .before .args .count) (c .before .before .before .before .before .args .slots .now) (c .before .before .before .before .before .args .n) (c .before .before .before .before .before .args .w) (c .before .before .before .before .before .args .out .now) (c .before .loop .p) (c .before .loop .j) (c .before .loop .v) (c .before .loop .out) (c .before .loop .inv .2) (omega arith)))

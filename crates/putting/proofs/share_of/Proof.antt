@@ -1,39 +1,32 @@
+-- What a slot says of its term, or one node and one byte.
 use native.Mathlib.Omega.{arith}
 use mathlib.Core.Path.{refl}
 use Rattle.putting.proofs.PutLaws.{share-one, share-slot}
 use borrow.Author.Needs.{needs}
 use Rattle.putting.proofs.share_of.Statement.{statement}
 use Rattle.putting.proofs.share_of.Tie as tie
-use Rattle.putting.proofs.share_of.Reads as reads
 use Rattle.putting.proofs.share_of.Lts as lts
 use Rattle.nodes.proofs.byte.Reads as byte-reads
 
--- src/lib.rt:60:9
 returns : tie.Need-returns
 returns c =
     (omega arith, share-one (c .before .before .args .slots .now) (c .before .before .args .n) (c .before .before .args .tag) (c .before .before .args .number) (λ z. omega arith))
 
--- src/lib.rt:62:32
 mul-byte : tie.Need-mul-byte
 mul-byte c = search needs
 
--- src/lib.rt:62:9
 byte-requires : tie.Need-byte-requires
 byte-requires c κs = search needs
 
--- src/lib.rt:63:32
 mul-byte-2 : tie.Need-mul-byte-2
 mul-byte-2 c = search needs
 
--- src/lib.rt:63:32
 add-byte : tie.Need-add-byte
 add-byte c = search needs
 
--- src/lib.rt:63:9
 byte-requires-2 : tie.Need-byte-requires-2
 byte-requires-2 c κs = search needs
 
--- src/lib.rt:54:1
 returns-2 : tie.Need-returns-2
 returns-2 c =
     (omega arith, share-slot (c .before .before .before .before .args .slots .now) (c .before .before .before .before .args .n) (c .before .before .before .before .args .tag) (c .before .before .before .before .args .number) (c .before .byte .result) (c .byte2 .result) (omega arith) (c .before .byte .ensures .0) (c .byte2 .ensures .0))

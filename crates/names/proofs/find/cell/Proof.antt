@@ -1,22 +1,19 @@
+-- An element by its place, 0 past the end.
 use mathlib.Core.Path.{sym}
 use lib.ListN.{List·getD-eq-default}
 use borrow.Author.Needs.{needs}
 use Rattle.names.proofs.find.cell.Statement.{statement}
 use Rattle.names.proofs.find.cell.Tie as tie
 
--- src/find.rt:17:26
 mul-result : tie.Need-mul-result
 mul-result c = search needs
 
--- src/find.rt:17:26
 shared-slice-read-result : tie.Need-shared-slice-read-result
 shared-slice-read-result c = search needs
 
--- src/find.rt:14:1
 returns : tie.Need-returns
 returns c = search needs
 
--- src/find.rt:14:1
 returns-2 : tie.Need-returns-2
 returns-2 c = sym (List·getD-eq-default (c .before .args .cells .now) 0 (c .if1 .left))
 

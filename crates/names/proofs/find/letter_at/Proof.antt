@@ -1,22 +1,19 @@
+-- The byte at a place and its class; no letter past the end.
 use mathlib.Core.Path.{sym}
 use Rattle.names.proofs.Runs.{shown-past}
 use borrow.Author.Needs.{needs}
 use Rattle.names.proofs.find.letter_at.Statement.{statement}
 use Rattle.names.proofs.find.letter_at.Tie as tie
 
--- src/find.rt:70:29
 shared-slice-read-letter : tie.Need-shared-slice-read-letter
 shared-slice-read-letter c = search needs
 
--- src/find.rt:70:22
 letter-requires : tie.Need-letter-requires
 letter-requires c κs = search needs
 
--- src/find.rt:67:1
 returns : tie.Need-returns
 returns c = search needs
 
--- src/find.rt:67:1
 returns-2 : tie.Need-returns-2
 returns-2 c = sym (shown-past (c .before .before .args .s .now) (c .before .before .args .i) (c .if1 .left))
 
