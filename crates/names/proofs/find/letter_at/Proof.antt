@@ -1,4 +1,4 @@
--- The byte at a place and its class; no letter past the end.
+-- A byte by its place, as it is compared; 0 past the end.
 use mathlib.Core.Path.{sym}
 use Rattle.names.proofs.Runs.{shown-past}
 use borrow.Author.Needs.{needs}
