@@ -43,6 +43,7 @@ use Rattle.frames.proofs.Frame as T
 use Rattle.frames.proofs.Frame.Laws as T′
 use Rattle.frames.proofs.Stack as S
 use Rattle.frames.proofs.Stack.Laws as S′
+use Rattle.frames.proofs.exchange.Key.{name as #frames·exchange}
 use Rattle.frames.proofs.exchange as f
 use Rattle.frames.proofs.exchange.Statement as stated
 use Rattle.frames.proofs.exchange.Code as code

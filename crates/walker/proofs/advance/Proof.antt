@@ -45,6 +45,7 @@ use Rattle.asking.proofs.Told as E
 use Rattle.asking.proofs.Told.Laws as E′
 use Rattle.walker.proofs.moved as moved
 use Rattle.walker.proofs.moved.Symbol as moved-def
+use Rattle.walker.proofs.moved.Symbol.{name as #walker·moved}
 use Rattle.walker.proofs.moved.Met as moved-thm
 use Rattle.walker.proofs.advance.Key.{name as #walker·advance}
 use Rattle.walker.proofs.advance as f

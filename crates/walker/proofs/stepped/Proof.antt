@@ -48,6 +48,7 @@ use Rattle.asking.proofs.Told as E
 use Rattle.asking.proofs.Told.Laws as E′
 use Rattle.walker.proofs.advance as advance
 use Rattle.walker.proofs.advance.Symbol as advance-def
+use Rattle.walker.proofs.advance.Symbol.{name as #walker·advance}
 use Rattle.walker.proofs.advance.Met as advance-thm
 use Rattle.walker.proofs.stepped.Key.{name as #walker·stepped}
 use Rattle.walker.proofs.stepped as f
