@@ -99,7 +99,7 @@ uint8_t wizbratel_check_sheet(const uint8_t *sheet, size_t length);
  *          no output (`out` NULL, `room` 0) gets 11.
  * Leaves   After 0 the file over the front of `out` and its length in `*written`; what is behind it in
  *          `out` is untouched. One sheet gives the same bytes every time.
- * Time     1.3 us for 25 bytes, 12 us for 500, 0.12 ms for 4,096; the dearest sheets found 34 ms.
+ * Time     1.6 us for 25 bytes, 12 us for 500, 0.14 ms for 4,096; the dearest sheets found 34 ms.
  * Stack    At most 576 KB; usual sheets 27 to 205 KB. */
 uint8_t wizbratel_make_table(const uint8_t *sheet, size_t length, uint8_t *out, size_t room, size_t *written);
 
