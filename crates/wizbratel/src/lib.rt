@@ -148,13 +148,13 @@ fn ask_stack(
     }
     let mut bytes = [0u8; BYTES];
     frames::to_bytes(s, &mut bytes);
-    let a = stepping::ask(file, &mut bytes, *depth, k, out);
-    *depth = a.depth;
+    let told = stepping::ask(file, &mut bytes, *depth, k, out);
+    *depth = told.depth;
     let left = frames::from_bytes(&bytes);
     frames::Ready {
         count: LIMIT,
         stack: left,
-        refused: a.refused,
+        refused: told.refused,
     }
 }
 
@@ -181,12 +181,12 @@ fn ask_all_stack(
     }
     let mut bytes = [0u8; BYTES];
     frames::to_bytes(s, &mut bytes);
-    let a = stepping::ask_all(file, &mut bytes, *depth, ks, out);
-    *depth = a.depth;
+    let all = stepping::ask_all(file, &mut bytes, *depth, ks, out);
+    *depth = all.depth;
     let last = frames::from_bytes(&bytes);
     frames::Ready {
         count: LIMIT,
         stack: last,
-        refused: a.refused,
+        refused: all.refused,
     }
 }
