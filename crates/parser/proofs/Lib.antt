@@ -1,6 +1,7 @@
 mod Signs
 mod Writing
 mod Reading
+mod Going
 mod Words
 mod DataLaws
 mod ProcessLaws

@@ -5,41 +5,16 @@ use Prim.Native.Nat.{ℕ, zero, suc, _+_, _*_, _<_}
 use native.Mathlib.Omega.{arith}
 use lib.ListN.{length, getD, List·getD-eq-default}
 use Rattle.pcrl.specs.Tokens.{Token}
-use Rattle.pcrl.specs.Reader.{Got, found, bind, Reader}
+use Rattle.pcrl.specs.Reader.{Got, found, bind}
 use Rattle.pcrl.specs.Tree.{Name, Part}
 use Rattle.pcrl.specs.Grammar.{expect, a-name, data-term, choice, conditional, sequence, part}
-use Rattle.parser.specs.Cells.{Symbol, symbol-of, enc-name, enc-param, enc-data, enc-choice, enc-conditional, enc-sequence, enc-part}
+use Rattle.parser.specs.Cells.{symbol-of, enc-name, enc-param, enc-data, enc-choice, enc-conditional, enc-sequence, enc-part}
 use Rattle.parser.specs.Call.{call, sum-head}
 use Rattle.parser.specs.Reading.{rest, left, Ahead, Put, Expected, Reads, took}
 use Rattle.parser.proofs.Signs.{open-sign, close-sign, plus-sign, comma-sign, dot-sign, colon-sign, if-sign, else-sign, sum-sign, delta-sign, tau-sign}
 use Rattle.parser.proofs.Writing.{writes-cell, writes-then, writes-instead}
 use Rattle.parser.proofs.Reading.{live, bind-assoc, reads-bind, reads-next, reads-other, reads-expect}
 use Rattle.parser.proofs.Words.{reads-at-no-name}
-
--- ---- items joined by a sign, one after another
--- What the reader finds from a place on, at every bound, it finds by going on from a later one.
-pub Goes : (s toks : List ℕ) {A : Type 0} (enc : A → List Symbol) (reader : ℕ → Reader Token A) (k at w : ℕ) (o : List ℕ) (from v : ℕ) (o₁ : List ℕ) → Type 0
-Goes s toks enc reader k at w o from v o₁ =
-    (f : ℕ) → 4 * left toks at + k < f
-    → (g : ℕ) × (4 * left toks from + k < g) × ((end w′ : ℕ) (o′ : List ℕ) → Reads s toks enc v o₁ end w′ o′ (reader g (rest s toks from)) → Reads s toks enc w o end w′ o′ (reader f (rest s toks at)))
-
-module _ (s toks : List ℕ) {A : Type 0} (enc : A → List Symbol) (reader : ℕ → Reader Token A) (k at w : ℕ) (o : List ℕ) where
-  pub goes-start : Goes s toks enc reader k at w o at w o
-  unfolding Goes
-  goes-start f l = (f, l, λ end w′ o′ h. h)
-
-  module _ (from v : ℕ) (o₁ : List ℕ) (h : Goes s toks enc reader k at w o from v o₁) where
-    pub goes-on : (from₂ v₂ : ℕ) (o₂ : List ℕ) → Goes s toks enc reader k from v o₁ from₂ v₂ o₂ → Goes s toks enc reader k at w o from₂ v₂ o₂
-    unfolding Goes
-    goes-on from₂ v₂ o₂ h₂ f l =
-        let (g, m, r) = h f l in
-        let (g₂, m₂, r₂) = h₂ g m in
-        (g₂, m₂, λ end w′ o′ x. r end w′ o′ (r₂ end w′ o′ x))
-
-    pub goes-end : {end w′ : ℕ} {o′ : List ℕ} → ((g : ℕ) → 4 * left toks from + k < g → Reads s toks enc v o₁ end w′ o′ (reader g (rest s toks from)))
-        → (f : ℕ) → 4 * left toks at + k < f → Reads s toks enc w o end w′ o′ (reader f (rest s toks at))
-    unfolding Goes
-    goes-end {end} {w′} {o′} x f l = let (g, m, r) = h f l in r end w′ o′ (x g m)
 
 -- ---- a choice
 module _ (s toks : List ℕ) (at : ℕ) {w w₁ at₂ w₂ : ℕ} {o o₁ o₂ : List ℕ} (p : Put o w 6 w₁ o₁) (a : Ahead (length toks) at at₂)
@@ -49,18 +24,16 @@ module _ (s toks : List ℕ) (at : ℕ) {w w₁ at₂ w₂ : ℕ} {o o₁ o₂ :
   choice-only n zero l = absurd (omega arith)
   choice-only n (suc f) l = reads-bind _ (h f (omega arith)) (λ x. x) (λ c i u. reads-other plus-sign at₂ _ _ n (took i (writes-then (writes-cell p refl) u)))
 
-  -- behind the sign it goes on, at a bound one less
-  pub choice-plus : getD toks at₂ 0 ≡ 43 → {w₃ : ℕ} {o₃ : List ℕ} → Put o₂ w 7 w₃ o₃ → Goes s toks enc-choice choice 3 at w o (at₂ + 1) w₂ o₃
-  unfolding Goes choice enc-choice symbol-of
-  choice-plus m q zero l = absurd (omega arith)
-  choice-plus m q (suc f) l =
-      let v = live toks at₂ (omega arith) in (
-        f,
-        omega arith,
-        λ end w′ o′ hs.
-            reads-bind _ (h f (omega arith)) (λ x. absurd (omega arith))
-            (λ c i u. reads-next plus-sign at₂ _ _ m (reads-bind _ hs (λ x. x) (λ d j v. took j (writes-then (writes-instead (writes-then (writes-cell p refl) u) q refl) v)))),
-      )
+  pub choice-plus : getD toks at₂ 0 ≡ 43 → {w₃ at₄ w₄ : ℕ} {o₃ o₄ : List ℕ} → Put o₂ w 7 w₃ o₃
+      → ((f : ℕ) → 4 * left toks (at₂ + 1) + 3 < f → Reads s toks enc-choice w₂ o₃ at₄ w₄ o₄ (choice f (rest s toks (at₂ + 1))))
+      → (f : ℕ) → 4 * left toks at + 3 < f → Reads s toks enc-choice w o at₄ w₄ o₄ (choice f (rest s toks at))
+  unfolding choice enc-choice symbol-of
+  choice-plus m q hs zero l = absurd (omega arith)
+  choice-plus m q hs (suc f) l =
+      let v = live toks at₂ (omega arith) in
+      reads-bind _ (h f (omega arith)) (λ x. absurd (omega arith))
+      (λ c i u. reads-next plus-sign at₂ _ _ m
+      (reads-bind _ (hs f (omega arith)) (λ x. x) (λ d j v. took j (writes-then (writes-instead (writes-then (writes-cell p refl) u) q refl) v))))
 
 -- ---- a conditional
 module _ (s toks : List ℕ) (at : ℕ) {w w₁ at₂ w₂ : ℕ} {o o₁ o₂ : List ℕ} (p : Put o w 8 w₁ o₁) (a : Ahead (length toks) at at₂)
@@ -94,18 +67,16 @@ module _ (s toks : List ℕ) (at : ℕ) {w w₁ at₂ w₂ : ℕ} {o o₁ o₂ :
   sequence-last n zero l = absurd (omega arith)
   sequence-last n (suc f) l = reads-bind _ (h f (omega arith)) (λ x. x) (λ c i u. reads-other dot-sign at₂ _ _ n (took i (writes-then (writes-cell p refl) u)))
 
-  -- behind the sign it goes on, at a bound one less
-  pub sequence-then : getD toks at₂ 0 ≡ 46 → {w₃ : ℕ} {o₃ : List ℕ} → Put o₂ w 11 w₃ o₃ → Goes s toks enc-sequence sequence 1 at w o (at₂ + 1) w₂ o₃
-  unfolding Goes sequence enc-sequence symbol-of
-  sequence-then m q zero l = absurd (omega arith)
-  sequence-then m q (suc f) l =
-      let v = live toks at₂ (omega arith) in (
-        f,
-        omega arith,
-        λ end w′ o′ hs.
-            reads-bind _ (h f (omega arith)) (λ x. absurd (omega arith))
-            (λ c i u. reads-next dot-sign at₂ _ _ m (reads-bind _ hs (λ x. x) (λ d j v. took j (writes-then (writes-instead (writes-then (writes-cell p refl) u) q refl) v)))),
-      )
+  pub sequence-then : getD toks at₂ 0 ≡ 46 → {w₃ at₄ w₄ : ℕ} {o₃ o₄ : List ℕ} → Put o₂ w 11 w₃ o₃
+      → ((f : ℕ) → 4 * left toks (at₂ + 1) + 1 < f → Reads s toks enc-sequence w₂ o₃ at₄ w₄ o₄ (sequence f (rest s toks (at₂ + 1))))
+      → (f : ℕ) → 4 * left toks at + 1 < f → Reads s toks enc-sequence w o at₄ w₄ o₄ (sequence f (rest s toks at))
+  unfolding sequence enc-sequence symbol-of
+  sequence-then m q hs zero l = absurd (omega arith)
+  sequence-then m q hs (suc f) l =
+      let v = live toks at₂ (omega arith) in
+      reads-bind _ (h f (omega arith)) (λ x. absurd (omega arith))
+      (λ c i u. reads-next dot-sign at₂ _ _ m
+      (reads-bind _ (hs f (omega arith)) (λ x. x) (λ d j v. took j (writes-then (writes-instead (writes-then (writes-cell p refl) u) q refl) v))))
 
 -- ---- a part
 -- a sum's reader goes on behind its head

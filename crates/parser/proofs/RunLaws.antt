@@ -67,6 +67,20 @@ placed-one {A} {enc} {l} {ls} {w} {w₂} {n} {p} {p₂} h e = record {
         ap (λ j. getD p₂ j 0) z ∙ r ∙ omega arith
 
 -- ---- runs
+-- What is read from `at` on, at every bound above the tokens left, follows from what is read from `from` on, if that is no place past the end.
+pub record RunGoes (s toks : List ℕ) {A : Type 0} (enc : A → List Symbol) (word : String) (line : Reader Token A) (at w n : ℕ) (o p : List ℕ) (from v m : ℕ) (o₁ p₁ : List ℕ) : Type 0 where
+  pub on : {r : Run} {o′ p′ : List ℕ} → Onward (length toks) from (r .at)
+      → (from ≤ length toks → (g : ℕ) → left toks from < g → Ran s toks enc v o₁ m p₁ r o′ p′ (lines word line g (rest s toks from)))
+      → (f : ℕ) → left toks at < f → Ran s toks enc w o n p r o′ p′ (lines word line f (rest s toks at))
+
+module _ {s toks : List ℕ} {A : Type 0} {enc : A → List Symbol} {word : String} {line : Reader Token A} {at w n : ℕ} {o p : List ℕ} where
+  pub run-start : at ≤ length toks → RunGoes s toks enc word line at w n o p at w n o p
+  run-start i = record { on = λ a h. h i }
+
+  pub run-then : {from v m : ℕ} {o₁ p₁ : List ℕ} → RunGoes s toks enc word line at w n o p from v m o₁ p₁ → {from₂ v₂ m₂ : ℕ} {o₂ p₂ : List ℕ} → from ≤ from₂
+      → RunGoes s toks enc word line from v m o₁ p₁ from₂ v₂ m₂ o₂ p₂ → RunGoes s toks enc word line at w n o p from₂ v₂ m₂ o₂ p₂
+  run-then h b k = record { on = λ a x. h .on (omega arith) (λ i. k .on a x) }
+
 module _ {c : ℕ} {word : String} (S : Sign c word) {A : Type 0} {enc : A → List Symbol} (line : Reader Token A) (s toks : List ℕ) (at w n : ℕ) (o p : List ℕ) where
   pub run-none : at ≤ length toks → (getD toks at 0 ≡ c → ⊥) → (f : ℕ) → left toks at < f → Ran s toks enc w o n p (record { at = at; w = w; count = n }) o p (lines word line f (rest s toks at))
   unfolding lines all
@@ -76,8 +90,8 @@ module _ {c : ℕ} {word : String} (S : Sign c word) {A : Type 0} {enc : A → L
       (took i writes-nothing (omega arith) (λ room big. record { kept = λ j k. refl; new = λ j k. absurd (omega arith) }))
 
   module _ {v w₁ : ℕ} {p₁ : List ℕ} (e : getD toks at 0 ≡ c) (sv : w < 65536 → v ≡ w) (q : Put p n v w₁ p₁) {at₂ w₂ : ℕ} {o₂ : List ℕ} (h : Reads s toks enc w o at₂ w₂ o₂ (line (rest s toks (at + 1))))
-      {at₃ : ℕ} (a₃ : Ahead (length toks) at₂ at₃) (x : Expected toks at₂ 59 at₃) {r : Run} {o₃ p₃ : List ℕ} (a₄ : Onward (length toks) at₃ (r .at))
-      (b : at < at₃) (hs : at₃ ≤ length toks → (f : ℕ) → left toks at₃ < f → Ran s toks enc w₂ o₂ (n + 1) p₁ r o₃ p₃ (lines word line f (rest s toks at₃))) where
+      {at₃ : ℕ} (a₃ : Ahead (length toks) at₂ at₃) (x : Expected toks at₂ 59 at₃) (b : at < at₃) {r : Run} {o₃ p₃ : List ℕ} (a₄ : Onward (length toks) at₃ (r .at))
+      (hs : at₃ ≤ length toks → (f : ℕ) → left toks at₃ < f → Ran s toks enc w₂ o₂ (n + 1) p₁ r o₃ p₃ (lines word line f (rest s toks at₃))) where
     -- a line before the others
     run-cons : (l : A) → Writes s (enc l) w o w₂ o₂ → (g : Got Token (List A)) → Ran s toks enc w₂ o₂ (n + 1) p₁ r o₃ p₃ g → Ran s toks enc w o n p r o₃ p₃ (bind g (λ ls ts. found (l ∷ ls) ts))
     unfolding bind all

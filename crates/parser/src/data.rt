@@ -43,16 +43,21 @@ pub fn data_list(toks: &[u16], at: usize, out: &mut [u16], w: usize) -> Step
     ensures ahead { λ r. ⌜ Ahead (length (now (toks .entry))) at (r .at) ⌝ }
     ensures read { λ r. ⌜ Read (2 * left (now (toks .entry)) at + 1) enc-datas data-list (now (toks .entry)) at w (now (out .entry)) r (now (out .exit)) ⌝ }
 {
-    let d = put(out, w, codes::ONE_TAG);
-    let a = data_term(toks, at, out, d);
-    if peek(toks, a.at) != codes::COMMA {
-        return Step {
-            at: expect(toks, a.at, codes::CLOSE),
-            w: a.w,
-        };
+    let mut from = at;
+    let mut v = w;
+    loop {
+        let u = put(out, v, codes::ONE_TAG);
+        let a = data_term(toks, from, out, u);
+        if peek(toks, a.at) != codes::COMMA {
+            return Step {
+                at: expect(toks, a.at, codes::CLOSE),
+                w: a.w,
+            };
+        }
+        put(out, v, codes::MORE_TAG);
+        from = a.at + 1;
+        v = a.w;
     }
-    put(out, w, codes::MORE_TAG);
-    data_list(toks, a.at + 1, out, a.w)
 }
 
 // A name with or without bracketed data.

@@ -41,15 +41,20 @@ fn numerals(toks: &[u16], at: usize, out: &mut [u16], w: usize) -> Step
     ensures ahead { λ r. ⌜ Ahead (length (now (toks .entry))) at (r .at) ⌝ }
     ensures read { λ r. ⌜ Read (left (now (toks .entry)) at) (enc-items enc-numeral) numerals (now (toks .entry)) at w (now (out .entry)) r (now (out .exit)) ⌝ }
 {
-    let v = put(out, w, codes::ITEM_TAG);
-    let a = numeral(toks, at, out, v);
-    if peek(toks, a.at) != codes::COMMA {
-        return Step {
-            at: a.at,
-            w: put(out, a.w, codes::END_TAG),
-        };
+    let mut from = at;
+    let mut v = w;
+    loop {
+        let u = put(out, v, codes::ITEM_TAG);
+        let a = numeral(toks, from, out, u);
+        if peek(toks, a.at) != codes::COMMA {
+            return Step {
+                at: a.at,
+                w: put(out, a.w, codes::END_TAG),
+            };
+        }
+        from = a.at + 1;
+        v = a.w;
     }
-    numerals(toks, a.at + 1, out, a.w)
 }
 
 // "sort, or sort `#` sort"
@@ -109,17 +114,22 @@ fn parameters(toks: &[u16], at: usize, out: &mut [u16], w: usize) -> Step
     ensures ahead { λ r. ⌜ Ahead (length (now (toks .entry))) at (r .at) ⌝ }
     ensures read { λ r. ⌜ Read (left (now (toks .entry)) at) (enc-items enc-param) parameters (now (toks .entry)) at w (now (out .entry)) r (now (out .exit)) ⌝ }
 {
-    let v = put(out, w, codes::ITEM_TAG);
-    let x = name(toks, at, out, v);
-    let c = expect(toks, x.at, codes::COLON);
-    let d = name(toks, c, out, x.w);
-    if peek(toks, d.at) != codes::COMMA {
-        return Step {
-            at: expect(toks, d.at, codes::CLOSE),
-            w: put(out, d.w, codes::END_TAG),
-        };
+    let mut from = at;
+    let mut v = w;
+    loop {
+        let u = put(out, v, codes::ITEM_TAG);
+        let x = name(toks, from, out, u);
+        let c = expect(toks, x.at, codes::COLON);
+        let d = name(toks, c, out, x.w);
+        if peek(toks, d.at) != codes::COMMA {
+            return Step {
+                at: expect(toks, d.at, codes::CLOSE),
+                w: put(out, d.w, codes::END_TAG),
+            };
+        }
+        from = d.at + 1;
+        v = d.w;
     }
-    parameters(toks, d.at + 1, out, d.w)
 }
 
 // "with bracketed `v:sort` by commas", or without
@@ -220,17 +230,21 @@ pub fn lines_of(
     ensures onward { λ r. ⌜ Onward (length (now (toks .entry))) at (r .at) ⌝ }
     ensures read { λ r. ⌜ (at ≤ length (now (toks .entry)) → (s : List ℕ) (f g : ℕ) → 4 * length (now (toks .entry)) + 3 < f → left (now (toks .entry)) at < g → Ran s (now (toks .entry)) (kind-of word .enc) w (now (out .entry)) n (now (places .entry)) r (now (out .exit)) (now (places .exit)) (G.lines (kind-of word .word) (kind-of word .reader f) g (rest s (now (toks .entry)) at))) ⌝ }
 {
-    if peek(toks, at) != word {
-        return Run {
-            at: at,
-            w: w,
-            count: n,
-        };
+    let mut from = at;
+    let mut v = w;
+    let mut i = n;
+    while peek(toks, from) == word {
+        put(places, i, short(v));
+        let a = line(word, toks, from + 1, out, v);
+        from = expect(toks, a.at, codes::SEMICOLON);
+        v = a.w;
+        i += 1;
     }
-    put(places, n, short(w));
-    let a = line(word, toks, at + 1, out, w);
-    let e = expect(toks, a.at, codes::SEMICOLON);
-    lines_of(word, toks, e, out, a.w, places, n + 1)
+    Run {
+        at: from,
+        w: v,
+        count: i,
+    }
 }
 
 // "at least one proc": the place goes on only if there are lines.

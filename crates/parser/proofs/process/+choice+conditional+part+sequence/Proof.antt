@@ -8,8 +8,10 @@ use borrow.Author.Needs.{needs}
 use lib.ListN.{length}
 use Rattle.pcrl.specs.Grammar as G
 use Rattle.parser.specs.Cells.{enc-choice, enc-sequence}
+use Rattle.parser.specs.Reading.{left}
 use Rattle.parser.proofs.Reading.{live}
-use Rattle.parser.proofs.ProcessLaws.{Goes, goes-start, goes-on, goes-end, choice-only, choice-plus, conditional-plain, conditional-cond, sequence-last, sequence-then, part-delta, part-tau, part-sum, part-group, part-named}
+use Rattle.parser.proofs.Going.{Goes, goes-start, goes-then}
+use Rattle.parser.proofs.ProcessLaws.{choice-only, choice-plus, conditional-plain, conditional-cond, sequence-last, sequence-then, part-delta, part-tau, part-sum, part-group, part-named}
 use Prim.Native.Nat.{ℕ, _<_}
 use borrow.Fn.Kinds.{In}
 use borrow.Fn.PlainCycle.{Measures, is, falls, and}
@@ -86,18 +88,13 @@ abbrev sequence-calls : ℕ → sequence-lts.Claims
 sequence-calls t = (put-reads.Asked, put-reads.Learnt, part-below t, part.Post, peek-reads.Asked, peek-reads.Learnt)
 
 abbrev choice-Inv-loop : choice-lts.InvT-loop
-choice-Inv-loop toks at out₀ w from₀ v₀ out from v = (at ≤ from) × (length out ≡ length out₀) × ((s : List ℕ) → Goes s toks enc-choice G.choice 3 at w out₀ from v out)
+choice-Inv-loop toks at out₀ w from₀ v₀ out from v = (at ≤ from) × (length out ≡ length out₀) × ((s : List ℕ) → Goes s toks enc-choice G.choice (λ p. 4 * left toks p + 3) at w out₀ from v out)
 
 abbrev choice-μ-loop : choice-lts.MeasureT-loop
 choice-μ-loop toks at out₀ w from₀ v₀ out from v = length toks - from
 
 choice-loop-holds : (t : ℕ) → choice-lts.Need-loop-holds (choice-calls t) (choice-at t) choice.Post choice-Inv-loop choice-μ-loop
-choice-loop-holds t c =
-    let at-start = c .before .before in (
-      omega arith,
-      refl,
-      λ s. goes-start s (at-start .args .toks .now) enc-choice G.choice 3 (at-start .args .at) (at-start .args .w) (at-start .args .out .now),
-    )
+choice-loop-holds t c = (omega arith, refl, λ s. goes-start)
 
 choice-put-requires : (t : ℕ) → choice-lts.Need-put-requires (choice-calls t) (choice-at t) choice.Post choice-Inv-loop choice-μ-loop
 choice-put-requires t c κs = tt
@@ -123,7 +120,7 @@ choice-returns t c =
     let at-if1 = c .if1 in
     let at-peek = c .before .peek in (
       omega (arith, at-conditional .ensures .0),
-      λ s. goes-end s (at-start .args .toks .now) enc-choice G.choice 3 (at-start .args .at) (at-start .args .w) (at-start .args .out .now) (at-loop .from) (at-loop .v) (at-loop .out) (at-loop .inv .2 s) (choice-only s (at-start .args .toks .now) (at-loop .from) (at-put .ensures) (at-conditional .ensures .0) (at-conditional .ensures .1 s) (λ e. at-if1 .taken (at-peek .ensures ∙ e))),
+      λ s. at-loop .inv .2 s .on (choice-only s (at-start .args .toks .now) (at-loop .from) (at-put .ensures) (at-conditional .ensures .0) (at-conditional .ensures .1 s) (λ e. at-if1 .taken (at-peek .ensures ∙ e))),
     )
 
 choice-put-requires-2 : (t : ℕ) → choice-lts.Need-put-requires-2 (choice-calls t) (choice-at t) choice.Post choice-Inv-loop choice-μ-loop
@@ -155,7 +152,7 @@ choice-loop-again t c =
     let l = live (at-start .args .toks .now) (at-conditional .result .at) (omega arith) in (
       omega (arith, at-conditional .ensures .0),
       omega (arith, at-put2 .kept .0, at-conditional .kept .1 .1 .0, at-put .kept .0),
-      λ s. goes-on s (at-start .args .toks .now) enc-choice G.choice 3 (at-start .args .at) (at-start .args .w) (at-start .args .out .now) (at-loop .from) (at-loop .v) (at-loop .out) (at-loop .inv .2 s) _ _ _ (choice-plus s (at-start .args .toks .now) (at-loop .from) (at-put .ensures) (at-conditional .ensures .0) (at-conditional .ensures .1 s) (sym (at-peek .ensures) ∙ at-if1 .left) (at-put2 .ensures)),
+      λ s. goes-then (at-loop .inv .2 s) (record { on = choice-plus s (at-start .args .toks .now) (at-loop .from) (at-put .ensures) (at-conditional .ensures .0) (at-conditional .ensures .1 s) (sym (at-peek .ensures) ∙ at-if1 .left) (at-put2 .ensures) }),
     )
 
 conditional-put-requires : (t : ℕ) → conditional-lts.Need-put-requires (conditional-calls t) (conditional-at t) conditional.Post
@@ -377,18 +374,13 @@ part-returns-5 t c =
     )
 
 abbrev sequence-Inv-loop : sequence-lts.InvT-loop
-sequence-Inv-loop toks at out₀ w from₀ v₀ out from v = (at ≤ from) × (length out ≡ length out₀) × ((s : List ℕ) → Goes s toks enc-sequence G.sequence 1 at w out₀ from v out)
+sequence-Inv-loop toks at out₀ w from₀ v₀ out from v = (at ≤ from) × (length out ≡ length out₀) × ((s : List ℕ) → Goes s toks enc-sequence G.sequence (λ p. 4 * left toks p + 1) at w out₀ from v out)
 
 abbrev sequence-μ-loop : sequence-lts.MeasureT-loop
 sequence-μ-loop toks at out₀ w from₀ v₀ out from v = length toks - from
 
 sequence-loop-holds : (t : ℕ) → sequence-lts.Need-loop-holds (sequence-calls t) (sequence-at t) sequence.Post sequence-Inv-loop sequence-μ-loop
-sequence-loop-holds t c =
-    let at-start = c .before .before in (
-      omega arith,
-      refl,
-      λ s. goes-start s (at-start .args .toks .now) enc-sequence G.sequence 1 (at-start .args .at) (at-start .args .w) (at-start .args .out .now),
-    )
+sequence-loop-holds t c = (omega arith, refl, λ s. goes-start)
 
 sequence-put-requires : (t : ℕ) → sequence-lts.Need-put-requires (sequence-calls t) (sequence-at t) sequence.Post sequence-Inv-loop sequence-μ-loop
 sequence-put-requires t c κs = tt
@@ -414,7 +406,7 @@ sequence-returns t c =
     let at-if1 = c .if1 in
     let at-peek = c .before .peek in (
       omega (arith, at-part .ensures .0),
-      λ s. goes-end s (at-start .args .toks .now) enc-sequence G.sequence 1 (at-start .args .at) (at-start .args .w) (at-start .args .out .now) (at-loop .from) (at-loop .v) (at-loop .out) (at-loop .inv .2 s) (sequence-last s (at-start .args .toks .now) (at-loop .from) (at-put .ensures) (at-part .ensures .0) (at-part .ensures .1 s) (λ e. at-if1 .taken (at-peek .ensures ∙ e))),
+      λ s. at-loop .inv .2 s .on (sequence-last s (at-start .args .toks .now) (at-loop .from) (at-put .ensures) (at-part .ensures .0) (at-part .ensures .1 s) (λ e. at-if1 .taken (at-peek .ensures ∙ e))),
     )
 
 sequence-put-requires-2 : (t : ℕ) → sequence-lts.Need-put-requires-2 (sequence-calls t) (sequence-at t) sequence.Post sequence-Inv-loop sequence-μ-loop
@@ -446,7 +438,7 @@ sequence-loop-again t c =
     let l = live (at-start .args .toks .now) (at-part .result .at) (omega arith) in (
       omega (arith, at-part .ensures .0),
       omega (arith, at-put2 .kept .0, at-part .kept .1 .1 .0, at-put .kept .0),
-      λ s. goes-on s (at-start .args .toks .now) enc-sequence G.sequence 1 (at-start .args .at) (at-start .args .w) (at-start .args .out .now) (at-loop .from) (at-loop .v) (at-loop .out) (at-loop .inv .2 s) _ _ _ (sequence-then s (at-start .args .toks .now) (at-loop .from) (at-put .ensures) (at-part .ensures .0) (at-part .ensures .1 s) (sym (at-peek .ensures) ∙ at-if1 .left) (at-put2 .ensures)),
+      λ s. goes-then (at-loop .inv .2 s) (record { on = sequence-then s (at-start .args .toks .now) (at-loop .from) (at-put .ensures) (at-part .ensures .0) (at-part .ensures .1 s) (sym (at-peek .ensures) ∙ at-if1 .left) (at-put2 .ensures) }),
     )
 
 pub +choice+conditional+part+sequence-spec : {M : Type 1} → statement M
