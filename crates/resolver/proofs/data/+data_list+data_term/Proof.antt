@@ -43,970 +43,234 @@ abbrev data-term-below : ℕ → In 5 data-term-kinds.ps
 data-term-below t =
     and 5 data-term-kinds.ps (falls 5 data-term-kinds.ps _<_ μ-data-term t) data-term.Pre
 
+abbrev data-list-calls : ℕ → data-list-lts.Claims
+data-list-calls t = (cell-reads.Asked, cell-reads.Learnt, data-term-below t, data-term.Post, lost-reads.Asked, lost-reads.Learnt)
+
+abbrev data-term-calls : ℕ → data-term-lts.Claims
+data-term-calls t = (cell-reads.Asked, cell-reads.Learnt, lost-reads.Asked, lost-reads.Learnt, put-reads.Asked, put-reads.Learnt, scope-number-reads.Asked, scope-number-reads.Learnt, short-reads.Asked, short-reads.Learnt, number-of-reads.Asked, number-of-reads.Learnt, data-list-below t, data-list.Post)
+
 abbrev data-list-Inv-loop : data-list-lts.InvT-loop
 data-list-Inv-loop s raw funcs scope n at out₀ w p₀ v₀ count₀ out p v count = ((count + at ≤ p) × (length out ≡ length out₀)) × DatasLeft s raw funcs scope n at w out₀ p v count out
 
 abbrev data-list-μ-loop : data-list-lts.MeasureT-loop
 data-list-μ-loop s raw funcs scope n at out₀ w p₀ v₀ count₀ out p v count = length raw - p
 
-data-list-loop-holds : (t : ℕ) → data-list-lts.Need-loop-holds (
-  cell-reads.Asked,
-  cell-reads.Learnt,
-  data-term-below t,
-  data-term.Post,
-  lost-reads.Asked,
-  lost-reads.Learnt,
-) (data-list-at t) data-list.Post data-list-Inv-loop data-list-μ-loop
+data-list-loop-holds : (t : ℕ) → data-list-lts.Need-loop-holds (data-list-calls t) (data-list-at t) data-list.Post data-list-Inv-loop data-list-μ-loop
 data-list-loop-holds t c = ((omega arith, refl), list-start (c .before .before .before .before .before .args .s .now) (c .before .before .before .before .before .args .raw .now) (c .before .before .before .before .before .args .funcs .now) (c .before .before .before .before .before .args .scope .now) (c .before .before .before .before .before .args .n) (c .before .before .before .before .before .args .at) (c .before .before .before .before .before .args .w) (c .before .before .before .before .before .args .out .now))
 
-data-list-cell-requires : (t : ℕ) → data-list-lts.Need-cell-requires (
-  cell-reads.Asked,
-  cell-reads.Learnt,
-  data-term-below t,
-  data-term.Post,
-  lost-reads.Asked,
-  lost-reads.Learnt,
-) (data-list-at t) data-list.Post data-list-Inv-loop data-list-μ-loop
+data-list-cell-requires : (t : ℕ) → data-list-lts.Need-cell-requires (data-list-calls t) (data-list-at t) data-list.Post data-list-Inv-loop data-list-μ-loop
 data-list-cell-requires t c κs = tt
 
-data-list-add-data-term : (t : ℕ) → data-list-lts.Need-add-data-term (
-  cell-reads.Asked,
-  cell-reads.Learnt,
-  data-term-below t,
-  data-term.Post,
-  lost-reads.Asked,
-  lost-reads.Learnt,
-) (data-list-at t) data-list.Post data-list-Inv-loop data-list-μ-loop
+data-list-add-data-term : (t : ℕ) → data-list-lts.Need-add-data-term (data-list-calls t) (data-list-at t) data-list.Post data-list-Inv-loop data-list-μ-loop
 data-list-add-data-term t c =
     let l = live (c .before .before .before .before .before .before .before .before .args .raw .now) (c .before .before .loop .p) (let k = c .before .cell .ensures in omega arith) in
     omega arith
 
-data-list-data-term-requires : (t : ℕ) → data-list-lts.Need-data-term-requires (
-  cell-reads.Asked,
-  cell-reads.Learnt,
-  data-term-below t,
-  data-term.Post,
-  lost-reads.Asked,
-  lost-reads.Learnt,
-) (data-list-at t) data-list.Post data-list-Inv-loop data-list-μ-loop
+data-list-data-term-requires : (t : ℕ) → data-list-lts.Need-data-term-requires (data-list-calls t) (data-list-at t) data-list.Post data-list-Inv-loop data-list-μ-loop
 data-list-data-term-requires t c κs =
     let q = c .before .before .before .before .before .before .before .before .before .pre .1 in
     let l = live (c .before .before .before .before .before .before .before .before .before .args .raw .now) (c .before .before .before .loop .p) (let k = c .before .before .cell .ensures in omega arith) in
     (omega arith, omega arith)
 
-data-list-add-count : (t : ℕ) → data-list-lts.Need-add-count (
-  cell-reads.Asked,
-  cell-reads.Learnt,
-  data-term-below t,
-  data-term.Post,
-  lost-reads.Asked,
-  lost-reads.Learnt,
-) (data-list-at t) data-list.Post data-list-Inv-loop data-list-μ-loop
+data-list-add-count : (t : ℕ) → data-list-lts.Need-add-count (data-list-calls t) (data-list-at t) data-list.Post data-list-Inv-loop data-list-μ-loop
 data-list-add-count t c =
     let l = live (c .before .before .before .before .before .before .before .before .before .before .before .before .args .raw .now) (c .before .before .before .before .before .before .loop .p) (let k = c .before .before .before .before .before .cell .ensures in omega arith) in
     omega arith
 
-data-list-loop-less : (t : ℕ) → data-list-lts.Need-loop-less (
-  cell-reads.Asked,
-  cell-reads.Learnt,
-  data-term-below t,
-  data-term.Post,
-  lost-reads.Asked,
-  lost-reads.Learnt,
-) (data-list-at t) data-list.Post data-list-Inv-loop data-list-μ-loop
+data-list-loop-less : (t : ℕ) → data-list-lts.Need-loop-less (data-list-calls t) (data-list-at t) data-list.Post data-list-Inv-loop data-list-μ-loop
 data-list-loop-less t c =
     let l = live (c .before .before .before .before .before .before .before .before .before .before .before .before .args .raw .now) (c .before .before .before .before .before .before .loop .p) (let k = c .before .before .before .before .before .cell .ensures in omega arith) in
     let a = c .before .before .data-term .ensures .0 in
     omega arith
 
-data-list-loop-again : (t : ℕ) → data-list-lts.Need-loop-again (
-  cell-reads.Asked,
-  cell-reads.Learnt,
-  data-term-below t,
-  data-term.Post,
-  lost-reads.Asked,
-  lost-reads.Learnt,
-) (data-list-at t) data-list.Post data-list-Inv-loop data-list-μ-loop
+data-list-loop-again : (t : ℕ) → data-list-lts.Need-loop-again (data-list-calls t) (data-list-at t) data-list.Post data-list-Inv-loop data-list-μ-loop
 data-list-loop-again t c =
     let l = live (c .before .before .before .before .before .before .before .before .before .before .before .before .args .raw .now) (c .before .before .before .before .before .before .loop .p) (let k = c .before .before .before .before .before .cell .ensures in omega arith) in
     let a = c .before .before .data-term .ensures .0 in
     ((omega arith, c .before .before .data-term .kept .1 .1 .1 .1 .1 .1 .0 ∙ c .before .before .before .before .before .before .loop .inv .0 .1), list-step (c .before .before .before .before .before .before .before .before .before .before .before .before .args .s .now) (c .before .before .before .before .before .before .before .before .before .before .before .before .args .raw .now) (c .before .before .before .before .before .before .before .before .before .before .before .before .args .funcs .now) (c .before .before .before .before .before .before .before .before .before .before .before .before .args .scope .now) (c .before .before .before .before .before .before .before .before .before .before .before .before .args .n) (c .before .before .before .before .before .before .before .before .before .before .before .before .args .at) (c .before .before .before .before .before .before .before .before .before .before .before .before .args .w) (c .before .before .before .before .before .before .before .before .before .before .before .before .args .out .now) (c .before .before .before .before .before .before .loop .p) (c .before .before .before .before .before .before .loop .v) (c .before .before .before .before .before .before .loop .count) (c .before .before .before .before .before .before .loop .out) (c .before .before .before .before .before .before .loop .inv .1) (sym (c .before .before .before .before .before .cell .ensures) ∙ c .before .before .before .before .if1 .taken) (c .before .before .data-term .result) (c .before .before .data-term .last .1 .1 .1 .1 .1 .1 .0) (c .before .before .data-term .ensures .1))
 
-data-list-cell-requires-2 : (t : ℕ) → data-list-lts.Need-cell-requires-2 (
-  cell-reads.Asked,
-  cell-reads.Learnt,
-  data-term-below t,
-  data-term.Post,
-  lost-reads.Asked,
-  lost-reads.Learnt,
-) (data-list-at t) data-list.Post data-list-Inv-loop data-list-μ-loop
+data-list-cell-requires-2 : (t : ℕ) → data-list-lts.Need-cell-requires-2 (data-list-calls t) (data-list-at t) data-list.Post data-list-Inv-loop data-list-μ-loop
 data-list-cell-requires-2 t c κs = tt
 
-data-list-lost-requires : (t : ℕ) → data-list-lts.Need-lost-requires (
-  cell-reads.Asked,
-  cell-reads.Learnt,
-  data-term-below t,
-  data-term.Post,
-  lost-reads.Asked,
-  lost-reads.Learnt,
-) (data-list-at t) data-list.Post data-list-Inv-loop data-list-μ-loop
+data-list-lost-requires : (t : ℕ) → data-list-lts.Need-lost-requires (data-list-calls t) (data-list-at t) data-list.Post data-list-Inv-loop data-list-μ-loop
 data-list-lost-requires t c κs = tt
 
-data-list-same-length : (t : ℕ) → data-list-lts.Need-same-length (
-  cell-reads.Asked,
-  cell-reads.Learnt,
-  data-term-below t,
-  data-term.Post,
-  lost-reads.Asked,
-  lost-reads.Learnt,
-) (data-list-at t) data-list.Post data-list-Inv-loop data-list-μ-loop
+data-list-same-length : (t : ℕ) → data-list-lts.Need-same-length (data-list-calls t) (data-list-at t) data-list.Post data-list-Inv-loop data-list-μ-loop
 data-list-same-length t c = c .before .before .before .before .before .loop .inv .0 .1
 
-data-list-returns : (t : ℕ) → data-list-lts.Need-returns (
-  cell-reads.Asked,
-  cell-reads.Learnt,
-  data-term-below t,
-  data-term.Post,
-  lost-reads.Asked,
-  lost-reads.Learnt,
-) (data-list-at t) data-list.Post data-list-Inv-loop data-list-μ-loop
+data-list-returns : (t : ℕ) → data-list-lts.Need-returns (data-list-calls t) (data-list-at t) data-list.Post data-list-Inv-loop data-list-μ-loop
 data-list-returns t c =
     let z = c .lost .ensures in
     (omega arith, list-lost (c .before .before .before .before .before .before .before .before .before .before .before .args .s .now) (c .before .before .before .before .before .before .before .before .before .before .before .args .raw .now) (c .before .before .before .before .before .before .before .before .before .before .before .args .funcs .now) (c .before .before .before .before .before .before .before .before .before .before .before .args .scope .now) (c .before .before .before .before .before .before .before .before .before .before .before .args .n) (c .before .before .before .before .before .before .before .before .before .before .before .args .at) (c .before .before .before .before .before .before .before .before .before .before .before .args .w) (c .before .before .before .before .before .before .before .before .before .before .before .args .out .now) (c .before .before .before .before .before .loop .p) (c .before .before .before .before .before .loop .v) (c .before .before .before .before .before .loop .count) (c .before .before .before .before .before .loop .out) (c .before .before .before .before .before .loop .inv .1) (λ e. c .before .before .before .if1 .left (c .before .before .before .before .cell .ensures ∙ e)) (λ e. c .before .if2 .taken (c .before .before .cell2 .ensures ∙ e)) (record { at = c .lost .result .at; w = c .before .before .before .before .before .loop .v; count = c .before .before .before .before .before .loop .count }) (c .lost .ensures))
 
-data-list-add-data-term-2 : (t : ℕ) → data-list-lts.Need-add-data-term-2 (
-  cell-reads.Asked,
-  cell-reads.Learnt,
-  data-term-below t,
-  data-term.Post,
-  lost-reads.Asked,
-  lost-reads.Learnt,
-) (data-list-at t) data-list.Post data-list-Inv-loop data-list-μ-loop
+data-list-add-data-term-2 : (t : ℕ) → data-list-lts.Need-add-data-term-2 (data-list-calls t) (data-list-at t) data-list.Post data-list-Inv-loop data-list-μ-loop
 data-list-add-data-term-2 t c =
     let l = live (c .before .before .before .before .before .before .before .before .before .before .args .raw .now) (c .before .before .before .before .loop .p) (let k = c .before .cell2 .ensures in omega arith) in
     omega arith
 
-data-list-data-term-requires-2 : (t : ℕ) → data-list-lts.Need-data-term-requires-2 (
-  cell-reads.Asked,
-  cell-reads.Learnt,
-  data-term-below t,
-  data-term.Post,
-  lost-reads.Asked,
-  lost-reads.Learnt,
-) (data-list-at t) data-list.Post data-list-Inv-loop data-list-μ-loop
+data-list-data-term-requires-2 : (t : ℕ) → data-list-lts.Need-data-term-requires-2 (data-list-calls t) (data-list-at t) data-list.Post data-list-Inv-loop data-list-μ-loop
 data-list-data-term-requires-2 t c κs =
     let q = c .before .before .before .before .before .before .before .before .before .before .before .pre .1 in
     let l = live (c .before .before .before .before .before .before .before .before .before .before .before .args .raw .now) (c .before .before .before .before .before .loop .p) (let k = c .before .before .cell2 .ensures in omega arith) in
     (omega arith, omega arith)
 
-data-list-add-t22 : (t : ℕ) → data-list-lts.Need-add-t22 (
-  cell-reads.Asked,
-  cell-reads.Learnt,
-  data-term-below t,
-  data-term.Post,
-  lost-reads.Asked,
-  lost-reads.Learnt,
-) (data-list-at t) data-list.Post data-list-Inv-loop data-list-μ-loop
+data-list-add-t22 : (t : ℕ) → data-list-lts.Need-add-t22 (data-list-calls t) (data-list-at t) data-list.Post data-list-Inv-loop data-list-μ-loop
 data-list-add-t22 t c =
     let l = live (c .before .before .before .before .before .before .before .before .before .before .before .before .before .before .args .raw .now) (c .before .before .before .before .before .before .before .before .loop .p) (let k = c .before .before .before .before .before .cell2 .ensures in omega arith) in
     omega arith
 
-data-list-same-length-2 : (t : ℕ) → data-list-lts.Need-same-length-2 (
-  cell-reads.Asked,
-  cell-reads.Learnt,
-  data-term-below t,
-  data-term.Post,
-  lost-reads.Asked,
-  lost-reads.Learnt,
-) (data-list-at t) data-list.Post data-list-Inv-loop data-list-μ-loop
+data-list-same-length-2 : (t : ℕ) → data-list-lts.Need-same-length-2 (data-list-calls t) (data-list-at t) data-list.Post data-list-Inv-loop data-list-μ-loop
 data-list-same-length-2 t c = c .before .before .data-term2 .kept .1 .1 .1 .1 .1 .1 .0 ∙ c .before .before .before .before .before .before .before .before .loop .inv .0 .1
 
-data-list-returns-2 : (t : ℕ) → data-list-lts.Need-returns-2 (
-  cell-reads.Asked,
-  cell-reads.Learnt,
-  data-term-below t,
-  data-term.Post,
-  lost-reads.Asked,
-  lost-reads.Learnt,
-) (data-list-at t) data-list.Post data-list-Inv-loop data-list-μ-loop
+data-list-returns-2 : (t : ℕ) → data-list-lts.Need-returns-2 (data-list-calls t) (data-list-at t) data-list.Post data-list-Inv-loop data-list-μ-loop
 data-list-returns-2 t c =
     let q = c .before .before .before .before .before .before .before .before .before .before .before .before .before .before .pre .1 in
     let l = live (c .before .before .before .before .before .before .before .before .before .before .before .before .before .before .args .raw .now) (c .before .before .before .before .before .before .before .before .loop .p) (let k = c .before .before .before .before .before .cell2 .ensures in omega arith) in
     let a = c .before .before .data-term2 .ensures .0 in
     (omega arith, list-took (c .before .before .before .before .before .before .before .before .before .before .before .before .before .before .args .s .now) (c .before .before .before .before .before .before .before .before .before .before .before .before .before .before .args .raw .now) (c .before .before .before .before .before .before .before .before .before .before .before .before .before .before .args .funcs .now) (c .before .before .before .before .before .before .before .before .before .before .before .before .before .before .args .scope .now) (c .before .before .before .before .before .before .before .before .before .before .before .before .before .before .args .n) (c .before .before .before .before .before .before .before .before .before .before .before .before .before .before .args .at) (c .before .before .before .before .before .before .before .before .before .before .before .before .before .before .args .w) (c .before .before .before .before .before .before .before .before .before .before .before .before .before .before .args .out .now) (c .before .before .before .before .before .before .before .before .loop .p) (c .before .before .before .before .before .before .before .before .loop .v) (c .before .before .before .before .before .before .before .before .loop .count) (c .before .before .before .before .before .before .before .before .loop .out) (c .before .before .before .before .before .before .before .before .loop .inv .1) (omega arith) (omega arith) (c .before .before .data-term2 .result) (c .before .before .data-term2 .last .1 .1 .1 .1 .1 .1 .0) (c .before .before .data-term2 .ensures .1))
 
-data-term-cell-requires : (t : ℕ) → data-term-lts.Need-cell-requires (
-  cell-reads.Asked,
-  cell-reads.Learnt,
-  lost-reads.Asked,
-  lost-reads.Learnt,
-  put-reads.Asked,
-  put-reads.Learnt,
-  scope-number-reads.Asked,
-  scope-number-reads.Learnt,
-  short-reads.Asked,
-  short-reads.Learnt,
-  number-of-reads.Asked,
-  number-of-reads.Learnt,
-  data-list-below t,
-  data-list.Post,
-) (data-term-at t) data-term.Post
+data-term-cell-requires : (t : ℕ) → data-term-lts.Need-cell-requires (data-term-calls t) (data-term-at t) data-term.Post
 data-term-cell-requires t c κs = tt
 
-data-term-add-cell : (t : ℕ) → data-term-lts.Need-add-cell (
-  cell-reads.Asked,
-  cell-reads.Learnt,
-  lost-reads.Asked,
-  lost-reads.Learnt,
-  put-reads.Asked,
-  put-reads.Learnt,
-  scope-number-reads.Asked,
-  scope-number-reads.Learnt,
-  short-reads.Asked,
-  short-reads.Learnt,
-  number-of-reads.Asked,
-  number-of-reads.Learnt,
-  data-list-below t,
-  data-list.Post,
-) (data-term-at t) data-term.Post
+data-term-add-cell : (t : ℕ) → data-term-lts.Need-add-cell (data-term-calls t) (data-term-at t) data-term.Post
 data-term-add-cell t c =
     let l = live (c .before .before .before .before .before .before .before .args .raw .now) (c .before .before .before .before .before .before .before .args .at) (let k = c .before .cell .ensures in omega arith) in
     omega arith
 
-data-term-cell-requires-2 : (t : ℕ) → data-term-lts.Need-cell-requires-2 (
-  cell-reads.Asked,
-  cell-reads.Learnt,
-  lost-reads.Asked,
-  lost-reads.Learnt,
-  put-reads.Asked,
-  put-reads.Learnt,
-  scope-number-reads.Asked,
-  scope-number-reads.Learnt,
-  short-reads.Asked,
-  short-reads.Learnt,
-  number-of-reads.Asked,
-  number-of-reads.Learnt,
-  data-list-below t,
-  data-list.Post,
-) (data-term-at t) data-term.Post
+data-term-cell-requires-2 : (t : ℕ) → data-term-lts.Need-cell-requires-2 (data-term-calls t) (data-term-at t) data-term.Post
 data-term-cell-requires-2 t c κs = tt
 
-data-term-lost-requires : (t : ℕ) → data-term-lts.Need-lost-requires (
-  cell-reads.Asked,
-  cell-reads.Learnt,
-  lost-reads.Asked,
-  lost-reads.Learnt,
-  put-reads.Asked,
-  put-reads.Learnt,
-  scope-number-reads.Asked,
-  scope-number-reads.Learnt,
-  short-reads.Asked,
-  short-reads.Learnt,
-  number-of-reads.Asked,
-  number-of-reads.Learnt,
-  data-list-below t,
-  data-list.Post,
-) (data-term-at t) data-term.Post
+data-term-lost-requires : (t : ℕ) → data-term-lts.Need-lost-requires (data-term-calls t) (data-term-at t) data-term.Post
 data-term-lost-requires t c κs = tt
 
-data-term-returns : (t : ℕ) → data-term-lts.Need-returns (
-  cell-reads.Asked,
-  cell-reads.Learnt,
-  lost-reads.Asked,
-  lost-reads.Learnt,
-  put-reads.Asked,
-  put-reads.Learnt,
-  scope-number-reads.Asked,
-  scope-number-reads.Learnt,
-  short-reads.Asked,
-  short-reads.Learnt,
-  number-of-reads.Asked,
-  number-of-reads.Learnt,
-  data-list-below t,
-  data-list.Post,
-) (data-term-at t) data-term.Post
+data-term-returns : (t : ℕ) → data-term-lts.Need-returns (data-term-calls t) (data-term-at t) data-term.Post
 data-term-returns t c = (let z = c .lost .ensures in omega arith, value-lost (c .before .before .before .before .before .before .before .before .before .before .args .s .now) (c .before .before .before .before .before .before .before .before .before .before .args .raw .now) (c .before .before .before .before .before .before .before .before .before .before .args .funcs .now) (c .before .before .before .before .before .before .before .before .before .before .args .scope .now) (c .before .before .before .before .before .before .before .before .before .before .args .n) (c .before .before .before .before .before .before .before .before .before .before .args .at) (c .before .before .before .before .before .before .before .before .before .before .args .w) (c .before .before .before .before .before .before .before .before .before .before .args .out .now) (sym (c .before .before .before .before .cell .ensures) ∙ c .before .before .before .if1 .taken) (c .lost .result) (c .before .before .before .before .before .before .before .before .before .before .args .out .now) (λ v h. let a = h .least in let b = c .before .before .cell2 .ensures in omega arith))
 
-data-term-lost-requires-2 : (t : ℕ) → data-term-lts.Need-lost-requires-2 (
-  cell-reads.Asked,
-  cell-reads.Learnt,
-  lost-reads.Asked,
-  lost-reads.Learnt,
-  put-reads.Asked,
-  put-reads.Learnt,
-  scope-number-reads.Asked,
-  scope-number-reads.Learnt,
-  short-reads.Asked,
-  short-reads.Learnt,
-  number-of-reads.Asked,
-  number-of-reads.Learnt,
-  data-list-below t,
-  data-list.Post,
-) (data-term-at t) data-term.Post
+data-term-lost-requires-2 : (t : ℕ) → data-term-lts.Need-lost-requires-2 (data-term-calls t) (data-term-at t) data-term.Post
 data-term-lost-requires-2 t c κs = tt
 
-data-term-returns-2 : (t : ℕ) → data-term-lts.Need-returns-2 (
-  cell-reads.Asked,
-  cell-reads.Learnt,
-  lost-reads.Asked,
-  lost-reads.Learnt,
-  put-reads.Asked,
-  put-reads.Learnt,
-  scope-number-reads.Asked,
-  scope-number-reads.Learnt,
-  short-reads.Asked,
-  short-reads.Learnt,
-  number-of-reads.Asked,
-  number-of-reads.Learnt,
-  data-list-below t,
-  data-list.Post,
-) (data-term-at t) data-term.Post
+data-term-returns-2 : (t : ℕ) → data-term-lts.Need-returns-2 (data-term-calls t) (data-term-at t) data-term.Post
 data-term-returns-2 t c = (let z = c .lost2 .ensures in omega arith, value-lost (c .before .before .before .before .before .before .before .before .before .before .before .args .s .now) (c .before .before .before .before .before .before .before .before .before .before .before .args .raw .now) (c .before .before .before .before .before .before .before .before .before .before .before .args .funcs .now) (c .before .before .before .before .before .before .before .before .before .before .before .args .scope .now) (c .before .before .before .before .before .before .before .before .before .before .before .args .n) (c .before .before .before .before .before .before .before .before .before .before .before .args .at) (c .before .before .before .before .before .before .before .before .before .before .before .args .w) (c .before .before .before .before .before .before .before .before .before .before .before .args .out .now) (sym (c .before .before .before .before .before .cell .ensures) ∙ c .before .before .before .before .if1 .taken) (c .lost2 .result) (c .before .before .before .before .before .before .before .before .before .before .before .args .out .now) (λ v h. let a = h .most in let b = c .before .before .before .cell2 .ensures in omega arith))
 
-data-term-add-t17 : (t : ℕ) → data-term-lts.Need-add-t17 (
-  cell-reads.Asked,
-  cell-reads.Learnt,
-  lost-reads.Asked,
-  lost-reads.Learnt,
-  put-reads.Asked,
-  put-reads.Learnt,
-  scope-number-reads.Asked,
-  scope-number-reads.Learnt,
-  short-reads.Asked,
-  short-reads.Learnt,
-  number-of-reads.Asked,
-  number-of-reads.Learnt,
-  data-list-below t,
-  data-list.Post,
-) (data-term-at t) data-term.Post
+data-term-add-t17 : (t : ℕ) → data-term-lts.Need-add-t17 (data-term-calls t) (data-term-at t) data-term.Post
 data-term-add-t17 t c =
     let l = live (c .before .before .before .before .before .before .before .before .before .before .args .raw .now) (c .before .before .before .before .before .before .before .before .before .before .args .at) (let k = c .before .before .before .before .cell .ensures in omega arith) in
     omega arith
 
-data-term-mul-put : (t : ℕ) → data-term-lts.Need-mul-put (
-  cell-reads.Asked,
-  cell-reads.Learnt,
-  lost-reads.Asked,
-  lost-reads.Learnt,
-  put-reads.Asked,
-  put-reads.Learnt,
-  scope-number-reads.Asked,
-  scope-number-reads.Learnt,
-  short-reads.Asked,
-  short-reads.Learnt,
-  number-of-reads.Asked,
-  number-of-reads.Learnt,
-  data-list-below t,
-  data-list.Post,
-) (data-term-at t) data-term.Post
+data-term-mul-put : (t : ℕ) → data-term-lts.Need-mul-put (data-term-calls t) (data-term-at t) data-term.Post
 data-term-mul-put t c = omega arith
 
-data-term-put-requires : (t : ℕ) → data-term-lts.Need-put-requires (
-  cell-reads.Asked,
-  cell-reads.Learnt,
-  lost-reads.Asked,
-  lost-reads.Learnt,
-  put-reads.Asked,
-  put-reads.Learnt,
-  scope-number-reads.Asked,
-  scope-number-reads.Learnt,
-  short-reads.Asked,
-  short-reads.Learnt,
-  number-of-reads.Asked,
-  number-of-reads.Learnt,
-  data-list-below t,
-  data-list.Post,
-) (data-term-at t) data-term.Post
+data-term-put-requires : (t : ℕ) → data-term-lts.Need-put-requires (data-term-calls t) (data-term-at t) data-term.Post
 data-term-put-requires t c κs = tt
 
-data-term-same-length : (t : ℕ) → data-term-lts.Need-same-length (
-  cell-reads.Asked,
-  cell-reads.Learnt,
-  lost-reads.Asked,
-  lost-reads.Learnt,
-  put-reads.Asked,
-  put-reads.Learnt,
-  scope-number-reads.Asked,
-  scope-number-reads.Learnt,
-  short-reads.Asked,
-  short-reads.Learnt,
-  number-of-reads.Asked,
-  number-of-reads.Learnt,
-  data-list-below t,
-  data-list.Post,
-) (data-term-at t) data-term.Post
+data-term-same-length : (t : ℕ) → data-term-lts.Need-same-length (data-term-calls t) (data-term-at t) data-term.Post
 data-term-same-length t c = c .before .before .put .kept .0
 
-data-term-returns-3 : (t : ℕ) → data-term-lts.Need-returns-3 (
-  cell-reads.Asked,
-  cell-reads.Learnt,
-  lost-reads.Asked,
-  lost-reads.Learnt,
-  put-reads.Asked,
-  put-reads.Learnt,
-  scope-number-reads.Asked,
-  scope-number-reads.Learnt,
-  short-reads.Asked,
-  short-reads.Learnt,
-  number-of-reads.Asked,
-  number-of-reads.Learnt,
-  data-list-below t,
-  data-list.Post,
-) (data-term-at t) data-term.Post
+data-term-returns-3 : (t : ℕ) → data-term-lts.Need-returns-3 (data-term-calls t) (data-term-at t) data-term.Post
 data-term-returns-3 t c = (omega arith, value-took (c .before .before .before .before .before .before .before .before .before .before .before .before .before .before .args .s .now) (c .before .before .before .before .before .before .before .before .before .before .before .before .before .before .args .raw .now) (c .before .before .before .before .before .before .before .before .before .before .before .before .before .before .args .funcs .now) (c .before .before .before .before .before .before .before .before .before .before .before .before .before .before .args .scope .now) (c .before .before .before .before .before .before .before .before .before .before .before .before .before .before .args .n) (c .before .before .before .before .before .before .before .before .before .before .before .before .before .before .args .at) (c .before .before .before .before .before .before .before .before .before .before .before .before .before .before .args .w) (c .before .before .before .before .before .before .before .before .before .before .before .before .before .before .args .out .now) (sym (c .before .before .before .before .before .before .before .before .cell .ensures) ∙ c .before .before .before .before .before .before .before .if1 .taken) (c .before .before .before .before .before .before .cell2 .result) _ (c .before .before .put .result) (c .before .before .put .last .0) (c .before .before .before .before .before .before .cell2 .ensures) refl (c .before .before .put .ensures))
 
-data-term-add-cell-2 : (t : ℕ) → data-term-lts.Need-add-cell-2 (
-  cell-reads.Asked,
-  cell-reads.Learnt,
-  lost-reads.Asked,
-  lost-reads.Learnt,
-  put-reads.Asked,
-  put-reads.Learnt,
-  scope-number-reads.Asked,
-  scope-number-reads.Learnt,
-  short-reads.Asked,
-  short-reads.Learnt,
-  number-of-reads.Asked,
-  number-of-reads.Learnt,
-  data-list-below t,
-  data-list.Post,
-) (data-term-at t) data-term.Post
+data-term-add-cell-2 : (t : ℕ) → data-term-lts.Need-add-cell-2 (data-term-calls t) (data-term-at t) data-term.Post
 data-term-add-cell-2 t c =
     let l = live (c .before .before .before .before .before .before .before .before .args .raw .now) (c .before .before .before .before .before .before .before .before .args .at) (let k = c .before .before .cell .ensures in omega arith) in
     omega arith
 
-data-term-cell-requires-3 : (t : ℕ) → data-term-lts.Need-cell-requires-3 (
-  cell-reads.Asked,
-  cell-reads.Learnt,
-  lost-reads.Asked,
-  lost-reads.Learnt,
-  put-reads.Asked,
-  put-reads.Learnt,
-  scope-number-reads.Asked,
-  scope-number-reads.Learnt,
-  short-reads.Asked,
-  short-reads.Learnt,
-  number-of-reads.Asked,
-  number-of-reads.Learnt,
-  data-list-below t,
-  data-list.Post,
-) (data-term-at t) data-term.Post
+data-term-cell-requires-3 : (t : ℕ) → data-term-lts.Need-cell-requires-3 (data-term-calls t) (data-term-at t) data-term.Post
 data-term-cell-requires-3 t c κs = tt
 
-data-term-scope-number-requires : (t : ℕ) → data-term-lts.Need-scope-number-requires (
-  cell-reads.Asked,
-  cell-reads.Learnt,
-  lost-reads.Asked,
-  lost-reads.Learnt,
-  put-reads.Asked,
-  put-reads.Learnt,
-  scope-number-reads.Asked,
-  scope-number-reads.Learnt,
-  short-reads.Asked,
-  short-reads.Learnt,
-  number-of-reads.Asked,
-  number-of-reads.Learnt,
-  data-list-below t,
-  data-list.Post,
-) (data-term-at t) data-term.Post
+data-term-scope-number-requires : (t : ℕ) → data-term-lts.Need-scope-number-requires (data-term-calls t) (data-term-at t) data-term.Post
 data-term-scope-number-requires t c κs = let q = c .before .before .before .before .before .before .before .before .before .pre .1 in omega arith
 
-data-term-lost-requires-3 : (t : ℕ) → data-term-lts.Need-lost-requires-3 (
-  cell-reads.Asked,
-  cell-reads.Learnt,
-  lost-reads.Asked,
-  lost-reads.Learnt,
-  put-reads.Asked,
-  put-reads.Learnt,
-  scope-number-reads.Asked,
-  scope-number-reads.Learnt,
-  short-reads.Asked,
-  short-reads.Learnt,
-  number-of-reads.Asked,
-  number-of-reads.Learnt,
-  data-list-below t,
-  data-list.Post,
-) (data-term-at t) data-term.Post
+data-term-lost-requires-3 : (t : ℕ) → data-term-lts.Need-lost-requires-3 (data-term-calls t) (data-term-at t) data-term.Post
 data-term-lost-requires-3 t c κs = tt
 
-data-term-returns-4 : (t : ℕ) → data-term-lts.Need-returns-4 (
-  cell-reads.Asked,
-  cell-reads.Learnt,
-  lost-reads.Asked,
-  lost-reads.Learnt,
-  put-reads.Asked,
-  put-reads.Learnt,
-  scope-number-reads.Asked,
-  scope-number-reads.Learnt,
-  short-reads.Asked,
-  short-reads.Learnt,
-  number-of-reads.Asked,
-  number-of-reads.Learnt,
-  data-list-below t,
-  data-list.Post,
-) (data-term-at t) data-term.Post
+data-term-returns-4 : (t : ℕ) → data-term-lts.Need-returns-4 (data-term-calls t) (data-term-at t) data-term.Post
 data-term-returns-4 t c = (let z = c .lost3 .ensures in omega arith, variable-lost (c .before .before .before .before .before .before .before .before .before .before .before .before .args .s .now) (c .before .before .before .before .before .before .before .before .before .before .before .before .args .raw .now) (c .before .before .before .before .before .before .before .before .before .before .before .before .args .funcs .now) (c .before .before .before .before .before .before .before .before .before .before .before .before .args .scope .now) (c .before .before .before .before .before .before .before .before .before .before .before .before .args .n) (c .before .before .before .before .before .before .before .before .before .before .before .before .args .at) (c .before .before .before .before .before .before .before .before .before .before .before .before .args .w) (c .before .before .before .before .before .before .before .before .before .before .before .before .args .out .now) (sym (c .before .before .before .before .before .before .cell .ensures) ∙ c .before .before .before .before .if4 .taken) (c .before .before .before .before .before .before .before .before .before .before .before .before .pre .1 .in-scope) (c .before .before .before .cell3 .result) (c .before .before .scope-number .result) (c .before .before .before .cell3 .ensures) (c .before .before .scope-number .ensures .1) (c .lost3 .result) (c .before .before .before .before .before .before .before .before .before .before .before .before .args .out .now) (c .lost3 .ensures) (c .before .if5 .taken))
 
-data-term-add-t25 : (t : ℕ) → data-term-lts.Need-add-t25 (
-  cell-reads.Asked,
-  cell-reads.Learnt,
-  lost-reads.Asked,
-  lost-reads.Learnt,
-  put-reads.Asked,
-  put-reads.Learnt,
-  scope-number-reads.Asked,
-  scope-number-reads.Learnt,
-  short-reads.Asked,
-  short-reads.Learnt,
-  number-of-reads.Asked,
-  number-of-reads.Learnt,
-  data-list-below t,
-  data-list.Post,
-) (data-term-at t) data-term.Post
+data-term-add-t25 : (t : ℕ) → data-term-lts.Need-add-t25 (data-term-calls t) (data-term-at t) data-term.Post
 data-term-add-t25 t c =
     let l = live (c .before .before .before .before .before .before .before .before .before .before .before .args .raw .now) (c .before .before .before .before .before .before .before .before .before .before .before .args .at) (let k = c .before .before .before .before .before .cell .ensures in omega arith) in
     omega arith
 
-data-term-mul-short : (t : ℕ) → data-term-lts.Need-mul-short (
-  cell-reads.Asked,
-  cell-reads.Learnt,
-  lost-reads.Asked,
-  lost-reads.Learnt,
-  put-reads.Asked,
-  put-reads.Learnt,
-  scope-number-reads.Asked,
-  scope-number-reads.Learnt,
-  short-reads.Asked,
-  short-reads.Learnt,
-  number-of-reads.Asked,
-  number-of-reads.Learnt,
-  data-list-below t,
-  data-list.Post,
-) (data-term-at t) data-term.Post
+data-term-mul-short : (t : ℕ) → data-term-lts.Need-mul-short (data-term-calls t) (data-term-at t) data-term.Post
 data-term-mul-short t c = omega arith
 
-data-term-add-short : (t : ℕ) → data-term-lts.Need-add-short (
-  cell-reads.Asked,
-  cell-reads.Learnt,
-  lost-reads.Asked,
-  lost-reads.Learnt,
-  put-reads.Asked,
-  put-reads.Learnt,
-  scope-number-reads.Asked,
-  scope-number-reads.Learnt,
-  short-reads.Asked,
-  short-reads.Learnt,
-  number-of-reads.Asked,
-  number-of-reads.Learnt,
-  data-list-below t,
-  data-list.Post,
-) (data-term-at t) data-term.Post
+data-term-add-short : (t : ℕ) → data-term-lts.Need-add-short (data-term-calls t) (data-term-at t) data-term.Post
 data-term-add-short t c = omega arith
 
-data-term-short-requires : (t : ℕ) → data-term-lts.Need-short-requires (
-  cell-reads.Asked,
-  cell-reads.Learnt,
-  lost-reads.Asked,
-  lost-reads.Learnt,
-  put-reads.Asked,
-  put-reads.Learnt,
-  scope-number-reads.Asked,
-  scope-number-reads.Learnt,
-  short-reads.Asked,
-  short-reads.Learnt,
-  number-of-reads.Asked,
-  number-of-reads.Learnt,
-  data-list-below t,
-  data-list.Post,
-) (data-term-at t) data-term.Post
+data-term-short-requires : (t : ℕ) → data-term-lts.Need-short-requires (data-term-calls t) (data-term-at t) data-term.Post
 data-term-short-requires t c κs = tt
 
-data-term-put-requires-2 : (t : ℕ) → data-term-lts.Need-put-requires-2 (
-  cell-reads.Asked,
-  cell-reads.Learnt,
-  lost-reads.Asked,
-  lost-reads.Learnt,
-  put-reads.Asked,
-  put-reads.Learnt,
-  scope-number-reads.Asked,
-  scope-number-reads.Learnt,
-  short-reads.Asked,
-  short-reads.Learnt,
-  number-of-reads.Asked,
-  number-of-reads.Learnt,
-  data-list-below t,
-  data-list.Post,
-) (data-term-at t) data-term.Post
+data-term-put-requires-2 : (t : ℕ) → data-term-lts.Need-put-requires-2 (data-term-calls t) (data-term-at t) data-term.Post
 data-term-put-requires-2 t c κs = tt
 
-data-term-same-length-2 : (t : ℕ) → data-term-lts.Need-same-length-2 (
-  cell-reads.Asked,
-  cell-reads.Learnt,
-  lost-reads.Asked,
-  lost-reads.Learnt,
-  put-reads.Asked,
-  put-reads.Learnt,
-  scope-number-reads.Asked,
-  scope-number-reads.Learnt,
-  short-reads.Asked,
-  short-reads.Learnt,
-  number-of-reads.Asked,
-  number-of-reads.Learnt,
-  data-list-below t,
-  data-list.Post,
-) (data-term-at t) data-term.Post
+data-term-same-length-2 : (t : ℕ) → data-term-lts.Need-same-length-2 (data-term-calls t) (data-term-at t) data-term.Post
 data-term-same-length-2 t c = c .before .before .put2 .kept .0
 
-data-term-returns-5 : (t : ℕ) → data-term-lts.Need-returns-5 (
-  cell-reads.Asked,
-  cell-reads.Learnt,
-  lost-reads.Asked,
-  lost-reads.Learnt,
-  put-reads.Asked,
-  put-reads.Learnt,
-  scope-number-reads.Asked,
-  scope-number-reads.Learnt,
-  short-reads.Asked,
-  short-reads.Learnt,
-  number-of-reads.Asked,
-  number-of-reads.Learnt,
-  data-list-below t,
-  data-list.Post,
-) (data-term-at t) data-term.Post
+data-term-returns-5 : (t : ℕ) → data-term-lts.Need-returns-5 (data-term-calls t) (data-term-at t) data-term.Post
 data-term-returns-5 t c =
     let q = c .before .before .before .before .before .before .before .before .before .before .before .before .before .before .before .before .pre .1 in
     (omega arith, variable-took (c .before .before .before .before .before .before .before .before .before .before .before .before .before .before .before .before .args .s .now) (c .before .before .before .before .before .before .before .before .before .before .before .before .before .before .before .before .args .raw .now) (c .before .before .before .before .before .before .before .before .before .before .before .before .before .before .before .before .args .funcs .now) (c .before .before .before .before .before .before .before .before .before .before .before .before .before .before .before .before .args .scope .now) (c .before .before .before .before .before .before .before .before .before .before .before .before .before .before .before .before .args .n) (c .before .before .before .before .before .before .before .before .before .before .before .before .before .before .before .before .args .at) (c .before .before .before .before .before .before .before .before .before .before .before .before .before .before .before .before .args .w) (c .before .before .before .before .before .before .before .before .before .before .before .before .before .before .before .before .args .out .now) (sym (c .before .before .before .before .before .before .before .before .before .before .cell .ensures) ∙ c .before .before .before .before .before .before .before .before .if4 .taken) (c .before .before .before .before .before .before .before .before .before .before .before .before .before .before .before .before .pre .1 .in-scope) (c .before .before .before .before .before .before .before .cell3 .result) (c .before .before .before .before .before .before .scope-number .result) (c .before .before .before .before .before .before .before .cell3 .ensures) (c .before .before .before .before .before .before .scope-number .ensures .1) (c .before .before .before .short .result) (c .before .before .put2 .result) (c .before .before .put2 .last .0) (c .before .before .before .before .before .if5 .left) (c .before .before .before .short .ensures (omega arith)) (c .before .before .put2 .ensures))
 
-data-term-lost-requires-4 : (t : ℕ) → data-term-lts.Need-lost-requires-4 (
-  cell-reads.Asked,
-  cell-reads.Learnt,
-  lost-reads.Asked,
-  lost-reads.Learnt,
-  put-reads.Asked,
-  put-reads.Learnt,
-  scope-number-reads.Asked,
-  scope-number-reads.Learnt,
-  short-reads.Asked,
-  short-reads.Learnt,
-  number-of-reads.Asked,
-  number-of-reads.Learnt,
-  data-list-below t,
-  data-list.Post,
-) (data-term-at t) data-term.Post
+data-term-lost-requires-4 : (t : ℕ) → data-term-lts.Need-lost-requires-4 (data-term-calls t) (data-term-at t) data-term.Post
 data-term-lost-requires-4 t c κs = tt
 
-data-term-returns-6 : (t : ℕ) → data-term-lts.Need-returns-6 (
-  cell-reads.Asked,
-  cell-reads.Learnt,
-  lost-reads.Asked,
-  lost-reads.Learnt,
-  put-reads.Asked,
-  put-reads.Learnt,
-  scope-number-reads.Asked,
-  scope-number-reads.Learnt,
-  short-reads.Asked,
-  short-reads.Learnt,
-  number-of-reads.Asked,
-  number-of-reads.Learnt,
-  data-list-below t,
-  data-list.Post,
-) (data-term-at t) data-term.Post
+data-term-returns-6 : (t : ℕ) → data-term-lts.Need-returns-6 (data-term-calls t) (data-term-at t) data-term.Post
 data-term-returns-6 t c = (let z = c .lost4 .ensures in omega arith, other-lost (c .before .before .before .before .before .before .before .before .before .before .args .s .now) (c .before .before .before .before .before .before .before .before .before .before .args .raw .now) (c .before .before .before .before .before .before .before .before .before .before .args .funcs .now) (c .before .before .before .before .before .before .before .before .before .before .args .scope .now) (c .before .before .before .before .before .before .before .before .before .before .args .n) (c .before .before .before .before .before .before .before .before .before .before .args .at) (c .before .before .before .before .before .before .before .before .before .before .args .w) (c .before .before .before .before .before .before .before .before .before .before .args .out .now) (c .lost4 .result) (c .before .before .before .before .before .before .before .before .before .before .args .out .now) (λ e. c .before .before .before .if1 .left (c .before .before .before .before .cell .ensures ∙ e)) (λ e. c .before .before .if4 .left (c .before .before .before .before .cell .ensures ∙ e)) (λ e. c .before .if6 .taken (c .before .before .before .before .cell .ensures ∙ e)))
 
-data-term-add-cell-3 : (t : ℕ) → data-term-lts.Need-add-cell-3 (
-  cell-reads.Asked,
-  cell-reads.Learnt,
-  lost-reads.Asked,
-  lost-reads.Learnt,
-  put-reads.Asked,
-  put-reads.Learnt,
-  scope-number-reads.Asked,
-  scope-number-reads.Learnt,
-  short-reads.Asked,
-  short-reads.Learnt,
-  number-of-reads.Asked,
-  number-of-reads.Learnt,
-  data-list-below t,
-  data-list.Post,
-) (data-term-at t) data-term.Post
+data-term-add-cell-3 : (t : ℕ) → data-term-lts.Need-add-cell-3 (data-term-calls t) (data-term-at t) data-term.Post
 data-term-add-cell-3 t c =
     let l = live (c .before .before .before .before .before .before .before .before .before .args .raw .now) (c .before .before .before .before .before .before .before .before .before .args .at) (let k = c .before .before .before .cell .ensures in omega arith) in
     omega arith
 
-data-term-cell-requires-4 : (t : ℕ) → data-term-lts.Need-cell-requires-4 (
-  cell-reads.Asked,
-  cell-reads.Learnt,
-  lost-reads.Asked,
-  lost-reads.Learnt,
-  put-reads.Asked,
-  put-reads.Learnt,
-  scope-number-reads.Asked,
-  scope-number-reads.Learnt,
-  short-reads.Asked,
-  short-reads.Learnt,
-  number-of-reads.Asked,
-  number-of-reads.Learnt,
-  data-list-below t,
-  data-list.Post,
-) (data-term-at t) data-term.Post
+data-term-cell-requires-4 : (t : ℕ) → data-term-lts.Need-cell-requires-4 (data-term-calls t) (data-term-at t) data-term.Post
 data-term-cell-requires-4 t c κs = tt
 
-data-term-number-of-requires : (t : ℕ) → data-term-lts.Need-number-of-requires (
-  cell-reads.Asked,
-  cell-reads.Learnt,
-  lost-reads.Asked,
-  lost-reads.Learnt,
-  put-reads.Asked,
-  put-reads.Learnt,
-  scope-number-reads.Asked,
-  scope-number-reads.Learnt,
-  short-reads.Asked,
-  short-reads.Learnt,
-  number-of-reads.Asked,
-  number-of-reads.Learnt,
-  data-list-below t,
-  data-list.Post,
-) (data-term-at t) data-term.Post
+data-term-number-of-requires : (t : ℕ) → data-term-lts.Need-number-of-requires (data-term-calls t) (data-term-at t) data-term.Post
 data-term-number-of-requires t c κs = omega arith
 
-data-term-lost-requires-5 : (t : ℕ) → data-term-lts.Need-lost-requires-5 (
-  cell-reads.Asked,
-  cell-reads.Learnt,
-  lost-reads.Asked,
-  lost-reads.Learnt,
-  put-reads.Asked,
-  put-reads.Learnt,
-  scope-number-reads.Asked,
-  scope-number-reads.Learnt,
-  short-reads.Asked,
-  short-reads.Learnt,
-  number-of-reads.Asked,
-  number-of-reads.Learnt,
-  data-list-below t,
-  data-list.Post,
-) (data-term-at t) data-term.Post
+data-term-lost-requires-5 : (t : ℕ) → data-term-lts.Need-lost-requires-5 (data-term-calls t) (data-term-at t) data-term.Post
 data-term-lost-requires-5 t c κs = tt
 
-data-term-returns-7 : (t : ℕ) → data-term-lts.Need-returns-7 (
-  cell-reads.Asked,
-  cell-reads.Learnt,
-  lost-reads.Asked,
-  lost-reads.Learnt,
-  put-reads.Asked,
-  put-reads.Learnt,
-  scope-number-reads.Asked,
-  scope-number-reads.Learnt,
-  short-reads.Asked,
-  short-reads.Learnt,
-  number-of-reads.Asked,
-  number-of-reads.Learnt,
-  data-list-below t,
-  data-list.Post,
-) (data-term-at t) data-term.Post
+data-term-returns-7 : (t : ℕ) → data-term-lts.Need-returns-7 (data-term-calls t) (data-term-at t) data-term.Post
 data-term-returns-7 t c = (let z = c .lost5 .ensures in omega arith, apply-lost (c .before .before .before .before .before .before .before .before .before .before .before .before .before .args .s .now) (c .before .before .before .before .before .before .before .before .before .before .before .before .before .args .raw .now) (c .before .before .before .before .before .before .before .before .before .before .before .before .before .args .funcs .now) (c .before .before .before .before .before .before .before .before .before .before .before .before .before .args .scope .now) (c .before .before .before .before .before .before .before .before .before .before .before .before .before .args .n) (c .before .before .before .before .before .before .before .before .before .before .before .before .before .args .at) (c .before .before .before .before .before .before .before .before .before .before .before .before .before .args .w) (c .before .before .before .before .before .before .before .before .before .before .before .before .before .args .out .now) (sym (c .before .before .before .before .before .before .before .cell .ensures) ∙ (let z = c .before .before .before .before .if6 .left in omega arith)) (c .before .before .before .cell4 .result) (c .before .before .number-of .result) (c .before .before .before .cell4 .ensures) (c .before .before .number-of .ensures .1) (c .lost5 .result) (c .before .before .before .before .before .before .before .before .before .before .before .before .before .args .out .now) (c .lost5 .ensures) (c .before .if7 .taken))
 
-data-term-mul-short-2 : (t : ℕ) → data-term-lts.Need-mul-short-2 (
-  cell-reads.Asked,
-  cell-reads.Learnt,
-  lost-reads.Asked,
-  lost-reads.Learnt,
-  put-reads.Asked,
-  put-reads.Learnt,
-  scope-number-reads.Asked,
-  scope-number-reads.Learnt,
-  short-reads.Asked,
-  short-reads.Learnt,
-  number-of-reads.Asked,
-  number-of-reads.Learnt,
-  data-list-below t,
-  data-list.Post,
-) (data-term-at t) data-term.Post
+data-term-mul-short-2 : (t : ℕ) → data-term-lts.Need-mul-short-2 (data-term-calls t) (data-term-at t) data-term.Post
 data-term-mul-short-2 t c = omega arith
 
-data-term-add-short-2 : (t : ℕ) → data-term-lts.Need-add-short-2 (
-  cell-reads.Asked,
-  cell-reads.Learnt,
-  lost-reads.Asked,
-  lost-reads.Learnt,
-  put-reads.Asked,
-  put-reads.Learnt,
-  scope-number-reads.Asked,
-  scope-number-reads.Learnt,
-  short-reads.Asked,
-  short-reads.Learnt,
-  number-of-reads.Asked,
-  number-of-reads.Learnt,
-  data-list-below t,
-  data-list.Post,
-) (data-term-at t) data-term.Post
+data-term-add-short-2 : (t : ℕ) → data-term-lts.Need-add-short-2 (data-term-calls t) (data-term-at t) data-term.Post
 data-term-add-short-2 t c = omega arith
 
-data-term-short-requires-2 : (t : ℕ) → data-term-lts.Need-short-requires-2 (
-  cell-reads.Asked,
-  cell-reads.Learnt,
-  lost-reads.Asked,
-  lost-reads.Learnt,
-  put-reads.Asked,
-  put-reads.Learnt,
-  scope-number-reads.Asked,
-  scope-number-reads.Learnt,
-  short-reads.Asked,
-  short-reads.Learnt,
-  number-of-reads.Asked,
-  number-of-reads.Learnt,
-  data-list-below t,
-  data-list.Post,
-) (data-term-at t) data-term.Post
+data-term-short-requires-2 : (t : ℕ) → data-term-lts.Need-short-requires-2 (data-term-calls t) (data-term-at t) data-term.Post
 data-term-short-requires-2 t c κs = tt
 
-data-term-put-requires-3 : (t : ℕ) → data-term-lts.Need-put-requires-3 (
-  cell-reads.Asked,
-  cell-reads.Learnt,
-  lost-reads.Asked,
-  lost-reads.Learnt,
-  put-reads.Asked,
-  put-reads.Learnt,
-  scope-number-reads.Asked,
-  scope-number-reads.Learnt,
-  short-reads.Asked,
-  short-reads.Learnt,
-  number-of-reads.Asked,
-  number-of-reads.Learnt,
-  data-list-below t,
-  data-list.Post,
-) (data-term-at t) data-term.Post
+data-term-put-requires-3 : (t : ℕ) → data-term-lts.Need-put-requires-3 (data-term-calls t) (data-term-at t) data-term.Post
 data-term-put-requires-3 t c κs = tt
 
-data-term-put-requires-4 : (t : ℕ) → data-term-lts.Need-put-requires-4 (
-  cell-reads.Asked,
-  cell-reads.Learnt,
-  lost-reads.Asked,
-  lost-reads.Learnt,
-  put-reads.Asked,
-  put-reads.Learnt,
-  scope-number-reads.Asked,
-  scope-number-reads.Learnt,
-  short-reads.Asked,
-  short-reads.Learnt,
-  number-of-reads.Asked,
-  number-of-reads.Learnt,
-  data-list-below t,
-  data-list.Post,
-) (data-term-at t) data-term.Post
+data-term-put-requires-4 : (t : ℕ) → data-term-lts.Need-put-requires-4 (data-term-calls t) (data-term-at t) data-term.Post
 data-term-put-requires-4 t c κs = tt
 
-data-term-add-data-list : (t : ℕ) → data-term-lts.Need-add-data-list (
-  cell-reads.Asked,
-  cell-reads.Learnt,
-  lost-reads.Asked,
-  lost-reads.Learnt,
-  put-reads.Asked,
-  put-reads.Learnt,
-  scope-number-reads.Asked,
-  scope-number-reads.Learnt,
-  short-reads.Asked,
-  short-reads.Learnt,
-  number-of-reads.Asked,
-  number-of-reads.Learnt,
-  data-list-below t,
-  data-list.Post,
-) (data-term-at t) data-term.Post
+data-term-add-data-list : (t : ℕ) → data-term-lts.Need-add-data-list (data-term-calls t) (data-term-at t) data-term.Post
 data-term-add-data-list t c =
     let l = live (c .before .before .before .before .before .before .before .before .before .before .before .before .before .before .before .before .before .before .before .before .before .args .raw .now) (c .before .before .before .before .before .before .before .before .before .before .before .before .before .before .before .before .before .before .before .before .before .args .at) (let k = c .before .before .before .before .before .before .before .before .before .before .before .before .before .before .before .cell .ensures in omega arith) in
     omega arith
 
-data-term-data-list-requires : (t : ℕ) → data-term-lts.Need-data-list-requires (
-  cell-reads.Asked,
-  cell-reads.Learnt,
-  lost-reads.Asked,
-  lost-reads.Learnt,
-  put-reads.Asked,
-  put-reads.Learnt,
-  scope-number-reads.Asked,
-  scope-number-reads.Learnt,
-  short-reads.Asked,
-  short-reads.Learnt,
-  number-of-reads.Asked,
-  number-of-reads.Learnt,
-  data-list-below t,
-  data-list.Post,
-) (data-term-at t) data-term.Post
+data-term-data-list-requires : (t : ℕ) → data-term-lts.Need-data-list-requires (data-term-calls t) (data-term-at t) data-term.Post
 data-term-data-list-requires t c κs =
     let q = c .before .before .before .before .before .before .before .before .before .before .before .before .before .before .before .before .before .before .before .before .before .before .pre .1 in
     let m = c .before .before .before .before .before .before .before .before .before .before .before .before .before .before .before .before .before .before .before .before .before .before .pre .0 in
     let l = live (c .before .before .before .before .before .before .before .before .before .before .before .before .before .before .before .before .before .before .before .before .before .before .args .raw .now) (c .before .before .before .before .before .before .before .before .before .before .before .before .before .before .before .before .before .before .before .before .before .before .args .at) (let k = c .before .before .before .before .before .before .before .before .before .before .before .before .before .before .before .before .cell .ensures in omega arith) in
     (omega arith, omega arith)
 
-data-term-short-requires-3 : (t : ℕ) → data-term-lts.Need-short-requires-3 (
-  cell-reads.Asked,
-  cell-reads.Learnt,
-  lost-reads.Asked,
-  lost-reads.Learnt,
-  put-reads.Asked,
-  put-reads.Learnt,
-  scope-number-reads.Asked,
-  scope-number-reads.Learnt,
-  short-reads.Asked,
-  short-reads.Learnt,
-  number-of-reads.Asked,
-  number-of-reads.Learnt,
-  data-list-below t,
-  data-list.Post,
-) (data-term-at t) data-term.Post
+data-term-short-requires-3 : (t : ℕ) → data-term-lts.Need-short-requires-3 (data-term-calls t) (data-term-at t) data-term.Post
 data-term-short-requires-3 t c κs = tt
 
-data-term-put-requires-5 : (t : ℕ) → data-term-lts.Need-put-requires-5 (
-  cell-reads.Asked,
-  cell-reads.Learnt,
-  lost-reads.Asked,
-  lost-reads.Learnt,
-  put-reads.Asked,
-  put-reads.Learnt,
-  scope-number-reads.Asked,
-  scope-number-reads.Learnt,
-  short-reads.Asked,
-  short-reads.Learnt,
-  number-of-reads.Asked,
-  number-of-reads.Learnt,
-  data-list-below t,
-  data-list.Post,
-) (data-term-at t) data-term.Post
+data-term-put-requires-5 : (t : ℕ) → data-term-lts.Need-put-requires-5 (data-term-calls t) (data-term-at t) data-term.Post
 data-term-put-requires-5 t c κs = tt
 
-data-term-same-length-3 : (t : ℕ) → data-term-lts.Need-same-length-3 (
-  cell-reads.Asked,
-  cell-reads.Learnt,
-  lost-reads.Asked,
-  lost-reads.Learnt,
-  put-reads.Asked,
-  put-reads.Learnt,
-  scope-number-reads.Asked,
-  scope-number-reads.Learnt,
-  short-reads.Asked,
-  short-reads.Learnt,
-  number-of-reads.Asked,
-  number-of-reads.Learnt,
-  data-list-below t,
-  data-list.Post,
-) (data-term-at t) data-term.Post
+data-term-same-length-3 : (t : ℕ) → data-term-lts.Need-same-length-3 (data-term-calls t) (data-term-at t) data-term.Post
 data-term-same-length-3 t c = c .before .before .put5 .kept .0 ∙ c .before .before .before .before .before .before .before .data-list .kept .1 .1 .1 .1 .1 .1 .0 ∙ c .before .before .before .before .before .before .before .before .before .before .before .put4 .kept .0 ∙ c .before .before .before .before .before .before .before .before .before .before .before .before .before .before .before .put3 .kept .0
 
-data-term-returns-8 : (t : ℕ) → data-term-lts.Need-returns-8 (
-  cell-reads.Asked,
-  cell-reads.Learnt,
-  lost-reads.Asked,
-  lost-reads.Learnt,
-  put-reads.Asked,
-  put-reads.Learnt,
-  scope-number-reads.Asked,
-  scope-number-reads.Learnt,
-  short-reads.Asked,
-  short-reads.Learnt,
-  number-of-reads.Asked,
-  number-of-reads.Learnt,
-  data-list-below t,
-  data-list.Post,
-) (data-term-at t) data-term.Post
+data-term-returns-8 : (t : ℕ) → data-term-lts.Need-returns-8 (data-term-calls t) (data-term-at t) data-term.Post
 data-term-returns-8 t c =
     let q = c .before .before .before .before .before .before .before .before .before .before .before .before .before .before .before .before .before .before .before .before .before .before .before .before .before .before .before .before .before .before .pre .1 in
     let l = live (c .before .before .before .before .before .before .before .before .before .before .before .before .before .before .before .before .before .before .before .before .before .before .before .before .before .before .before .before .before .before .args .raw .now) (c .before .before .before .before .before .before .before .before .before .before .before .before .before .before .before .before .before .before .before .before .before .before .before .before .before .before .before .before .before .before .args .at) (let k = c .before .before .before .before .before .before .before .before .before .before .before .before .before .before .before .before .before .before .before .before .before .before .before .before .cell .ensures in omega arith) in
@@ -1014,14 +278,7 @@ data-term-returns-8 t c =
     (omega arith, apply-took (c .before .before .before .before .before .before .before .before .before .before .before .before .before .before .before .before .before .before .before .before .before .before .before .before .before .before .before .before .before .before .args .s .now) (c .before .before .before .before .before .before .before .before .before .before .before .before .before .before .before .before .before .before .before .before .before .before .before .before .before .before .before .before .before .before .args .raw .now) (c .before .before .before .before .before .before .before .before .before .before .before .before .before .before .before .before .before .before .before .before .before .before .before .before .before .before .before .before .before .before .args .funcs .now) (c .before .before .before .before .before .before .before .before .before .before .before .before .before .before .before .before .before .before .before .before .before .before .before .before .before .before .before .before .before .before .args .scope .now) (c .before .before .before .before .before .before .before .before .before .before .before .before .before .before .before .before .before .before .before .before .before .before .before .before .before .before .before .before .before .before .args .n) (c .before .before .before .before .before .before .before .before .before .before .before .before .before .before .before .before .before .before .before .before .before .before .before .before .before .before .before .before .before .before .args .at) (c .before .before .before .before .before .before .before .before .before .before .before .before .before .before .before .before .before .before .before .before .before .before .before .before .before .before .before .before .before .before .args .w) (c .before .before .before .before .before .before .before .before .before .before .before .before .before .before .before .before .before .before .before .before .before .before .before .before .before .before .before .before .before .before .args .out .now) (sym (c .before .before .before .before .before .before .before .before .before .before .before .before .before .before .before .before .before .before .before .before .before .before .before .before .cell .ensures) ∙ (let z = c .before .before .before .before .before .before .before .before .before .before .before .before .before .before .before .before .before .before .before .before .before .if6 .left in omega arith)) (c .before .before .before .before .before .before .before .before .before .before .before .before .before .before .before .before .before .before .before .before .cell4 .result) (c .before .before .before .before .before .before .before .before .before .before .before .before .before .before .before .before .before .before .before .number-of .result) (c .before .before .before .before .before .before .before .before .before .before .before .before .before .before .before .before .before .before .before .before .cell4 .ensures) (c .before .before .before .before .before .before .before .before .before .before .before .before .before .before .before .before .before .before .before .number-of .ensures .1) (c .before .before .before .before .before .before .before .before .before .before .before .before .before .before .before .before .short2 .result) (c .before .before .before .before .before .before .before .before .before .before .before .before .before .before .before .put3 .result) (c .before .before .before .before .before .before .before .before .before .before .before .put4 .result) (c .before .before .put5 .result) (c .before .before .before .short3 .result) (c .before .before .before .before .before .before .before .data-list .result) (c .before .before .before .before .before .before .before .before .before .before .before .before .before .before .before .put3 .last .0) (c .before .before .before .before .before .before .before .before .before .before .before .put4 .last .0) (c .before .before .before .before .before .before .before .data-list .last .1 .1 .1 .1 .1 .1 .0) (c .before .before .put5 .last .0) (c .before .before .before .before .before .before .before .before .before .before .before .before .before .before .before .before .before .before .if7 .left) (c .before .before .before .before .before .before .before .before .before .before .before .before .before .before .before .before .short2 .ensures (omega arith)) (c .before .before .before .before .before .before .before .before .before .before .before .before .before .before .before .put3 .ensures) (c .before .before .before .before .before .before .before .before .before .before .before .put4 .ensures) (c .before .before .before .before .before .before .before .data-list .ensures .1) (c .before .before .before .short3 .ensures) (c .before .before .put5 .ensures))
 
 pub +data-list+data-term-spec : {M : Type 1} → statement M
-+data-list+data-term-spec = close μ-data-list μ-data-term (λ t. data-list-lts.spec (
-  cell-reads.Asked,
-  cell-reads.Learnt,
-  data-term-below t,
-  data-term.Post,
-  lost-reads.Asked,
-  lost-reads.Learnt,
-)
++data-list+data-term-spec = close μ-data-list μ-data-term (λ t. data-list-lts.spec (data-list-calls t)
     (data-list-at t)
     data-list.Post
     data-list-Inv-loop
@@ -1042,22 +299,7 @@ pub +data-list+data-term-spec : {M : Type 1} → statement M
     (data-list-add-t22 t)
     (data-list-same-length-2 t)
     (data-list-returns-2 t))
-    λ t. data-term-lts.spec (
-      cell-reads.Asked,
-      cell-reads.Learnt,
-      lost-reads.Asked,
-      lost-reads.Learnt,
-      put-reads.Asked,
-      put-reads.Learnt,
-      scope-number-reads.Asked,
-      scope-number-reads.Learnt,
-      short-reads.Asked,
-      short-reads.Learnt,
-      number-of-reads.Asked,
-      number-of-reads.Learnt,
-      data-list-below t,
-      data-list.Post,
-    )
+    λ t. data-term-lts.spec (data-term-calls t)
     (data-term-at t)
     data-term.Post
     (data-term-cell-requires t)

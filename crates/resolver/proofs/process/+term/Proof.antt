@@ -31,224 +31,56 @@ term-at t = and 8 term-kinds.ps (is 8 term-kinds.ps μ-term t) term.Pre
 abbrev term-below : ℕ → In 8 term-kinds.ps
 term-below t = and 8 term-kinds.ps (falls 8 term-kinds.ps _<_ μ-term t) term.Pre
 
+abbrev term-calls : ℕ → term-lts.Claims
+term-calls t = (cell-reads.Asked, cell-reads.Learnt, binder-reads.Asked, binder-reads.Learnt, tokens-reads.Asked, tokens-reads.Learnt, named-part-reads.Asked, named-part-reads.Learnt, kids-reads.Asked, kids-reads.Learnt, constant-reads.Asked, constant-reads.Learnt, fork-reads.Asked, fork-reads.Learnt, term-below t, term.Post, lost-reads.Asked, lost-reads.Learnt)
+
 abbrev term-Inv-loop : term-lts.InvT-loop
 term-Inv-loop s raw sorts funcs acts procs scope₀ n at after out₀ w p₀ m₀ r₀ v₀ scope out p m r v = ((at ≤ p) × (n ≤ m) × (m ≤ length scope) × (length scope ≡ length scope₀) × (length out ≡ length out₀)) × (take n scope ≡ take n scope₀) × TermLeft s raw sorts funcs acts procs scope₀ n at after w out₀ p m r v scope out
 
 abbrev term-μ-loop : term-lts.MeasureT-loop
 term-μ-loop s raw sorts funcs acts procs scope₀ n at after out₀ w p₀ m₀ r₀ v₀ scope out p m r v = length raw - p
 
-term-loop-holds : (t : ℕ) → term-lts.Need-loop-holds (
-  cell-reads.Asked,
-  cell-reads.Learnt,
-  binder-reads.Asked,
-  binder-reads.Learnt,
-  tokens-reads.Asked,
-  tokens-reads.Learnt,
-  named-part-reads.Asked,
-  named-part-reads.Learnt,
-  kids-reads.Asked,
-  kids-reads.Learnt,
-  constant-reads.Asked,
-  constant-reads.Learnt,
-  fork-reads.Asked,
-  fork-reads.Learnt,
-  term-below t,
-  term.Post,
-  lost-reads.Asked,
-  lost-reads.Learnt,
-) (term-at t) term.Post term-Inv-loop term-μ-loop
+term-loop-holds : (t : ℕ) → term-lts.Need-loop-holds (term-calls t) (term-at t) term.Post term-Inv-loop term-μ-loop
 term-loop-holds t c =
     let q = c .before .before .before .before .before .before .before .before .pre .1 in
     (omega arith, refl, term-start (c .before .before .before .before .before .before .before .before .args .s .now) (c .before .before .before .before .before .before .before .before .args .raw .now) (c .before .before .before .before .before .before .before .before .args .sorts .now) (c .before .before .before .before .before .before .before .before .args .funcs .now) (c .before .before .before .before .before .before .before .before .args .acts .now) (c .before .before .before .before .before .before .before .before .args .procs .now) (c .before .before .before .before .before .before .before .before .args .scope .now) (c .before .before .before .before .before .before .before .before .args .n) (c .before .before .before .before .before .before .before .before .args .at) (c .before .before .before .before .before .before .before .before .args .after) (c .before .before .before .before .before .before .before .before .args .w) (c .before .before .before .before .before .before .before .before .args .out .now))
 
-term-cell-requires : (t : ℕ) → term-lts.Need-cell-requires (
-  cell-reads.Asked,
-  cell-reads.Learnt,
-  binder-reads.Asked,
-  binder-reads.Learnt,
-  tokens-reads.Asked,
-  tokens-reads.Learnt,
-  named-part-reads.Asked,
-  named-part-reads.Learnt,
-  kids-reads.Asked,
-  kids-reads.Learnt,
-  constant-reads.Asked,
-  constant-reads.Learnt,
-  fork-reads.Asked,
-  fork-reads.Learnt,
-  term-below t,
-  term.Post,
-  lost-reads.Asked,
-  lost-reads.Learnt,
-) (term-at t) term.Post term-Inv-loop term-μ-loop
+term-cell-requires : (t : ℕ) → term-lts.Need-cell-requires (term-calls t) (term-at t) term.Post term-Inv-loop term-μ-loop
 term-cell-requires t c κs = tt
 
-term-binder-requires : (t : ℕ) → term-lts.Need-binder-requires (
-  cell-reads.Asked,
-  cell-reads.Learnt,
-  binder-reads.Asked,
-  binder-reads.Learnt,
-  tokens-reads.Asked,
-  tokens-reads.Learnt,
-  named-part-reads.Asked,
-  named-part-reads.Learnt,
-  kids-reads.Asked,
-  kids-reads.Learnt,
-  constant-reads.Asked,
-  constant-reads.Learnt,
-  fork-reads.Asked,
-  fork-reads.Learnt,
-  term-below t,
-  term.Post,
-  lost-reads.Asked,
-  lost-reads.Learnt,
-) (term-at t) term.Post term-Inv-loop term-μ-loop
+term-binder-requires : (t : ℕ) → term-lts.Need-binder-requires (term-calls t) (term-at t) term.Post term-Inv-loop term-μ-loop
 term-binder-requires t c κs =
     let q = c .before .before .before .before .before .before .before .before .before .before .before .before .before .before .pre .1 in
     let i = c .before .before .before .before .before .loop .inv .0 in
     omega arith
 
-term-same-length : (t : ℕ) → term-lts.Need-same-length (
-  cell-reads.Asked,
-  cell-reads.Learnt,
-  binder-reads.Asked,
-  binder-reads.Learnt,
-  tokens-reads.Asked,
-  tokens-reads.Learnt,
-  named-part-reads.Asked,
-  named-part-reads.Learnt,
-  kids-reads.Asked,
-  kids-reads.Learnt,
-  constant-reads.Asked,
-  constant-reads.Learnt,
-  fork-reads.Asked,
-  fork-reads.Learnt,
-  term-below t,
-  term.Post,
-  lost-reads.Asked,
-  lost-reads.Learnt,
-) (term-at t) term.Post term-Inv-loop term-μ-loop
+term-same-length : (t : ℕ) → term-lts.Need-same-length (term-calls t) (term-at t) term.Post term-Inv-loop term-μ-loop
 term-same-length t c = c .before .before .before .before .before .before .binder .kept .1 .1 .1 .1 .1 .1 .0 ∙ c .before .before .before .before .before .before .before .before .before .before .before .before .loop .inv .0 .3
 
-term-same-length-2 : (t : ℕ) → term-lts.Need-same-length-2 (
-  cell-reads.Asked,
-  cell-reads.Learnt,
-  binder-reads.Asked,
-  binder-reads.Learnt,
-  tokens-reads.Asked,
-  tokens-reads.Learnt,
-  named-part-reads.Asked,
-  named-part-reads.Learnt,
-  kids-reads.Asked,
-  kids-reads.Learnt,
-  constant-reads.Asked,
-  constant-reads.Learnt,
-  fork-reads.Asked,
-  fork-reads.Learnt,
-  term-below t,
-  term.Post,
-  lost-reads.Asked,
-  lost-reads.Learnt,
-) (term-at t) term.Post term-Inv-loop term-μ-loop
+term-same-length-2 : (t : ℕ) → term-lts.Need-same-length-2 (term-calls t) (term-at t) term.Post term-Inv-loop term-μ-loop
 term-same-length-2 t c = c .before .before .before .before .before .before .binder .kept .1 .1 .1 .1 .1 .1 .1 .1 .1 .1 .0 ∙ c .before .before .before .before .before .before .before .before .before .before .before .before .loop .inv .0 .4
 
-term-returns : (t : ℕ) → term-lts.Need-returns (
-  cell-reads.Asked,
-  cell-reads.Learnt,
-  binder-reads.Asked,
-  binder-reads.Learnt,
-  tokens-reads.Asked,
-  tokens-reads.Learnt,
-  named-part-reads.Asked,
-  named-part-reads.Learnt,
-  kids-reads.Asked,
-  kids-reads.Learnt,
-  constant-reads.Asked,
-  constant-reads.Learnt,
-  fork-reads.Asked,
-  fork-reads.Learnt,
-  term-below t,
-  term.Post,
-  lost-reads.Asked,
-  lost-reads.Learnt,
-) (term-at t) term.Post term-Inv-loop term-μ-loop
+term-returns : (t : ℕ) → term-lts.Need-returns (term-calls t) (term-at t) term.Post term-Inv-loop term-μ-loop
 term-returns t c =
     let q = c .before .before .before .before .before .before .before .before .before .before .before .before .before .before .before .before .before .before .before .before .before .pre .1 in
     let i = c .before .before .before .before .before .before .before .before .before .before .before .before .loop .inv .0 in
     let z = c .if2 .taken in
     (omega arith, (kept-on (c .before .before .before .before .before .before .before .before .before .before .before .before .before .before .before .before .before .before .before .before .before .args .n) (c .before .before .before .before .before .before .before .before .before .before .before .before .loop .m) (c .before .before .before .before .before .before .binder .last .1 .1 .1 .1 .1 .1 .0) (c .before .before .before .before .before .before .before .before .before .before .before .before .loop .scope) (c .before .before .before .before .before .before .before .before .before .before .before .before .before .before .before .before .before .before .before .before .before .args .scope .now) (c .before .before .before .before .before .before .before .before .before .before .before .before .loop .inv .0 .1) (c .before .before .before .before .before .before .binder .ensures .1 .0) (c .before .before .before .before .before .before .before .before .before .before .before .before .loop .inv .1), binder-lost (c .before .before .before .before .before .before .before .before .before .before .before .before .before .before .before .before .before .before .before .before .before .args .s .now) (c .before .before .before .before .before .before .before .before .before .before .before .before .before .before .before .before .before .before .before .before .before .args .raw .now) (c .before .before .before .before .before .before .before .before .before .before .before .before .before .before .before .before .before .before .before .before .before .args .sorts .now) (c .before .before .before .before .before .before .before .before .before .before .before .before .before .before .before .before .before .before .before .before .before .args .funcs .now) (c .before .before .before .before .before .before .before .before .before .before .before .before .before .before .before .before .before .before .before .before .before .args .acts .now) (c .before .before .before .before .before .before .before .before .before .before .before .before .before .before .before .before .before .before .before .before .before .args .procs .now) (c .before .before .before .before .before .before .before .before .before .before .before .before .before .before .before .before .before .before .before .before .before .args .scope .now) (c .before .before .before .before .before .before .before .before .before .before .before .before .before .before .before .before .before .before .before .before .before .args .n) (c .before .before .before .before .before .before .before .before .before .before .before .before .before .before .before .before .before .before .before .before .before .args .at) (c .before .before .before .before .before .before .before .before .before .before .before .before .before .before .before .before .before .before .before .before .before .args .after) (c .before .before .before .before .before .before .before .before .before .before .before .before .before .before .before .before .before .before .before .before .before .args .w) (c .before .before .before .before .before .before .before .before .before .before .before .before .before .before .before .before .before .before .before .before .before .args .out .now) (c .before .before .before .before .before .before .before .before .before .before .before .before .loop .p) (c .before .before .before .before .before .before .before .before .before .before .before .before .loop .m) (c .before .before .before .before .before .before .before .before .before .before .before .before .loop .r) (c .before .before .before .before .before .before .before .before .before .before .before .before .loop .v) (c .before .before .before .before .before .before .before .before .before .before .before .before .loop .scope) (c .before .before .before .before .before .before .before .before .before .before .before .before .loop .out) (c .before .before .before .before .before .before .before .before .before .before .before .before .loop .inv .2) (sym (c .before .before .before .before .before .before .before .before .before .before .cell .ensures) ∙ c .before .before .before .before .before .before .before .before .before .if1 .taken) (c .before .before .before .before .before .before .before .before .before .before .before .loop-test .taken) (c .before .before .before .before .before .before .before .before .before .before .before .before .loop .inv .0 .3) (c .before .before .before .before .before .before .binder .result) (c .before .before .before .before .before .before .binder .last .1 .1 .1 .1 .1 .1 .1 .1 .1 .1 .0) (c .before .before .before .before .before .before .binder .ensures .1 .1 .1) (c .if2 .taken)))
 
-term-add-m : (t : ℕ) → term-lts.Need-add-m (
-  cell-reads.Asked,
-  cell-reads.Learnt,
-  binder-reads.Asked,
-  binder-reads.Learnt,
-  tokens-reads.Asked,
-  tokens-reads.Learnt,
-  named-part-reads.Asked,
-  named-part-reads.Learnt,
-  kids-reads.Asked,
-  kids-reads.Learnt,
-  constant-reads.Asked,
-  constant-reads.Learnt,
-  fork-reads.Asked,
-  fork-reads.Learnt,
-  term-below t,
-  term.Post,
-  lost-reads.Asked,
-  lost-reads.Learnt,
-) (term-at t) term.Post term-Inv-loop term-μ-loop
+term-add-m : (t : ℕ) → term-lts.Need-add-m (term-calls t) (term-at t) term.Post term-Inv-loop term-μ-loop
 term-add-m t c =
     let q = c .before .before .before .before .before .before .before .before .before .before .before .before .before .before .before .before .before .before .before .before .before .pre .1 in
     let i = c .before .before .before .before .before .before .before .before .before .before .before .before .loop .inv .0 in
     omega arith
 
-term-loop-less : (t : ℕ) → term-lts.Need-loop-less (
-  cell-reads.Asked,
-  cell-reads.Learnt,
-  binder-reads.Asked,
-  binder-reads.Learnt,
-  tokens-reads.Asked,
-  tokens-reads.Learnt,
-  named-part-reads.Asked,
-  named-part-reads.Learnt,
-  kids-reads.Asked,
-  kids-reads.Learnt,
-  constant-reads.Asked,
-  constant-reads.Learnt,
-  fork-reads.Asked,
-  fork-reads.Learnt,
-  term-below t,
-  term.Post,
-  lost-reads.Asked,
-  lost-reads.Learnt,
-) (term-at t) term.Post term-Inv-loop term-μ-loop
+term-loop-less : (t : ℕ) → term-lts.Need-loop-less (term-calls t) (term-at t) term.Post term-Inv-loop term-μ-loop
 term-loop-less t c =
     let q = c .before .before .before .before .before .before .before .before .before .before .before .before .before .before .before .before .before .before .before .before .before .pre .1 in
     let i = c .before .before .before .before .before .before .before .before .before .before .before .before .loop .inv .0 in
     let a = c .before .before .before .before .before .before .binder .ensures .0 in
     omega arith
 
-term-loop-again : (t : ℕ) → term-lts.Need-loop-again (
-  cell-reads.Asked,
-  cell-reads.Learnt,
-  binder-reads.Asked,
-  binder-reads.Learnt,
-  tokens-reads.Asked,
-  tokens-reads.Learnt,
-  named-part-reads.Asked,
-  named-part-reads.Learnt,
-  kids-reads.Asked,
-  kids-reads.Learnt,
-  constant-reads.Asked,
-  constant-reads.Learnt,
-  fork-reads.Asked,
-  fork-reads.Learnt,
-  term-below t,
-  term.Post,
-  lost-reads.Asked,
-  lost-reads.Learnt,
-) (term-at t) term.Post term-Inv-loop term-μ-loop
+term-loop-again : (t : ℕ) → term-lts.Need-loop-again (term-calls t) (term-at t) term.Post term-Inv-loop term-μ-loop
 term-loop-again t c =
     let q = c .before .before .before .before .before .before .before .before .before .before .before .before .before .before .before .before .before .before .before .before .before .pre .1 in
     let i = c .before .before .before .before .before .before .before .before .before .before .before .before .loop .inv .0 in
@@ -259,117 +91,22 @@ term-loop-again t c =
     let l = c .before .before .before .before .before .before .binder .kept .1 .1 .1 .1 .1 .1 .1 .1 .1 .1 .0 in
     (omega arith, kept-on (c .before .before .before .before .before .before .before .before .before .before .before .before .before .before .before .before .before .before .before .before .before .args .n) (c .before .before .before .before .before .before .before .before .before .before .before .before .loop .m) (c .before .before .before .before .before .before .binder .last .1 .1 .1 .1 .1 .1 .0) (c .before .before .before .before .before .before .before .before .before .before .before .before .loop .scope) (c .before .before .before .before .before .before .before .before .before .before .before .before .before .before .before .before .before .before .before .before .before .args .scope .now) (c .before .before .before .before .before .before .before .before .before .before .before .before .loop .inv .0 .1) (c .before .before .before .before .before .before .binder .ensures .1 .0) (c .before .before .before .before .before .before .before .before .before .before .before .before .loop .inv .1), term-binder (c .before .before .before .before .before .before .before .before .before .before .before .before .before .before .before .before .before .before .before .before .before .args .s .now) (c .before .before .before .before .before .before .before .before .before .before .before .before .before .before .before .before .before .before .before .before .before .args .raw .now) (c .before .before .before .before .before .before .before .before .before .before .before .before .before .before .before .before .before .before .before .before .before .args .sorts .now) (c .before .before .before .before .before .before .before .before .before .before .before .before .before .before .before .before .before .before .before .before .before .args .funcs .now) (c .before .before .before .before .before .before .before .before .before .before .before .before .before .before .before .before .before .before .before .before .before .args .acts .now) (c .before .before .before .before .before .before .before .before .before .before .before .before .before .before .before .before .before .before .before .before .before .args .procs .now) (c .before .before .before .before .before .before .before .before .before .before .before .before .before .before .before .before .before .before .before .before .before .args .scope .now) (c .before .before .before .before .before .before .before .before .before .before .before .before .before .before .before .before .before .before .before .before .before .args .n) (c .before .before .before .before .before .before .before .before .before .before .before .before .before .before .before .before .before .before .before .before .before .args .at) (c .before .before .before .before .before .before .before .before .before .before .before .before .before .before .before .before .before .before .before .before .before .args .after) (c .before .before .before .before .before .before .before .before .before .before .before .before .before .before .before .before .before .before .before .before .before .args .w) (c .before .before .before .before .before .before .before .before .before .before .before .before .before .before .before .before .before .before .before .before .before .args .out .now) (c .before .before .before .before .before .before .before .before .before .before .before .before .loop .p) (c .before .before .before .before .before .before .before .before .before .before .before .before .loop .m) (c .before .before .before .before .before .before .before .before .before .before .before .before .loop .r) (c .before .before .before .before .before .before .before .before .before .before .before .before .loop .v) (c .before .before .before .before .before .before .before .before .before .before .before .before .loop .scope) (c .before .before .before .before .before .before .before .before .before .before .before .before .loop .out) (c .before .before .before .before .before .before .before .before .before .before .before .before .loop .inv .2) (sym (c .before .before .before .before .before .before .before .before .before .before .cell .ensures) ∙ c .before .before .before .before .before .before .before .before .before .if1 .taken) (c .before .before .before .before .before .before .before .before .before .before .before .loop-test .taken) (c .before .before .before .before .before .before .before .before .before .before .before .before .loop .inv .0 .3) (c .before .before .before .before .before .before .binder .result) (c .before .before .before .before .before .before .binder .last .1 .1 .1 .1 .1 .1 .1 .1 .1 .1 .0) (c .before .before .before .before .before .before .binder .ensures .1 .1 .1) (c .before .before .before .before .before .before .binder .last .1 .1 .1 .1 .1 .1 .0) (c .before .before .before .before .before .before .binder .ensures .1 .1 .0) (c .if2 .left))
 
-term-tokens-requires : (t : ℕ) → term-lts.Need-tokens-requires (
-  cell-reads.Asked,
-  cell-reads.Learnt,
-  binder-reads.Asked,
-  binder-reads.Learnt,
-  tokens-reads.Asked,
-  tokens-reads.Learnt,
-  named-part-reads.Asked,
-  named-part-reads.Learnt,
-  kids-reads.Asked,
-  kids-reads.Learnt,
-  constant-reads.Asked,
-  constant-reads.Learnt,
-  fork-reads.Asked,
-  fork-reads.Learnt,
-  term-below t,
-  term.Post,
-  lost-reads.Asked,
-  lost-reads.Learnt,
-) (term-at t) term.Post term-Inv-loop term-μ-loop
+term-tokens-requires : (t : ℕ) → term-lts.Need-tokens-requires (term-calls t) (term-at t) term.Post term-Inv-loop term-μ-loop
 term-tokens-requires t c κs = tt
 
-term-named-part-requires : (t : ℕ) → term-lts.Need-named-part-requires (
-  cell-reads.Asked,
-  cell-reads.Learnt,
-  binder-reads.Asked,
-  binder-reads.Learnt,
-  tokens-reads.Asked,
-  tokens-reads.Learnt,
-  named-part-reads.Asked,
-  named-part-reads.Learnt,
-  kids-reads.Asked,
-  kids-reads.Learnt,
-  constant-reads.Asked,
-  constant-reads.Learnt,
-  fork-reads.Asked,
-  fork-reads.Learnt,
-  term-below t,
-  term.Post,
-  lost-reads.Asked,
-  lost-reads.Learnt,
-) (term-at t) term.Post term-Inv-loop term-μ-loop
+term-named-part-requires : (t : ℕ) → term-lts.Need-named-part-requires (term-calls t) (term-at t) term.Post term-Inv-loop term-μ-loop
 term-named-part-requires t c κs =
     let q = c .before .before .before .before .before .before .before .before .before .before .before .before .before .before .before .before .pre .1 in
     let i = c .before .before .before .before .before .before .before .loop .inv .0 in
     omega arith
 
-term-same-length-3 : (t : ℕ) → term-lts.Need-same-length-3 (
-  cell-reads.Asked,
-  cell-reads.Learnt,
-  binder-reads.Asked,
-  binder-reads.Learnt,
-  tokens-reads.Asked,
-  tokens-reads.Learnt,
-  named-part-reads.Asked,
-  named-part-reads.Learnt,
-  kids-reads.Asked,
-  kids-reads.Learnt,
-  constant-reads.Asked,
-  constant-reads.Learnt,
-  fork-reads.Asked,
-  fork-reads.Learnt,
-  term-below t,
-  term.Post,
-  lost-reads.Asked,
-  lost-reads.Learnt,
-) (term-at t) term.Post term-Inv-loop term-μ-loop
+term-same-length-3 : (t : ℕ) → term-lts.Need-same-length-3 (term-calls t) (term-at t) term.Post term-Inv-loop term-μ-loop
 term-same-length-3 t c = c .before .before .before .before .before .before .before .before .before .before .loop .inv .0 .3
 
-term-same-length-4 : (t : ℕ) → term-lts.Need-same-length-4 (
-  cell-reads.Asked,
-  cell-reads.Learnt,
-  binder-reads.Asked,
-  binder-reads.Learnt,
-  tokens-reads.Asked,
-  tokens-reads.Learnt,
-  named-part-reads.Asked,
-  named-part-reads.Learnt,
-  kids-reads.Asked,
-  kids-reads.Learnt,
-  constant-reads.Asked,
-  constant-reads.Learnt,
-  fork-reads.Asked,
-  fork-reads.Learnt,
-  term-below t,
-  term.Post,
-  lost-reads.Asked,
-  lost-reads.Learnt,
-) (term-at t) term.Post term-Inv-loop term-μ-loop
+term-same-length-4 : (t : ℕ) → term-lts.Need-same-length-4 (term-calls t) (term-at t) term.Post term-Inv-loop term-μ-loop
 term-same-length-4 t c = c .before .before .named-part .kept .1 .1 .1 .1 .1 .1 .1 .1 .1 .0 ∙ c .before .before .before .before .before .before .before .before .before .before .loop .inv .0 .4
 
-term-returns-2 : (t : ℕ) → term-lts.Need-returns-2 (
-  cell-reads.Asked,
-  cell-reads.Learnt,
-  binder-reads.Asked,
-  binder-reads.Learnt,
-  tokens-reads.Asked,
-  tokens-reads.Learnt,
-  named-part-reads.Asked,
-  named-part-reads.Learnt,
-  kids-reads.Asked,
-  kids-reads.Learnt,
-  constant-reads.Asked,
-  constant-reads.Learnt,
-  fork-reads.Asked,
-  fork-reads.Learnt,
-  term-below t,
-  term.Post,
-  lost-reads.Asked,
-  lost-reads.Learnt,
-) (term-at t) term.Post term-Inv-loop term-μ-loop
+term-returns-2 : (t : ℕ) → term-lts.Need-returns-2 (term-calls t) (term-at t) term.Post term-Inv-loop term-μ-loop
 term-returns-2 t c =
     let q = c .before .before .before .before .before .before .before .before .before .before .before .before .before .before .before .before .before .before .before .pre .1 in
     let i = c .before .before .before .before .before .before .before .before .before .before .loop .inv .0 in
@@ -377,114 +114,19 @@ term-returns-2 t c =
     let k = sym (c .before .before .before .before .before .before .tokens .ensures .0 ∙ ap tokens-of (c .before .before .before .before .before .before .before .before .cell .ensures)) in
     (omega arith, (c .before .before .before .before .before .before .before .before .before .before .loop .inv .1, term-named (c .before .before .before .before .before .before .before .before .before .before .before .before .before .before .before .before .before .before .before .args .s .now) (c .before .before .before .before .before .before .before .before .before .before .before .before .before .before .before .before .before .before .before .args .raw .now) (c .before .before .before .before .before .before .before .before .before .before .before .before .before .before .before .before .before .before .before .args .sorts .now) (c .before .before .before .before .before .before .before .before .before .before .before .before .before .before .before .before .before .before .before .args .funcs .now) (c .before .before .before .before .before .before .before .before .before .before .before .before .before .before .before .before .before .before .before .args .acts .now) (c .before .before .before .before .before .before .before .before .before .before .before .before .before .before .before .before .before .before .before .args .procs .now) (c .before .before .before .before .before .before .before .before .before .before .before .before .before .before .before .before .before .before .before .args .scope .now) (c .before .before .before .before .before .before .before .before .before .before .before .before .before .before .before .before .before .before .before .args .n) (c .before .before .before .before .before .before .before .before .before .before .before .before .before .before .before .before .before .before .before .args .at) (c .before .before .before .before .before .before .before .before .before .before .before .before .before .before .before .before .before .before .before .args .after) (c .before .before .before .before .before .before .before .before .before .before .before .before .before .before .before .before .before .before .before .args .w) (c .before .before .before .before .before .before .before .before .before .before .before .before .before .before .before .before .before .before .before .args .out .now) (c .before .before .before .before .before .before .before .before .before .before .loop .p) (c .before .before .before .before .before .before .before .before .before .before .loop .m) (c .before .before .before .before .before .before .before .before .before .before .loop .r) (c .before .before .before .before .before .before .before .before .before .before .loop .v) (c .before .before .before .before .before .before .before .before .before .before .loop .scope) (c .before .before .before .before .before .before .before .before .before .before .loop .out) (c .before .before .before .before .before .before .before .before .before .before .loop .inv .2) (c .before .before .before .before .before .before .before .before .before .loop-test .taken) (omega arith) (λ e. c .before .before .before .before .before .before .before .if1 .left (c .before .before .before .before .before .before .before .before .cell .ensures ∙ e)) (c .before .before .named-part .result) (c .before .before .named-part .last .1 .1 .1 .1 .1 .1 .1 .1 .1 .0) (c .before .before .named-part .ensures .1)))
 
-term-kids-requires : (t : ℕ) → term-lts.Need-kids-requires (
-  cell-reads.Asked,
-  cell-reads.Learnt,
-  binder-reads.Asked,
-  binder-reads.Learnt,
-  tokens-reads.Asked,
-  tokens-reads.Learnt,
-  named-part-reads.Asked,
-  named-part-reads.Learnt,
-  kids-reads.Asked,
-  kids-reads.Learnt,
-  constant-reads.Asked,
-  constant-reads.Learnt,
-  fork-reads.Asked,
-  fork-reads.Learnt,
-  term-below t,
-  term.Post,
-  lost-reads.Asked,
-  lost-reads.Learnt,
-) (term-at t) term.Post term-Inv-loop term-μ-loop
+term-kids-requires : (t : ℕ) → term-lts.Need-kids-requires (term-calls t) (term-at t) term.Post term-Inv-loop term-μ-loop
 term-kids-requires t c κs = tt
 
-term-constant-requires : (t : ℕ) → term-lts.Need-constant-requires (
-  cell-reads.Asked,
-  cell-reads.Learnt,
-  binder-reads.Asked,
-  binder-reads.Learnt,
-  tokens-reads.Asked,
-  tokens-reads.Learnt,
-  named-part-reads.Asked,
-  named-part-reads.Learnt,
-  kids-reads.Asked,
-  kids-reads.Learnt,
-  constant-reads.Asked,
-  constant-reads.Learnt,
-  fork-reads.Asked,
-  fork-reads.Learnt,
-  term-below t,
-  term.Post,
-  lost-reads.Asked,
-  lost-reads.Learnt,
-) (term-at t) term.Post term-Inv-loop term-μ-loop
+term-constant-requires : (t : ℕ) → term-lts.Need-constant-requires (term-calls t) (term-at t) term.Post term-Inv-loop term-μ-loop
 term-constant-requires t c κs = omega arith
 
-term-same-length-5 : (t : ℕ) → term-lts.Need-same-length-5 (
-  cell-reads.Asked,
-  cell-reads.Learnt,
-  binder-reads.Asked,
-  binder-reads.Learnt,
-  tokens-reads.Asked,
-  tokens-reads.Learnt,
-  named-part-reads.Asked,
-  named-part-reads.Learnt,
-  kids-reads.Asked,
-  kids-reads.Learnt,
-  constant-reads.Asked,
-  constant-reads.Learnt,
-  fork-reads.Asked,
-  fork-reads.Learnt,
-  term-below t,
-  term.Post,
-  lost-reads.Asked,
-  lost-reads.Learnt,
-) (term-at t) term.Post term-Inv-loop term-μ-loop
+term-same-length-5 : (t : ℕ) → term-lts.Need-same-length-5 (term-calls t) (term-at t) term.Post term-Inv-loop term-μ-loop
 term-same-length-5 t c = c .before .before .before .before .before .before .before .before .before .before .before .loop .inv .0 .3
 
-term-same-length-6 : (t : ℕ) → term-lts.Need-same-length-6 (
-  cell-reads.Asked,
-  cell-reads.Learnt,
-  binder-reads.Asked,
-  binder-reads.Learnt,
-  tokens-reads.Asked,
-  tokens-reads.Learnt,
-  named-part-reads.Asked,
-  named-part-reads.Learnt,
-  kids-reads.Asked,
-  kids-reads.Learnt,
-  constant-reads.Asked,
-  constant-reads.Learnt,
-  fork-reads.Asked,
-  fork-reads.Learnt,
-  term-below t,
-  term.Post,
-  lost-reads.Asked,
-  lost-reads.Learnt,
-) (term-at t) term.Post term-Inv-loop term-μ-loop
+term-same-length-6 : (t : ℕ) → term-lts.Need-same-length-6 (term-calls t) (term-at t) term.Post term-Inv-loop term-μ-loop
 term-same-length-6 t c = c .before .before .constant .kept .1 .1 .1 .0 ∙ c .before .before .before .before .before .before .before .before .before .before .before .loop .inv .0 .4
 
-term-returns-3 : (t : ℕ) → term-lts.Need-returns-3 (
-  cell-reads.Asked,
-  cell-reads.Learnt,
-  binder-reads.Asked,
-  binder-reads.Learnt,
-  tokens-reads.Asked,
-  tokens-reads.Learnt,
-  named-part-reads.Asked,
-  named-part-reads.Learnt,
-  kids-reads.Asked,
-  kids-reads.Learnt,
-  constant-reads.Asked,
-  constant-reads.Learnt,
-  fork-reads.Asked,
-  fork-reads.Learnt,
-  term-below t,
-  term.Post,
-  lost-reads.Asked,
-  lost-reads.Learnt,
-) (term-at t) term.Post term-Inv-loop term-μ-loop
+term-returns-3 : (t : ℕ) → term-lts.Need-returns-3 (term-calls t) (term-at t) term.Post term-Inv-loop term-μ-loop
 term-returns-3 t c =
     let q = c .before .before .before .before .before .before .before .before .before .before .before .before .before .before .before .before .before .before .before .before .pre .1 in
     let i = c .before .before .before .before .before .before .before .before .before .before .before .loop .inv .0 in
@@ -493,70 +135,13 @@ term-returns-3 t c =
     let a = c .before .before .constant .ensures .0 in
     (omega arith, (c .before .before .before .before .before .before .before .before .before .before .before .loop .inv .1, term-constant (c .before .before .before .before .before .before .before .before .before .before .before .before .before .before .before .before .before .before .before .before .args .s .now) (c .before .before .before .before .before .before .before .before .before .before .before .before .before .before .before .before .before .before .before .before .args .raw .now) (c .before .before .before .before .before .before .before .before .before .before .before .before .before .before .before .before .before .before .before .before .args .sorts .now) (c .before .before .before .before .before .before .before .before .before .before .before .before .before .before .before .before .before .before .before .before .args .funcs .now) (c .before .before .before .before .before .before .before .before .before .before .before .before .before .before .before .before .before .before .before .before .args .acts .now) (c .before .before .before .before .before .before .before .before .before .before .before .before .before .before .before .before .before .before .before .before .args .procs .now) (c .before .before .before .before .before .before .before .before .before .before .before .before .before .before .before .before .before .before .before .before .args .scope .now) (c .before .before .before .before .before .before .before .before .before .before .before .before .before .before .before .before .before .before .before .before .args .n) (c .before .before .before .before .before .before .before .before .before .before .before .before .before .before .before .before .before .before .before .before .args .at) (c .before .before .before .before .before .before .before .before .before .before .before .before .before .before .before .before .before .before .before .before .args .after) (c .before .before .before .before .before .before .before .before .before .before .before .before .before .before .before .before .before .before .before .before .args .w) (c .before .before .before .before .before .before .before .before .before .before .before .before .before .before .before .before .before .before .before .before .args .out .now) (c .before .before .before .before .before .before .before .before .before .before .before .loop .p) (c .before .before .before .before .before .before .before .before .before .before .before .loop .m) (c .before .before .before .before .before .before .before .before .before .before .before .loop .r) (c .before .before .before .before .before .before .before .before .before .before .before .loop .v) (c .before .before .before .before .before .before .before .before .before .before .before .loop .scope) (c .before .before .before .before .before .before .before .before .before .before .before .loop .out) (c .before .before .before .before .before .before .before .before .before .before .before .loop .inv .2) (c .before .before .before .before .before .before .before .before .before .before .loop-test .taken) (omega arith) (omega arith) (c .before .before .constant .result) (c .before .before .constant .last .1 .1 .1 .0) (c .before .before .constant .ensures .1)))
 
-term-add-p : (t : ℕ) → term-lts.Need-add-p (
-  cell-reads.Asked,
-  cell-reads.Learnt,
-  binder-reads.Asked,
-  binder-reads.Learnt,
-  tokens-reads.Asked,
-  tokens-reads.Learnt,
-  named-part-reads.Asked,
-  named-part-reads.Learnt,
-  kids-reads.Asked,
-  kids-reads.Learnt,
-  constant-reads.Asked,
-  constant-reads.Learnt,
-  fork-reads.Asked,
-  fork-reads.Learnt,
-  term-below t,
-  term.Post,
-  lost-reads.Asked,
-  lost-reads.Learnt,
-) (term-at t) term.Post term-Inv-loop term-μ-loop
+term-add-p : (t : ℕ) → term-lts.Need-add-p (term-calls t) (term-at t) term.Post term-Inv-loop term-μ-loop
 term-add-p t c = omega arith
 
-term-loop-less-2 : (t : ℕ) → term-lts.Need-loop-less-2 (
-  cell-reads.Asked,
-  cell-reads.Learnt,
-  binder-reads.Asked,
-  binder-reads.Learnt,
-  tokens-reads.Asked,
-  tokens-reads.Learnt,
-  named-part-reads.Asked,
-  named-part-reads.Learnt,
-  kids-reads.Asked,
-  kids-reads.Learnt,
-  constant-reads.Asked,
-  constant-reads.Learnt,
-  fork-reads.Asked,
-  fork-reads.Learnt,
-  term-below t,
-  term.Post,
-  lost-reads.Asked,
-  lost-reads.Learnt,
-) (term-at t) term.Post term-Inv-loop term-μ-loop
+term-loop-less-2 : (t : ℕ) → term-lts.Need-loop-less-2 (term-calls t) (term-at t) term.Post term-Inv-loop term-μ-loop
 term-loop-less-2 t c = omega arith
 
-term-loop-again-2 : (t : ℕ) → term-lts.Need-loop-again-2 (
-  cell-reads.Asked,
-  cell-reads.Learnt,
-  binder-reads.Asked,
-  binder-reads.Learnt,
-  tokens-reads.Asked,
-  tokens-reads.Learnt,
-  named-part-reads.Asked,
-  named-part-reads.Learnt,
-  kids-reads.Asked,
-  kids-reads.Learnt,
-  constant-reads.Asked,
-  constant-reads.Learnt,
-  fork-reads.Asked,
-  fork-reads.Learnt,
-  term-below t,
-  term.Post,
-  lost-reads.Asked,
-  lost-reads.Learnt,
-) (term-at t) term.Post term-Inv-loop term-μ-loop
+term-loop-again-2 : (t : ℕ) → term-lts.Need-loop-again-2 (term-calls t) (term-at t) term.Post term-Inv-loop term-μ-loop
 term-loop-again-2 t c =
     let q = c .before .before .before .before .before .before .before .before .before .before .before .before .before .before .before .before .before .pre .1 in
     let i = c .before .before .before .before .before .before .before .before .loop .inv .0 in
@@ -564,76 +149,19 @@ term-loop-again-2 t c =
     let y = sym (c .before .before .kids .ensures .0 ∙ ap kids-of (c .before .before .before .before .before .before .cell .ensures)) in
     (omega arith, c .before .before .before .before .before .before .before .before .loop .inv .1, term-single (c .before .before .before .before .before .before .before .before .before .before .before .before .before .before .before .before .before .args .s .now) (c .before .before .before .before .before .before .before .before .before .before .before .before .before .before .before .before .before .args .raw .now) (c .before .before .before .before .before .before .before .before .before .before .before .before .before .before .before .before .before .args .sorts .now) (c .before .before .before .before .before .before .before .before .before .before .before .before .before .before .before .before .before .args .funcs .now) (c .before .before .before .before .before .before .before .before .before .before .before .before .before .before .before .before .before .args .acts .now) (c .before .before .before .before .before .before .before .before .before .before .before .before .before .before .before .before .before .args .procs .now) (c .before .before .before .before .before .before .before .before .before .before .before .before .before .before .before .before .before .args .scope .now) (c .before .before .before .before .before .before .before .before .before .before .before .before .before .before .before .before .before .args .n) (c .before .before .before .before .before .before .before .before .before .before .before .before .before .before .before .before .before .args .at) (c .before .before .before .before .before .before .before .before .before .before .before .before .before .before .before .before .before .args .after) (c .before .before .before .before .before .before .before .before .before .before .before .before .before .before .before .before .before .args .w) (c .before .before .before .before .before .before .before .before .before .before .before .before .before .before .before .before .before .args .out .now) (c .before .before .before .before .before .before .before .before .loop .p) (c .before .before .before .before .before .before .before .before .loop .m) (c .before .before .before .before .before .before .before .before .loop .r) (c .before .before .before .before .before .before .before .before .loop .v) (c .before .before .before .before .before .before .before .before .loop .scope) (c .before .before .before .before .before .before .before .before .loop .out) (c .before .before .before .before .before .before .before .before .loop .inv .2) (omega arith) (omega arith) (c .before .before .before .before .before .before .before .loop-test .taken))
 
-term-fork-requires : (t : ℕ) → term-lts.Need-fork-requires (
-  cell-reads.Asked,
-  cell-reads.Learnt,
-  binder-reads.Asked,
-  binder-reads.Learnt,
-  tokens-reads.Asked,
-  tokens-reads.Learnt,
-  named-part-reads.Asked,
-  named-part-reads.Learnt,
-  kids-reads.Asked,
-  kids-reads.Learnt,
-  constant-reads.Asked,
-  constant-reads.Learnt,
-  fork-reads.Asked,
-  fork-reads.Learnt,
-  term-below t,
-  term.Post,
-  lost-reads.Asked,
-  lost-reads.Learnt,
-) (term-at t) term.Post term-Inv-loop term-μ-loop
+term-fork-requires : (t : ℕ) → term-lts.Need-fork-requires (term-calls t) (term-at t) term.Post term-Inv-loop term-μ-loop
 term-fork-requires t c κs =
     let q = c .before .before .before .before .before .before .before .before .before .before .before .before .before .before .before .before .before .before .before .pre .1 in
     let i = c .before .before .before .before .before .before .before .before .before .before .loop .inv .0 in
     omega arith
 
-term-add-term : (t : ℕ) → term-lts.Need-add-term (
-  cell-reads.Asked,
-  cell-reads.Learnt,
-  binder-reads.Asked,
-  binder-reads.Learnt,
-  tokens-reads.Asked,
-  tokens-reads.Learnt,
-  named-part-reads.Asked,
-  named-part-reads.Learnt,
-  kids-reads.Asked,
-  kids-reads.Learnt,
-  constant-reads.Asked,
-  constant-reads.Learnt,
-  fork-reads.Asked,
-  fork-reads.Learnt,
-  term-below t,
-  term.Post,
-  lost-reads.Asked,
-  lost-reads.Learnt,
-) (term-at t) term.Post term-Inv-loop term-μ-loop
+term-add-term : (t : ℕ) → term-lts.Need-add-term (term-calls t) (term-at t) term.Post term-Inv-loop term-μ-loop
 term-add-term t c =
     let q = c .before .before .before .before .before .before .before .before .before .before .before .before .before .before .before .before .before .before .before .before .before .before .before .pre .1 in
     let i = c .before .before .before .before .before .before .before .before .before .before .before .before .before .before .loop .inv .0 in
     omega arith
 
-term-term-requires : (t : ℕ) → term-lts.Need-term-requires (
-  cell-reads.Asked,
-  cell-reads.Learnt,
-  binder-reads.Asked,
-  binder-reads.Learnt,
-  tokens-reads.Asked,
-  tokens-reads.Learnt,
-  named-part-reads.Asked,
-  named-part-reads.Learnt,
-  kids-reads.Asked,
-  kids-reads.Learnt,
-  constant-reads.Asked,
-  constant-reads.Learnt,
-  fork-reads.Asked,
-  fork-reads.Learnt,
-  term-below t,
-  term.Post,
-  lost-reads.Asked,
-  lost-reads.Learnt,
-) (term-at t) term.Post term-Inv-loop term-μ-loop
+term-term-requires : (t : ℕ) → term-lts.Need-term-requires (term-calls t) (term-at t) term.Post term-Inv-loop term-μ-loop
 term-term-requires t c κs =
     let q = c .before .before .before .before .before .before .before .before .before .before .before .before .before .before .before .before .before .before .before .before .before .before .before .before .pre .1 in
     let i = c .before .before .before .before .before .before .before .before .before .before .before .before .before .before .before .loop .inv .0 in
@@ -641,70 +169,13 @@ term-term-requires t c κs =
     let h = c .before .before .before .before .before .before .before .before .before .before .before .before .before .before .loop-test .taken in
     (omega arith, omega arith)
 
-term-same-length-7 : (t : ℕ) → term-lts.Need-same-length-7 (
-  cell-reads.Asked,
-  cell-reads.Learnt,
-  binder-reads.Asked,
-  binder-reads.Learnt,
-  tokens-reads.Asked,
-  tokens-reads.Learnt,
-  named-part-reads.Asked,
-  named-part-reads.Learnt,
-  kids-reads.Asked,
-  kids-reads.Learnt,
-  constant-reads.Asked,
-  constant-reads.Learnt,
-  fork-reads.Asked,
-  fork-reads.Learnt,
-  term-below t,
-  term.Post,
-  lost-reads.Asked,
-  lost-reads.Learnt,
-) (term-at t) term.Post term-Inv-loop term-μ-loop
+term-same-length-7 : (t : ℕ) → term-lts.Need-same-length-7 (term-calls t) (term-at t) term.Post term-Inv-loop term-μ-loop
 term-same-length-7 t c = c .before .before .before .before .before .before .term .kept .1 .1 .1 .1 .1 .1 .0 ∙ c .before .before .before .before .before .before .before .before .before .before .before .before .before .before .before .before .before .before .before .before .before .before .loop .inv .0 .3
 
-term-same-length-8 : (t : ℕ) → term-lts.Need-same-length-8 (
-  cell-reads.Asked,
-  cell-reads.Learnt,
-  binder-reads.Asked,
-  binder-reads.Learnt,
-  tokens-reads.Asked,
-  tokens-reads.Learnt,
-  named-part-reads.Asked,
-  named-part-reads.Learnt,
-  kids-reads.Asked,
-  kids-reads.Learnt,
-  constant-reads.Asked,
-  constant-reads.Learnt,
-  fork-reads.Asked,
-  fork-reads.Learnt,
-  term-below t,
-  term.Post,
-  lost-reads.Asked,
-  lost-reads.Learnt,
-) (term-at t) term.Post term-Inv-loop term-μ-loop
+term-same-length-8 : (t : ℕ) → term-lts.Need-same-length-8 (term-calls t) (term-at t) term.Post term-Inv-loop term-μ-loop
 term-same-length-8 t c = c .before .before .before .before .before .before .term .kept .1 .1 .1 .1 .1 .1 .1 .1 .1 .1 .0 ∙ c .before .before .before .before .before .before .before .before .before .before .before .fork .kept .1 .1 .1 .1 .1 .1 .1 .0 ∙ c .before .before .before .before .before .before .before .before .before .before .before .before .before .before .before .before .before .before .before .before .before .before .loop .inv .0 .4
 
-term-returns-4 : (t : ℕ) → term-lts.Need-returns-4 (
-  cell-reads.Asked,
-  cell-reads.Learnt,
-  binder-reads.Asked,
-  binder-reads.Learnt,
-  tokens-reads.Asked,
-  tokens-reads.Learnt,
-  named-part-reads.Asked,
-  named-part-reads.Learnt,
-  kids-reads.Asked,
-  kids-reads.Learnt,
-  constant-reads.Asked,
-  constant-reads.Learnt,
-  fork-reads.Asked,
-  fork-reads.Learnt,
-  term-below t,
-  term.Post,
-  lost-reads.Asked,
-  lost-reads.Learnt,
-) (term-at t) term.Post term-Inv-loop term-μ-loop
+term-returns-4 : (t : ℕ) → term-lts.Need-returns-4 (term-calls t) (term-at t) term.Post term-Inv-loop term-μ-loop
 term-returns-4 t c =
     let q = c .before .before .before .before .before .before .before .before .before .before .before .before .before .before .before .before .before .before .before .before .before .before .before .before .before .before .before .before .before .before .before .pre .1 in
     let i = c .before .before .before .before .before .before .before .before .before .before .before .before .before .before .before .before .before .before .before .before .before .before .loop .inv .0 in
@@ -712,26 +183,7 @@ term-returns-4 t c =
     let z = c .if6 .taken in
     (omega arith, (kept-on (c .before .before .before .before .before .before .before .before .before .before .before .before .before .before .before .before .before .before .before .before .before .before .before .before .before .before .before .before .before .before .before .args .n) (c .before .before .before .before .before .before .before .before .before .before .before .before .before .before .before .before .before .before .before .before .before .before .loop .m) (c .before .before .before .before .before .before .term .last .1 .1 .1 .1 .1 .1 .0) (c .before .before .before .before .before .before .before .before .before .before .before .before .before .before .before .before .before .before .before .before .before .before .loop .scope) (c .before .before .before .before .before .before .before .before .before .before .before .before .before .before .before .before .before .before .before .before .before .before .before .before .before .before .before .before .before .before .before .args .scope .now) (c .before .before .before .before .before .before .before .before .before .before .before .before .before .before .before .before .before .before .before .before .before .before .loop .inv .0 .1) (c .before .before .before .before .before .before .term .ensures .1 .0) (c .before .before .before .before .before .before .before .before .before .before .before .before .before .before .before .before .before .before .before .before .before .before .loop .inv .1), fork-lost (c .before .before .before .before .before .before .before .before .before .before .before .before .before .before .before .before .before .before .before .before .before .before .before .before .before .before .before .before .before .before .before .args .s .now) (c .before .before .before .before .before .before .before .before .before .before .before .before .before .before .before .before .before .before .before .before .before .before .before .before .before .before .before .before .before .before .before .args .raw .now) (c .before .before .before .before .before .before .before .before .before .before .before .before .before .before .before .before .before .before .before .before .before .before .before .before .before .before .before .before .before .before .before .args .sorts .now) (c .before .before .before .before .before .before .before .before .before .before .before .before .before .before .before .before .before .before .before .before .before .before .before .before .before .before .before .before .before .before .before .args .funcs .now) (c .before .before .before .before .before .before .before .before .before .before .before .before .before .before .before .before .before .before .before .before .before .before .before .before .before .before .before .before .before .before .before .args .acts .now) (c .before .before .before .before .before .before .before .before .before .before .before .before .before .before .before .before .before .before .before .before .before .before .before .before .before .before .before .before .before .before .before .args .procs .now) (c .before .before .before .before .before .before .before .before .before .before .before .before .before .before .before .before .before .before .before .before .before .before .before .before .before .before .before .before .before .before .before .args .scope .now) (c .before .before .before .before .before .before .before .before .before .before .before .before .before .before .before .before .before .before .before .before .before .before .before .before .before .before .before .before .before .before .before .args .n) (c .before .before .before .before .before .before .before .before .before .before .before .before .before .before .before .before .before .before .before .before .before .before .before .before .before .before .before .before .before .before .before .args .at) (c .before .before .before .before .before .before .before .before .before .before .before .before .before .before .before .before .before .before .before .before .before .before .before .before .before .before .before .before .before .before .before .args .after) (c .before .before .before .before .before .before .before .before .before .before .before .before .before .before .before .before .before .before .before .before .before .before .before .before .before .before .before .before .before .before .before .args .w) (c .before .before .before .before .before .before .before .before .before .before .before .before .before .before .before .before .before .before .before .before .before .before .before .before .before .before .before .before .before .before .before .args .out .now) (c .before .before .before .before .before .before .before .before .before .before .before .before .before .before .before .before .before .before .before .before .before .before .loop .p) (c .before .before .before .before .before .before .before .before .before .before .before .before .before .before .before .before .before .before .before .before .before .before .loop .m) (c .before .before .before .before .before .before .before .before .before .before .before .before .before .before .before .before .before .before .before .before .before .before .loop .r) (c .before .before .before .before .before .before .before .before .before .before .before .before .before .before .before .before .before .before .before .before .before .before .loop .v) (c .before .before .before .before .before .before .before .before .before .before .before .before .before .before .before .before .before .before .before .before .before .before .loop .scope) (c .before .before .before .before .before .before .before .before .before .before .before .before .before .before .before .before .before .before .before .before .before .before .loop .out) (c .before .before .before .before .before .before .before .before .before .before .before .before .before .before .before .before .before .before .before .before .before .before .loop .inv .2) (let g = c .before .before .before .before .before .before .before .before .before .before .before .before .before .before .before .if4 .left in let h = c .before .before .before .before .before .before .before .before .before .before .before .before .before .before .if5 .left in omega arith) (c .before .before .before .before .before .before .before .before .before .before .before .before .before .before .before .before .before .before .before .before .before .loop-test .taken) (c .before .before .before .before .before .before .before .before .before .before .before .before .before .before .before .before .before .before .before .before .before .before .loop .inv .0 .3) (c .before .before .before .before .before .before .before .before .before .before .before .fork .result) (c .before .before .before .before .before .before .before .before .before .before .before .fork .last .1 .1 .1 .1 .1 .1 .1 .0) (c .before .before .before .before .before .before .before .before .before .before .before .fork .ensures .1) (c .before .before .before .before .before .before .term .result) (c .before .before .before .before .before .before .term .last .1 .1 .1 .1 .1 .1 .1 .1 .1 .1 .0) (c .before .before .before .before .before .before .term .ensures .1 .1) (c .if6 .taken)))
 
-term-loop-less-3 : (t : ℕ) → term-lts.Need-loop-less-3 (
-  cell-reads.Asked,
-  cell-reads.Learnt,
-  binder-reads.Asked,
-  binder-reads.Learnt,
-  tokens-reads.Asked,
-  tokens-reads.Learnt,
-  named-part-reads.Asked,
-  named-part-reads.Learnt,
-  kids-reads.Asked,
-  kids-reads.Learnt,
-  constant-reads.Asked,
-  constant-reads.Learnt,
-  fork-reads.Asked,
-  fork-reads.Learnt,
-  term-below t,
-  term.Post,
-  lost-reads.Asked,
-  lost-reads.Learnt,
-) (term-at t) term.Post term-Inv-loop term-μ-loop
+term-loop-less-3 : (t : ℕ) → term-lts.Need-loop-less-3 (term-calls t) (term-at t) term.Post term-Inv-loop term-μ-loop
 term-loop-less-3 t c =
     let q = c .before .before .before .before .before .before .before .before .before .before .before .before .before .before .before .before .before .before .before .before .before .before .before .before .before .before .before .before .before .before .before .pre .1 in
     let i = c .before .before .before .before .before .before .before .before .before .before .before .before .before .before .before .before .before .before .before .before .before .before .loop .inv .0 in
@@ -739,26 +191,7 @@ term-loop-less-3 t c =
     let h = c .before .before .before .before .before .before .before .before .before .before .before .before .before .before .before .before .before .before .before .before .before .loop-test .taken in
     omega arith
 
-term-loop-again-3 : (t : ℕ) → term-lts.Need-loop-again-3 (
-  cell-reads.Asked,
-  cell-reads.Learnt,
-  binder-reads.Asked,
-  binder-reads.Learnt,
-  tokens-reads.Asked,
-  tokens-reads.Learnt,
-  named-part-reads.Asked,
-  named-part-reads.Learnt,
-  kids-reads.Asked,
-  kids-reads.Learnt,
-  constant-reads.Asked,
-  constant-reads.Learnt,
-  fork-reads.Asked,
-  fork-reads.Learnt,
-  term-below t,
-  term.Post,
-  lost-reads.Asked,
-  lost-reads.Learnt,
-) (term-at t) term.Post term-Inv-loop term-μ-loop
+term-loop-again-3 : (t : ℕ) → term-lts.Need-loop-again-3 (term-calls t) (term-at t) term.Post term-Inv-loop term-μ-loop
 term-loop-again-3 t c =
     let q = c .before .before .before .before .before .before .before .before .before .before .before .before .before .before .before .before .before .before .before .before .before .before .before .before .before .before .before .before .before .before .before .pre .1 in
     let i = c .before .before .before .before .before .before .before .before .before .before .before .before .before .before .before .before .before .before .before .before .before .before .loop .inv .0 in
@@ -769,118 +202,23 @@ term-loop-again-3 t c =
     let o = c .before .before .before .before .before .before .before .before .before .before .before .fork .kept .1 .1 .1 .1 .1 .1 .1 .0 in
     (omega arith, kept-on (c .before .before .before .before .before .before .before .before .before .before .before .before .before .before .before .before .before .before .before .before .before .before .before .before .before .before .before .before .before .before .before .args .n) (c .before .before .before .before .before .before .before .before .before .before .before .before .before .before .before .before .before .before .before .before .before .before .loop .m) (c .before .before .before .before .before .before .term .last .1 .1 .1 .1 .1 .1 .0) (c .before .before .before .before .before .before .before .before .before .before .before .before .before .before .before .before .before .before .before .before .before .before .loop .scope) (c .before .before .before .before .before .before .before .before .before .before .before .before .before .before .before .before .before .before .before .before .before .before .before .before .before .before .before .before .before .before .before .args .scope .now) (c .before .before .before .before .before .before .before .before .before .before .before .before .before .before .before .before .before .before .before .before .before .before .loop .inv .0 .1) (c .before .before .before .before .before .before .term .ensures .1 .0) (c .before .before .before .before .before .before .before .before .before .before .before .before .before .before .before .before .before .before .before .before .before .before .loop .inv .1), term-fork (c .before .before .before .before .before .before .before .before .before .before .before .before .before .before .before .before .before .before .before .before .before .before .before .before .before .before .before .before .before .before .before .args .s .now) (c .before .before .before .before .before .before .before .before .before .before .before .before .before .before .before .before .before .before .before .before .before .before .before .before .before .before .before .before .before .before .before .args .raw .now) (c .before .before .before .before .before .before .before .before .before .before .before .before .before .before .before .before .before .before .before .before .before .before .before .before .before .before .before .before .before .before .before .args .sorts .now) (c .before .before .before .before .before .before .before .before .before .before .before .before .before .before .before .before .before .before .before .before .before .before .before .before .before .before .before .before .before .before .before .args .funcs .now) (c .before .before .before .before .before .before .before .before .before .before .before .before .before .before .before .before .before .before .before .before .before .before .before .before .before .before .before .before .before .before .before .args .acts .now) (c .before .before .before .before .before .before .before .before .before .before .before .before .before .before .before .before .before .before .before .before .before .before .before .before .before .before .before .before .before .before .before .args .procs .now) (c .before .before .before .before .before .before .before .before .before .before .before .before .before .before .before .before .before .before .before .before .before .before .before .before .before .before .before .before .before .before .before .args .scope .now) (c .before .before .before .before .before .before .before .before .before .before .before .before .before .before .before .before .before .before .before .before .before .before .before .before .before .before .before .before .before .before .before .args .n) (c .before .before .before .before .before .before .before .before .before .before .before .before .before .before .before .before .before .before .before .before .before .before .before .before .before .before .before .before .before .before .before .args .at) (c .before .before .before .before .before .before .before .before .before .before .before .before .before .before .before .before .before .before .before .before .before .before .before .before .before .before .before .before .before .before .before .args .after) (c .before .before .before .before .before .before .before .before .before .before .before .before .before .before .before .before .before .before .before .before .before .before .before .before .before .before .before .before .before .before .before .args .w) (c .before .before .before .before .before .before .before .before .before .before .before .before .before .before .before .before .before .before .before .before .before .before .before .before .before .before .before .before .before .before .before .args .out .now) (c .before .before .before .before .before .before .before .before .before .before .before .before .before .before .before .before .before .before .before .before .before .before .loop .p) (c .before .before .before .before .before .before .before .before .before .before .before .before .before .before .before .before .before .before .before .before .before .before .loop .m) (c .before .before .before .before .before .before .before .before .before .before .before .before .before .before .before .before .before .before .before .before .before .before .loop .r) (c .before .before .before .before .before .before .before .before .before .before .before .before .before .before .before .before .before .before .before .before .before .before .loop .v) (c .before .before .before .before .before .before .before .before .before .before .before .before .before .before .before .before .before .before .before .before .before .before .loop .scope) (c .before .before .before .before .before .before .before .before .before .before .before .before .before .before .before .before .before .before .before .before .before .before .loop .out) (c .before .before .before .before .before .before .before .before .before .before .before .before .before .before .before .before .before .before .before .before .before .before .loop .inv .2) (let g = c .before .before .before .before .before .before .before .before .before .before .before .before .before .before .before .if4 .left in let h = c .before .before .before .before .before .before .before .before .before .before .before .before .before .before .if5 .left in omega arith) (c .before .before .before .before .before .before .before .before .before .before .before .before .before .before .before .before .before .before .before .before .before .loop-test .taken) (c .before .before .before .before .before .before .before .before .before .before .before .before .before .before .before .before .before .before .before .before .before .before .loop .inv .0 .3) (c .before .before .before .before .before .before .before .before .before .before .before .fork .result) (c .before .before .before .before .before .before .before .before .before .before .before .fork .last .1 .1 .1 .1 .1 .1 .1 .0) (c .before .before .before .before .before .before .before .before .before .before .before .fork .ensures .1) (c .before .before .before .before .before .before .term .result) (c .before .before .before .before .before .before .term .last .1 .1 .1 .1 .1 .1 .1 .1 .1 .1 .0) (c .before .before .before .before .before .before .term .ensures .1 .1) (c .if6 .left) (c .before .before .before .before .before .before .term .last .1 .1 .1 .1 .1 .1 .0) (c .before .before .before .before .before .before .term .ensures .1 .0))
 
-term-lost-requires : (t : ℕ) → term-lts.Need-lost-requires (
-  cell-reads.Asked,
-  cell-reads.Learnt,
-  binder-reads.Asked,
-  binder-reads.Learnt,
-  tokens-reads.Asked,
-  tokens-reads.Learnt,
-  named-part-reads.Asked,
-  named-part-reads.Learnt,
-  kids-reads.Asked,
-  kids-reads.Learnt,
-  constant-reads.Asked,
-  constant-reads.Learnt,
-  fork-reads.Asked,
-  fork-reads.Learnt,
-  term-below t,
-  term.Post,
-  lost-reads.Asked,
-  lost-reads.Learnt,
-) (term-at t) term.Post term-Inv-loop term-μ-loop
+term-lost-requires : (t : ℕ) → term-lts.Need-lost-requires (term-calls t) (term-at t) term.Post term-Inv-loop term-μ-loop
 term-lost-requires t c κs = tt
 
-term-same-length-9 : (t : ℕ) → term-lts.Need-same-length-9 (
-  cell-reads.Asked,
-  cell-reads.Learnt,
-  binder-reads.Asked,
-  binder-reads.Learnt,
-  tokens-reads.Asked,
-  tokens-reads.Learnt,
-  named-part-reads.Asked,
-  named-part-reads.Learnt,
-  kids-reads.Asked,
-  kids-reads.Learnt,
-  constant-reads.Asked,
-  constant-reads.Learnt,
-  fork-reads.Asked,
-  fork-reads.Learnt,
-  term-below t,
-  term.Post,
-  lost-reads.Asked,
-  lost-reads.Learnt,
-) (term-at t) term.Post term-Inv-loop term-μ-loop
+term-same-length-9 : (t : ℕ) → term-lts.Need-same-length-9 (term-calls t) (term-at t) term.Post term-Inv-loop term-μ-loop
 term-same-length-9 t c = c .before .before .loop .inv .0 .3
 
-term-same-length-10 : (t : ℕ) → term-lts.Need-same-length-10 (
-  cell-reads.Asked,
-  cell-reads.Learnt,
-  binder-reads.Asked,
-  binder-reads.Learnt,
-  tokens-reads.Asked,
-  tokens-reads.Learnt,
-  named-part-reads.Asked,
-  named-part-reads.Learnt,
-  kids-reads.Asked,
-  kids-reads.Learnt,
-  constant-reads.Asked,
-  constant-reads.Learnt,
-  fork-reads.Asked,
-  fork-reads.Learnt,
-  term-below t,
-  term.Post,
-  lost-reads.Asked,
-  lost-reads.Learnt,
-) (term-at t) term.Post term-Inv-loop term-μ-loop
+term-same-length-10 : (t : ℕ) → term-lts.Need-same-length-10 (term-calls t) (term-at t) term.Post term-Inv-loop term-μ-loop
 term-same-length-10 t c = c .before .before .loop .inv .0 .4
 
-term-returns-5 : (t : ℕ) → term-lts.Need-returns-5 (
-  cell-reads.Asked,
-  cell-reads.Learnt,
-  binder-reads.Asked,
-  binder-reads.Learnt,
-  tokens-reads.Asked,
-  tokens-reads.Learnt,
-  named-part-reads.Asked,
-  named-part-reads.Learnt,
-  kids-reads.Asked,
-  kids-reads.Learnt,
-  constant-reads.Asked,
-  constant-reads.Learnt,
-  fork-reads.Asked,
-  fork-reads.Learnt,
-  term-below t,
-  term.Post,
-  lost-reads.Asked,
-  lost-reads.Learnt,
-) (term-at t) term.Post term-Inv-loop term-μ-loop
+term-returns-5 : (t : ℕ) → term-lts.Need-returns-5 (term-calls t) (term-at t) term.Post term-Inv-loop term-μ-loop
 term-returns-5 t c =
     let i = c .before .before .loop .inv .0 in
     let z = c .lost .ensures in
     (omega arith, (c .before .before .loop .inv .1, term-end (c .before .before .before .before .before .before .before .before .before .before .before .args .s .now) (c .before .before .before .before .before .before .before .before .before .before .before .args .raw .now) (c .before .before .before .before .before .before .before .before .before .before .before .args .sorts .now) (c .before .before .before .before .before .before .before .before .before .before .before .args .funcs .now) (c .before .before .before .before .before .before .before .before .before .before .before .args .acts .now) (c .before .before .before .before .before .before .before .before .before .before .before .args .procs .now) (c .before .before .before .before .before .before .before .before .before .before .before .args .scope .now) (c .before .before .before .before .before .before .before .before .before .before .before .args .n) (c .before .before .before .before .before .before .before .before .before .before .before .args .at) (c .before .before .before .before .before .before .before .before .before .before .before .args .after) (c .before .before .before .before .before .before .before .before .before .before .before .args .w) (c .before .before .before .before .before .before .before .before .before .before .before .args .out .now) (c .before .before .loop .p) (c .before .before .loop .m) (c .before .before .loop .r) (c .before .before .loop .v) (c .before .before .loop .scope) (c .before .before .loop .out) (c .before .before .loop .inv .2) (c .before .loop-test .left) (c .lost .result) (c .lost .ensures)))
 
 pub +term-spec : {M : Type 1} → statement M
-+term-spec = close μ-term λ t. term-lts.spec (
-  cell-reads.Asked,
-  cell-reads.Learnt,
-  binder-reads.Asked,
-  binder-reads.Learnt,
-  tokens-reads.Asked,
-  tokens-reads.Learnt,
-  named-part-reads.Asked,
-  named-part-reads.Learnt,
-  kids-reads.Asked,
-  kids-reads.Learnt,
-  constant-reads.Asked,
-  constant-reads.Learnt,
-  fork-reads.Asked,
-  fork-reads.Learnt,
-  term-below t,
-  term.Post,
-  lost-reads.Asked,
-  lost-reads.Learnt,
-)
++term-spec = close μ-term λ t. term-lts.spec (term-calls t)
     (term-at t)
     term.Post
     term-Inv-loop
