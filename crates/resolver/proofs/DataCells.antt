@@ -35,6 +35,22 @@ pub none-last : (e : List ℕ) → some e ⊕ none ≡ none
 unfolding _⊕_
 none-last e = refl
 
+pub none-behind : (a : Option (List ℕ)) → a ⊕ none ≡ none
+unfolding _⊕_
+none-behind none = refl
+none-behind (some e) = refl
+
+pub none-before : (a : Option (List ℕ)) → none ⊕ a ≡ none
+unfolding _⊕_
+none-before a = refl
+
+pub three-assoc : (a b c : Option (List ℕ)) → a ⊕ (b ⊕ c) ≡ (a ⊕ b) ⊕ c
+unfolding _⊕_
+three-assoc none b c = refl
+three-assoc (some e) none c = refl
+three-assoc (some e) (some g) none = refl
+three-assoc (some e) (some g) (some h) = ap some (sym (append-assoc e g h))
+
 module _ (N : Names) (scope : List Name) where
   -- as many data terms are resolved as are written
   pub resolved-count : (ds : RawDatas) (es : Datas) → resolve-datas N scope ds ≡ some es → length (list-of es) ≡ count-of ds

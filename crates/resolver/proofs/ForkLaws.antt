@@ -3,11 +3,13 @@ use mathlib.Core.Path.{_≡_, refl, sym, ap, _∙_}
 use mathlib.Core.Bool.{Bool, true, false}
 use mathlib.Core.List.{List, [], _∷_, _++_, append-assoc}
 use mathlib.Core.Option.{Option, some}
-use Prim.Native.Nat.{ℕ, _+_, _*_}
+use Prim.Native.Nat.{ℕ, _+_, _*_, _≤_, _<_, max}
 use native.Mathlib.Omega.{arith}
-use lib.ListN.{drop, getD}
-use Rattle.pcrl.specs.Names.{resolve-choice}
-use Rattle.parser.specs.Cells.{Symbol, tag, enc-choice}
+use lib.Dec.{eqb}
+use lib.ListN.{length, drop, getD, length-append, length-drop, length-map}
+use Rattle.pcrl.specs.Tree.{Name, RawData, Choice, Conditional, Sequence, Part}
+use Rattle.pcrl.specs.Names.{Names, resolve-choice}
+use Rattle.parser.specs.Cells.{Symbol, tag, symbol-of, plus-tag, cond-tag, then-tag, enc-choice}
 use Rattle.parser.specs.Cells.{enc-data as raw-data}
 use Rattle.nodes.specs.Layout.{enc-datas, after-mark, one-if, delta-kind, atom-kind, alt-kind, cond-kind, seq-kind, act-number, enc}
 use Rattle.names.specs.NameCells.{scope-at}
@@ -88,87 +90,96 @@ module _ (raw : List ℕ) (at : ℕ) (after : Bool) (w : ℕ) (o : List ℕ) whe
       by t m (sum v D p) q = let y = ap tokens-of q in omega arith
 
 -- ---- two parts
-module _ (s raw funcs scope : List ℕ) (n at : ℕ) (after : Bool) (w : ℕ) (o : List ℕ) (p : ℕ) (skips : Skips raw (at + 1) p) where
+data TwoParts : Term → ℕ → Type 0 where
+  by-plus : (c : Conditional) (d : Choice) → TwoParts (choice (Choice.plus c d)) plus-tag
+  by-cond : (p : Sequence) (c : RawData) (q : Sequence) → TwoParts (conditional (Conditional.cond p c q)) cond-tag
+  by-then : (p : Part) (q : Sequence) → TwoParts (sequence (Sequence.then p q)) then-tag
+
+two-parts : (raw : List ℕ) (at : ℕ) → 1 < kids-of (getD raw at 0) → (t : Term) (m : ℕ) → View t m → getD raw at 0 ≡ m → TwoParts t m
+unfolding kids-of
+two-parts raw at h t m (single t′ u m′ v) q = let z = single-kids (v .is) in let y = ap kids-of q in absurd (omega arith)
+two-parts raw at h t m (plus c d) q = by-plus c d
+two-parts raw at h t m (cond p c d) q = by-cond p c d
+two-parts raw at h t m (then p d) q = by-then p d
+two-parts raw at h t m delta q = let y = ap kids-of q in absurd (omega arith)
+two-parts raw at h t m tau q = let y = ap kids-of q in absurd (omega arith)
+two-parts raw at h t m (bare x) q = let y = ap kids-of q in absurd (omega arith)
+two-parts raw at h t m (given x ds) q = let y = ap kids-of q in absurd (omega arith)
+two-parts raw at h t m (sum v D p) q = let y = ap kids-of q in absurd (omega arith)
+
+-- what stands further on has less behind it
+further : (s raw : List ℕ) (p p₁ : ℕ) (l l₁ : List Symbol) → p ≤ length raw → p₁ ≤ length raw → drop p (symbols s raw) ≡ l ++ l₁ → drop p₁ (symbols s raw) ≡ l₁ → p ≤ p₁
+unfolding symbols
+further s raw p p₁ l l₁ h h₁ e e₁ =
+    omega (arith, length-map raw (symbol-of s), length-drop p (symbols s raw), length-drop p₁ (symbols s raw), ap length e, ap length e₁, length-append l l₁)
+
+module _ (s raw funcs scope : List ℕ) (n at : ℕ) (after : Bool) (w : ℕ) (o : List ℕ) where
+  -- the second part stands behind the first
+  together : (N : Names) (t first second : Term) (rest : List Symbol) (k : ℕ) (e : List ℕ) (w′ : ℕ) (o′ : List ℕ) (left right : Bool)
+      → drop at (symbols s raw) ≡ tag k ∷ ((enc-term first ++ enc-term second) ++ rest) → term-depth first ≤ term-depth t → term-depth second ≤ term-depth t → eqb (getD raw at 0) then-tag ≡ right
+      → term-cells N (scope-at s scope n) after t ≡ some e ⊕ (term-cells N (scope-at s scope n) left first ⊕ term-cells N (scope-at s scope n) right second) → Writes e w o w′ o′
+      → Forked s raw N (scope-at s scope n) at after t rest w o (record { at = at; w = w′; left = left }) o′
+  together N t first second rest k e w′ o′ left right d d₁ d₂ r q ws =
+      record {
+        first = first;
+        second = second;
+        between = enc-term second ++ rest;
+        head = some e;
+        first-at = next s raw at (tag k) _ d .behind ∙ append-assoc (enc-term first) (enc-term second) rest;
+        first-depth = d₁;
+        second-depth = d₂;
+        cells = q ∙ ap (λ (b : Bool). some e ⊕ (term-cells N (scope-at s scope n) left first ⊕ term-cells N (scope-at s scope n) b second)) (sym r);
+        outcome = λ p p′ h z x y. let i : p′ ≡ p = omega arith in took (omega arith) (ap (λ (u : ℕ). drop u (symbols s raw)) i ∙ x) ws;
+      }
+
   module _ (w′ : ℕ) (o′ : List ℕ) where
-    pub fork-then : getD raw at 0 ≡ 11 → Writes (seq-kind ∷ 0 ∷ 0 ∷ []) w o w′ o′ → Forks s raw funcs scope n at after w o (record { at = p; w = w′; left = after; right = true }) o′
-    unfolding kids-of enc-term enc-choice term-depth sum-depth
-    fork-then k ws N t rest f e hk = let v = seen s raw at t rest e in by t (v .tag-of) (v .view) (v .cell) e
+    pub fork-then : getD raw at 0 ≡ then-tag → Writes (seq-kind ∷ 0 ∷ 0 ∷ []) w o w′ o′ → Forks s raw funcs scope n at after w o (record { at = at; w = w′; left = after }) o′
+    unfolding enc-term enc-choice term-depth sum-depth
+    fork-then k ws N t rest f e hk = let v = seen s raw at t rest e in by t (v .tag-of) (two-parts raw at hk t (v .tag-of) (v .view) (v .cell)) (v .cell) e
       where
-        by : (t : Term) (m : ℕ) → View t m → getD raw at 0 ≡ m → drop at (symbols s raw) ≡ enc-term t ++ rest
-            → Forked s raw N (scope-at s scope n) at after t rest w o (record { at = p; w = w′; left = after; right = true }) o′
-        by t m (single t′ u m′ v) q e = let z = single-kids (v .is) in let y = ap kids-of q in absurd (omega arith)
-        by t m (plus c d) q e = absurd (omega arith)
-        by t m (cond p₁ c q₁) q e = absurd (omega arith)
-        by t m (then a b) q e =
-            let x = next s raw at (tag 11) _ e in
-            let d : drop (at + 1) (symbols s raw) ≡ enc-term (part a) ++ (enc-term (sequence b) ++ rest) = x .behind ∙ append-assoc (enc-term (part a)) (enc-term (sequence b)) rest in
-            let l = next s raw p in
-            record {
-              first = part a;
-              second = sequence b;
-              between = enc-term (sequence b) ++ rest;
-              head = some (seq-kind ∷ 0 ∷ 0 ∷ []);
-              first-at = d;
-              first-depth = omega arith;
-              second-depth = omega arith;
-              cells = then-cells N (scope-at s scope n) after a b;
-              outcome = took (let i = seen s raw p (sequence b) rest (skips s (part a) (enc-term (sequence b) ++ rest) d) .inside in omega arith) (skips s (part a) (enc-term (sequence b) ++ rest) d) ws;
-            }
-        by t m delta q e = absurd (omega arith)
-        by t m tau q e = absurd (omega arith)
-        by t m (bare x) q e = absurd (omega arith)
-        by t m (given x ds) q e = absurd (omega arith)
-        by t m (sum v D p₁) q e = absurd (omega arith)
+        by : (t : Term) (m : ℕ) → TwoParts t m → getD raw at 0 ≡ m → drop at (symbols s raw) ≡ enc-term t ++ rest → Forked s raw N (scope-at s scope n) at after t rest w o (record { at = at; w = w′; left = after }) o′
+        by t m (by-then a b) q e =
+            together N t (part a) (sequence b) rest then-tag (seq-kind ∷ 0 ∷ 0 ∷ []) w′ o′ after true e (omega arith) (omega arith) (ap (λ (i : ℕ). eqb i then-tag) k) (then-cells N (scope-at s scope n) after a b) ws
+        by t m (by-plus a b) q e = absurd (omega arith)
+        by t m (by-cond a c b) q e = absurd (omega arith)
 
-    pub fork-plus : getD raw at 0 ≡ 7 → (first : ℕ) → first ≡ after-mark * one-if after + alt-kind → Writes (first ∷ 0 ∷ 0 ∷ []) w o w′ o′
-        → Forks s raw funcs scope n at after w o (record { at = p; w = w′; left = false; right = false }) o′
-    unfolding kids-of enc-term enc-choice term-depth sum-depth
-    fork-plus k first ef ws N t rest f e hk = let v = seen s raw at t rest e in by t (v .tag-of) (v .view) (v .cell) e
+    pub fork-plus : getD raw at 0 ≡ plus-tag → (first : ℕ) → first ≡ after-mark * one-if after + alt-kind → Writes (first ∷ 0 ∷ 0 ∷ []) w o w′ o′
+        → Forks s raw funcs scope n at after w o (record { at = at; w = w′; left = false }) o′
+    unfolding enc-term enc-choice term-depth sum-depth
+    fork-plus k first ef ws N t rest f e hk = let v = seen s raw at t rest e in by t (v .tag-of) (two-parts raw at hk t (v .tag-of) (v .view) (v .cell)) (v .cell) e
       where
-        by : (t : Term) (m : ℕ) → View t m → getD raw at 0 ≡ m → drop at (symbols s raw) ≡ enc-term t ++ rest
-            → Forked s raw N (scope-at s scope n) at after t rest w o (record { at = p; w = w′; left = false; right = false }) o′
-        by t m (single t′ u m′ v) q e = let z = single-kids (v .is) in let y = ap kids-of q in absurd (omega arith)
-        by t m (plus a b) q e =
-            let x = next s raw at (tag 7) _ e in
-            let d : drop (at + 1) (symbols s raw) ≡ enc-term (conditional a) ++ (enc-term (choice b) ++ rest) = x .behind ∙ append-assoc (enc-term (conditional a)) (enc-term (choice b)) rest in
-            record {
-              first = conditional a;
-              second = choice b;
-              between = enc-term (choice b) ++ rest;
-              head = some (first ∷ 0 ∷ 0 ∷ []);
-              first-at = d;
-              first-depth = omega arith;
-              second-depth = omega arith;
-              cells = plus-cells N (scope-at s scope n) after a b
-                  ∙ ap (λ (y : ℕ). some (y ∷ 0 ∷ 0 ∷ []) ⊕ (term-cells N (scope-at s scope n) false (conditional a) ⊕ term-cells N (scope-at s scope n) false (choice b))) (sym ef);
-              outcome = took (let i = seen s raw p (choice b) rest (skips s (conditional a) (enc-term (choice b) ++ rest) d) .inside in omega arith) (skips s (conditional a) (enc-term (choice b) ++ rest) d) ws;
-            }
-        by t m (cond p₁ c q₁) q e = absurd (omega arith)
-        by t m (then a b) q e = absurd (omega arith)
-        by t m delta q e = absurd (omega arith)
-        by t m tau q e = absurd (omega arith)
-        by t m (bare x) q e = absurd (omega arith)
-        by t m (given x ds) q e = absurd (omega arith)
-        by t m (sum v D p₁) q e = absurd (omega arith)
+        by : (t : Term) (m : ℕ) → TwoParts t m → getD raw at 0 ≡ m → drop at (symbols s raw) ≡ enc-term t ++ rest → Forked s raw N (scope-at s scope n) at after t rest w o (record { at = at; w = w′; left = false }) o′
+        by t m (by-plus a b) q e =
+            together N t (conditional a) (choice b) rest plus-tag (first ∷ 0 ∷ 0 ∷ []) w′ o′ false false e (omega arith) (omega arith) (ap (λ (i : ℕ). eqb i then-tag) k)
+            (plus-cells N (scope-at s scope n) after a b
+            ∙ ap (λ (y : ℕ). some (y ∷ 0 ∷ 0 ∷ []) ⊕ (term-cells N (scope-at s scope n) false (conditional a) ⊕ term-cells N (scope-at s scope n) false (choice b))) (sym ef)) ws
+        by t m (by-then a b) q e = absurd (omega arith)
+        by t m (by-cond a c b) q e = absurd (omega arith)
 
-  pub fork-cond : (getD raw at 0 ≡ 11 → ⊥) → (getD raw at 0 ≡ 7 → ⊥) → (first w₁ : ℕ) (o₁ : List ℕ) → first ≡ after-mark * one-if after + cond-kind → Writes (first ∷ 0 ∷ 1 ∷ []) w o w₁ o₁
-      → (r : Step) (o′ : List ℕ) → ResolvesData s raw funcs scope n p w₁ o₁ r o′ → Forks s raw funcs scope n at after w o (record { at = r .at; w = r .w; left = false; right = false }) o′
-  unfolding kids-of enc-term enc-choice term-depth sum-depth
-  fork-cond n₁ n₂ first w₁ o₁ ef ws r o′ term N t rest f e hk = let v = seen s raw at t rest e in by t (v .tag-of) (v .view) (v .cell) e
+  pub fork-cond : (getD raw at 0 ≡ then-tag → ⊥) → (getD raw at 0 ≡ plus-tag → ⊥) → (p : ℕ) → Skips raw (at + 1) p
+      → (first w₁ : ℕ) (o₁ : List ℕ) → first ≡ after-mark * one-if after + cond-kind → Writes (first ∷ 0 ∷ 1 ∷ []) w o w₁ o₁
+      → (r : Step) (o′ : List ℕ) → ResolvesData s raw funcs scope n p w₁ o₁ r o′ → Forks s raw funcs scope n at after w o (record { at = r .at; w = r .w; left = false }) o′
+  unfolding enc-term enc-choice term-depth sum-depth
+  fork-cond n₁ n₂ p skips first w₁ o₁ ef ws r o′ condition N t rest f e hk = let v = seen s raw at t rest e in by t (v .tag-of) (two-parts raw at hk t (v .tag-of) (v .view) (v .cell)) (v .cell) e
     where
-      behind : (a b : List Symbol) (X : Option (List ℕ)) → Outcome raw (symbols s raw) a w₁ o₁ (r .at) (r .w) o′ X → Outcome raw (symbols s raw) a w o (r .at) (r .w) o′ (some (first ∷ 0 ∷ 1 ∷ []) ⊕ X)
-      behind a b X (lost z) = became (sym (none-last (first ∷ 0 ∷ 1 ∷ []))) (lost z)
-      behind a b X (took {e = g} z d ws₁) = became (sym (then-last (first ∷ 0 ∷ 1 ∷ []) g)) (took z d (writes-then ws ws₁))
+      σ : List Name
+      σ = scope-at s scope n
 
-      by : (t : Term) (m : ℕ) → View t m → getD raw at 0 ≡ m → drop at (symbols s raw) ≡ enc-term t ++ rest
-          → Forked s raw N (scope-at s scope n) at after t rest w o (record { at = r .at; w = r .w; left = false; right = false }) o′
-      by t m (single t′ u m′ v) q e = let z = single-kids (v .is) in let y = ap kids-of q in absurd (omega arith)
-      by t m (plus c d) q e = absurd (n₂ q)
-      by t m (cond a c b) q e =
-          let σ = scope-at s scope n in
-          let x = next s raw at (tag 9) _ e in
-          let d : drop (at + 1) (symbols s raw) ≡ enc-term (sequence a) ++ (raw-data c ++ (enc-term (sequence b) ++ rest)) = x .behind ∙ simp append-assoc in
-          let g = term N c (enc-term (sequence b) ++ rest) f (skips s (sequence a) (raw-data c ++ (enc-term (sequence b) ++ rest)) d) in
+      -- the second part stands behind the condition, and that behind the first
+      behind : (c l : List Symbol) (X : Option (List ℕ)) → Outcome raw (symbols s raw) l w₁ o₁ (r .at) (r .w) o′ X → (p₁ p₂ : ℕ) → p₁ ≤ length raw → drop p₁ (symbols s raw) ≡ c ++ l → p₂ ≡ max p₁ (r .at)
+          → Outcome raw (symbols s raw) l w o p₂ (r .w) o′ (some (first ∷ 0 ∷ 1 ∷ []) ⊕ X)
+      behind c l X (lost z) p₁ p₂ h x y = became (sym (none-last (first ∷ 0 ∷ 1 ∷ []))) (lost (omega arith))
+      behind c l X (took {e = g} z d ws₁) p₁ p₂ h x y =
+          let f = further s raw p₁ (r .at) c l h z x d in
+          let i : p₂ ≡ r .at = omega arith in
+          became (sym (then-last (first ∷ 0 ∷ 1 ∷ []) g)) (took (omega arith) (ap (λ (u : ℕ). drop u (symbols s raw)) i ∙ d) (writes-then ws ws₁))
+
+      by : (t : Term) (m : ℕ) → TwoParts t m → getD raw at 0 ≡ m → drop at (symbols s raw) ≡ enc-term t ++ rest → Forked s raw N σ at after t rest w o (record { at = r .at; w = r .w; left = false }) o′
+      by t m (by-plus a b) q e = absurd (n₂ q)
+      by t m (by-then a b) q e = absurd (n₁ q)
+      by t m (by-cond a c b) q e =
+          let d : drop (at + 1) (symbols s raw) ≡ enc-term (sequence a) ++ (raw-data c ++ (enc-term (sequence b) ++ rest)) = next s raw at (tag cond-tag) _ e .behind ∙ simp append-assoc in
+          let g = condition N c (enc-term (sequence b) ++ rest) f (skips s (sequence a) (raw-data c ++ (enc-term (sequence b) ++ rest)) d) in
           record {
             first = sequence a;
             second = sequence b;
@@ -178,12 +189,7 @@ module _ (s raw funcs scope : List ℕ) (n at : ℕ) (after : Bool) (w : ℕ) (o
             first-depth = omega arith;
             second-depth = omega arith;
             cells = cond-cells N σ after a c b
-                ∙ ap (λ (y : ℕ). (some (y ∷ 0 ∷ 1 ∷ []) ⊕ data-cells N σ c) ⊕ (term-cells N σ false (sequence a) ⊕ term-cells N σ false (sequence b))) (sym ef);
-            outcome = behind (enc-term (sequence b) ++ rest) rest (data-cells N σ c) g;
+                ∙ ap (λ (y : ℕ). (some (y ∷ 0 ∷ 1 ∷ []) ⊕ data-cells N σ c) ⊕ (term-cells N σ false (sequence a) ⊕ term-cells N σ false (sequence b))) (sym ef)
+                ∙ ap (λ (y : ℕ). (some (first ∷ 0 ∷ 1 ∷ []) ⊕ data-cells N σ c) ⊕ (term-cells N σ false (sequence a) ⊕ term-cells N σ (eqb y then-tag) (sequence b))) (sym q);
+            outcome = λ p₁ p₂ z h x y. behind (raw-data c) (enc-term (sequence b) ++ rest) (data-cells N σ c) g p₁ p₂ h x y;
           }
-      by t m (then a b) q e = absurd (n₁ q)
-      by t m delta q e = let y = ap kids-of q in absurd (omega arith)
-      by t m tau q e = let y = ap kids-of q in absurd (omega arith)
-      by t m (bare x) q e = let y = ap kids-of q in absurd (omega arith)
-      by t m (given x ds) q e = let y = ap kids-of q in absurd (omega arith)
-      by t m (sum v D p₁) q e = let y = ap kids-of q in absurd (omega arith)

@@ -10,5 +10,6 @@ pub mod Terms
 pub mod NamedLaws
 pub mod NewLaws
 pub mod ForkLaws
+pub mod FirstLaws
 pub mod TermLaws
 pub mod EntryLaws

@@ -5,18 +5,18 @@ use mathlib.Core.List.{List, [], _∷_, _++_, map}
 use mathlib.Core.Option.{Option, none, some}
 use Prim.Native.Nat.{ℕ, suc, _+_, _≤_, _<_}
 use native.Mathlib.Omega.{arith}
+use lib.Dec.{eqb}
 use lib.ListN.{length, take, drop, getD}
 use lib.Seq.{take-take}
 use Rattle.pcrl.specs.Tree.{Name, Choice, Part}
 use Rattle.pcrl.specs.Names.{Names}
-use Rattle.parser.specs.Cells.{Symbol, tag, enc-choice}
+use Rattle.parser.specs.Cells.{Symbol, tag, then-tag, enc-choice}
 use Rattle.names.specs.NameCells.{name-at, scope-at}
 use Rattle.names.specs.Standing.{symbols}
 use Rattle.resolver.specs.declared.Step.{Step}
-use Rattle.resolver.specs.declared.Fork.{Fork}
 use Rattle.resolver.specs.Raw.{Term, choice, part, enc-term, sum-depth, term-depth, tokens-of, kids-of}
 use Rattle.resolver.specs.Writing.{Writes}
-use Rattle.resolver.specs.Resolving.{Outcome, lost, took, Declared, term-cells, binder-cells, _⊕_, InScope, Binds, ResolvesConstant, ResolvesNamed, Forked, Forks, ResolvesTerm}
+use Rattle.resolver.specs.Resolving.{Outcome, lost, took, Declared, term-cells, binder-cells, _⊕_, InScope, Binds, ResolvesConstant, ResolvesNamed, ResolvesFirst, ResolvesTerm}
 use Rattle.resolver.proofs.Writing.{writes-nothing, writes-then}
 use Rattle.resolver.proofs.Symbols.{next}
 use Rattle.resolver.proofs.DataCells.{then-nothing, then-assoc, then-none, then-last, none-last}
@@ -162,56 +162,41 @@ module _ (s raw sorts funcs acts procs scope : List ℕ) (n at : ℕ) (after : B
               (writes-then ws ws₁)
 
     -- ---- two subterms
-    module _ (k : 1 < kids-of (getD raw p 0)) (h : p < length raw) (same : length scope₁ ≡ length scope) (f : Fork) (o₂ : List ℕ) (forks : Forks s raw funcs scope₁ m p r v o₁ f o₂)
-        (a : Step) (o₃ : List ℕ) (resolves : ResolvesTerm s raw sorts funcs acts procs scope₁ m (p + 1) (f .left) (f .w) o₂ a o₃) where
-      -- the first part's cells, if they were written
-      first-part : (N : Names) (u : Term) (rest : List Symbol) → Declared s raw sorts funcs acts procs N → m + term-depth u ≤ length scope
-          → (x : Forked s raw N (scope-at s scope₁ m) p r u rest v o₁ f o₂) → Outcome raw (symbols s raw) (x .between) (f .w) o₂ (a .at) (a .w) o₃ (term-cells N (scope-at s scope₁ m) (f .left) (x .first))
-      first-part N u rest dec de x = let z = x .first-depth in resolves N (x .first) (x .between) dec (x .first-at) (omega arith)
+    module _ (k : 1 < kids-of (getD raw p 0)) (h : p < length raw) (same : length scope₁ ≡ length scope) (f : Step) (o₂ : List ℕ)
+        (first : ResolvesFirst s raw sorts funcs acts procs scope₁ m p r v o₁ f o₂) where
+      -- the term has two parts
+      by-halves : (P : Option (List ℕ) → Type 0) (N : Names) (t : Term) (rest : List Symbol) → Declared s raw sorts funcs acts procs N
+          → Going s raw N (length scope) (term-cells N (scope-at s scope n) after t) rest w o p m r v scope₁ o₁
+          → ((u : Term) (g : List ℕ) (X : Option (List ℕ)) → m + term-depth u ≤ length scope → Writes g w o v o₁ → Outcome raw (symbols s raw) (enc-term u ++ rest) v o₁ (f .at) (f .w) o₂ X
+          → P (some g ⊕ (X ⊕ term-cells N (scope-at s scope₁ m) (eqb (getD raw p 0) then-tag) u)))
+          → P (term-cells N (scope-at s scope n) after t)
+      by-halves P N t rest dec (gone y q) on = absurd (omega arith)
+      by-halves P N t rest dec (going u g dr de q ws) on =
+          let x = first N u rest dec dr (omega arith) k in
+          let y = x .second-depth in
+          subst P (sym (q ∙ ap (λ c. some g ⊕ c) (x .cells))) (on (x .second) g (x .head) (omega arith) ws (x .outcome))
 
-      pub fork-lost : length raw < a .at → Resolves a o₃
-      fork-lost z N t rest dec e d = by (left N t rest dec e d)
+      pub first-lost : length raw < f .at → Resolves f o₂
+      first-lost z N t rest dec e d =
+          by-halves (λ c. Outcome raw (symbols s raw) rest w o (f .at) (f .w) o₂ c) N t rest dec (left N t rest dec e d) (λ u g X de ws x. on g X _ (enc-term u ++ rest) x)
         where
-          whole : Option (List ℕ)
-          whole = term-cells N (scope-at s scope n) after t
+          on : (g : List ℕ) (X Y : Option (List ℕ)) (l : List Symbol) → Outcome raw (symbols s raw) l v o₁ (f .at) (f .w) o₂ X → Outcome raw (symbols s raw) rest w o (f .at) (f .w) o₂ (some g ⊕ (X ⊕ Y))
+          on g X Y l (lost y) = became (sym (then-none g Y)) (lost z)
+          on g X Y l (took y dr ws) = absurd (omega arith)
 
-          on : (g : List ℕ) (H F R : Option (List ℕ)) (l l₁ : List Symbol) → whole ≡ some g ⊕ (H ⊕ (F ⊕ R)) → Outcome raw (symbols s raw) l v o₁ (f .at) (f .w) o₂ H → Outcome raw (symbols s raw) l₁ (f .w) o₂ (a .at) (a .w) o₃ F
-              → Outcome raw (symbols s raw) rest w o (a .at) (a .w) o₃ whole
-          on g H F R l l₁ q (lost y) y₁ = became (sym (q ∙ then-none g (F ⊕ R))) (lost z)
-          on g H F R l l₁ q (took {e = i} y dr ws) (lost y₁) = became (sym (q ∙ then-assoc g i (none ⊕ R) ∙ then-none (g ++ i) R)) (lost z)
-          on g H F R l l₁ q (took y dr ws) (took y₁ dr₁ ws₁) = absurd (omega arith)
-
-          by : Going s raw N (length scope) whole rest w o p m r v scope₁ o₁ → Outcome raw (symbols s raw) rest w o (a .at) (a .w) o₃ whole
-          by (gone y q) = absurd (omega arith)
-          by (going u g dr de q ws) =
-              let x = forks N u rest (dec .funcs-are) dr k in
-              on g (x .head) (term-cells N (scope-at s scope₁ m) (f .left) (x .first)) (term-cells N (scope-at s scope₁ m) (f .right) (x .second)) (enc-term (x .second) ++ rest) (x .between)
-              (q ∙ ap (λ c. some g ⊕ c) (x .cells)) (x .outcome) (first-part N u rest dec de x)
-
-      pub term-fork : a .at ≤ length raw → (scope₂ : List ℕ) → take m scope₂ ≡ take m scope₁ → TermLeft (f .at) m (f .right) (a .w) scope₂ o₃
-      term-fork z scope₂ kept N t rest dec e d = by (left N t rest dec e d)
+      pub term-second : (c : ℕ) → c ≡ getD raw p 0 → f .at ≤ length raw → (scope₂ : List ℕ) → take m scope₂ ≡ take m scope₁ → TermLeft (f .at) m (eqb c then-tag) (f .w) scope₂ o₂
+      term-second c here z scope₂ kept N t rest dec e d =
+          by-halves (λ x. Going s raw N (length scope) x rest w o (f .at) m (eqb c then-tag) (f .w) scope₂ o₂) N t rest dec (left N t rest dec e d) on
         where
-          whole : Option (List ℕ)
-          whole = term-cells N (scope-at s scope n) after t
-
-          on : (g : List ℕ) (H F : Option (List ℕ)) (u : Term) (l : List Symbol) → m + term-depth u ≤ length scope → Writes g w o v o₁ → whole ≡ some g ⊕ (H ⊕ (F ⊕ term-cells N (scope-at s scope₂ m) (f .right) u))
-              → Outcome raw (symbols s raw) (enc-term u ++ rest) v o₁ (f .at) (f .w) o₂ H → Outcome raw (symbols s raw) l (f .w) o₂ (a .at) (a .w) o₃ F
-              → Going s raw N (length scope) whole rest w o (f .at) m (f .right) (a .w) scope₂ o₃
-          on g H F u l de ws q (lost y) y₁ = gone y (q ∙ then-none g (F ⊕ term-cells N (scope-at s scope₂ m) (f .right) u))
-          on g H F u l de ws q (took {e = i} y dr ws₁) (lost y₁) = absurd (omega arith)
-          on g H F u l de ws q (took {e = i} y dr ws₁) (took {e = j} y₁ dr₁ ws₂) =
-              going u ((g ++ i) ++ j) dr de
-              (q ∙ then-assoc g i (some j ⊕ term-cells N (scope-at s scope₂ m) (f .right) u) ∙ then-assoc (g ++ i) j (term-cells N (scope-at s scope₂ m) (f .right) u))
-              (writes-then (writes-then ws ws₁) ws₂)
-
-          by : Going s raw N (length scope) whole rest w o p m r v scope₁ o₁ → Going s raw N (length scope) whole rest w o (f .at) m (f .right) (a .w) scope₂ o₃
-          by (gone y q) = absurd (omega arith)
-          by (going u g dr de q ws) =
-              let x = forks N u rest (dec .funcs-are) dr k in
-              let y = x .second-depth in
-              on g (x .head) (term-cells N (scope-at s scope₁ m) (f .left) (x .first)) (x .second) (x .between) (omega arith) ws
-              (q ∙ ap (λ c. some g ⊕ c) (x .cells) ∙ ap (λ (l : List Name). some g ⊕ (x .head ⊕ (term-cells N (scope-at s scope₁ m) (f .left) (x .first) ⊕ term-cells N l (f .right) (x .second)))) (sym (same-scope s scope₁ scope₂ m kept)))
-              (x .outcome) (first-part N u rest dec de x)
+          on : (u : Term) (g : List ℕ) (X : Option (List ℕ)) → m + term-depth u ≤ length scope → Writes g w o v o₁ → Outcome raw (symbols s raw) (enc-term u ++ rest) v o₁ (f .at) (f .w) o₂ X
+              → Going s raw N (length scope) (some g ⊕ (X ⊕ term-cells N (scope-at s scope₁ m) (eqb (getD raw p 0) then-tag) u)) rest w o (f .at) m (eqb c then-tag) (f .w) scope₂ o₂
+          on u g X de ws (lost y) = absurd (omega arith)
+          on u g X de ws (took {e = i} y dr ws₁) =
+              going u (g ++ i) dr de
+              (then-assoc g i (term-cells N (scope-at s scope₁ m) (eqb (getD raw p 0) then-tag) u)
+              ∙ ap (λ (l : List Name). some (g ++ i) ⊕ term-cells N l (eqb (getD raw p 0) then-tag) u) (sym (same-scope s scope₁ scope₂ m kept))
+              ∙ ap (λ (y : ℕ). some (g ++ i) ⊕ term-cells N (scope-at s scope₂ m) (eqb y then-tag) u) (sym here))
+              (writes-then ws ws₁)
 
 -- what was kept of m names is kept of n of them
 pub kept-on : (n m : ℕ) (a b c : List ℕ) → n ≤ m → take m a ≡ take m b → take n b ≡ take n c → take n a ≡ take n c

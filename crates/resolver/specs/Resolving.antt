@@ -4,7 +4,8 @@ use mathlib.Core.Path.{_≡_}
 use mathlib.Core.List.{List, [], _∷_, _++_}
 use mathlib.Core.Bool.{Bool, true, false}
 use mathlib.Core.Option.{Option, none, some}
-use Prim.Native.Nat.{ℕ, suc, _+_, _*_, _≤_, _<_, min}
+use Prim.Native.Nat.{ℕ, suc, _+_, _*_, _≤_, _<_, min, max}
+use lib.Dec.{eqb}
 use lib.ListN.{length, drop, getD, set}
 use Rattle.pcrl.specs.Text.{bytes}
 use Rattle.pcrl.specs.Limits.{max-sorts, max-functions, max-actions, max-processes}
@@ -13,7 +14,7 @@ use Rattle.pcrl.specs.Tree.{Name, RawData, RawDatas, Choice, InitLine}
 use Rattle.pcrl.specs.Sheet.{Data, Proc, call}
 use Rattle.pcrl.specs.Names.{Names, number-of, new-variable, resolve-data, resolve-datas, resolve-given, resolve-choice, resolve-init}
 use Rattle.pcrl.specs.Tokens.{name}
-use Rattle.parser.specs.Cells.{Symbol, tag, token, sum-tag, enc-call, enc-choice, enc-init}
+use Rattle.parser.specs.Cells.{Symbol, tag, token, then-tag, sum-tag, enc-call, enc-choice, enc-init}
 use Rattle.parser.specs.Cells.{enc-data as raw-data, enc-datas as raw-datas}
 use Rattle.nodes.specs.Scoped.{max-scope}
 use Rattle.nodes.specs.Layout.{cell-limit, enc-data, enc-arguments, enc-datas, after-mark, one-if, atom-kind, sum-kind, call-kind, variable-tag, enc}
@@ -147,6 +148,7 @@ ResolvesNamed s raw funcs acts procs scope n at after w o r o′ = (N : Names) (
     → Outcome raw (symbols s raw) rest w o (r .at) (r .w) o′ (term-cells N (scope-at s scope n) after t)
 
 -- A term of two parts: its cells are those of its head, of the first and of the second.
+-- The second stands behind the first, or, if that is further on, behind what was read for the head.
 pub record Forked (s raw : List ℕ) (N : Names) (scope : List Name) (at : ℕ) (after : Bool) (t : Term) (rest : List Symbol) (w : ℕ) (o : List ℕ) (r : Fork) (o′ : List ℕ) : Type 0 where
   pub first : Term
   pub second : Term
@@ -155,18 +157,31 @@ pub record Forked (s raw : List ℕ) (N : Names) (scope : List Name) (at : ℕ) 
   pub first-at : drop (at + 1) (symbols s raw) ≡ enc-term first ++ between
   pub first-depth : term-depth first ≤ term-depth t
   pub second-depth : term-depth second ≤ term-depth t
-  pub cells : term-cells N scope after t ≡ head ⊕ (term-cells N scope (r .left) first ⊕ term-cells N scope (r .right) second)
-  pub outcome : Outcome raw (symbols s raw) (enc-term second ++ rest) w o (r .at) (r .w) o′ head
+  pub cells : term-cells N scope after t ≡ head ⊕ (term-cells N scope (r .left) first ⊕ term-cells N scope (eqb (getD raw at 0) then-tag) second)
+  pub outcome : (p next : ℕ) → at < p → p ≤ length raw → drop p (symbols s raw) ≡ between → next ≡ max p (r .at)
+      → Outcome raw (symbols s raw) (enc-term second ++ rest) w o next (r .w) o′ head
 
 abbrev pub Forks : (s raw funcs scope : List ℕ) (n at : ℕ) → Bool → (w : ℕ) (o : List ℕ) → Fork → List ℕ → Type 0
 Forks s raw funcs scope n at after w o r o′ = (N : Names) (t : Term) (rest : List Symbol) → N .funcs ≡ names-at s raw funcs (length funcs)
     → drop at (symbols s raw) ≡ enc-term t ++ rest → 1 < kids-of (getD raw at 0) → Forked s raw N (scope-at s scope n) at after t rest w o r o′
+
+-- A term of two parts, up to its second: its cells are those of the head, now with the first part, and of the second.
+pub record Halved (s raw : List ℕ) (N : Names) (scope : List Name) (at : ℕ) (after : Bool) (t : Term) (rest : List Symbol) (w : ℕ) (o : List ℕ) (r : Step) (o′ : List ℕ) : Type 0 where
+  pub second : Term
+  pub head : Option (List ℕ)
+  pub second-depth : term-depth second ≤ term-depth t
+  pub cells : term-cells N scope after t ≡ head ⊕ term-cells N scope (eqb (getD raw at 0) then-tag) second
+  pub outcome : Outcome raw (symbols s raw) (enc-term second ++ rest) w o (r .at) (r .w) o′ head
 
 module _ (s raw sorts funcs acts procs scope : List ℕ) (n : ℕ) where
   abbrev pub ResolvesTerm : (at : ℕ) → Bool → ℕ → List ℕ → Step → List ℕ → Type 0
   ResolvesTerm at after w o r o′ = (N : Names) (t : Term) (rest : List Symbol) → Declared s raw sorts funcs acts procs N
       → drop at (symbols s raw) ≡ enc-term t ++ rest → n + term-depth t ≤ length scope
       → Outcome raw (symbols s raw) rest w o (r .at) (r .w) o′ (term-cells N (scope-at s scope n) after t)
+
+  abbrev pub ResolvesFirst : (at : ℕ) → Bool → ℕ → List ℕ → Step → List ℕ → Type 0
+  ResolvesFirst at after w o r o′ = (N : Names) (t : Term) (rest : List Symbol) → Declared s raw sorts funcs acts procs N
+      → drop at (symbols s raw) ≡ enc-term t ++ rest → n + term-depth t ≤ length scope → 1 < kids-of (getD raw at 0) → Halved s raw N (scope-at s scope n) at after t rest w o r o′
 
 -- ---- what the layers above are told
 -- Resolved or not. If so: the place behind the raw term, and the term's cells behind those before w, if there was room.

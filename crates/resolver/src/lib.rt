@@ -24,12 +24,11 @@ pub struct Found {
     pub number: u16,
 }
 
-// A node of two subterms: where the second stands, the next free cell, and which of them stand after a first part.
+// A node of two subterms: how far its head was read, the next free cell, and whether the first subterm stands after a first part.
 pub struct Fork {
     pub at: usize,
     pub w: usize,
     pub left: bool,
-    pub right: bool,
 }
 
 // Whether all names were as they must be, the place behind the term, and the next free cell.

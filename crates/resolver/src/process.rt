@@ -6,7 +6,7 @@ ghost use lib.ListN.{length, take};
 ghost use Rattle.pcrl.specs.Limits.{max-actions, max-processes};
 ghost use Rattle.pcrl.specs.Names.{number-of};
 ghost use Rattle.names.specs.NameCells.{name-at, names-at};
-ghost use Rattle.resolver.specs.Resolving.{Ahead, Few, AllFew, Naming, SaysNew, InScope, Binds, ResolvesConstant, ResolvesNamed, Forks, ResolvesTerm};
+ghost use Rattle.resolver.specs.Resolving.{Ahead, Few, AllFew, Naming, SaysNew, InScope, Binds, ResolvesConstant, ResolvesNamed, Forks, ResolvesFirst, ResolvesTerm};
 use crate::Fork;
 use crate::Found;
 use crate::Step;
@@ -164,7 +164,7 @@ fn constant(raw: &[u16], at: usize, after: bool, out: &mut [u16], w: usize) -> S
     lost(raw, w)
 }
 
-// The node of a `+`, a `.` or a conditional, whose condition stands before the parts.
+// The node of a `+`, a `.` or a conditional, whose condition stands behind the first part and is resolved before it.
 fn fork(
     s: &[u8],
     raw: &[u16],
@@ -177,34 +177,29 @@ fn fork(
     w: usize,
 ) -> Fork
     requires { ⌜ Few (now raw) (now funcs) (now scope) n × (at < length (now raw)) ⌝ }
-    ensures ahead { λ r. ⌜ at + 1 ≤ r .at ⌝ }
-    ensures forks { λ r. ⌜ Forks (now (s .entry)) (now (raw .entry)) (now (funcs .entry)) (now (scope .entry)) n at after w (now (out .entry)) r (now (out .exit)) ⌝ }
+    ensures { λ r. ⌜ Forks (now (s .entry)) (now (raw .entry)) (now (funcs .entry)) (now (scope .entry)) n at after w (now (out .entry)) r (now (out .exit)) ⌝ }
 {
     let k = cell(raw, at);
-    let p = skip(raw, at + 1);
     if k == THEN_TAG {
         return Fork {
-            at: p,
+            at: at,
             w: node(out, w, SEQ, 0, 0),
             left: after,
-            right: true,
         };
     }
     if k == PLUS_TAG {
         return Fork {
-            at: p,
+            at: at,
             w: node(out, w, marked(after, ALT), 0, 0),
             left: false,
-            right: false,
         };
     }
     let v = node(out, w, marked(after, COND), 0, 1);
-    let d = data_term(s, raw, funcs, scope, n, p, out, v);
+    let d = data_term(s, raw, funcs, scope, n, skip(raw, at + 1), out, v);
     Fork {
         at: d.at,
         w: d.w,
         left: false,
-        right: false,
     }
 }
 
@@ -231,6 +226,48 @@ fn named_part(
         return lost(raw, w);
     }
     given(s, raw, funcs, scope, n, at, f.first, f.number, out, w)
+}
+
+// A `+`, a `.` or a conditional, up to its second part.
+fn first_part(
+    s: &[u8],
+    raw: &[u16],
+    sorts: &[u16],
+    funcs: &[u16],
+    acts: &[u16],
+    procs: &[u16],
+    scope: &mut [u16],
+    n: usize,
+    at: usize,
+    after: bool,
+    out: &mut [u16],
+    w: usize,
+) -> Step
+    requires { ⌜ AllFew (now raw) (now sorts) (now funcs) (now acts) (now procs) (now scope) n × (at < length (now raw)) ⌝ }
+    ensures ahead { λ r. ⌜ at + 1 ≤ r .at ⌝ }
+    ensures kept { λ r. ⌜ take n (now (scope .exit)) ≡ take n (now (scope .entry)) ⌝ }
+    ensures resolves { λ r. ⌜ ResolvesFirst (now (s .entry)) (now (raw .entry)) (now (sorts .entry)) (now (funcs .entry)) (now (acts .entry)) (now (procs .entry)) (now (scope .entry)) n at after w (now (out .entry)) r (now (out .exit)) ⌝ }
+{
+    let h = fork(s, raw, funcs, scope, n, at, after, out, w);
+    let a = term(
+        s,
+        raw,
+        sorts,
+        funcs,
+        acts,
+        procs,
+        scope,
+        n,
+        at + 1,
+        h.left,
+        out,
+        h.w,
+    );
+    // the second part stands behind the condition, if there is one
+    if a.at < h.at {
+        return Step { at: h.at, w: a.w };
+    }
+    a
 }
 
 // A choice, conditional, sequence or part at `at`, with n names in scope; whether it stands after a first part.
@@ -282,27 +319,13 @@ pub fn term(
             p += 1;
             continue;
         }
-        let h = fork(s, raw, funcs, scope, m, p, r, out, v);
-        let a = term(
-            s,
-            raw,
-            sorts,
-            funcs,
-            acts,
-            procs,
-            scope,
-            m,
-            p + 1,
-            h.left,
-            out,
-            h.w,
-        );
-        if a.at > raw.len() {
-            return a;
+        let h = first_part(s, raw, sorts, funcs, acts, procs, scope, m, p, r, out, v);
+        if h.at > raw.len() {
+            return h;
         }
         p = h.at;
-        r = h.right;
-        v = a.w;
+        r = k == THEN_TAG;
+        v = h.w;
     }
     lost(raw, v)
 }

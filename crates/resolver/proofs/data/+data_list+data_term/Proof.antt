@@ -56,7 +56,9 @@ abbrev data-list-μ-loop : data-list-lts.MeasureT-loop
 data-list-μ-loop s raw funcs scope n at out₀ w p₀ v₀ count₀ out p v count = length raw - p
 
 data-list-loop-holds : (t : ℕ) → data-list-lts.Need-loop-holds (data-list-calls t) (data-list-at t) data-list.Post data-list-Inv-loop data-list-μ-loop
-data-list-loop-holds t c = ((omega arith, refl), list-start (c .before .before .before .before .before .args .s .now) (c .before .before .before .before .before .args .raw .now) (c .before .before .before .before .before .args .funcs .now) (c .before .before .before .before .before .args .scope .now) (c .before .before .before .before .before .args .n) (c .before .before .before .before .before .args .at) (c .before .before .before .before .before .args .w) (c .before .before .before .before .before .args .out .now))
+data-list-loop-holds t c =
+    let args = c .before .before .before .before .before .args in
+    ((omega arith, refl), list-start (args .s .now) (args .raw .now) (args .funcs .now) (args .scope .now) (args .n) (args .at) (args .w) (args .out .now))
 
 data-list-cell-requires : (t : ℕ) → data-list-lts.Need-cell-requires (data-list-calls t) (data-list-at t) data-list.Post data-list-Inv-loop data-list-μ-loop
 data-list-cell-requires t c κs = tt
@@ -68,8 +70,9 @@ data-list-add-data-term t c =
 
 data-list-data-term-requires : (t : ℕ) → data-list-lts.Need-data-term-requires (data-list-calls t) (data-list-at t) data-list.Post data-list-Inv-loop data-list-μ-loop
 data-list-data-term-requires t c κs =
-    let q = c .before .before .before .before .before .before .before .before .before .pre .1 in
-    let l = live (c .before .before .before .before .before .before .before .before .before .args .raw .now) (c .before .before .before .loop .p) (let k = c .before .before .cell .ensures in omega arith) in
+    let start = c .before .before .before .before .before .before .before .before .before in
+    let q = start .pre .1 in
+    let l = live (start .args .raw .now) (c .before .before .before .loop .p) (let k = c .before .before .cell .ensures in omega arith) in
     (omega arith, omega arith)
 
 data-list-add-count : (t : ℕ) → data-list-lts.Need-add-count (data-list-calls t) (data-list-at t) data-list.Post data-list-Inv-loop data-list-μ-loop
@@ -85,9 +88,13 @@ data-list-loop-less t c =
 
 data-list-loop-again : (t : ℕ) → data-list-lts.Need-loop-again (data-list-calls t) (data-list-at t) data-list.Post data-list-Inv-loop data-list-μ-loop
 data-list-loop-again t c =
-    let l = live (c .before .before .before .before .before .before .before .before .before .before .before .before .args .raw .now) (c .before .before .before .before .before .before .loop .p) (let k = c .before .before .before .before .before .cell .ensures in omega arith) in
-    let a = c .before .before .data-term .ensures .0 in
-    ((omega arith, c .before .before .data-term .kept .1 .1 .1 .1 .1 .1 .0 ∙ c .before .before .before .before .before .before .loop .inv .0 .1), list-step (c .before .before .before .before .before .before .before .before .before .before .before .before .args .s .now) (c .before .before .before .before .before .before .before .before .before .before .before .before .args .raw .now) (c .before .before .before .before .before .before .before .before .before .before .before .before .args .funcs .now) (c .before .before .before .before .before .before .before .before .before .before .before .before .args .scope .now) (c .before .before .before .before .before .before .before .before .before .before .before .before .args .n) (c .before .before .before .before .before .before .before .before .before .before .before .before .args .at) (c .before .before .before .before .before .before .before .before .before .before .before .before .args .w) (c .before .before .before .before .before .before .before .before .before .before .before .before .args .out .now) (c .before .before .before .before .before .before .loop .p) (c .before .before .before .before .before .before .loop .v) (c .before .before .before .before .before .before .loop .count) (c .before .before .before .before .before .before .loop .out) (c .before .before .before .before .before .before .loop .inv .1) (sym (c .before .before .before .before .before .cell .ensures) ∙ c .before .before .before .before .if1 .taken) (c .before .before .data-term .result) (c .before .before .data-term .last .1 .1 .1 .1 .1 .1 .0) (c .before .before .data-term .ensures .1))
+    let args = c .before .before .before .before .before .before .before .before .before .before .before .before .args in
+    let here = c .before .before .before .before .before .before .loop in
+    let cell = c .before .before .before .before .before .cell in
+    let called = c .before .before .data-term in
+    let l = live (args .raw .now) (here .p) (let k = cell .ensures in omega arith) in
+    let a = called .ensures .0 in
+    ((omega arith, called .kept .1 .1 .1 .1 .1 .1 .0 ∙ here .inv .0 .1), list-step (args .s .now) (args .raw .now) (args .funcs .now) (args .scope .now) (args .n) (args .at) (args .w) (args .out .now) (here .p) (here .v) (here .count) (here .out) (here .inv .1) (sym (cell .ensures) ∙ c .before .before .before .before .if1 .taken) (called .result) (called .last .1 .1 .1 .1 .1 .1 .0) (called .ensures .1))
 
 data-list-cell-requires-2 : (t : ℕ) → data-list-lts.Need-cell-requires-2 (data-list-calls t) (data-list-at t) data-list.Post data-list-Inv-loop data-list-μ-loop
 data-list-cell-requires-2 t c κs = tt
@@ -100,8 +107,10 @@ data-list-same-length t c = c .before .before .before .before .before .loop .inv
 
 data-list-returns : (t : ℕ) → data-list-lts.Need-returns (data-list-calls t) (data-list-at t) data-list.Post data-list-Inv-loop data-list-μ-loop
 data-list-returns t c =
+    let args = c .before .before .before .before .before .before .before .before .before .before .before .args in
+    let here = c .before .before .before .before .before .loop in
     let z = c .lost .ensures in
-    (omega arith, list-lost (c .before .before .before .before .before .before .before .before .before .before .before .args .s .now) (c .before .before .before .before .before .before .before .before .before .before .before .args .raw .now) (c .before .before .before .before .before .before .before .before .before .before .before .args .funcs .now) (c .before .before .before .before .before .before .before .before .before .before .before .args .scope .now) (c .before .before .before .before .before .before .before .before .before .before .before .args .n) (c .before .before .before .before .before .before .before .before .before .before .before .args .at) (c .before .before .before .before .before .before .before .before .before .before .before .args .w) (c .before .before .before .before .before .before .before .before .before .before .before .args .out .now) (c .before .before .before .before .before .loop .p) (c .before .before .before .before .before .loop .v) (c .before .before .before .before .before .loop .count) (c .before .before .before .before .before .loop .out) (c .before .before .before .before .before .loop .inv .1) (λ e. c .before .before .before .if1 .left (c .before .before .before .before .cell .ensures ∙ e)) (λ e. c .before .if2 .taken (c .before .before .cell2 .ensures ∙ e)) (record { at = c .lost .result .at; w = c .before .before .before .before .before .loop .v; count = c .before .before .before .before .before .loop .count }) (c .lost .ensures))
+    (omega arith, list-lost (args .s .now) (args .raw .now) (args .funcs .now) (args .scope .now) (args .n) (args .at) (args .w) (args .out .now) (here .p) (here .v) (here .count) (here .out) (here .inv .1) (λ e. c .before .before .before .if1 .left (c .before .before .before .before .cell .ensures ∙ e)) (λ e. c .before .if2 .taken (c .before .before .cell2 .ensures ∙ e)) (record { at = c .lost .result .at; w = here .v; count = here .count }) (c .lost .ensures))
 
 data-list-add-data-term-2 : (t : ℕ) → data-list-lts.Need-add-data-term-2 (data-list-calls t) (data-list-at t) data-list.Post data-list-Inv-loop data-list-μ-loop
 data-list-add-data-term-2 t c =
@@ -110,8 +119,9 @@ data-list-add-data-term-2 t c =
 
 data-list-data-term-requires-2 : (t : ℕ) → data-list-lts.Need-data-term-requires-2 (data-list-calls t) (data-list-at t) data-list.Post data-list-Inv-loop data-list-μ-loop
 data-list-data-term-requires-2 t c κs =
-    let q = c .before .before .before .before .before .before .before .before .before .before .before .pre .1 in
-    let l = live (c .before .before .before .before .before .before .before .before .before .before .before .args .raw .now) (c .before .before .before .before .before .loop .p) (let k = c .before .before .cell2 .ensures in omega arith) in
+    let start = c .before .before .before .before .before .before .before .before .before .before .before in
+    let q = start .pre .1 in
+    let l = live (start .args .raw .now) (c .before .before .before .before .before .loop .p) (let k = c .before .before .cell2 .ensures in omega arith) in
     (omega arith, omega arith)
 
 data-list-add-t22 : (t : ℕ) → data-list-lts.Need-add-t22 (data-list-calls t) (data-list-at t) data-list.Post data-list-Inv-loop data-list-μ-loop
@@ -124,17 +134,22 @@ data-list-same-length-2 t c = c .before .before .data-term2 .kept .1 .1 .1 .1 .1
 
 data-list-returns-2 : (t : ℕ) → data-list-lts.Need-returns-2 (data-list-calls t) (data-list-at t) data-list.Post data-list-Inv-loop data-list-μ-loop
 data-list-returns-2 t c =
-    let q = c .before .before .before .before .before .before .before .before .before .before .before .before .before .before .pre .1 in
-    let l = live (c .before .before .before .before .before .before .before .before .before .before .before .before .before .before .args .raw .now) (c .before .before .before .before .before .before .before .before .loop .p) (let k = c .before .before .before .before .before .cell2 .ensures in omega arith) in
-    let a = c .before .before .data-term2 .ensures .0 in
-    (omega arith, list-took (c .before .before .before .before .before .before .before .before .before .before .before .before .before .before .args .s .now) (c .before .before .before .before .before .before .before .before .before .before .before .before .before .before .args .raw .now) (c .before .before .before .before .before .before .before .before .before .before .before .before .before .before .args .funcs .now) (c .before .before .before .before .before .before .before .before .before .before .before .before .before .before .args .scope .now) (c .before .before .before .before .before .before .before .before .before .before .before .before .before .before .args .n) (c .before .before .before .before .before .before .before .before .before .before .before .before .before .before .args .at) (c .before .before .before .before .before .before .before .before .before .before .before .before .before .before .args .w) (c .before .before .before .before .before .before .before .before .before .before .before .before .before .before .args .out .now) (c .before .before .before .before .before .before .before .before .loop .p) (c .before .before .before .before .before .before .before .before .loop .v) (c .before .before .before .before .before .before .before .before .loop .count) (c .before .before .before .before .before .before .before .before .loop .out) (c .before .before .before .before .before .before .before .before .loop .inv .1) (omega arith) (omega arith) (c .before .before .data-term2 .result) (c .before .before .data-term2 .last .1 .1 .1 .1 .1 .1 .0) (c .before .before .data-term2 .ensures .1))
+    let start = c .before .before .before .before .before .before .before .before .before .before .before .before .before .before in
+    let args = start .args in
+    let here = c .before .before .before .before .before .before .before .before .loop in
+    let data-term2 = c .before .before .data-term2 in
+    let q = start .pre .1 in
+    let l = live (args .raw .now) (here .p) (let k = c .before .before .before .before .before .cell2 .ensures in omega arith) in
+    let a = data-term2 .ensures .0 in
+    (omega arith, list-took (args .s .now) (args .raw .now) (args .funcs .now) (args .scope .now) (args .n) (args .at) (args .w) (args .out .now) (here .p) (here .v) (here .count) (here .out) (here .inv .1) (omega arith) (omega arith) (data-term2 .result) (data-term2 .last .1 .1 .1 .1 .1 .1 .0) (data-term2 .ensures .1))
 
 data-term-cell-requires : (t : ℕ) → data-term-lts.Need-cell-requires (data-term-calls t) (data-term-at t) data-term.Post
 data-term-cell-requires t c κs = tt
 
 data-term-add-cell : (t : ℕ) → data-term-lts.Need-add-cell (data-term-calls t) (data-term-at t) data-term.Post
 data-term-add-cell t c =
-    let l = live (c .before .before .before .before .before .before .before .args .raw .now) (c .before .before .before .before .before .before .before .args .at) (let k = c .before .cell .ensures in omega arith) in
+    let args = c .before .before .before .before .before .before .before .args in
+    let l = live (args .raw .now) (args .at) (let k = c .before .cell .ensures in omega arith) in
     omega arith
 
 data-term-cell-requires-2 : (t : ℕ) → data-term-lts.Need-cell-requires-2 (data-term-calls t) (data-term-at t) data-term.Post
@@ -144,17 +159,22 @@ data-term-lost-requires : (t : ℕ) → data-term-lts.Need-lost-requires (data-t
 data-term-lost-requires t c κs = tt
 
 data-term-returns : (t : ℕ) → data-term-lts.Need-returns (data-term-calls t) (data-term-at t) data-term.Post
-data-term-returns t c = (let z = c .lost .ensures in omega arith, value-lost (c .before .before .before .before .before .before .before .before .before .before .args .s .now) (c .before .before .before .before .before .before .before .before .before .before .args .raw .now) (c .before .before .before .before .before .before .before .before .before .before .args .funcs .now) (c .before .before .before .before .before .before .before .before .before .before .args .scope .now) (c .before .before .before .before .before .before .before .before .before .before .args .n) (c .before .before .before .before .before .before .before .before .before .before .args .at) (c .before .before .before .before .before .before .before .before .before .before .args .w) (c .before .before .before .before .before .before .before .before .before .before .args .out .now) (sym (c .before .before .before .before .cell .ensures) ∙ c .before .before .before .if1 .taken) (c .lost .result) (c .before .before .before .before .before .before .before .before .before .before .args .out .now) (λ v h. let a = h .least in let b = c .before .before .cell2 .ensures in omega arith))
+data-term-returns t c =
+    let args = c .before .before .before .before .before .before .before .before .before .before .args in
+    (let z = c .lost .ensures in omega arith, value-lost (args .s .now) (args .raw .now) (args .funcs .now) (args .scope .now) (args .n) (args .at) (args .w) (args .out .now) (sym (c .before .before .before .before .cell .ensures) ∙ c .before .before .before .if1 .taken) (c .lost .result) (args .out .now) (λ v h. let a = h .least in let b = c .before .before .cell2 .ensures in omega arith))
 
 data-term-lost-requires-2 : (t : ℕ) → data-term-lts.Need-lost-requires-2 (data-term-calls t) (data-term-at t) data-term.Post
 data-term-lost-requires-2 t c κs = tt
 
 data-term-returns-2 : (t : ℕ) → data-term-lts.Need-returns-2 (data-term-calls t) (data-term-at t) data-term.Post
-data-term-returns-2 t c = (let z = c .lost2 .ensures in omega arith, value-lost (c .before .before .before .before .before .before .before .before .before .before .before .args .s .now) (c .before .before .before .before .before .before .before .before .before .before .before .args .raw .now) (c .before .before .before .before .before .before .before .before .before .before .before .args .funcs .now) (c .before .before .before .before .before .before .before .before .before .before .before .args .scope .now) (c .before .before .before .before .before .before .before .before .before .before .before .args .n) (c .before .before .before .before .before .before .before .before .before .before .before .args .at) (c .before .before .before .before .before .before .before .before .before .before .before .args .w) (c .before .before .before .before .before .before .before .before .before .before .before .args .out .now) (sym (c .before .before .before .before .before .cell .ensures) ∙ c .before .before .before .before .if1 .taken) (c .lost2 .result) (c .before .before .before .before .before .before .before .before .before .before .before .args .out .now) (λ v h. let a = h .most in let b = c .before .before .before .cell2 .ensures in omega arith))
+data-term-returns-2 t c =
+    let args = c .before .before .before .before .before .before .before .before .before .before .before .args in
+    (let z = c .lost2 .ensures in omega arith, value-lost (args .s .now) (args .raw .now) (args .funcs .now) (args .scope .now) (args .n) (args .at) (args .w) (args .out .now) (sym (c .before .before .before .before .before .cell .ensures) ∙ c .before .before .before .before .if1 .taken) (c .lost2 .result) (args .out .now) (λ v h. let a = h .most in let b = c .before .before .before .cell2 .ensures in omega arith))
 
 data-term-add-t17 : (t : ℕ) → data-term-lts.Need-add-t17 (data-term-calls t) (data-term-at t) data-term.Post
 data-term-add-t17 t c =
-    let l = live (c .before .before .before .before .before .before .before .before .before .before .args .raw .now) (c .before .before .before .before .before .before .before .before .before .before .args .at) (let k = c .before .before .before .before .cell .ensures in omega arith) in
+    let args = c .before .before .before .before .before .before .before .before .before .before .args in
+    let l = live (args .raw .now) (args .at) (let k = c .before .before .before .before .cell .ensures in omega arith) in
     omega arith
 
 data-term-mul-put : (t : ℕ) → data-term-lts.Need-mul-put (data-term-calls t) (data-term-at t) data-term.Post
@@ -167,11 +187,16 @@ data-term-same-length : (t : ℕ) → data-term-lts.Need-same-length (data-term-
 data-term-same-length t c = c .before .before .put .kept .0
 
 data-term-returns-3 : (t : ℕ) → data-term-lts.Need-returns-3 (data-term-calls t) (data-term-at t) data-term.Post
-data-term-returns-3 t c = (omega arith, value-took (c .before .before .before .before .before .before .before .before .before .before .before .before .before .before .args .s .now) (c .before .before .before .before .before .before .before .before .before .before .before .before .before .before .args .raw .now) (c .before .before .before .before .before .before .before .before .before .before .before .before .before .before .args .funcs .now) (c .before .before .before .before .before .before .before .before .before .before .before .before .before .before .args .scope .now) (c .before .before .before .before .before .before .before .before .before .before .before .before .before .before .args .n) (c .before .before .before .before .before .before .before .before .before .before .before .before .before .before .args .at) (c .before .before .before .before .before .before .before .before .before .before .before .before .before .before .args .w) (c .before .before .before .before .before .before .before .before .before .before .before .before .before .before .args .out .now) (sym (c .before .before .before .before .before .before .before .before .cell .ensures) ∙ c .before .before .before .before .before .before .before .if1 .taken) (c .before .before .before .before .before .before .cell2 .result) _ (c .before .before .put .result) (c .before .before .put .last .0) (c .before .before .before .before .before .before .cell2 .ensures) refl (c .before .before .put .ensures))
+data-term-returns-3 t c =
+    let args = c .before .before .before .before .before .before .before .before .before .before .before .before .before .before .args in
+    let cell2 = c .before .before .before .before .before .before .cell2 in
+    let put = c .before .before .put in
+    (omega arith, value-took (args .s .now) (args .raw .now) (args .funcs .now) (args .scope .now) (args .n) (args .at) (args .w) (args .out .now) (sym (c .before .before .before .before .before .before .before .before .cell .ensures) ∙ c .before .before .before .before .before .before .before .if1 .taken) (cell2 .result) _ (put .result) (put .last .0) (cell2 .ensures) refl (put .ensures))
 
 data-term-add-cell-2 : (t : ℕ) → data-term-lts.Need-add-cell-2 (data-term-calls t) (data-term-at t) data-term.Post
 data-term-add-cell-2 t c =
-    let l = live (c .before .before .before .before .before .before .before .before .args .raw .now) (c .before .before .before .before .before .before .before .before .args .at) (let k = c .before .before .cell .ensures in omega arith) in
+    let args = c .before .before .before .before .before .before .before .before .args in
+    let l = live (args .raw .now) (args .at) (let k = c .before .before .cell .ensures in omega arith) in
     omega arith
 
 data-term-cell-requires-3 : (t : ℕ) → data-term-lts.Need-cell-requires-3 (data-term-calls t) (data-term-at t) data-term.Post
@@ -184,11 +209,17 @@ data-term-lost-requires-3 : (t : ℕ) → data-term-lts.Need-lost-requires-3 (da
 data-term-lost-requires-3 t c κs = tt
 
 data-term-returns-4 : (t : ℕ) → data-term-lts.Need-returns-4 (data-term-calls t) (data-term-at t) data-term.Post
-data-term-returns-4 t c = (let z = c .lost3 .ensures in omega arith, variable-lost (c .before .before .before .before .before .before .before .before .before .before .before .before .args .s .now) (c .before .before .before .before .before .before .before .before .before .before .before .before .args .raw .now) (c .before .before .before .before .before .before .before .before .before .before .before .before .args .funcs .now) (c .before .before .before .before .before .before .before .before .before .before .before .before .args .scope .now) (c .before .before .before .before .before .before .before .before .before .before .before .before .args .n) (c .before .before .before .before .before .before .before .before .before .before .before .before .args .at) (c .before .before .before .before .before .before .before .before .before .before .before .before .args .w) (c .before .before .before .before .before .before .before .before .before .before .before .before .args .out .now) (sym (c .before .before .before .before .before .before .cell .ensures) ∙ c .before .before .before .before .if4 .taken) (c .before .before .before .before .before .before .before .before .before .before .before .before .pre .1 .in-scope) (c .before .before .before .cell3 .result) (c .before .before .scope-number .result) (c .before .before .before .cell3 .ensures) (c .before .before .scope-number .ensures .1) (c .lost3 .result) (c .before .before .before .before .before .before .before .before .before .before .before .before .args .out .now) (c .lost3 .ensures) (c .before .if5 .taken))
+data-term-returns-4 t c =
+    let start = c .before .before .before .before .before .before .before .before .before .before .before .before in
+    let args = start .args in
+    let cell3 = c .before .before .before .cell3 in
+    let scope-number = c .before .before .scope-number in
+    (let z = c .lost3 .ensures in omega arith, variable-lost (args .s .now) (args .raw .now) (args .funcs .now) (args .scope .now) (args .n) (args .at) (args .w) (args .out .now) (sym (c .before .before .before .before .before .before .cell .ensures) ∙ c .before .before .before .before .if4 .taken) (start .pre .1 .in-scope) (cell3 .result) (scope-number .result) (cell3 .ensures) (scope-number .ensures .1) (c .lost3 .result) (args .out .now) (c .lost3 .ensures) (c .before .if5 .taken))
 
 data-term-add-t25 : (t : ℕ) → data-term-lts.Need-add-t25 (data-term-calls t) (data-term-at t) data-term.Post
 data-term-add-t25 t c =
-    let l = live (c .before .before .before .before .before .before .before .before .before .before .before .args .raw .now) (c .before .before .before .before .before .before .before .before .before .before .before .args .at) (let k = c .before .before .before .before .before .cell .ensures in omega arith) in
+    let args = c .before .before .before .before .before .before .before .before .before .before .before .args in
+    let l = live (args .raw .now) (args .at) (let k = c .before .before .before .before .before .cell .ensures in omega arith) in
     omega arith
 
 data-term-mul-short : (t : ℕ) → data-term-lts.Need-mul-short (data-term-calls t) (data-term-at t) data-term.Post
@@ -208,18 +239,28 @@ data-term-same-length-2 t c = c .before .before .put2 .kept .0
 
 data-term-returns-5 : (t : ℕ) → data-term-lts.Need-returns-5 (data-term-calls t) (data-term-at t) data-term.Post
 data-term-returns-5 t c =
-    let q = c .before .before .before .before .before .before .before .before .before .before .before .before .before .before .before .before .pre .1 in
-    (omega arith, variable-took (c .before .before .before .before .before .before .before .before .before .before .before .before .before .before .before .before .args .s .now) (c .before .before .before .before .before .before .before .before .before .before .before .before .before .before .before .before .args .raw .now) (c .before .before .before .before .before .before .before .before .before .before .before .before .before .before .before .before .args .funcs .now) (c .before .before .before .before .before .before .before .before .before .before .before .before .before .before .before .before .args .scope .now) (c .before .before .before .before .before .before .before .before .before .before .before .before .before .before .before .before .args .n) (c .before .before .before .before .before .before .before .before .before .before .before .before .before .before .before .before .args .at) (c .before .before .before .before .before .before .before .before .before .before .before .before .before .before .before .before .args .w) (c .before .before .before .before .before .before .before .before .before .before .before .before .before .before .before .before .args .out .now) (sym (c .before .before .before .before .before .before .before .before .before .before .cell .ensures) ∙ c .before .before .before .before .before .before .before .before .if4 .taken) (c .before .before .before .before .before .before .before .before .before .before .before .before .before .before .before .before .pre .1 .in-scope) (c .before .before .before .before .before .before .before .cell3 .result) (c .before .before .before .before .before .before .scope-number .result) (c .before .before .before .before .before .before .before .cell3 .ensures) (c .before .before .before .before .before .before .scope-number .ensures .1) (c .before .before .before .short .result) (c .before .before .put2 .result) (c .before .before .put2 .last .0) (c .before .before .before .before .before .if5 .left) (c .before .before .before .short .ensures (omega arith)) (c .before .before .put2 .ensures))
+    let start = c .before .before .before .before .before .before .before .before .before .before .before .before .before .before .before .before in
+    let args = start .args in
+    let cell3 = c .before .before .before .before .before .before .before .cell3 in
+    let scope-number = c .before .before .before .before .before .before .scope-number in
+    let short = c .before .before .before .short in
+    let put2 = c .before .before .put2 in
+    let q = start .pre .1 in
+    (omega arith, variable-took (args .s .now) (args .raw .now) (args .funcs .now) (args .scope .now) (args .n) (args .at) (args .w) (args .out .now) (sym (c .before .before .before .before .before .before .before .before .before .before .cell .ensures) ∙ c .before .before .before .before .before .before .before .before .if4 .taken) (start .pre .1 .in-scope) (cell3 .result) (scope-number .result) (cell3 .ensures) (scope-number .ensures .1) (short .result) (put2 .result) (put2 .last .0) (c .before .before .before .before .before .if5 .left) (short .ensures (omega arith)) (put2 .ensures))
 
 data-term-lost-requires-4 : (t : ℕ) → data-term-lts.Need-lost-requires-4 (data-term-calls t) (data-term-at t) data-term.Post
 data-term-lost-requires-4 t c κs = tt
 
 data-term-returns-6 : (t : ℕ) → data-term-lts.Need-returns-6 (data-term-calls t) (data-term-at t) data-term.Post
-data-term-returns-6 t c = (let z = c .lost4 .ensures in omega arith, other-lost (c .before .before .before .before .before .before .before .before .before .before .args .s .now) (c .before .before .before .before .before .before .before .before .before .before .args .raw .now) (c .before .before .before .before .before .before .before .before .before .before .args .funcs .now) (c .before .before .before .before .before .before .before .before .before .before .args .scope .now) (c .before .before .before .before .before .before .before .before .before .before .args .n) (c .before .before .before .before .before .before .before .before .before .before .args .at) (c .before .before .before .before .before .before .before .before .before .before .args .w) (c .before .before .before .before .before .before .before .before .before .before .args .out .now) (c .lost4 .result) (c .before .before .before .before .before .before .before .before .before .before .args .out .now) (λ e. c .before .before .before .if1 .left (c .before .before .before .before .cell .ensures ∙ e)) (λ e. c .before .before .if4 .left (c .before .before .before .before .cell .ensures ∙ e)) (λ e. c .before .if6 .taken (c .before .before .before .before .cell .ensures ∙ e)))
+data-term-returns-6 t c =
+    let args = c .before .before .before .before .before .before .before .before .before .before .args in
+    let cell = c .before .before .before .before .cell in
+    (let z = c .lost4 .ensures in omega arith, other-lost (args .s .now) (args .raw .now) (args .funcs .now) (args .scope .now) (args .n) (args .at) (args .w) (args .out .now) (c .lost4 .result) (args .out .now) (λ e. c .before .before .before .if1 .left (cell .ensures ∙ e)) (λ e. c .before .before .if4 .left (cell .ensures ∙ e)) (λ e. c .before .if6 .taken (cell .ensures ∙ e)))
 
 data-term-add-cell-3 : (t : ℕ) → data-term-lts.Need-add-cell-3 (data-term-calls t) (data-term-at t) data-term.Post
 data-term-add-cell-3 t c =
-    let l = live (c .before .before .before .before .before .before .before .before .before .args .raw .now) (c .before .before .before .before .before .before .before .before .before .args .at) (let k = c .before .before .before .cell .ensures in omega arith) in
+    let args = c .before .before .before .before .before .before .before .before .before .args in
+    let l = live (args .raw .now) (args .at) (let k = c .before .before .before .cell .ensures in omega arith) in
     omega arith
 
 data-term-cell-requires-4 : (t : ℕ) → data-term-lts.Need-cell-requires-4 (data-term-calls t) (data-term-at t) data-term.Post
@@ -232,7 +273,11 @@ data-term-lost-requires-5 : (t : ℕ) → data-term-lts.Need-lost-requires-5 (da
 data-term-lost-requires-5 t c κs = tt
 
 data-term-returns-7 : (t : ℕ) → data-term-lts.Need-returns-7 (data-term-calls t) (data-term-at t) data-term.Post
-data-term-returns-7 t c = (let z = c .lost5 .ensures in omega arith, apply-lost (c .before .before .before .before .before .before .before .before .before .before .before .before .before .args .s .now) (c .before .before .before .before .before .before .before .before .before .before .before .before .before .args .raw .now) (c .before .before .before .before .before .before .before .before .before .before .before .before .before .args .funcs .now) (c .before .before .before .before .before .before .before .before .before .before .before .before .before .args .scope .now) (c .before .before .before .before .before .before .before .before .before .before .before .before .before .args .n) (c .before .before .before .before .before .before .before .before .before .before .before .before .before .args .at) (c .before .before .before .before .before .before .before .before .before .before .before .before .before .args .w) (c .before .before .before .before .before .before .before .before .before .before .before .before .before .args .out .now) (sym (c .before .before .before .before .before .before .before .cell .ensures) ∙ (let z = c .before .before .before .before .if6 .left in omega arith)) (c .before .before .before .cell4 .result) (c .before .before .number-of .result) (c .before .before .before .cell4 .ensures) (c .before .before .number-of .ensures .1) (c .lost5 .result) (c .before .before .before .before .before .before .before .before .before .before .before .before .before .args .out .now) (c .lost5 .ensures) (c .before .if7 .taken))
+data-term-returns-7 t c =
+    let args = c .before .before .before .before .before .before .before .before .before .before .before .before .before .args in
+    let cell4 = c .before .before .before .cell4 in
+    let number-of = c .before .before .number-of in
+    (let z = c .lost5 .ensures in omega arith, apply-lost (args .s .now) (args .raw .now) (args .funcs .now) (args .scope .now) (args .n) (args .at) (args .w) (args .out .now) (sym (c .before .before .before .before .before .before .before .cell .ensures) ∙ (let z = c .before .before .before .before .if6 .left in omega arith)) (cell4 .result) (number-of .result) (cell4 .ensures) (number-of .ensures .1) (c .lost5 .result) (args .out .now) (c .lost5 .ensures) (c .before .if7 .taken))
 
 data-term-mul-short-2 : (t : ℕ) → data-term-lts.Need-mul-short-2 (data-term-calls t) (data-term-at t) data-term.Post
 data-term-mul-short-2 t c = omega arith
@@ -251,14 +296,17 @@ data-term-put-requires-4 t c κs = tt
 
 data-term-add-data-list : (t : ℕ) → data-term-lts.Need-add-data-list (data-term-calls t) (data-term-at t) data-term.Post
 data-term-add-data-list t c =
-    let l = live (c .before .before .before .before .before .before .before .before .before .before .before .before .before .before .before .before .before .before .before .before .before .args .raw .now) (c .before .before .before .before .before .before .before .before .before .before .before .before .before .before .before .before .before .before .before .before .before .args .at) (let k = c .before .before .before .before .before .before .before .before .before .before .before .before .before .before .before .cell .ensures in omega arith) in
+    let args = c .before .before .before .before .before .before .before .before .before .before .before .before .before .before .before .before .before .before .before .before .before .args in
+    let l = live (args .raw .now) (args .at) (let k = c .before .before .before .before .before .before .before .before .before .before .before .before .before .before .before .cell .ensures in omega arith) in
     omega arith
 
 data-term-data-list-requires : (t : ℕ) → data-term-lts.Need-data-list-requires (data-term-calls t) (data-term-at t) data-term.Post
 data-term-data-list-requires t c κs =
-    let q = c .before .before .before .before .before .before .before .before .before .before .before .before .before .before .before .before .before .before .before .before .before .before .pre .1 in
-    let m = c .before .before .before .before .before .before .before .before .before .before .before .before .before .before .before .before .before .before .before .before .before .before .pre .0 in
-    let l = live (c .before .before .before .before .before .before .before .before .before .before .before .before .before .before .before .before .before .before .before .before .before .before .args .raw .now) (c .before .before .before .before .before .before .before .before .before .before .before .before .before .before .before .before .before .before .before .before .before .before .args .at) (let k = c .before .before .before .before .before .before .before .before .before .before .before .before .before .before .before .before .cell .ensures in omega arith) in
+    let start = c .before .before .before .before .before .before .before .before .before .before .before .before .before .before .before .before .before .before .before .before .before .before in
+    let args = start .args in
+    let q = start .pre .1 in
+    let m = start .pre .0 in
+    let l = live (args .raw .now) (args .at) (let k = c .before .before .before .before .before .before .before .before .before .before .before .before .before .before .before .before .cell .ensures in omega arith) in
     (omega arith, omega arith)
 
 data-term-short-requires-3 : (t : ℕ) → data-term-lts.Need-short-requires-3 (data-term-calls t) (data-term-at t) data-term.Post
@@ -272,10 +320,23 @@ data-term-same-length-3 t c = c .before .before .put5 .kept .0 ∙ c .before .be
 
 data-term-returns-8 : (t : ℕ) → data-term-lts.Need-returns-8 (data-term-calls t) (data-term-at t) data-term.Post
 data-term-returns-8 t c =
-    let q = c .before .before .before .before .before .before .before .before .before .before .before .before .before .before .before .before .before .before .before .before .before .before .before .before .before .before .before .before .before .before .pre .1 in
-    let l = live (c .before .before .before .before .before .before .before .before .before .before .before .before .before .before .before .before .before .before .before .before .before .before .before .before .before .before .before .before .before .before .args .raw .now) (c .before .before .before .before .before .before .before .before .before .before .before .before .before .before .before .before .before .before .before .before .before .before .before .before .before .before .before .before .before .before .args .at) (let k = c .before .before .before .before .before .before .before .before .before .before .before .before .before .before .before .before .before .before .before .before .before .before .before .before .cell .ensures in omega arith) in
-    let a = c .before .before .before .before .before .before .before .data-list .ensures .0 in
-    (omega arith, apply-took (c .before .before .before .before .before .before .before .before .before .before .before .before .before .before .before .before .before .before .before .before .before .before .before .before .before .before .before .before .before .before .args .s .now) (c .before .before .before .before .before .before .before .before .before .before .before .before .before .before .before .before .before .before .before .before .before .before .before .before .before .before .before .before .before .before .args .raw .now) (c .before .before .before .before .before .before .before .before .before .before .before .before .before .before .before .before .before .before .before .before .before .before .before .before .before .before .before .before .before .before .args .funcs .now) (c .before .before .before .before .before .before .before .before .before .before .before .before .before .before .before .before .before .before .before .before .before .before .before .before .before .before .before .before .before .before .args .scope .now) (c .before .before .before .before .before .before .before .before .before .before .before .before .before .before .before .before .before .before .before .before .before .before .before .before .before .before .before .before .before .before .args .n) (c .before .before .before .before .before .before .before .before .before .before .before .before .before .before .before .before .before .before .before .before .before .before .before .before .before .before .before .before .before .before .args .at) (c .before .before .before .before .before .before .before .before .before .before .before .before .before .before .before .before .before .before .before .before .before .before .before .before .before .before .before .before .before .before .args .w) (c .before .before .before .before .before .before .before .before .before .before .before .before .before .before .before .before .before .before .before .before .before .before .before .before .before .before .before .before .before .before .args .out .now) (sym (c .before .before .before .before .before .before .before .before .before .before .before .before .before .before .before .before .before .before .before .before .before .before .before .before .cell .ensures) ∙ (let z = c .before .before .before .before .before .before .before .before .before .before .before .before .before .before .before .before .before .before .before .before .before .if6 .left in omega arith)) (c .before .before .before .before .before .before .before .before .before .before .before .before .before .before .before .before .before .before .before .before .cell4 .result) (c .before .before .before .before .before .before .before .before .before .before .before .before .before .before .before .before .before .before .before .number-of .result) (c .before .before .before .before .before .before .before .before .before .before .before .before .before .before .before .before .before .before .before .before .cell4 .ensures) (c .before .before .before .before .before .before .before .before .before .before .before .before .before .before .before .before .before .before .before .number-of .ensures .1) (c .before .before .before .before .before .before .before .before .before .before .before .before .before .before .before .before .short2 .result) (c .before .before .before .before .before .before .before .before .before .before .before .before .before .before .before .put3 .result) (c .before .before .before .before .before .before .before .before .before .before .before .put4 .result) (c .before .before .put5 .result) (c .before .before .before .short3 .result) (c .before .before .before .before .before .before .before .data-list .result) (c .before .before .before .before .before .before .before .before .before .before .before .before .before .before .before .put3 .last .0) (c .before .before .before .before .before .before .before .before .before .before .before .put4 .last .0) (c .before .before .before .before .before .before .before .data-list .last .1 .1 .1 .1 .1 .1 .0) (c .before .before .put5 .last .0) (c .before .before .before .before .before .before .before .before .before .before .before .before .before .before .before .before .before .before .if7 .left) (c .before .before .before .before .before .before .before .before .before .before .before .before .before .before .before .before .short2 .ensures (omega arith)) (c .before .before .before .before .before .before .before .before .before .before .before .before .before .before .before .put3 .ensures) (c .before .before .before .before .before .before .before .before .before .before .before .put4 .ensures) (c .before .before .before .before .before .before .before .data-list .ensures .1) (c .before .before .before .short3 .ensures) (c .before .before .put5 .ensures))
+    let start = c .before .before .before .before .before .before .before .before .before .before .before .before .before .before .before .before .before .before .before .before .before .before .before .before .before .before .before .before .before .before in
+    let args = start .args in
+    let cell = c .before .before .before .before .before .before .before .before .before .before .before .before .before .before .before .before .before .before .before .before .before .before .before .before .cell in
+    let called = c .before .before .before .before .before .before .before .data-list in
+    let cell4 = c .before .before .before .before .before .before .before .before .before .before .before .before .before .before .before .before .before .before .before .before .cell4 in
+    let number-of = c .before .before .before .before .before .before .before .before .before .before .before .before .before .before .before .before .before .before .before .number-of in
+    let short2 = c .before .before .before .before .before .before .before .before .before .before .before .before .before .before .before .before .short2 in
+    let put3 = c .before .before .before .before .before .before .before .before .before .before .before .before .before .before .before .put3 in
+    let put4 = c .before .before .before .before .before .before .before .before .before .before .before .put4 in
+    let put5 = c .before .before .put5 in
+    let short3 = c .before .before .before .short3 in
+    let q = start .pre .1 in
+    let z = c .before .before .before .before .before .before .before .before .before .before .before .before .before .before .before .before .before .before .before .before .before .if6 .left in
+    let k = cell .ensures in
+    let l = live (args .raw .now) (args .at) (omega arith) in
+    let a = called .ensures .0 in
+    (omega arith, apply-took (args .s .now) (args .raw .now) (args .funcs .now) (args .scope .now) (args .n) (args .at) (args .w) (args .out .now) (sym (cell .ensures) ∙ (omega arith)) (cell4 .result) (number-of .result) (cell4 .ensures) (number-of .ensures .1) (short2 .result) (put3 .result) (put4 .result) (put5 .result) (short3 .result) (called .result) (put3 .last .0) (put4 .last .0) (called .last .1 .1 .1 .1 .1 .1 .0) (put5 .last .0) (c .before .before .before .before .before .before .before .before .before .before .before .before .before .before .before .before .before .before .if7 .left) (short2 .ensures (omega arith)) (put3 .ensures) (put4 .ensures) (called .ensures .1) (short3 .ensures) (put5 .ensures))
 
 pub +data-list+data-term-spec : {M : Type 1} → statement M
 +data-list+data-term-spec = close μ-data-list μ-data-term (λ t. data-list-lts.spec (data-list-calls t)

@@ -1,4 +1,5 @@
--- The second part is found by passing over the first; a condition is resolved before both.
+-- A condition is found by passing over the first part.
+use borrow.Author.Needs.{needs}
 use mathlib.Core.Path.{sym, _∙_}
 use native.Mathlib.Omega.{arith}
 use Rattle.resolver.proofs.ForkLaws.{fork-then, fork-plus, fork-cond}
@@ -8,12 +9,6 @@ use Rattle.resolver.proofs.process.fork.Tie as tie
 cell-requires : tie.Need-cell-requires
 cell-requires c κs = tt
 
-add-skip : tie.Need-add-skip
-add-skip c = let q = c .before .before .before .before .before .before .pre in omega arith
-
-skip-requires : tie.Need-skip-requires
-skip-requires c κs = tt
-
 node-requires : tie.Need-node-requires
 node-requires c κs = tt
 
@@ -21,7 +16,7 @@ same-length : tie.Need-same-length
 same-length c = c .before .before .node .kept .0
 
 returns : tie.Need-returns
-returns c = (let a = c .before .before .before .before .before .skip .ensures .0 in omega arith, fork-then (c .before .before .before .before .before .before .before .before .before .before .before .before .args .s .now) (c .before .before .before .before .before .before .before .before .before .before .before .before .args .raw .now) (c .before .before .before .before .before .before .before .before .before .before .before .before .args .funcs .now) (c .before .before .before .before .before .before .before .before .before .before .before .before .args .scope .now) (c .before .before .before .before .before .before .before .before .before .before .before .before .args .n) (c .before .before .before .before .before .before .before .before .before .before .before .before .args .at) (c .before .before .before .before .before .before .before .before .before .before .before .before .args .after) (c .before .before .before .before .before .before .before .before .before .before .before .before .args .w) (c .before .before .before .before .before .before .before .before .before .before .before .before .args .out .now) (c .before .before .before .before .before .skip .result) (c .before .before .before .before .before .skip .ensures .1) (c .before .before .node .result) (c .before .before .node .last .0) (sym (c .before .before .before .before .before .before .cell .ensures) ∙ c .before .before .before .before .if1 .taken) (c .before .before .node .ensures))
+returns c = fork-then (c .before .before .before .before .before .before .before .before .before .before .before .args .s .now) (c .before .before .before .before .before .before .before .before .before .before .before .args .raw .now) (c .before .before .before .before .before .before .before .before .before .before .before .args .funcs .now) (c .before .before .before .before .before .before .before .before .before .before .before .args .scope .now) (c .before .before .before .before .before .before .before .before .before .before .before .args .n) (c .before .before .before .before .before .before .before .before .before .before .before .args .at) (c .before .before .before .before .before .before .before .before .before .before .before .args .after) (c .before .before .before .before .before .before .before .before .before .before .before .args .w) (c .before .before .before .before .before .before .before .before .before .before .before .args .out .now) (c .before .before .node .result) (c .before .before .node .last .0) (sym (c .before .before .before .before .before .cell .ensures) ∙ c .before .before .before .before .if1 .taken) (c .before .before .node .ensures)
 
 marked-requires : tie.Need-marked-requires
 marked-requires c κs = omega arith
@@ -33,7 +28,7 @@ same-length-2 : tie.Need-same-length-2
 same-length-2 c = c .before .before .node2 .kept .0
 
 returns-2 : tie.Need-returns-2
-returns-2 c = (let a = c .before .before .before .before .before .before .before .skip .ensures .0 in omega arith, fork-plus (c .before .before .before .before .before .before .before .before .before .before .before .before .before .before .args .s .now) (c .before .before .before .before .before .before .before .before .before .before .before .before .before .before .args .raw .now) (c .before .before .before .before .before .before .before .before .before .before .before .before .before .before .args .funcs .now) (c .before .before .before .before .before .before .before .before .before .before .before .before .before .before .args .scope .now) (c .before .before .before .before .before .before .before .before .before .before .before .before .before .before .args .n) (c .before .before .before .before .before .before .before .before .before .before .before .before .before .before .args .at) (c .before .before .before .before .before .before .before .before .before .before .before .before .before .before .args .after) (c .before .before .before .before .before .before .before .before .before .before .before .before .before .before .args .w) (c .before .before .before .before .before .before .before .before .before .before .before .before .before .before .args .out .now) (c .before .before .before .before .before .before .before .skip .result) (c .before .before .before .before .before .before .before .skip .ensures .1) (c .before .before .node2 .result) (c .before .before .node2 .last .0) (sym (c .before .before .before .before .before .before .before .before .cell .ensures) ∙ c .before .before .before .before .before .if2 .taken) (c .before .before .before .marked .result) (c .before .before .before .marked .ensures) (c .before .before .node2 .ensures))
+returns-2 c = fork-plus (c .before .before .before .before .before .before .before .before .before .before .before .before .before .args .s .now) (c .before .before .before .before .before .before .before .before .before .before .before .before .before .args .raw .now) (c .before .before .before .before .before .before .before .before .before .before .before .before .before .args .funcs .now) (c .before .before .before .before .before .before .before .before .before .before .before .before .before .args .scope .now) (c .before .before .before .before .before .before .before .before .before .before .before .before .before .args .n) (c .before .before .before .before .before .before .before .before .before .before .before .before .before .args .at) (c .before .before .before .before .before .before .before .before .before .before .before .before .before .args .after) (c .before .before .before .before .before .before .before .before .before .before .before .before .before .args .w) (c .before .before .before .before .before .before .before .before .before .before .before .before .before .args .out .now) (c .before .before .node2 .result) (c .before .before .node2 .last .0) (sym (c .before .before .before .before .before .before .before .cell .ensures) ∙ c .before .before .before .before .before .if2 .taken) (c .before .before .before .marked .result) (c .before .before .before .marked .ensures) (c .before .before .node2 .ensures)
 
 marked-requires-2 : tie.Need-marked-requires-2
 marked-requires-2 c κs = omega arith
@@ -41,26 +36,26 @@ marked-requires-2 c κs = omega arith
 node-requires-3 : tie.Need-node-requires-3
 node-requires-3 c κs = tt
 
+add-skip : tie.Need-add-skip
+add-skip c = let q = c .before .before .before .before .before .before .before .before .before .before .before .before .before .pre in omega arith
+
+skip-requires : tie.Need-skip-requires
+skip-requires c κs = tt
+
 data-term-requires : tie.Need-data-term-requires
 data-term-requires c κs = let q = c .before .before .before .before .before .before .before .before .before .before .before .before .before .before .before .pre .0 in omega arith
 
 same-length-3 : tie.Need-same-length-3
-same-length-3 c = c .before .before .data-term .kept .1 .1 .1 .1 .1 .1 .0 ∙ c .before .before .before .before .before .before .node3 .kept .0
+same-length-3 c = c .before .before .data-term .kept .1 .1 .1 .1 .1 .1 .0 ∙ c .before .before .before .before .before .before .before .node3 .kept .0
 
 returns-3 : tie.Need-returns-3
-returns-3 c =
-    let q = c .before .before .before .before .before .before .before .before .before .before .before .before .before .before .before .before .before .before .pre .1 in
-    let a = c .before .before .before .before .before .before .before .before .before .before .before .skip .ensures .0 in
-    let b = c .before .before .data-term .ensures .0 in
-    (omega arith, fork-cond (c .before .before .before .before .before .before .before .before .before .before .before .before .before .before .before .before .before .before .args .s .now) (c .before .before .before .before .before .before .before .before .before .before .before .before .before .before .before .before .before .before .args .raw .now) (c .before .before .before .before .before .before .before .before .before .before .before .before .before .before .before .before .before .before .args .funcs .now) (c .before .before .before .before .before .before .before .before .before .before .before .before .before .before .before .before .before .before .args .scope .now) (c .before .before .before .before .before .before .before .before .before .before .before .before .before .before .before .before .before .before .args .n) (c .before .before .before .before .before .before .before .before .before .before .before .before .before .before .before .before .before .before .args .at) (c .before .before .before .before .before .before .before .before .before .before .before .before .before .before .before .before .before .before .args .after) (c .before .before .before .before .before .before .before .before .before .before .before .before .before .before .before .before .before .before .args .w) (c .before .before .before .before .before .before .before .before .before .before .before .before .before .before .before .before .before .before .args .out .now) (c .before .before .before .before .before .before .before .before .before .before .before .skip .result) (c .before .before .before .before .before .before .before .before .before .before .before .skip .ensures .1) (λ e. c .before .before .before .before .before .before .before .before .before .before .if1 .left (c .before .before .before .before .before .before .before .before .before .before .before .before .cell .ensures ∙ e)) (λ e. c .before .before .before .before .before .before .before .before .before .if2 .left (c .before .before .before .before .before .before .before .before .before .before .before .before .cell .ensures ∙ e)) (c .before .before .before .before .before .before .before .marked2 .result) (c .before .before .before .before .before .before .node3 .result) (c .before .before .before .before .before .before .node3 .last .0) (c .before .before .before .before .before .before .before .marked2 .ensures) (c .before .before .before .before .before .before .node3 .ensures) (c .before .before .data-term .result) (c .before .before .data-term .last .1 .1 .1 .1 .1 .1 .0) (c .before .before .data-term .ensures .1))
+returns-3 c = fork-cond (c .before .before .before .before .before .before .before .before .before .before .before .before .before .before .before .before .before .before .args .s .now) (c .before .before .before .before .before .before .before .before .before .before .before .before .before .before .before .before .before .before .args .raw .now) (c .before .before .before .before .before .before .before .before .before .before .before .before .before .before .before .before .before .before .args .funcs .now) (c .before .before .before .before .before .before .before .before .before .before .before .before .before .before .before .before .before .before .args .scope .now) (c .before .before .before .before .before .before .before .before .before .before .before .before .before .before .before .before .before .before .args .n) (c .before .before .before .before .before .before .before .before .before .before .before .before .before .before .before .before .before .before .args .at) (c .before .before .before .before .before .before .before .before .before .before .before .before .before .before .before .before .before .before .args .after) (c .before .before .before .before .before .before .before .before .before .before .before .before .before .before .before .before .before .before .args .w) (c .before .before .before .before .before .before .before .before .before .before .before .before .before .before .before .before .before .before .args .out .now) (λ e. c .before .before .before .before .before .before .before .before .before .before .before .if1 .left (c .before .before .before .before .before .before .before .before .before .before .before .before .cell .ensures ∙ e)) (λ e. c .before .before .before .before .before .before .before .before .before .before .if2 .left (c .before .before .before .before .before .before .before .before .before .before .before .before .cell .ensures ∙ e)) (c .before .before .before .before .skip .result) (c .before .before .before .before .skip .ensures .1) (c .before .before .before .before .before .before .before .before .marked2 .result) (c .before .before .before .before .before .before .before .node3 .result) (c .before .before .before .before .before .before .before .node3 .last .0) (c .before .before .before .before .before .before .before .before .marked2 .ensures) (c .before .before .before .before .before .before .before .node3 .ensures) (c .before .before .data-term .result) (c .before .before .data-term .last .1 .1 .1 .1 .1 .1 .0) (c .before .before .data-term .ensures .1)
 
 pub fork-spec : {M : Type 1} → statement M
 fork-spec =
     tie.close
     (tie.spec
     cell-requires
-    add-skip
-    skip-requires
     node-requires
     same-length
     returns
@@ -70,6 +65,8 @@ fork-spec =
     returns-2
     marked-requires-2
     node-requires-3
+    add-skip
+    skip-requires
     data-term-requires
     same-length-3
     returns-3)
