@@ -162,3 +162,45 @@ fn a_disk_that_takes_no_more() {
     let ran = cabinet.shell("exec \"$0\" audit \"$1\" 2>&- >&-");
     assert_eq!(ran.status, Some(1));
 }
+
+/// Fills a small disk of its own and renews there, then makes room and renews again; 77 where no disk may be made.
+const FULL_DISK: &str = r#"exec unshare -rm sh -c '
+    mkdir "$1/disk" && mount -t tmpfs -o size=32k none "$1/disk" || exit 77
+    cp "$1/a.pcrl" "$1/b.pcrl" "$1/b.table" "$1/disk"
+    dd if=/dev/zero of="$1/disk/rest" bs=1024 2>"$1/filled"
+    "$0" renew "$1/disk"
+    status=$?
+    cp -r "$1/disk" "$1/before"
+    rm "$1/disk/rest"
+    "$0" renew "$1/disk" >"$1/again" && cp -r "$1/disk" "$1/after"
+    exit $status' "$0" "$1""#;
+
+#[test]
+fn a_small_disk_that_is_full() {
+    let cabinet = Cabinet::new("disk");
+    cabinet.put("a.pcrl", good(1));
+    cabinet.put("b.pcrl", good(2));
+    cabinet.put("b.table", "old");
+    let ran = cabinet.shell(FULL_DISK);
+    if !cabinet.path("filled").exists() {
+        eprintln!("no disk may be made here: {:?}", ran.status);
+        return;
+    }
+    let faults = ["a", "b"].map(|name| {
+        format!("disk/{name}.table: cannot be written: No space left on device (os error 28)")
+    });
+    let counts =
+        "sheets 2: right 0, made 0, mended 0, refused 0, unread 0, unwritten 2, no sheet 0";
+    check(&ran, 1, counts, &[&faults[0], &faults[1]]);
+    let names = |folder: &str| {
+        let entries = fs::read_dir(cabinet.path(folder)).unwrap();
+        let mut names: Vec<_> = entries.map(|entry| entry.unwrap().file_name()).collect();
+        names.sort();
+        names
+    };
+    assert_eq!(names("before"), ["a.pcrl", "b.pcrl", "b.table", "rest"]);
+    assert_eq!(fs::read(cabinet.path("before/b.table")).unwrap(), b"old");
+    assert_eq!(names("after"), ["a.pcrl", "a.table", "b.pcrl", "b.table"]);
+    cabinet.assert_right("after/a", &good(1));
+    cabinet.assert_right("after/b", &good(2));
+}

@@ -200,44 +200,57 @@ fn wrong_listings_are_found() {
     }
 }
 
-/// The titles of the charger's picture are its reached stacks, frame by frame, and their steps.
+/// What Graphviz drew of one kind, node or edge: its title and its text.
+fn drawn(picture: &str, kind: &str) -> Vec<(String, String)> {
+    let mark = format!("class=\"{kind}\">");
+    let between = |text: &str, from: &str, to: &str| {
+        let behind = text.split(from).nth(1).expect("a beginning");
+        behind.split(to).next().expect("an end").to_string()
+    };
+    let each = picture.split(&mark).skip(1).map(|text| {
+        let title = between(text, "<title>", "</title>").replace("&#45;&gt;", " ");
+        (title, between(text, "14.00\">", "</text>"))
+    });
+    each.collect()
+}
+
+/// A frame as `graph` shows it, where every frame of equation 1 has one value.
+fn shown(frame: &Frame) -> String {
+    match frame.equation {
+        1 => format!("1({})", frame.values[0]),
+        equation => equation.to_string(),
+    }
+}
+
+/// The charger's picture has its reached stacks, the top first, and their steps.
 #[test]
 fn the_picture_of_the_charger() {
     let picture = document("docs/charger.svg");
-    let titles = picture.split("<title>").skip(2).map(|rest| {
-        let title = rest.split("</title>").next();
-        title.expect("a title").to_string()
-    });
-    let (mut stacks, mut steps): (Vec<String>, Vec<String>) =
-        titles.partition(|title| title.starts_with("stack "));
     let charger = followed(&document("examples/charger.pcrl")).expect("a table");
-    let frame = |frame: &Frame| {
-        let values = frame.values.map(|value| value.to_string());
-        format!("{} {}", frame.equation, values.join(" "))
-    };
-    let reached = charger.stacks(MOST).into_iter().enumerate();
-    let mut wanted_stacks: Vec<String> = reached
+    let stacks = charger.stacks(MOST).into_iter().enumerate();
+    let wanted: Vec<_> = stacks
         .map(|(number, stack)| {
-            let frames: Vec<String> = stack.iter().map(frame).collect();
-            format!("stack {number}: {}", frames.join(" / "))
+            let frames: Vec<String> = stack.iter().rev().map(shown).collect();
+            (format!("s{number}"), frames.join(" . "))
         })
         .collect();
-    let lines = charger.reached(MOST);
-    let mut wanted_steps: Vec<String> = lines.lines().map(str::to_string).collect();
-    for list in [
-        &mut stacks,
-        &mut steps,
-        &mut wanted_stacks,
-        &mut wanted_steps,
-    ] {
-        list.sort();
-    }
-    assert_eq!((stacks, steps), (wanted_stacks, wanted_steps));
+    let mut nodes = drawn(&picture, "node");
+    nodes.sort();
+    assert_eq!(nodes, wanted);
+    let mut edges: Vec<String> = drawn(&picture, "edge")
+        .into_iter()
+        .map(|(ends, label)| ends.replace('s', "").replace(' ', &format!(" {label} ")))
+        .collect();
+    let reached = charger.reached(MOST);
+    let mut lines: Vec<&str> = reached.lines().collect();
+    edges.sort();
+    lines.sort();
+    assert_eq!(edges, lines);
 }
 
-/// The pictures are those that tools/pictures draws, and the layers are those of crates.txt.
+/// The picture of the layers is the one that tools/pictures draws, of the crates of crates.txt.
 #[test]
-fn the_pictures_are_drawn_by_the_tool() {
+fn the_layers_are_drawn_by_the_tool() {
     let tool = root().join("tools/pictures");
     let status = Command::new(tool).arg("--check").status();
     assert!(status.expect("python3").success());
