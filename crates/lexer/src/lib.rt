@@ -16,19 +16,35 @@ use tokens::tokens;
 
 const MAX_BYTES: usize = 4096;
 
-// Cells.
+// Cells: 0 for no token, its byte for a mark of one byte.
 pub const NO_TOKEN: u16 = 0;
+
+pub const HASH: u16 = 35;
 
 pub const OPEN: u16 = 40;
 
 pub const CLOSE: u16 = 41;
 
+pub const PLUS: u16 = 43;
+
+pub const COMMA: u16 = 44;
+
+pub const DOT: u16 = 46;
+
+pub const COLON: u16 = 58;
+
+pub const SEMICOLON: u16 = 59;
+
+pub const EQUALS: u16 = 61;
+
+// marks of two bytes: `->`, `<|`, `|>`
 pub const ARROW: u16 = 128;
 
-pub const THEN: u16 = 129;
+pub const IF: u16 = 129;
 
 pub const ELSE: u16 = 130;
 
+// words
 pub const SORT: u16 = 160;
 
 pub const FUNC: u16 = 161;
@@ -45,6 +61,7 @@ pub const DELTA: u16 = 166;
 
 pub const TAU: u16 = 167;
 
+// where numerals and names begin
 pub const FIRST_NUMERAL: u16 = 256;
 
 pub const FIRST_NAME: u16 = 1024;

@@ -15,13 +15,13 @@ use crate::ELSE;
 use crate::FIRST_NAME;
 use crate::FIRST_NUMERAL;
 use crate::FUNC;
+use crate::IF;
 use crate::INIT;
 use crate::NO_TOKEN;
 use crate::PROC;
 use crate::SORT;
 use crate::SUM;
 use crate::TAU;
-use crate::THEN;
 use crate::Taken;
 use crate::bytes::DIGIT;
 use crate::bytes::LEAD;
@@ -161,7 +161,7 @@ fn long_mark(a: u8, b: u8) -> u16
 {
     match a {
         b'-' => if b == b'>' { ARROW } else { NO_TOKEN },
-        b'<' => if b == b'|' { THEN } else { NO_TOKEN },
+        b'<' => if b == b'|' { IF } else { NO_TOKEN },
         b'|' => if b == b'>' { ELSE } else { NO_TOKEN },
         _ => NO_TOKEN,
     }

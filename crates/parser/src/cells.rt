@@ -6,7 +6,6 @@ ghost use Rattle.pcrl.specs.Grammar.{a-name, a-numeral};
 ghost use Rattle.parser.specs.Cells.{enc-name, enc-numeral};
 ghost use Rattle.parser.specs.Reading.{Ahead, Put, Expected, Read};
 use crate::Step;
-use crate::codes;
 
 // The token at `at`, or 0 past the end: no token is 0.
 pub fn peek(toks: &[u16], at: usize) -> u16
@@ -55,7 +54,7 @@ pub fn name(toks: &[u16], at: usize, out: &mut [u16], w: usize) -> Step
     ensures read { λ r. ⌜ Read 0 enc-name (λ f. a-name) (now (toks .entry)) at w (now (out .entry)) r (now (out .exit)) ⌝ }
 {
     let t = peek(toks, at);
-    if t < codes::FIRST_NAME {
+    if t < lexer::FIRST_NAME {
         return lost(toks, w);
     }
     Step {
@@ -69,10 +68,10 @@ pub fn numeral(toks: &[u16], at: usize, out: &mut [u16], w: usize) -> Step
     ensures read { λ r. ⌜ Read 0 enc-numeral (λ f. a-numeral) (now (toks .entry)) at w (now (out .entry)) r (now (out .exit)) ⌝ }
 {
     let t = peek(toks, at);
-    if t < codes::FIRST_NUMERAL {
+    if t < lexer::FIRST_NUMERAL {
         return lost(toks, w);
     }
-    if t >= codes::FIRST_NAME {
+    if t >= lexer::FIRST_NAME {
         return lost(toks, w);
     }
     Step {

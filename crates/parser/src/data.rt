@@ -18,10 +18,10 @@ pub fn data_term(toks: &[u16], at: usize, out: &mut [u16], w: usize) -> Step
     ensures read { λ r. ⌜ Read (2 * left (now (toks .entry)) at) enc-data data-term (now (toks .entry)) at w (now (out .entry)) r (now (out .exit)) ⌝ }
 {
     let t = peek(toks, at);
-    if t < codes::FIRST_NUMERAL {
+    if t < lexer::FIRST_NUMERAL {
         return lost(toks, w);
     }
-    if t < codes::FIRST_NAME {
+    if t < lexer::FIRST_NAME {
         let v = put(out, w, codes::VALUE_TAG);
         return Step {
             at: at + 1,
@@ -31,7 +31,7 @@ pub fn data_term(toks: &[u16], at: usize, out: &mut [u16], w: usize) -> Step
     let x = put(out, w, codes::VARIABLE_TAG);
     let d = put(out, x, t);
     let p = at + 1;
-    if peek(toks, p) != codes::OPEN {
+    if peek(toks, p) != lexer::OPEN {
         return Step { at: p, w: d };
     }
     put(out, w, codes::APPLY_TAG);
@@ -48,9 +48,9 @@ pub fn data_list(toks: &[u16], at: usize, out: &mut [u16], w: usize) -> Step
     loop {
         let u = put(out, v, codes::ONE_TAG);
         let a = data_term(toks, from, out, u);
-        if peek(toks, a.at) != codes::COMMA {
+        if peek(toks, a.at) != lexer::COMMA {
             return Step {
-                at: expect(toks, a.at, codes::CLOSE),
+                at: expect(toks, a.at, lexer::CLOSE),
                 w: a.w,
             };
         }
@@ -67,7 +67,7 @@ pub fn named(toks: &[u16], at: usize, out: &mut [u16], w: usize) -> Step
 {
     let x = put(out, w, codes::BARE_TAG);
     let a = name(toks, at, out, x);
-    if peek(toks, a.at) != codes::OPEN {
+    if peek(toks, a.at) != lexer::OPEN {
         return a;
     }
     put(out, w, codes::GIVEN_TAG);

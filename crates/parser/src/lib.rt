@@ -6,7 +6,7 @@ ghost use Rattle.pcrl.specs.Grammar.{parse};
 ghost use Rattle.lexer.specs.Cells.{cell-token};
 ghost use Rattle.parser.specs.Parses.{Parses};
 
-pub mod codes; // the numbers of signs and tags
+pub mod codes; // the numbers of tags
 pub mod cells; // one token, one cell
 pub mod data; // data terms
 pub mod process; // choices, conditionals, sequences and parts
@@ -59,14 +59,14 @@ pub fn parse(toks: &[u16], out: &mut [u16]) -> Parsed
     let mut funcs = [0u16; 16];
     let mut acts = [0u16; 32];
     let mut procs = [0u16; 16];
-    let a = lines_of(codes::SORT, toks, 0, out, 0, &mut sorts, 0);
-    let b = lines_of(codes::FUNC, toks, a.at, out, a.w, &mut funcs, 0);
-    let c = lines_of(codes::ACT, toks, b.at, out, b.w, &mut acts, 0);
-    let d = lines_of(codes::PROC, toks, c.at, out, c.w, &mut procs, 0);
+    let a = lines_of(lexer::SORT, toks, 0, out, 0, &mut sorts, 0);
+    let b = lines_of(lexer::FUNC, toks, a.at, out, a.w, &mut funcs, 0);
+    let c = lines_of(lexer::ACT, toks, b.at, out, b.w, &mut acts, 0);
+    let d = lines_of(lexer::PROC, toks, c.at, out, c.w, &mut procs, 0);
     let p = some_lines(toks, d.at, d.count);
-    let i = expect(toks, p, codes::INIT);
+    let i = expect(toks, p, lexer::INIT);
     let e = init_line(toks, i, out, d.w);
-    let end = expect(toks, e.at, codes::SEMICOLON);
+    let end = expect(toks, e.at, lexer::SEMICOLON);
     Parsed {
         ok: end == toks.len(),
         used: e.w,

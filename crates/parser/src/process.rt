@@ -24,7 +24,7 @@ pub fn choice(toks: &[u16], at: usize, out: &mut [u16], w: usize) -> Step
     loop {
         let u = put(out, v, codes::ONLY_TAG);
         let a = conditional(toks, from, out, u);
-        if peek(toks, a.at) != codes::PLUS {
+        if peek(toks, a.at) != lexer::PLUS {
             return a;
         }
         put(out, v, codes::PLUS_TAG);
@@ -40,12 +40,12 @@ fn conditional(toks: &[u16], at: usize, out: &mut [u16], w: usize) -> Step
 {
     let v = put(out, w, codes::PLAIN_TAG);
     let a = sequence(toks, at, out, v);
-    if peek(toks, a.at) != codes::IF {
+    if peek(toks, a.at) != lexer::IF {
         return a;
     }
     put(out, w, codes::COND_TAG);
     let d = data_term(toks, a.at + 1, out, a.w);
-    let e = expect(toks, d.at, codes::ELSE);
+    let e = expect(toks, d.at, lexer::ELSE);
     sequence(toks, e, out, d.w)
 }
 
@@ -59,7 +59,7 @@ fn sequence(toks: &[u16], at: usize, out: &mut [u16], w: usize) -> Step
     loop {
         let u = put(out, v, codes::LAST_TAG);
         let a = part(toks, from, out, u);
-        if peek(toks, a.at) != codes::DOT {
+        if peek(toks, a.at) != lexer::DOT {
             return a;
         }
         put(out, v, codes::THEN_TAG);
@@ -74,32 +74,32 @@ fn part(toks: &[u16], at: usize, out: &mut [u16], w: usize) -> Step
     ensures read { λ r. ⌜ Read (4 * left (now (toks .entry)) at) enc-part part (now (toks .entry)) at w (now (out .entry)) r (now (out .exit)) ⌝ }
 {
     let t = peek(toks, at);
-    if t == codes::DELTA {
+    if t == lexer::DELTA {
         return Step {
             at: at + 1,
             w: put(out, w, codes::DELTA_TAG),
         };
     }
-    if t == codes::TAU {
+    if t == lexer::TAU {
         return Step {
             at: at + 1,
             w: put(out, w, codes::TAU_TAG),
         };
     }
-    if t == codes::SUM {
+    if t == lexer::SUM {
         let v = put(out, w, codes::SUM_TAG);
         let h = sum_head(toks, at + 1, out, v);
         let a = choice(toks, h.at, out, h.w);
         return Step {
-            at: expect(toks, a.at, codes::CLOSE),
+            at: expect(toks, a.at, lexer::CLOSE),
             w: a.w,
         };
     }
-    if t == codes::OPEN {
+    if t == lexer::OPEN {
         let v = put(out, w, codes::GROUP_TAG);
         let a = choice(toks, at + 1, out, v);
         return Step {
-            at: expect(toks, a.at, codes::CLOSE),
+            at: expect(toks, a.at, lexer::CLOSE),
             w: a.w,
         };
     }
@@ -111,12 +111,12 @@ fn sum_head(toks: &[u16], at: usize, out: &mut [u16], w: usize) -> Step
     ensures ahead { λ r. ⌜ Ahead (length (now (toks .entry))) at (r .at) ⌝ }
     ensures read { λ r. ⌜ Read 0 enc-param (λ f. sum-head) (now (toks .entry)) at w (now (out .entry)) r (now (out .exit)) ⌝ }
 {
-    let a = expect(toks, at, codes::OPEN);
+    let a = expect(toks, at, lexer::OPEN);
     let v = name(toks, a, out, w);
-    let c = expect(toks, v.at, codes::COLON);
+    let c = expect(toks, v.at, lexer::COLON);
     let d = name(toks, c, out, v.w);
     Step {
-        at: expect(toks, d.at, codes::COMMA),
+        at: expect(toks, d.at, lexer::COMMA),
         w: d.w,
     }
 }

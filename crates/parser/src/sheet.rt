@@ -46,7 +46,7 @@ fn numerals(toks: &[u16], at: usize, out: &mut [u16], w: usize) -> Step
     loop {
         let u = put(out, v, codes::ITEM_TAG);
         let a = numeral(toks, from, out, u);
-        if peek(toks, a.at) != codes::COMMA {
+        if peek(toks, a.at) != lexer::COMMA {
             return Step {
                 at: a.at,
                 w: put(out, a.w, codes::END_TAG),
@@ -64,7 +64,7 @@ fn one_or_two(toks: &[u16], at: usize, out: &mut [u16], w: usize) -> Step
 {
     let v = put(out, w, codes::ITEM_TAG);
     let a = name(toks, at, out, v);
-    if peek(toks, a.at) != codes::HASH {
+    if peek(toks, a.at) != lexer::HASH {
         return Step {
             at: a.at,
             w: put(out, a.w, codes::END_TAG),
@@ -85,11 +85,11 @@ fn func_line(toks: &[u16], at: usize, out: &mut [u16], w: usize) -> Step
 {
     let v = put(out, w, codes::FUNC_TAG);
     let x = name(toks, at, out, v);
-    let c = expect(toks, x.at, codes::COLON);
+    let c = expect(toks, x.at, lexer::COLON);
     let t = one_or_two(toks, c, out, x.w);
-    let a = expect(toks, t.at, codes::ARROW);
+    let a = expect(toks, t.at, lexer::ARROW);
     let g = name(toks, a, out, t.w);
-    let e = expect(toks, g.at, codes::EQUALS);
+    let e = expect(toks, g.at, lexer::EQUALS);
     numerals(toks, e, out, g.w)
 }
 
@@ -100,7 +100,7 @@ fn act_line(toks: &[u16], at: usize, out: &mut [u16], w: usize) -> Step
 {
     let v = put(out, w, codes::ACT_TAG);
     let x = name(toks, at, out, v);
-    if peek(toks, x.at) != codes::COLON {
+    if peek(toks, x.at) != lexer::COLON {
         return Step {
             at: x.at,
             w: put(out, x.w, codes::END_TAG),
@@ -119,11 +119,11 @@ fn parameters(toks: &[u16], at: usize, out: &mut [u16], w: usize) -> Step
     loop {
         let u = put(out, v, codes::ITEM_TAG);
         let x = name(toks, from, out, u);
-        let c = expect(toks, x.at, codes::COLON);
+        let c = expect(toks, x.at, lexer::COLON);
         let d = name(toks, c, out, x.w);
-        if peek(toks, d.at) != codes::COMMA {
+        if peek(toks, d.at) != lexer::COMMA {
             return Step {
-                at: expect(toks, d.at, codes::CLOSE),
+                at: expect(toks, d.at, lexer::CLOSE),
                 w: put(out, d.w, codes::END_TAG),
             };
         }
@@ -137,7 +137,7 @@ fn params(toks: &[u16], at: usize, out: &mut [u16], w: usize) -> Step
     ensures onward { λ r. ⌜ Onward (length (now (toks .entry))) at (r .at) ⌝ }
     ensures read { λ r. ⌜ (at ≤ length (now (toks .entry)) → Read (left (now (toks .entry)) at) (enc-items enc-param) params (now (toks .entry)) at w (now (out .entry)) r (now (out .exit))) ⌝ }
 {
-    if peek(toks, at) != codes::OPEN {
+    if peek(toks, at) != lexer::OPEN {
         return Step {
             at: at,
             w: put(out, w, codes::END_TAG),
@@ -154,7 +154,7 @@ fn proc_line(toks: &[u16], at: usize, out: &mut [u16], w: usize) -> Step
     let v = put(out, w, codes::PROC_TAG);
     let x = name(toks, at, out, v);
     let h = params(toks, x.at, out, x.w);
-    let e = expect(toks, h.at, codes::EQUALS);
+    let e = expect(toks, h.at, lexer::EQUALS);
     choice(toks, e, out, h.w)
 }
 
@@ -162,10 +162,10 @@ fn proc_line(toks: &[u16], at: usize, out: &mut [u16], w: usize) -> Step
 fn bare(toks: &[u16], at: usize) -> bool
     ensures { λ r. ⌜ ((s : List ℕ) → called (cell-token s (getD (now (toks .entry)) at 0)) (rest s (now (toks .entry)) (at + 1)) ≡ not r) ⌝ }
 {
-    if peek(toks, at) < codes::FIRST_NAME {
+    if peek(toks, at) < lexer::FIRST_NAME {
         return false;
     }
-    peek(toks, at + 1) != codes::OPEN
+    peek(toks, at + 1) != lexer::OPEN
 }
 
 // "no name in its data that lacks brackets", from one place to another
@@ -204,13 +204,13 @@ fn line(word: u16, toks: &[u16], at: usize, out: &mut [u16], w: usize) -> Step
     ensures ahead { λ r. ⌜ Ahead (length (now (toks .entry))) at (r .at) ⌝ }
     ensures read { λ r. ⌜ Read (4 * length (now (toks .entry)) + 3) (kind-of word .enc) (kind-of word .reader) (now (toks .entry)) at w (now (out .entry)) r (now (out .exit)) ⌝ }
 {
-    if word == codes::SORT {
+    if word == lexer::SORT {
         return sort_line(toks, at, out, w);
     }
-    if word == codes::FUNC {
+    if word == lexer::FUNC {
         return func_line(toks, at, out, w);
     }
-    if word == codes::ACT {
+    if word == lexer::ACT {
         return act_line(toks, at, out, w);
     }
     proc_line(toks, at, out, w)
@@ -236,7 +236,7 @@ pub fn lines_of(
     while peek(toks, from) == word {
         put(places, i, short(v));
         let a = line(word, toks, from + 1, out, v);
-        from = expect(toks, a.at, codes::SEMICOLON);
+        from = expect(toks, a.at, lexer::SEMICOLON);
         v = a.w;
         i += 1;
     }

@@ -5,6 +5,8 @@ ghost use Rattle.resolver.specs.Resolving.{Ahead, Few, ResolvesData, Res
 use crate::Run;
 use crate::Step;
 use crate::cells::lost;
+use lexer::FIRST_NAME;
+use lexer::FIRST_NUMERAL;
 use names::find::cell;
 use names::find::number_of;
 use names::find::scope_number;
@@ -12,8 +14,6 @@ use parser::cells::put;
 use parser::cells::short;
 use parser::codes::APPLY_TAG;
 use parser::codes::BARE_TAG;
-use parser::codes::FIRST_NAME;
-use parser::codes::FIRST_NUMERAL;
 use parser::codes::GIVEN_TAG;
 use parser::codes::MORE_TAG;
 use parser::codes::ONE_TAG;
