@@ -35,7 +35,8 @@ use Rattle.contexts.specs.Spots.{Ready, Arrays, arrays, around, Spotted, Deeper
 use Rattle.contexts.specs.Steps.{SideDown, CallDown, SummandsOut, Written, SideWritten}
 use Rattle.contexts.proofs.Spotting.{map-none, none-map, kept-same, kept-then, kept-up, deeper-same, deeper-then, side-kept, stuck}
 use Rattle.contexts.proofs.Sides.{Passed, Sides, sides}
-use Rattle.heads.specs.Writing.{Ends, HeadsCounted, HeadsWritten}
+use Rattle.heads.specs.Writing.{HeadsCounted, HeadsWritten}
+use Rattle.heads.specs.Progress.{Ends, Past, Onward}
 
 -- COUNTS
 
@@ -95,27 +96,28 @@ out-ended f xs hs e far z k v o ez = (
 )
 
 module _ (cells starts counts firsts : List ℕ) where
-  -- from s to r: some heads are written, and the others are those at r
-  pub record Moved (H : Sheet) (F : ℕ) (s : Spot) (A : Arrays) (w : ℕ) (o : List ℕ) (r : Spot) (B : Arrays) (v : ℕ) (o′ : List ℕ) (hs : List Summand) : Type 0 where
-    pub done : List Summand
-    pub left : List Summand
-    pub split : hs ≡ done ++ left
-    pub within : Every SummandWithin done
-    pub bytes : Adds (all encode-summand done) w o v o′
-    pub spotted : Spotted H F cells r B left
-    pub deeper : Deeper s r
-    pub kept : Kept s A B
-
-  abbrev pub Onward : Spot → Arrays → ℕ → List ℕ → Spot → Arrays → ℕ → List ℕ → Type 0
-  Onward s A w o r B v o′ = (H : Sheet) (F : ℕ) (hs : List Summand) → Ready H F cells starts counts firsts → Spotted H F cells s A hs → Moved H F s A w o r B v o′ hs
-
-  pub on-start : (s : Spot) (A : Arrays) (w : ℕ) (o : List ℕ) → Onward s A w o s A w o
+  pub on-start : (s : Spot) (A : Arrays) (w : ℕ) (o : List ℕ) → Onward cells starts counts firsts s A w o s A w o
   unfolding Every all
   on-start s A w o H F hs rd sp = record { done = []; left = hs; split = refl; within = tt; bytes = sym (append-nil (take w o)); spotted = sp; deeper = deeper-same s; kept = kept-same s A }
 
-  module _ (s : Spot) (A : Arrays) (w : ℕ) (o : List ℕ) (r : Spot) (B : Arrays) (v : ℕ) (o′ : List ℕ) (on : Onward s A w o r B v o′) where
-    pub on-step : (t : Spot) (C : Arrays) → t .ok ≡ true → Leads cells starts counts firsts r B t C → Onward s A w o t C v o′
-    on-step t C ok ld H F hs rd sp =
+  -- one step down
+  pub on-step : (s : Spot) (A : Arrays) (w : ℕ) (o : List ℕ) (t : Spot) (C : Arrays) → t .ok ≡ true → Leads cells starts counts firsts s A t C → Onward cells starts counts firsts s A w o t C w o
+  unfolding Every all
+  on-step s A w o t C ok ld H F hs rd sp = record {
+    done = [];
+    left = hs;
+    split = refl;
+    within = tt;
+    bytes = sym (append-nil (take w o));
+    spotted = ld .2 H F hs rd sp .0 ok;
+    deeper = ld .0;
+    kept = ld .1;
+  }
+
+  module _ (s : Spot) (A : Arrays) (w : ℕ) (o : List ℕ) (r : Spot) (B : Arrays) (v : ℕ) (o′ : List ℕ) (on : Onward cells starts counts firsts s A w o r B v o′) where
+    -- past what has no heads
+    pub on-past : (t : Spot) → Past cells counts r t → Onward cells starts counts firsts s A w o t B v o′
+    on-past t pt H F hs rd sp =
         let m = on H F hs rd sp in
         record {
           done = m .done;
@@ -123,9 +125,24 @@ module _ (cells starts counts firsts : List ℕ) where
           split = m .split;
           within = m .within;
           bytes = m .bytes;
-          spotted = ld .2 H F (m .left) rd (m .spotted) .0 ok;
-          deeper = deeper-then s r t (m .deeper) (ld .0);
-          kept = kept-then s A B C (m .kept) (kept-up s r B C (m .deeper) (ld .1));
+          spotted = pt .spotted H F B (m .left) (rd .procs-few) (rd .tallied) (m .spotted);
+          deeper = deeper-then s r t (m .deeper) (pt .deeper);
+          kept = m .kept;
+        }
+
+    pub on-then : (t : Spot) (C : Arrays) (u : ℕ) (o″ : List ℕ) → Onward cells starts counts firsts r B v o′ t C u o″ → Onward cells starts counts firsts s A w o t C u o″
+    on-then t C u o″ next H F hs rd sp =
+        let m = on H F hs rd sp in
+        let k = next H F (m .left) rd (m .spotted) in
+        record {
+          done = m .done ++ k .done;
+          left = k .left;
+          split = m .split ∙ ap (λ (l : List Summand). m .done ++ l) (k .split) ∙ sym (append-assoc (m .done) (k .done) (k .left));
+          within = every-append SummandWithin (m .done) (k .done) (m .within) (k .within);
+          bytes = adds-then (all encode-summand (m .done)) (all encode-summand (k .done)) w v u o o′ o″ (m .bytes) (k .bytes) ∙ ap (λ (l : List ℕ). take w o ++ l) (sym (all-append encode-summand (m .done) (k .done)));
+          spotted = k .spotted;
+          deeper = deeper-then s r t (m .deeper) (k .deeper);
+          kept = kept-then s A B C (m .kept) (kept-up s r B C (m .deeper) (k .kept));
         }
 
     -- all that is left is written
@@ -239,30 +256,25 @@ module _ (cells starts counts firsts : List ℕ) where
             λ t. kept-then s A B C kp (q .1 t),
           )
 
-  -- on to the second side
-  module _ (s : Spot) (A : Arrays) (w : ℕ) (o : List ℕ) (r : Spot) (B : Arrays) (v : ℕ) (o′ : List ℕ) (on : Onward s A w o r B v o′)
-      (d : Node) (vw : Views cells (r .at) d) (is : (d .kind ≡ alt-kind) ⊎ (d .kind ≡ cond-kind))
-      (x : Done) (slots vars conds calls o″ : List ℕ) (first : SideWritten cells starts counts firsts r B d (record { second = false; at = d .next; c = r .c }) v o′ x (arrays slots vars conds calls) o″)
-      (next own : ℕ) (sk : Passed cells (d .next) next own) (c′ : ℕ) (ec : r .c + own < byte-limit → c′ ≡ r .c + own) where
-    pub on-choice : x .ok ≡ true → (t : Spot) (conds′ : List ℕ) → t .ok ≡ true → SideDown cells d r (record { second = true; at = next; c = c′ }) slots conds t conds′
-        → Onward s A w o t (arrays slots vars conds′ calls) (x .w) o″
-    on-choice ok t conds′ tok sd H F hs rd sp =
+    -- on to the second side
+    pub on-choice : x .ok ≡ true → (slots vars conds calls : List ℕ) → B ≡ arrays slots vars conds calls → (t : Spot) (conds′ : List ℕ) → t .ok ≡ true → SideDown cells d s (record { second = true; at = next; c = c′ }) slots conds t conds′
+        → Onward cells starts counts firsts s A w o t (arrays slots vars conds′ calls) (x .w) o′
+    on-choice ok slots vars conds calls eb t conds′ tok sd H F hs rd sp =
         let g = sd vars calls in
         let C = arrays slots vars conds calls in
         let C′ = arrays slots vars conds′ calls in
-        let m = on H F hs rd sp in
-        let b = sides H F cells r B (m .left) d vw next own sk c′ ec is (m .spotted) in
+        let b = both H F hs sp in
         let f = first H F (b .hs₁) rd (b .on₁) in
-        let kp = f .1 ok in
+        let kp : Kept s A C = subst (λ (x : Arrays). Kept s A x) eb (f .1 ok) in
         record {
-          done = m .done ++ b .hs₁;
+          done = b .hs₁;
           left = b .hs₂;
-          split = m .split ∙ ap (λ (l : List Summand). m .done ++ l) (b .split) ∙ sym (append-assoc (m .done) (b .hs₁) (b .hs₂));
-          within = every-append SummandWithin (m .done) (b .hs₁) (m .within) (f .0 .0 ok .0);
-          bytes = adds-then (all encode-summand (m .done)) (all encode-summand (b .hs₁)) w v (x .w) o o′ o″ (m .bytes) (f .0 .0 ok .1) ∙ ap (λ (l : List ℕ). take w o ++ l) (sym (all-append encode-summand (m .done) (b .hs₁)));
-          spotted = g .2 H F (b .hs₂) (side-kept H F cells r B C d (record { second = true; at = next; c = c′ }) (b .hs₂) kp (b .on₂)) .0 tok;
-          deeper = deeper-then s r t (m .deeper) (g .0);
-          kept = kept-then s A B C′ (m .kept) (kept-up s r B C′ (m .deeper) (kept-then r B C C′ kp (g .1)));
+          split = b .split;
+          within = f .0 .0 ok .0;
+          bytes = f .0 .0 ok .1;
+          spotted = g .2 H F (b .hs₂) (side-kept H F cells s A C d (record { second = true; at = next; c = c′ }) (b .hs₂) kp (b .on₂)) .0 tok;
+          deeper = g .0;
+          kept = kept-then s A C C′ kp (g .1);
         }
 
   -- THE WHOLE TERM

@@ -5,45 +5,25 @@ use mathlib.Core.Bool.{Bool, true, false}
 use Prim.Native.Nat.{ℕ, _+_, _≤_, _<_}
 use lib.ListN.{length, drop}
 use Rattle.pcrl.specs.Tests.{Every}
-use mathlib.Core.Logic.{_⊎_}
-use Rattle.pcrl.specs.Limits.{max-variables}
 use Rattle.pcrl.specs.Sheet.{Data, val, var, Proc, Sheet}
 use Rattle.pcrl.specs.Parts.{new-count, all-new-parts}
 use Rattle.pcrl.specs.Table.{nodes}
 use Rattle.pcrl.specs.Stream.{encode-data, encode-list, encode-summand}
 use Rattle.pcrl.specs.Right.{SummandWithin}
 use Rattle.pcrl.specs.Heads.{heads}
-use Rattle.nodes.specs.Layout.{byte-limit, alt-kind, cond-kind, seq-kind, enc}
+use Rattle.nodes.specs.Layout.{byte-limit, seq-kind, enc}
 use Rattle.nodes.specs.Nodes.{kind-of}
 use Rattle.counting.specs.Limits.{row-width, cut}
 use Rattle.counting.specs.Counting.{Placed, Tallied, FirstNew}
 use Rattle.putting.specs.declared.Done.{Done}
 use Rattle.putting.specs.Slots.{Slots, Adds}
 use Rattle.following.specs.Fine.{Fine}
-use Rattle.following.specs.Follows.{calls-room}
-use Rattle.contexts.specs.Spots.{conds-room, Ready}
-use Rattle.contexts.specs.Steps.{terms-room, SummandsOut}
+use Rattle.contexts.specs.Spots.{Ready}
+use Rattle.contexts.specs.Steps.{SummandsOut}
 
 -- room for a slot for each variable that can be in scope
 abbrev pub slots-room : ℕ
 slots-room = 1056
-
--- rooms of the arrays of a walk: sum variables, conditions, terms, calls after a first part, calls
-pub record Rooms (lv lc lt la lk : ℕ) : Type 0 where
-  pub vars-room : max-variables ≤ lv
-  pub conds-fit : conds-room ≤ lc
-  pub terms-fit : terms-room ≤ lt
-  pub after-fit : calls-room ≤ la
-  pub calls-fit : lk ≤ calls-room
-
--- is it a choice?
-abbrev pub Choice : ℕ → Bool → Type 0
-Choice kind r = (r ≡ true → (kind ≡ alt-kind) ⊎ (kind ≡ cond-kind)) × (r ≡ false → (kind ≡ alt-kind → ⊥) × (kind ≡ cond-kind → ⊥))
-
--- has a term no heads?
-abbrev pub Ends : List ℕ → List ℕ → ℕ → ℕ → Done → Type 0
-Ends cells counts fuel at r = (H : Sheet) (F : ℕ) (b : Bool) (p : Proc) (rest : List ℕ) (σ : List Data) (m c : ℕ) → length (H .procs) ≤ row-width → Tallied H F counts → fuel ≤ F
-    → drop at cells ≡ enc b p ++ rest → (r .ok ≡ true → heads H fuel σ m c p ≡ []) × (r .ok ≡ false → heads H fuel σ m c p ≡ [] → ⊥)
 
 -- All heads of the term p written as summands, one behind another; or not every one has the limits, or there is no room for them.
 abbrev pub HeadsWritten : List ℕ → List ℕ → List ℕ → List ℕ → ℕ → ℕ → ℕ → List ℕ → ℕ → ℕ → ℕ → List ℕ → Done → List ℕ → Type 0

@@ -4,9 +4,8 @@ ghost use mathlib.Core.List.{[], _∷_};
 ghost use mathlib.Core.Bool.{true, false};
 ghost use Prim.Native.Nat.{_+_, _*_, _≤_, _<_};
 ghost use lib.ListN.{length};
-ghost use Rattle.nodes.specs.Layout.{byte-limit, call-kind};
+ghost use Rattle.nodes.specs.Layout.{byte-limit};
 ghost use Rattle.nodes.specs.Scoped.{max-scope};
-ghost use Rattle.nodes.specs.Views.{On, Views};
 ghost use Rattle.counting.specs.Limits.{row-width, max-fuel};
 ghost use Rattle.pcrl.specs.Parts.{as-params};
 ghost use Rattle.pcrl.specs.Stream.{encode-data};
@@ -15,9 +14,11 @@ ghost use Rattle.marking.specs.Marks.{bits};
 ghost use Rattle.putting.specs.Slots.{slot-width, Slots};
 ghost use Rattle.contexts.specs.Spots.{variable-limit, arrays, Bound};
 ghost use Rattle.contexts.specs.Steps.{Written, SideWritten};
-ghost use Rattle.heads.specs.Writing.{slots-room, Rooms, Choice, Ends, BytePut, param-of, HeadsWritten, HeadsCounted, SummandsWritten, NumbersFirst};
+ghost use Rattle.heads.specs.Writing.{slots-room, BytePut, param-of, HeadsWritten, HeadsCounted, SummandsWritten, NumbersFirst};
+ghost use Rattle.heads.specs.Progress.{Rooms, Choice, LeafKind, Ends, Looked, SecondSide, side-spot, Headless, Past, Reaches, Nearer, StepsOn};
 use contexts::Side;
 use contexts::Spot;
+use counting::Counted;
 use nodes::Node;
 use putting::Done;
 use putting::SLOT;
@@ -42,34 +43,170 @@ fn choice(kind: usize) -> bool
     kind == nodes::COND
 }
 
-// The heads of a call at the head: those of the process's right side.
-fn enter(
+// An action or a call: no head stands further down.
+fn is_leaf(kind: usize) -> bool
+    ensures { λ r. ⌜ LeafKind kind r ⌝ }
+{
+    if kind == nodes::ATOM {
+        return true;
+    }
+    kind == nodes::CALL
+}
+
+// Where the walk stands, the node there, and the count of its first side if it is a choice.
+struct Ahead {
+    s: Spot,
+    d: Node,
+    a: Counted,
+}
+
+// Where the walk goes on, and how far is written; or it is over, and so done.
+struct Reached {
+    over: bool,
+    s: Spot,
+    done: Done,
+}
+
+fn look(cells: &[u16], counts: &[u16], s: Spot) -> Ahead
+    requires { ⌜ (s .at < length (now cells)) × (s .fuel ≤ max-fuel) ⌝ }
+    ensures { λ r. ⌜ (r .s ≡ s) × Looked (now (cells .entry)) (now (counts .entry)) r ⌝ }
+{
+    let d = nodes::node_at(cells, s.at);
+    if choice(d.kind) {
+        let a = counting::count(cells, d.next, counts, counting::ROW * s.fuel);
+        return Ahead { s: s, d: d, a: a };
+    }
+    let none = Counted {
+        next: 0,
+        heads: 0,
+        own: 0,
+    };
+    Ahead {
+        s: s,
+        d: d,
+        a: none,
+    }
+}
+
+fn second_side(g: Ahead) -> Side
+    requires { ⌜ g .s .c < byte-limit ⌝ }
+    ensures { λ r. ⌜ SecondSide g r ⌝ }
+{
+    Side {
+        second: true,
+        at: g.a.next,
+        c: following::later(g.s.c, g.a.own),
+    }
+}
+
+// A side of `+`, in the same context.
+fn beside(s: Spot, e: Side) -> Spot
+    ensures { λ r. ⌜ r ≡ side-spot s e ⌝ }
+{
+    Spot {
+        ok: true,
+        at: e.at,
+        fuel: s.fuel,
+        n: s.n,
+        m: s.m,
+        c: e.c,
+        nv: s.nv,
+        nc: s.nc,
+        lc: s.lc,
+        nk: s.nk,
+        top: s.top,
+    }
+}
+
+// Has the first side of `+` no heads, and stands the second one in the cells?
+fn headless(g: Ahead, l: usize) -> bool
+    ensures { λ r. ⌜ (r ≡ true → Headless g l) ⌝ }
+{
+    if g.d.kind != nodes::ALT {
+        return false;
+    }
+    if g.a.heads != 0 {
+        return false;
+    }
+    g.a.next < l
+}
+
+// The first alternatives passed that have no heads.
+fn pass_headless(cells: &[u16], counts: &[u16], s: Spot) -> Ahead
+    requires { ⌜ (s .at < length (now cells)) × (s .fuel ≤ max-fuel) × (s .c < byte-limit) ⌝ }
+    ensures { λ r. ⌜ Looked (now (cells .entry)) (now (counts .entry)) r ⌝ }
+    ensures { λ r. ⌜ Past (now (cells .entry)) (now (counts .entry)) s (r .s) ⌝ }
+{
+    let mut g = look(cells, counts, s);
+    while headless(g, cells.len()) {
+        g = look(cells, counts, beside(g.s, second_side(g)));
+    }
+    g
+}
+
+// After a step down to r; if it failed, the walk of the term at `at` is over.
+fn after_step(cells: &[u16], counts: &[u16], fuel: usize, at: usize, r: Spot, w: usize) -> Reached
+    requires { ⌜ fuel ≤ max-fuel ⌝ }
+    ensures { λ x. ⌜ (x .s ≡ r) × (x .done .w ≡ w) ⌝ }
+    ensures { λ x. ⌜ Reaches (now (cells .entry)) (now (counts .entry)) fuel at r x ⌝ }
+{
+    if r.ok {
+        let on = Done { ok: true, w: w };
+        return Reached {
+            over: false,
+            s: r,
+            done: on,
+        };
+    }
+    let z = ended(cells, counts, fuel, at, w);
+    Reached {
+        over: true,
+        s: r,
+        done: z,
+    }
+}
+
+// The head of an action, or the heads of a call: those of the process's right side.
+fn leaf(
     cells: &[u16],
     starts: &[u16],
     counts: &[u16],
     firsts: &[u8],
-    d: Node,
-    s: Spot,
+    g: Ahead,
     slots: &[u8],
     vars: &mut [u8],
     conds: &mut [u8],
-    terms: &mut [u8],
     after: &mut [u8],
     calls: &mut [u8],
     out: &mut [u8],
     w: usize,
 ) -> Done
-    requires { ⌜ Bound (length (now calls)) (length (now slots)) s × Rooms (length (now vars)) (length (now conds)) (length (now terms)) (length (now after)) (length (now calls)) × (w ≤ length (now out)) ⌝ }
-    requires { ⌜ (s .at < length (now cells)) × On (s .at) d × (d .kind ≡ call-kind) × Views (now cells) (s .at) d ⌝ }
+    requires { ⌜ Bound (length (now calls)) (length (now slots)) (g .s) × Rooms (length (now vars)) (length (now conds)) (length (now after)) (length (now calls)) × (w ≤ length (now out)) ⌝ }
+    requires { ⌜ Looked (now cells) (now counts) g × LeafKind (g .d .kind) true ⌝ }
     ensures { λ r. ⌜ (w ≤ r .w) × (r .w ≤ length (now (out .entry))) ⌝ }
-    ensures { λ r. ⌜ Written (now (cells .entry)) (now (starts .entry)) (now (counts .entry)) (now (firsts .entry)) s (arrays (now (slots .entry)) (now (vars .entry)) (now (conds .entry)) (now (calls .entry))) w (now (out .entry)) r (arrays (now (slots .entry)) (now (vars .exit)) (now (conds .exit)) (now (calls .exit))) (now (out .exit)) ⌝ }
+    ensures { λ r. ⌜ Written (now (cells .entry)) (now (starts .entry)) (now (counts .entry)) (now (firsts .entry)) (g .s) (arrays (now (slots .entry)) (now (vars .entry)) (now (conds .entry)) (now (calls .entry))) w (now (out .entry)) r (arrays (now (slots .entry)) (now (vars .exit)) (now (conds .exit)) (now (calls .exit))) (now (out .exit)) ⌝ }
 {
-    let z = ended(cells, counts, s.fuel, s.at, w);
+    if g.d.kind == nodes::ATOM {
+        let mut terms = [0u8; 62];
+        return contexts::emit(
+            cells,
+            g.d,
+            g.s,
+            slots,
+            &*vars,
+            &*conds,
+            &mut terms,
+            &*calls,
+            &mut *out,
+            w,
+        );
+    }
+    let z = ended(cells, counts, g.s.fuel, g.s.at, w);
     if z.ok {
         return z;
     }
     let mut mine = [0u8; 264];
-    let r = contexts::down_call(cells, starts, firsts, d, s, slots, &mut mine);
+    let r = contexts::down_call(cells, starts, firsts, g.d, g.s, slots, &mut mine);
     if !r.ok {
         return z;
     }
@@ -82,7 +219,6 @@ fn enter(
         &mut mine,
         &mut *vars,
         &mut *conds,
-        &mut *terms,
         &mut *after,
         &mut *calls,
         &mut *out,
@@ -90,40 +226,37 @@ fn enter(
     )
 }
 
-// The heads of the first side of a choice; z: it has none.
+// The heads of the first side of a choice.
 fn first_side(
     cells: &[u16],
     starts: &[u16],
     counts: &[u16],
     firsts: &[u8],
-    d: Node,
-    s: Spot,
-    z: Done,
+    g: Ahead,
     slots: &mut [u8],
     vars: &mut [u8],
     conds: &mut [u8],
-    terms: &mut [u8],
     after: &mut [u8],
     calls: &mut [u8],
     out: &mut [u8],
     w: usize,
 ) -> Done
-    requires { ⌜ Bound (length (now calls)) (length (now slots)) s × Rooms (length (now vars)) (length (now conds)) (length (now terms)) (length (now after)) (length (now calls)) × (w ≤ length (now out)) ⌝ }
-    requires { ⌜ (s .at < length (now cells)) × On (s .at) d × Views (now cells) (s .at) d × (z .w ≡ w) × Ends (now cells) (now counts) (s .fuel) (d .next) z ⌝ }
+    requires { ⌜ Bound (length (now calls)) (length (now slots)) (g .s) × Rooms (length (now vars)) (length (now conds)) (length (now after)) (length (now calls)) × (w ≤ length (now out)) ⌝ }
+    requires { ⌜ Looked (now cells) (now counts) g × Choice (g .d .kind) true ⌝ }
     ensures { λ r. ⌜ (w ≤ r .w) × (r .w ≤ length (now (out .entry))) ⌝ }
-    ensures { λ r. ⌜ SideWritten (now (cells .entry)) (now (starts .entry)) (now (counts .entry)) (now (firsts .entry)) s (arrays (now (slots .entry)) (now (vars .entry)) (now (conds .entry)) (now (calls .entry))) d (record { second = false; at = d .next; c = s .c }) w (now (out .entry)) r (arrays (now (slots .exit)) (now (vars .exit)) (now (conds .exit)) (now (calls .exit))) (now (out .exit)) ⌝ }
+    ensures { λ r. ⌜ SideWritten (now (cells .entry)) (now (starts .entry)) (now (counts .entry)) (now (firsts .entry)) (g .s) (arrays (now (slots .entry)) (now (vars .entry)) (now (conds .entry)) (now (calls .entry))) (g .d) (record { second = false; at = g .d .next; c = g .s .c }) w (now (out .entry)) r (arrays (now (slots .exit)) (now (vars .exit)) (now (conds .exit)) (now (calls .exit))) (now (out .exit)) ⌝ }
 {
-    if z.ok {
-        return z;
+    if g.a.heads == 0 {
+        return Done { ok: true, w: w };
     }
     let e = Side {
         second: false,
-        at: d.next,
-        c: s.c,
+        at: g.d.next,
+        c: g.s.c,
     };
-    let f = contexts::down_side(cells, d, s, e, &*slots, &mut *conds);
+    let f = contexts::down_side(cells, g.d, g.s, e, &*slots, &mut *conds);
     if !f.ok {
-        return z;
+        return Done { ok: false, w: w };
     }
     walk(
         cells,
@@ -134,12 +267,71 @@ fn first_side(
         &mut *slots,
         &mut *vars,
         &mut *conds,
-        &mut *terms,
         &mut *after,
         &mut *calls,
         &mut *out,
         w,
     )
+}
+
+// One step down: of a choice the heads of the first side are written, and the walk goes on at the second one.
+fn onward(
+    cells: &[u16],
+    starts: &[u16],
+    counts: &[u16],
+    firsts: &[u8],
+    g: Ahead,
+    slots: &mut [u8],
+    vars: &mut [u8],
+    conds: &mut [u8],
+    after: &mut [u8],
+    calls: &mut [u8],
+    out: &mut [u8],
+    w: usize,
+) -> Reached
+    requires { ⌜ Bound (length (now calls)) (length (now slots)) (g .s) × Rooms (length (now vars)) (length (now conds)) (length (now after)) (length (now calls)) × (w ≤ length (now out)) ⌝ }
+    requires { ⌜ Looked (now cells) (now counts) g × LeafKind (g .d .kind) false ⌝ }
+    ensures { λ r. ⌜ (w ≤ r .done .w) × (r .done .w ≤ length (now (out .entry))) ⌝ }
+    ensures { λ r. ⌜ (r .over ≡ false → Nearer (length (now (cells .entry))) (length (now (calls .entry))) (length (now (slots .entry))) (g .s) (r .s)) ⌝ }
+    ensures { λ r. ⌜ StepsOn (now (cells .entry)) (now (starts .entry)) (now (counts .entry)) (now (firsts .entry)) (g .s) (arrays (now (slots .entry)) (now (vars .entry)) (now (conds .entry)) (now (calls .entry))) w (now (out .entry)) r (arrays (now (slots .exit)) (now (vars .exit)) (now (conds .exit)) (now (calls .exit))) (now (out .exit)) ⌝ }
+{
+    let s = g.s;
+    if !choice(g.d.kind) {
+        let r = contexts::step(
+            cells,
+            g.d,
+            s,
+            &mut *slots,
+            &mut *vars,
+            &mut *after,
+            &mut *calls,
+        );
+        return after_step(cells, counts, s.fuel, s.at, r, w);
+    }
+    let x = first_side(
+        cells,
+        starts,
+        counts,
+        firsts,
+        g,
+        &mut *slots,
+        &mut *vars,
+        &mut *conds,
+        &mut *after,
+        &mut *calls,
+        &mut *out,
+        w,
+    );
+    if !x.ok {
+        return Reached {
+            over: true,
+            s: s,
+            done: x,
+        };
+    }
+    let e = second_side(g);
+    let r = contexts::down_side(cells, g.d, s, e, &*slots, &mut *conds);
+    after_step(cells, counts, s.fuel, e.at, r, x.w)
 }
 
 // The heads of the term at s0 in its context, one after another.
@@ -152,104 +344,54 @@ fn walk(
     slots: &mut [u8],
     vars: &mut [u8],
     conds: &mut [u8],
-    terms: &mut [u8],
     after: &mut [u8],
     calls: &mut [u8],
     out: &mut [u8],
     w: usize,
 ) -> Done
-    requires { ⌜ Bound (length (now calls)) (length (now slots)) s0 × Rooms (length (now vars)) (length (now conds)) (length (now terms)) (length (now after)) (length (now calls)) × (w ≤ length (now out)) ⌝ }
+    requires { ⌜ Bound (length (now calls)) (length (now slots)) s0 × Rooms (length (now vars)) (length (now conds)) (length (now after)) (length (now calls)) × (w ≤ length (now out)) ⌝ }
     ensures { λ r. ⌜ (w ≤ r .w) × (r .w ≤ length (now (out .entry))) ⌝ }
     ensures { λ r. ⌜ Written (now (cells .entry)) (now (starts .entry)) (now (counts .entry)) (now (firsts .entry)) s0 (arrays (now (slots .entry)) (now (vars .entry)) (now (conds .entry)) (now (calls .entry))) w (now (out .entry)) r (arrays (now (slots .exit)) (now (vars .exit)) (now (conds .exit)) (now (calls .exit))) (now (out .exit)) ⌝ }
 {
     let mut s = s0;
     let mut v = w;
     while s.at < cells.len() {
-        let d = nodes::node_at(cells, s.at);
-        if d.kind == nodes::ATOM {
-            return contexts::emit(
-                cells,
-                d,
-                s,
-                &*slots,
-                &*vars,
-                &*conds,
-                &mut *terms,
-                &*calls,
-                &mut *out,
-                v,
-            );
-        }
-        if d.kind == nodes::CALL {
-            return enter(
+        let g = pass_headless(cells, counts, s);
+        if is_leaf(g.d.kind) {
+            return leaf(
                 cells,
                 starts,
                 counts,
                 firsts,
-                d,
-                s,
+                g,
                 &*slots,
                 &mut *vars,
                 &mut *conds,
-                &mut *terms,
                 &mut *after,
                 &mut *calls,
                 &mut *out,
                 v,
             );
         }
-        if choice(d.kind) {
-            let a = counting::count(cells, d.next, counts, counting::ROW * s.fuel);
-            let e = Side {
-                second: true,
-                at: a.next,
-                c: following::later(s.c, a.own),
-            };
-            let z = Done {
-                ok: a.heads == 0,
-                w: v,
-            };
-            let r = first_side(
-                cells,
-                starts,
-                counts,
-                firsts,
-                d,
-                s,
-                z,
-                &mut *slots,
-                &mut *vars,
-                &mut *conds,
-                &mut *terms,
-                &mut *after,
-                &mut *calls,
-                &mut *out,
-                v,
-            );
-            if !r.ok {
-                return r;
-            }
-            let g = contexts::down_side(cells, d, s, e, &*slots, &mut *conds);
-            if !g.ok {
-                return ended(cells, counts, s.fuel, a.next, r.w);
-            }
-            v = r.w;
-            s = g;
-            continue;
-        }
-        let r = contexts::step(
+        let r = onward(
             cells,
-            d,
-            s,
+            starts,
+            counts,
+            firsts,
+            g,
             &mut *slots,
             &mut *vars,
+            &mut *conds,
             &mut *after,
             &mut *calls,
+            &mut *out,
+            v,
         );
-        if !r.ok {
-            return ended(cells, counts, s.fuel, s.at, v);
+        if r.over {
+            return r.done;
         }
-        s = r;
+        s = r.s;
+        v = r.done.w;
     }
     Done { ok: false, w: v }
 }
@@ -276,7 +418,6 @@ pub fn write_heads(
     let mut work = [0u8; 1188];
     let mut vars = [0u8; 4];
     let mut conds = [0u8; 256];
-    let mut terms = [0u8; 62];
     let mut after = [0u8; 7944];
     let mut calls = [0u8; 7944];
     putting::copy(slots, 0, SLOT * n, &mut work, 0);
@@ -302,7 +443,6 @@ pub fn write_heads(
         &mut work,
         &mut vars,
         &mut conds,
-        &mut terms,
         &mut after,
         &mut calls,
         &mut *out,

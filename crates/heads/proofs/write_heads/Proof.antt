@@ -33,9 +33,6 @@ slice-aggregate-walk-4 c = search needs
 slice-aggregate-walk-5 : tie.Need-slice-aggregate-walk-5
 slice-aggregate-walk-5 c = search needs
 
-slice-aggregate-walk-6 : tie.Need-slice-aggregate-walk-6
-slice-aggregate-walk-6 c = search needs
-
 walk-requires : tie.Need-walk-requires
 walk-requires c κs = search needs
 
@@ -43,11 +40,15 @@ same-length : tie.Need-same-length
 same-length c = search needs
 
 returns : tie.Need-returns
-returns c = let q = c .before .before .before .before .before .before .before .before .before .before .before .before .before .before .before .before .before .before .before .before .before .before .before .before .before .pre in (
-  c .before .before .before .before .before .before .before .before .walk .ensures .0,
-  heads-out (c .before .before .before .before .before .before .before .before .before .before .before .before .before .before .before .before .before .before .before .before .before .before .before .before .before .args .cells .now) (c .before .before .before .before .before .before .before .before .before .before .before .before .before .before .before .before .before .before .before .before .before .before .before .before .before .args .starts .now) (c .before .before .before .before .before .before .before .before .before .before .before .before .before .before .before .before .before .before .before .before .before .before .before .before .before .args .counts .now) (c .before .before .before .before .before .before .before .before .before .before .before .before .before .before .before .before .before .before .before .before .before .before .before .before .before .args .firsts .now) (c .before .before .before .before .before .before .before .before .before .before .before .before .before .before .before .before .before .before .before .before .before .before .before .before .before .args .fuel) (c .before .before .before .before .before .before .before .before .before .before .before .before .before .before .before .before .before .before .before .before .before .before .before .before .before .args .at) (c .before .before .before .before .before .before .before .before .before .before .before .before .before .before .before .before .before .before .before .before .before .before .before .before .before .args .c) (c .before .before .before .before .before .before .before .before .before .before .before .before .before .before .before .before .before .before .before .before .before .before .before .before .before .args .slots .now) (c .before .before .before .before .before .before .before .before .before .before .before .before .before .before .before .before .before .before .before .before .before .before .before .before .before .args .n) (c .before .before .before .before .before .before .before .before .before .before .before .before .before .before .before .before .before .before .before .before .before .before .before .before .before .args .m) (c .before .before .before .before .before .before .before .before .before .before .before .before .before .before .before .before .before .before .before .before .before .before .before .before .before .args .w) (c .before .before .before .before .before .before .before .before .before .before .before .before .before .before .before .before .before .before .before .before .before .before .before .before .before .args .out .now) (c .before .before .before .before .before .before .before .before .before .before .before .before .before .before .before .before .before .copy .last .1 .1 .1 .0) (replicate 4 0) (replicate 256 0) (replicate 7944 0) 7944 refl
-      (ap (take (slot-width * (c .before .before .before .before .before .before .before .before .before .before .before .before .before .before .before .before .before .before .before .before .before .before .before .before .before .args .n))) (c .before .before .before .before .before .before .before .before .before .before .before .before .before .before .before .before .before .copy .ensures) ∙ copied-front (c .before .before .before .before .before .before .before .before .before .before .before .before .before .before .before .before .before .before .before .before .before .before .before .before .before .args .cells .now) (c .before .before .before .before .before .before .before .before .before .before .before .before .before .before .before .before .before .before .before .before .before .before .before .before .before .args .starts .now) (c .before .before .before .before .before .before .before .before .before .before .before .before .before .before .before .before .before .before .before .before .before .before .before .before .before .args .counts .now) (c .before .before .before .before .before .before .before .before .before .before .before .before .before .before .before .before .before .before .before .before .before .before .before .before .before .args .firsts .now) (replicate 1188 0) (c .before .before .before .before .before .before .before .before .before .before .before .before .before .before .before .before .before .before .before .before .before .before .before .before .before .args .slots .now) (slot-width * (c .before .before .before .before .before .before .before .before .before .before .before .before .before .before .before .before .before .before .before .before .before .before .before .before .before .args .n)) (omega arith)) (c .before .before .before .before .before .before .before .before .walk .result) _ (c .before .before .before .before .before .before .before .before .walk .last .1 .1 .1 .1 .1 .1 .1 .1 .1 .1 .1 .0) (c .before .before .before .before .before .before .before .before .walk .ensures .1),
-)
+returns c = let start = c .before .before .before .before .before .before .before .before .before .before .before .before .before .before .before .before .before .before .before .before .before .before .before in
+    let q = start .pre in
+    let a = start .args in
+    let the-copy = c .before .before .before .before .before .before .before .before .before .before .before .before .before .before .before .copy in
+    let the-walk = c .before .before .before .before .before .before .before .walk in (
+      the-walk .ensures .0,
+      heads-out (a .cells .now) (a .starts .now) (a .counts .now) (a .firsts .now) (a .fuel) (a .at) (a .c) (a .slots .now) (a .n) (a .m) (a .w) (a .out .now) (the-copy .last .1 .1 .1 .0) (replicate 4 0) (replicate 256 0) (replicate 7944 0) 7944 refl
+          (ap (take (slot-width * (a .n))) (the-copy .ensures) ∙ copied-front (a .cells .now) (a .starts .now) (a .counts .now) (a .firsts .now) (replicate 1188 0) (a .slots .now) (slot-width * (a .n)) (omega arith)) (the-walk .result) _ (the-walk .last .1 .1 .1 .1 .1 .1 .1 .1 .1 .1 .0) (the-walk .ensures .1),
+    )
 
 pub write-heads-spec : {M : Type 1} → statement M
 write-heads-spec =
@@ -61,7 +62,6 @@ write-heads-spec =
     slice-aggregate-walk-3
     slice-aggregate-walk-4
     slice-aggregate-walk-5
-    slice-aggregate-walk-6
     walk-requires
     same-length
     returns)

@@ -1,0 +1,79 @@
+-- Alternatives without heads are passed: what is left has the same heads, in the same context.
+use mathlib.Core.Path.{_≡_, refl, sym, ap, _∙_, subst}
+use mathlib.Core.List.{List, [], _++_}
+use mathlib.Core.Bool.{true, false}
+use mathlib.Core.Logic.{inl}
+use Prim.Native.Nat.{ℕ, _+_, _*_, _<_, _≤_}
+use native.Mathlib.Omega.{arith}
+use lib.ListN.{length}
+use Rattle.pcrl.specs.Table.{Summand}
+use Rattle.pcrl.specs.Heads.{heads}
+use Rattle.nodes.specs.Layout.{byte-limit, alt-kind}
+use Rattle.counting.specs.Limits.{row-width, row}
+use Rattle.counting.specs.Counting.{Counts}
+use Rattle.putting.specs.declared.Done.{Done}
+use Rattle.putting.proofs.PutLaws.{never}
+use Rattle.contexts.specs.declared.Spot.{Spot}
+use Rattle.contexts.specs.declared.Side.{Side}
+use Rattle.contexts.specs.Spots.{Arrays, Bound, Spotted, around, weight}
+use Rattle.contexts.proofs.Spotting.{map-none, deeper-same, deeper-then}
+use Rattle.contexts.proofs.Sides.{sides, side-plain}
+use Rattle.heads.specs.declared.Ahead.{Ahead}
+use Rattle.heads.specs.Progress.{Ends, Looked, SecondSide, side-spot, Headless, Past}
+use Rattle.heads.proofs.Walking.{counted, passed, ends}
+
+-- the count of the first side says whether it has heads
+pub first-ends : (cells counts : List ℕ) (g : Ahead) → Counts cells (row (row-width * g .s .fuel) counts) (g .d .next) (g .a) → (z : Done) → (z .ok ≡ true → g .a .heads ≡ 0) → (z .ok ≡ false → g .a .heads ≡ 0 → ⊥)
+    → Ends cells counts (g .s .fuel) (g .d .next) z
+first-ends cells counts g ct z y n = ends cells counts (g .s .fuel) (g .d .next) (g .a .heads) (counted cells counts (g .d .next) (g .s .fuel) (g .a) ct) z y n
+
+module _ (cells counts : List ℕ) where
+  pub past-same : (s : Spot) → Past cells counts s s
+  past-same s = record { fuel-same = refl; further = omega arith; deeper = deeper-same s; stays = λ lk ls b. b; spotted = λ H F A hs few t sp. sp }
+
+  pub past-then : (s r t : Spot) → Past cells counts s r → Past cells counts r t → Past cells counts s t
+  past-then s r t p q = record {
+    fuel-same = q .fuel-same ∙ p .fuel-same;
+    further = omega (arith, p .further, q .further);
+    deeper = deeper-then s r t (p .deeper) (q .deeper);
+    stays = λ lk ls b. q .stays lk ls (p .stays lk ls b);
+    spotted = λ H F A hs few t sp. q .spotted H F A hs few t (p .spotted H F A hs few t sp);
+  }
+
+  pub past-side : (g : Ahead) (e : Side) → Looked cells counts g → g .d .kind ≡ alt-kind → g .a .heads ≡ 0 → SecondSide g e → Past cells counts (g .s) (side-spot (g .s) e)
+  past-side g e lk is none (ee, small, ec) =
+      let cf = lk .counts-first (inl is) in
+      let e₁ : Side = record { second = false; at = g .d .next; c = g .s .c } in
+      let e₂ : Side = record { second = true; at = g .a .next; c = e .c } in
+      record {
+        fuel-same = refl;
+        further = let z = ap (λ (x : Side). x .at) ee in omega (arith, cf .0, lk .on .on);
+        deeper = record { n-on = omega arith; nv-on = omega arith; lc-on = omega arith; top-on = omega arith };
+        stays = λ lk ls b. record {
+          fuel-small = b .fuel-small;
+          n-small = b .n-small;
+          n-room = b .n-room;
+          m-small = b .m-small;
+          c-small = small;
+          nv-few = b .nv-few;
+          nc-few = b .nc-few;
+          lc-few = b .lc-few;
+          nk-few = b .nk-few;
+          top-in = b .top-in;
+          top-room = b .top-room;
+        };
+        spotted = λ H F A hs few t sp.
+            let b = sides H F cells (g .s) A hs (g .d) (lk .views) (g .a .next) (g .a .own) (passed cells (row (row-width * g .s .fuel) counts) (g .d .next) (g .a) (cf .1)) (e .c) ec (inl is) sp in
+            let q = b .on₁ in
+            let z : Done = record { ok = true; w = 0 } in
+            let k = first-ends cells counts g (cf .1) z (λ y. none) (λ y. never (sym y)) H F false (q .t) (q .rest) (q .ctx .σ) (g .s .m) (g .s .c) few t (q .fuel-left) (q .place) .0 refl in
+            let n : b .hs₁ ≡ [] = map-none (around (q .ctx .vs) (q .ctx .cs ++ q .es) (q .ctx .ks)) (heads H (g .s .fuel) (q .ctx .σ) (g .s .m) (g .s .c) (q .t)) (b .hs₁) (q .are) k in
+            let u : hs ≡ b .hs₂ = b .split ∙ ap (λ (l : List Summand). l ++ b .hs₂) n in
+            let v = side-plain cells (g .d) (g .s) e₂ (A .slots) (A .conds) (λ y. omega arith) (A .vars) (A .calls) .2 H F (b .hs₂) (b .on₂) .0 refl in
+            subst (λ (x : Side). Spotted H F cells (side-spot (g .s) x) A hs) (sym ee) (subst (λ (l : List Summand). Spotted H F cells (side-spot (g .s) e₂) A l) (sym u) v);
+      }
+
+  -- the weight does not grow
+  pub past-weight : (l : ℕ) (s r : Spot) → Past cells counts s r → weight l (r .fuel) (r .at) ≤ weight l (s .fuel) (s .at)
+  unfolding weight
+  past-weight l s r p = let z : r .fuel * (l + 1) ≡ s .fuel * (l + 1) = ap (λ (x : ℕ). x * (l + 1)) (p .fuel-same) in omega (arith, z, p .further)
