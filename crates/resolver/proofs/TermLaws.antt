@@ -10,7 +10,7 @@ use lib.ListN.{length, take, drop, getD}
 use lib.Seq.{take-take}
 use Rattle.pcrl.specs.Tree.{Name, Choice, Part}
 use Rattle.pcrl.specs.Names.{Names}
-use Rattle.parser.specs.Cells.{Symbol, tag, then-tag, enc-choice}
+use Rattle.parser.specs.Cells.{Symbol, tag, then-tag, sum-tag, enc-choice}
 use Rattle.names.specs.NameCells.{name-at, scope-at}
 use Rattle.names.specs.Standing.{symbols}
 use Rattle.resolver.specs.declared.Step.{Step}
@@ -105,98 +105,70 @@ module _ (s raw sorts funcs acts procs scope : List ℕ) (n at : ℕ) (after : B
         by (gone y q) = absurd (omega arith)
         by (going u g dr de q ws) = let z = seen s raw p u rest dr in on u (z .tag-of) (z .view) (z .cell) g dr de q ws
 
-    -- ---- a sum
-    module _ (k : getD raw p 0 ≡ 16) (h : p < length raw) (same : length scope₁ ≡ length scope) (b : Step) (o₂ : List ℕ) (binds : Binds s raw sorts funcs acts procs scope₁ m p r v o₁ b o₂) where
-      -- the term is a sum
-      by-sum : (P : Option (List ℕ) → Type 0) (N : Names) (t : Term) (rest : List Symbol) → Declared s raw sorts funcs acts procs N
-          → Going s raw N (length scope) (term-cells N (scope-at s scope n) after t) rest w o p m r v scope₁ o₁
-          → ((x D : Name) (q : Choice) (g : List ℕ) → drop p (symbols s raw) ≡ enc-term (part (Part.sum x D q)) ++ rest → m + suc (sum-depth q) ≤ length scope
-          → Writes g w o v o₁ → Outcome raw (symbols s raw) (enc-choice q ++ rest) v o₁ (b .at) (b .w) o₂ (binder-cells N (scope-at s scope₁ m) r x D)
-          → P (some g ⊕ (binder-cells N (scope-at s scope₁ m) r x D ⊕ term-cells N (scope-at s scope₁ m ++ (x ∷ [])) false (choice q))))
-          → P (term-cells N (scope-at s scope n) after t)
-      unfolding enc-term enc-choice term-depth sum-depth tokens-of
-      by-sum P N t rest dec (gone y q) f = absurd (omega arith)
-      by-sum P N t rest dec (going u g dr de q ws) f = let z = seen s raw p u rest dr in on u (z .tag-of) (z .view) (z .cell) dr de q
-        where
-          on : (u : Term) (j : ℕ) → View u j → getD raw p 0 ≡ j → drop p (symbols s raw) ≡ enc-term u ++ rest → m + term-depth u ≤ length scope
-              → term-cells N (scope-at s scope n) after t ≡ some g ⊕ term-cells N (scope-at s scope₁ m) r u → P (term-cells N (scope-at s scope n) after t)
-          on u j (single u′ u₁ j′ y) y₁ dr de x = let z = single-tokens (y .is) in let z₁ = ap tokens-of y₁ in let z₂ = ap tokens-of k in absurd (omega arith)
-          on u j (plus c₁ c₂) y dr de x = absurd (omega arith)
-          on u j (cond p₁ c p₂) y dr de x = absurd (omega arith)
-          on u j (then p₁ p₂) y dr de x = absurd (omega arith)
-          on u j delta y dr de x = absurd (omega arith)
-          on u j tau y dr de x = absurd (omega arith)
-          on u j (bare x₁) y dr de x = absurd (omega arith)
-          on u j (given x₁ ds) y dr de x = absurd (omega arith)
-          on u j (sum x₁ D c) y dr de x =
-              subst P (sym (x ∙ ap (λ l. some g ⊕ l) (sum-cells N (scope-at s scope₁ m) r x₁ D c))) (f x₁ D c g dr de ws (binds N x₁ D (enc-choice c ++ rest) dec dr (omega arith)))
+    -- a sum, whose variable came into scope
+    pub term-binder : getD raw p 0 ≡ sum-tag → p < length raw → length scope₁ ≡ length scope → (b : Step) (o₂ : List ℕ) → Binds s raw sorts funcs acts procs scope₁ m p r v o₁ b o₂
+        → (scope₂ : List ℕ) → InScope raw scope₁ m p b scope₂ → TermLeft (b .at) (m + 1) false (b .w) scope₂ o₂
+    unfolding enc-term enc-choice term-depth sum-depth tokens-of
+    term-binder k h same b o₂ binds scope₂ pushes N t rest dec e d = by (left N t rest dec e d)
+      where
+        whole : Option (List ℕ)
+        whole = term-cells N (scope-at s scope n) after t
 
-      pub binder-lost : length raw < b .at → Resolves b o₂
-      binder-lost z N t rest dec e d =
-          by-sum (λ c. Outcome raw (symbols s raw) rest w o (b .at) (b .w) o₂ c) N t rest dec (left N t rest dec e d)
-          (λ x D q g dr de ws x₁. on g (binder-cells N (scope-at s scope₁ m) r x D) (term-cells N (scope-at s scope₁ m ++ (x ∷ [])) false (choice q)) (enc-choice q ++ rest) x₁)
-        where
-          on : (g : List ℕ) (X Y : Option (List ℕ)) (l : List Symbol) → Outcome raw (symbols s raw) l v o₁ (b .at) (b .w) o₂ X → Outcome raw (symbols s raw) rest w o (b .at) (b .w) o₂ (some g ⊕ (X ⊕ Y))
-          on g X Y l (lost y) = became (sym (then-none g Y)) (lost z)
-          on g X Y l (took y dr ws) = absurd (omega arith)
+        scope-is : (x D : Name) (q : Choice) → drop p (symbols s raw) ≡ enc-term (part (Part.sum x D q)) ++ rest → b .at ≤ length raw → scope-at s scope₂ (m + 1) ≡ scope-at s scope₁ m ++ (x ∷ [])
+        scope-is x D q dr z =
+            let i = pushes z in
+            ap (λ (l : List ℕ). scope-at s l (m + 1)) (i .1) ∙ pushed s scope₁ m (getD raw (p + 1) 0) (i .0)
+            ∙ ap (λ (y : Name). scope-at s scope₁ m ++ (y ∷ [])) (two-names s raw p x D (enc-choice q ++ rest) dr .variable)
 
-      pub term-binder : (scope₂ : List ℕ) → InScope raw scope₁ m p b scope₂ → b .at ≤ length raw → TermLeft (b .at) (m + 1) false (b .w) scope₂ o₂
-      unfolding enc-term enc-choice term-depth
-      term-binder scope₂ pushes z N t rest dec e d =
-          by-sum (λ c. Going s raw N (length scope) c rest w o (b .at) (m + 1) false (b .w) scope₂ o₂) N t rest dec (left N t rest dec e d)
-          (λ x D q g dr de ws x₁. on x q g de ws (binder-cells N (scope-at s scope₁ m) r x D) (scope-is x D q dr) x₁)
-        where
-          scope-is : (x D : Name) (q : Choice) → drop p (symbols s raw) ≡ enc-term (part (Part.sum x D q)) ++ rest → scope-at s scope₂ (m + 1) ≡ scope-at s scope₁ m ++ (x ∷ [])
-          scope-is x D q dr =
-              let i = pushes z in
-              ap (λ (l : List ℕ). scope-at s l (m + 1)) (i .1) ∙ pushed s scope₁ m (getD raw (p + 1) 0) (i .0)
-              ∙ ap (λ (y : Name). scope-at s scope₁ m ++ (y ∷ [])) (two-names s raw p x D (enc-choice q ++ rest) dr .variable)
+        bound : (x D : Name) (q : Choice) (g : List ℕ) (X : Option (List ℕ)) → drop p (symbols s raw) ≡ enc-term (part (Part.sum x D q)) ++ rest → m + suc (sum-depth q) ≤ length scope
+            → whole ≡ some g ⊕ (X ⊕ term-cells N (scope-at s scope₁ m ++ (x ∷ [])) false (choice q)) → Writes g w o v o₁
+            → Outcome raw (symbols s raw) (enc-choice q ++ rest) v o₁ (b .at) (b .w) o₂ X → Going s raw N (length scope) whole rest w o (b .at) (m + 1) false (b .w) scope₂ o₂
+        bound x D q g X dr de y ws (lost z) = gone z (y ∙ then-none g _)
+        bound x D q g X dr de y ws (took {e = f} z dr₁ ws₁) =
+            going (choice q) (g ++ f) dr₁ (omega arith)
+            (y ∙ then-assoc g f _ ∙ ap (λ (l : List Name). some (g ++ f) ⊕ term-cells N l false (choice q)) (sym (scope-is x D q dr z)))
+            (writes-then ws ws₁)
 
-          on : (x : Name) (q : Choice) (g : List ℕ) → m + suc (sum-depth q) ≤ length scope → Writes g w o v o₁ → (X : Option (List ℕ)) → scope-at s scope₂ (m + 1) ≡ scope-at s scope₁ m ++ (x ∷ [])
-              → Outcome raw (symbols s raw) (enc-choice q ++ rest) v o₁ (b .at) (b .w) o₂ X
-              → Going s raw N (length scope) (some g ⊕ (X ⊕ term-cells N (scope-at s scope₁ m ++ (x ∷ [])) false (choice q))) rest w o (b .at) (m + 1) false (b .w) scope₂ o₂
-          on x q g de ws X sc (lost y) = absurd (omega arith)
-          on x q g de ws X sc (took {e = f} y dr ws₁) =
-              going (choice q) (g ++ f) dr (omega arith)
-              (then-assoc g f (term-cells N (scope-at s scope₁ m ++ (x ∷ [])) false (choice q)) ∙ ap (λ (l : List Name). some (g ++ f) ⊕ term-cells N l false (choice q)) (sym sc))
-              (writes-then ws ws₁)
+        on : (u : Term) (j : ℕ) → View u j → getD raw p 0 ≡ j → (g : List ℕ) → drop p (symbols s raw) ≡ enc-term u ++ rest → m + term-depth u ≤ length scope
+            → whole ≡ some g ⊕ term-cells N (scope-at s scope₁ m) r u → Writes g w o v o₁ → Going s raw N (length scope) whole rest w o (b .at) (m + 1) false (b .w) scope₂ o₂
+        on u j (sum x₁ D c) y g dr de x ws =
+            bound x₁ D c g (binder-cells N (scope-at s scope₁ m) r x₁ D) dr de (x ∙ ap (λ l. some g ⊕ l) (sum-cells N (scope-at s scope₁ m) r x₁ D c)) ws (binds N x₁ D (enc-choice c ++ rest) dec dr (omega arith))
+        on u j (single u′ u₁ j′ y) y₁ g dr de x ws = let z = single-tokens (y .is) in let z₁ = ap tokens-of y₁ in let z₂ = ap tokens-of k in absurd (omega arith)
+        on u j (plus c₁ c₂) y g dr de x ws = absurd (omega arith)
+        on u j (cond p₁ c p₂) y g dr de x ws = absurd (omega arith)
+        on u j (then p₁ p₂) y g dr de x ws = absurd (omega arith)
+        on u j delta y g dr de x ws = absurd (omega arith)
+        on u j tau y g dr de x ws = absurd (omega arith)
+        on u j (bare x₁) y g dr de x ws = absurd (omega arith)
+        on u j (given x₁ ds) y g dr de x ws = absurd (omega arith)
 
-    -- ---- two subterms
-    module _ (k : 1 < kids-of (getD raw p 0)) (h : p < length raw) (same : length scope₁ ≡ length scope) (f : Step) (o₂ : List ℕ)
-        (first : ResolvesFirst s raw sorts funcs acts procs scope₁ m p r v o₁ f o₂) where
-      -- the term has two parts
-      by-halves : (P : Option (List ℕ) → Type 0) (N : Names) (t : Term) (rest : List Symbol) → Declared s raw sorts funcs acts procs N
-          → Going s raw N (length scope) (term-cells N (scope-at s scope n) after t) rest w o p m r v scope₁ o₁
-          → ((u : Term) (g : List ℕ) (X : Option (List ℕ)) → m + term-depth u ≤ length scope → Writes g w o v o₁ → Outcome raw (symbols s raw) (enc-term u ++ rest) v o₁ (f .at) (f .w) o₂ X
-          → P (some g ⊕ (X ⊕ term-cells N (scope-at s scope₁ m) (eqb (getD raw p 0) then-tag) u)))
-          → P (term-cells N (scope-at s scope n) after t)
-      by-halves P N t rest dec (gone y q) on = absurd (omega arith)
-      by-halves P N t rest dec (going u g dr de q ws) on =
-          let x = first N u rest dec dr (omega arith) k in
-          let y = x .second-depth in
-          subst P (sym (q ∙ ap (λ c. some g ⊕ c) (x .cells))) (on (x .second) g (x .head) (omega arith) ws (x .outcome))
+        by : Going s raw N (length scope) whole rest w o p m r v scope₁ o₁ → Going s raw N (length scope) whole rest w o (b .at) (m + 1) false (b .w) scope₂ o₂
+        by (gone y q) = absurd (omega arith)
+        by (going u g dr de q ws) = let z = seen s raw p u rest dr in on u (z .tag-of) (z .view) (z .cell) g dr de q ws
 
-      pub first-lost : length raw < f .at → Resolves f o₂
-      first-lost z N t rest dec e d =
-          by-halves (λ c. Outcome raw (symbols s raw) rest w o (f .at) (f .w) o₂ c) N t rest dec (left N t rest dec e d) (λ u g X de ws x. on g X _ (enc-term u ++ rest) x)
-        where
-          on : (g : List ℕ) (X Y : Option (List ℕ)) (l : List Symbol) → Outcome raw (symbols s raw) l v o₁ (f .at) (f .w) o₂ X → Outcome raw (symbols s raw) rest w o (f .at) (f .w) o₂ (some g ⊕ (X ⊕ Y))
-          on g X Y l (lost y) = became (sym (then-none g Y)) (lost z)
-          on g X Y l (took y dr ws) = absurd (omega arith)
+    -- two subterms, of which the first was read
+    pub term-second : 1 < kids-of (getD raw p 0) → p < length raw → length scope₁ ≡ length scope → (f : Step) (o₂ : List ℕ) → ResolvesFirst s raw sorts funcs acts procs scope₁ m p r v o₁ f o₂
+        → (scope₂ : List ℕ) → take m scope₂ ≡ take m scope₁ → (c : ℕ) → c ≡ getD raw p 0 → TermLeft (f .at) m (eqb c then-tag) (f .w) scope₂ o₂
+    term-second k h same f o₂ first scope₂ kept c here N t rest dec e d = by (left N t rest dec e d)
+      where
+        whole : Option (List ℕ)
+        whole = term-cells N (scope-at s scope n) after t
 
-      pub term-second : (c : ℕ) → c ≡ getD raw p 0 → f .at ≤ length raw → (scope₂ : List ℕ) → take m scope₂ ≡ take m scope₁ → TermLeft (f .at) m (eqb c then-tag) (f .w) scope₂ o₂
-      term-second c here z scope₂ kept N t rest dec e d =
-          by-halves (λ x. Going s raw N (length scope) x rest w o (f .at) m (eqb c then-tag) (f .w) scope₂ o₂) N t rest dec (left N t rest dec e d) on
-        where
-          on : (u : Term) (g : List ℕ) (X : Option (List ℕ)) → m + term-depth u ≤ length scope → Writes g w o v o₁ → Outcome raw (symbols s raw) (enc-term u ++ rest) v o₁ (f .at) (f .w) o₂ X
-              → Going s raw N (length scope) (some g ⊕ (X ⊕ term-cells N (scope-at s scope₁ m) (eqb (getD raw p 0) then-tag) u)) rest w o (f .at) m (eqb c then-tag) (f .w) scope₂ o₂
-          on u g X de ws (lost y) = absurd (omega arith)
-          on u g X de ws (took {e = i} y dr ws₁) =
-              going u (g ++ i) dr de
-              (then-assoc g i (term-cells N (scope-at s scope₁ m) (eqb (getD raw p 0) then-tag) u)
-              ∙ ap (λ (l : List Name). some (g ++ i) ⊕ term-cells N l (eqb (getD raw p 0) then-tag) u) (sym (same-scope s scope₁ scope₂ m kept))
-              ∙ ap (λ (y : ℕ). some (g ++ i) ⊕ term-cells N (scope-at s scope₂ m) (eqb y then-tag) u) (sym here))
-              (writes-then ws ws₁)
+        on : (u : Term) (g : List ℕ) (X : Option (List ℕ)) → m + term-depth u ≤ length scope → whole ≡ some g ⊕ (X ⊕ term-cells N (scope-at s scope₁ m) (eqb (getD raw p 0) then-tag) u) → Writes g w o v o₁
+            → Outcome raw (symbols s raw) (enc-term u ++ rest) v o₁ (f .at) (f .w) o₂ X → Going s raw N (length scope) whole rest w o (f .at) m (eqb c then-tag) (f .w) scope₂ o₂
+        on u g X de q ws (lost y) = gone y (q ∙ then-none g _)
+        on u g X de q ws (took {e = i} y dr ws₁) =
+            going u (g ++ i) dr de
+            (q ∙ then-assoc g i _ ∙ ap (λ (l : List Name). some (g ++ i) ⊕ term-cells N l (eqb (getD raw p 0) then-tag) u) (sym (same-scope s scope₁ scope₂ m kept))
+            ∙ ap (λ (y : ℕ). some (g ++ i) ⊕ term-cells N (scope-at s scope₂ m) (eqb y then-tag) u) (sym here))
+            (writes-then ws ws₁)
+
+        by : Going s raw N (length scope) whole rest w o p m r v scope₁ o₁ → Going s raw N (length scope) whole rest w o (f .at) m (eqb c then-tag) (f .w) scope₂ o₂
+        by (gone y q) = absurd (omega arith)
+        by (going u g dr de q ws) =
+            let x = first N u rest dec dr (omega arith) k in
+            let y = x .second-depth in
+            on (x .second) g (x .head) (omega arith) (q ∙ ap (λ c. some g ⊕ c) (x .cells)) ws (x .outcome)
 
 -- what was kept of m names is kept of n of them
 pub kept-on : (n m : ℕ) (a b c : List ℕ) → n ≤ m → take m a ≡ take m b → take n b ≡ take n c → take n a ≡ take n c

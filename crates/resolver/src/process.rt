@@ -298,9 +298,6 @@ pub fn term(
         let k = cell(raw, p);
         if k == SUM_TAG {
             let b = binder(s, raw, sorts, funcs, acts, procs, scope, m, p, r, out, v);
-            if b.at > raw.len() {
-                return b;
-            }
             p = b.at;
             m += 1;
             r = false;
@@ -320,9 +317,6 @@ pub fn term(
             continue;
         }
         let h = first_part(s, raw, sorts, funcs, acts, procs, scope, m, p, r, out, v);
-        if h.at > raw.len() {
-            return h;
-        }
         p = h.at;
         r = k == THEN_TAG;
         v = h.w;

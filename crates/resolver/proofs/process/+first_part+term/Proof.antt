@@ -4,7 +4,7 @@ use Prim.Native.Nat.{ℕ, _+_, _*_, _-_, _≤_, _<_}
 use native.Mathlib.Omega.{arith}
 use lib.ListN.{length, take}
 use Rattle.resolver.specs.Raw.{tokens-of, kids-of}
-use Rattle.resolver.proofs.TermLaws.{TermLeft, term-start, term-end, term-named, term-constant, term-single, binder-lost, term-binder, first-lost, term-second, kept-on}
+use Rattle.resolver.proofs.TermLaws.{TermLeft, term-start, term-end, term-named, term-constant, term-single, term-binder, term-second, kept-on}
 use Rattle.resolver.proofs.FirstLaws.{first-read}
 use borrow.Fn.Kinds.{In}
 use borrow.Fn.PlainCycle.{Measures, is, falls, and}
@@ -102,7 +102,7 @@ first-part-returns-2 t c =
     (omega arith, (called .ensures .1 .0, first-read (args .s .now) (args .raw .now) (args .sorts .now) (args .funcs .now) (args .acts .now) (args .procs .now) (args .scope .now) (args .n) (args .at) (args .after) (args .w) (args .out .now) (fork .result) (fork .last .1 .1 .1 .1 .1 .1 .1 .0) (fork .ensures) (called .result) (called .last .1 .1 .1 .1 .1 .1 .1 .1 .1 .1 .0) (called .ensures .1 .1) (omega arith) (called .result) (omega arith) refl))
 
 abbrev term-Inv-loop : term-lts.InvT-loop
-term-Inv-loop s raw sorts funcs acts procs scope₀ n at after out₀ w p₀ m₀ r₀ v₀ scope out p m r v = ((at ≤ p) × (n ≤ m) × (m ≤ length scope) × (length scope ≡ length scope₀) × (length out ≡ length out₀)) × (take n scope ≡ take n scope₀) × TermLeft s raw sorts funcs acts procs scope₀ n at after w out₀ p m r v scope out
+term-Inv-loop s raw sorts funcs acts procs scope₀ n at after out₀ w p₀ m₀ r₀ v₀ scope out p m r v = ((at ≤ p) × (n ≤ m) × (p ≤ length raw → m ≤ length scope) × (length scope ≡ length scope₀) × (length out ≡ length out₀)) × (take n scope ≡ take n scope₀) × TermLeft s raw sorts funcs acts procs scope₀ n at after w out₀ p m r v scope out
 
 abbrev term-μ-loop : term-lts.MeasureT-loop
 term-μ-loop s raw sorts funcs acts procs scope₀ n at after out₀ w p₀ m₀ r₀ v₀ scope out p m r v = length raw - p
@@ -119,72 +119,65 @@ term-cell-requires t c κs = tt
 
 term-binder-requires : (t : ℕ) → term-lts.Need-binder-requires (term-calls t) (term-at t) term.Post term-Inv-loop term-μ-loop
 term-binder-requires t c κs =
+    let here = c .before .before .before .before .before .loop in
     let q = c .before .before .before .before .before .before .before .before .before .before .before .before .before .before .pre .1 in
-    let i = c .before .before .before .before .before .loop .inv .0 in
-    omega arith
-
-term-same-length : (t : ℕ) → term-lts.Need-same-length (term-calls t) (term-at t) term.Post term-Inv-loop term-μ-loop
-term-same-length t c = c .before .before .before .before .before .before .binder .kept .1 .1 .1 .1 .1 .1 .0 ∙ c .before .before .before .before .before .before .before .before .before .before .before .before .loop .inv .0 .3
-
-term-same-length-2 : (t : ℕ) → term-lts.Need-same-length-2 (term-calls t) (term-at t) term.Post term-Inv-loop term-μ-loop
-term-same-length-2 t c = c .before .before .before .before .before .before .binder .kept .1 .1 .1 .1 .1 .1 .1 .1 .1 .1 .0 ∙ c .before .before .before .before .before .before .before .before .before .before .before .before .loop .inv .0 .4
-
-term-returns : (t : ℕ) → term-lts.Need-returns (term-calls t) (term-at t) term.Post term-Inv-loop term-μ-loop
-term-returns t c =
-    let start = c .before .before .before .before .before .before .before .before .before .before .before .before .before .before .before .before .before .before .before .before .before in
-    let args = start .args in
-    let here = c .before .before .before .before .before .before .before .before .before .before .before .before .loop in
-    let binder = c .before .before .before .before .before .before .binder in
-    let q = start .pre .1 in
     let i = here .inv .0 in
-    let z = c .if2 .taken in
-    (omega arith, (kept-on (args .n) (here .m) (binder .last .1 .1 .1 .1 .1 .1 .0) (here .scope) (args .scope .now) (here .inv .0 .1) (binder .ensures .1 .0) (here .inv .1), binder-lost (args .s .now) (args .raw .now) (args .sorts .now) (args .funcs .now) (args .acts .now) (args .procs .now) (args .scope .now) (args .n) (args .at) (args .after) (args .w) (args .out .now) (here .p) (here .m) (here .r) (here .v) (here .scope) (here .out) (here .inv .2) (sym (c .before .before .before .before .before .before .before .before .before .before .cell .ensures) ∙ c .before .before .before .before .before .before .before .before .before .if1 .taken) (c .before .before .before .before .before .before .before .before .before .before .before .loop-test .taken) (here .inv .0 .3) (binder .result) (binder .last .1 .1 .1 .1 .1 .1 .1 .1 .1 .1 .0) (binder .ensures .1 .1 .1) (c .if2 .taken)))
+    let h = c .before .before .before .before .loop-test .taken in
+    let j = here .inv .0 .2 (omega arith) in
+    omega arith
 
 term-add-m : (t : ℕ) → term-lts.Need-add-m (term-calls t) (term-at t) term.Post term-Inv-loop term-μ-loop
 term-add-m t c =
-    let q = c .before .before .before .before .before .before .before .before .before .before .before .before .before .before .before .before .before .before .before .before .before .pre .1 in
-    let i = c .before .before .before .before .before .before .before .before .before .before .before .before .loop .inv .0 in
+    let here = c .before .before .before .before .before .before .before .before .before .before .loop in
+    let q = c .before .before .before .before .before .before .before .before .before .before .before .before .before .before .before .before .before .before .before .pre .1 in
+    let i = here .inv .0 in
+    let h = c .before .before .before .before .before .before .before .before .before .loop-test .taken in
+    let j = here .inv .0 .2 (omega arith) in
     omega arith
 
 term-loop-less : (t : ℕ) → term-lts.Need-loop-less (term-calls t) (term-at t) term.Post term-Inv-loop term-μ-loop
 term-loop-less t c =
-    let q = c .before .before .before .before .before .before .before .before .before .before .before .before .before .before .before .before .before .before .before .before .before .pre .1 in
-    let i = c .before .before .before .before .before .before .before .before .before .before .before .before .loop .inv .0 in
-    let a = c .before .before .before .before .before .before .binder .ensures .0 in
+    let q = c .before .before .before .before .before .before .before .before .before .before .before .before .before .before .before .before .before .before .before .pre .1 in
+    let i = c .before .before .before .before .before .before .before .before .before .before .loop .inv .0 in
+    let a = c .before .before .before .before .binder .ensures .0 in
     omega arith
 
 term-loop-again : (t : ℕ) → term-lts.Need-loop-again (term-calls t) (term-at t) term.Post term-Inv-loop term-μ-loop
 term-loop-again t c =
-    let start = c .before .before .before .before .before .before .before .before .before .before .before .before .before .before .before .before .before .before .before .before .before in
+    let start = c .before .before .before .before .before .before .before .before .before .before .before .before .before .before .before .before .before .before .before in
     let args = start .args in
-    let here = c .before .before .before .before .before .before .before .before .before .before .before .before .loop in
-    let binder = c .before .before .before .before .before .before .binder in
+    let here = c .before .before .before .before .before .before .before .before .before .before .loop in
+    let loop-test = c .before .before .before .before .before .before .before .before .before .loop-test in
+    let binder = c .before .before .before .before .binder in
     let q = start .pre .1 in
     let i = here .inv .0 in
+    let h = loop-test .taken in
+    let j = here .inv .0 .2 (omega arith) in
     let a = binder .ensures .0 in
-    let b = binder .ensures .1 .1 .0 (c .if2 .left) in
-    let d = b .0 in
     let k = binder .kept .1 .1 .1 .1 .1 .1 .0 in
     let l = binder .kept .1 .1 .1 .1 .1 .1 .1 .1 .1 .1 .0 in
-    (omega arith, kept-on (args .n) (here .m) (binder .last .1 .1 .1 .1 .1 .1 .0) (here .scope) (args .scope .now) (here .inv .0 .1) (binder .ensures .1 .0) (here .inv .1), term-binder (args .s .now) (args .raw .now) (args .sorts .now) (args .funcs .now) (args .acts .now) (args .procs .now) (args .scope .now) (args .n) (args .at) (args .after) (args .w) (args .out .now) (here .p) (here .m) (here .r) (here .v) (here .scope) (here .out) (here .inv .2) (sym (c .before .before .before .before .before .before .before .before .before .before .cell .ensures) ∙ c .before .before .before .before .before .before .before .before .before .if1 .taken) (c .before .before .before .before .before .before .before .before .before .before .before .loop-test .taken) (here .inv .0 .3) (binder .result) (binder .last .1 .1 .1 .1 .1 .1 .1 .1 .1 .1 .0) (binder .ensures .1 .1 .1) (binder .last .1 .1 .1 .1 .1 .1 .0) (binder .ensures .1 .1 .0) (c .if2 .left))
+    ((omega arith, omega arith, λ h. (let b = binder .ensures .1 .1 .0 h in let d = b .0 in omega arith), omega arith, omega arith), kept-on (args .n) (here .m) (binder .last .1 .1 .1 .1 .1 .1 .0) (here .scope) (args .scope .now) (here .inv .0 .1) (binder .ensures .1 .0) (here .inv .1), term-binder (args .s .now) (args .raw .now) (args .sorts .now) (args .funcs .now) (args .acts .now) (args .procs .now) (args .scope .now) (args .n) (args .at) (args .after) (args .w) (args .out .now) (here .p) (here .m) (here .r) (here .v) (here .scope) (here .out) (here .inv .2) (sym (c .before .before .before .before .before .before .before .before .cell .ensures) ∙ c .before .before .before .before .before .before .before .if1 .taken) (loop-test .taken) (here .inv .0 .3) (binder .result) (binder .last .1 .1 .1 .1 .1 .1 .1 .1 .1 .1 .0) (binder .ensures .1 .1 .1) (binder .last .1 .1 .1 .1 .1 .1 .0) (binder .ensures .1 .1 .0))
 
 term-tokens-requires : (t : ℕ) → term-lts.Need-tokens-requires (term-calls t) (term-at t) term.Post term-Inv-loop term-μ-loop
 term-tokens-requires t c κs = tt
 
 term-named-part-requires : (t : ℕ) → term-lts.Need-named-part-requires (term-calls t) (term-at t) term.Post term-Inv-loop term-μ-loop
 term-named-part-requires t c κs =
+    let here = c .before .before .before .before .before .before .before .loop in
     let q = c .before .before .before .before .before .before .before .before .before .before .before .before .before .before .before .before .pre .1 in
-    let i = c .before .before .before .before .before .before .before .loop .inv .0 in
+    let i = here .inv .0 in
+    let h = c .before .before .before .before .before .before .loop-test .taken in
+    let j = here .inv .0 .2 (omega arith) in
     omega arith
 
-term-same-length-3 : (t : ℕ) → term-lts.Need-same-length-3 (term-calls t) (term-at t) term.Post term-Inv-loop term-μ-loop
-term-same-length-3 t c = c .before .before .before .before .before .before .before .before .before .before .loop .inv .0 .3
+term-same-length : (t : ℕ) → term-lts.Need-same-length (term-calls t) (term-at t) term.Post term-Inv-loop term-μ-loop
+term-same-length t c = c .before .before .before .before .before .before .before .before .before .before .loop .inv .0 .3
 
-term-same-length-4 : (t : ℕ) → term-lts.Need-same-length-4 (term-calls t) (term-at t) term.Post term-Inv-loop term-μ-loop
-term-same-length-4 t c = c .before .before .named-part .kept .1 .1 .1 .1 .1 .1 .1 .1 .1 .0 ∙ c .before .before .before .before .before .before .before .before .before .before .loop .inv .0 .4
+term-same-length-2 : (t : ℕ) → term-lts.Need-same-length-2 (term-calls t) (term-at t) term.Post term-Inv-loop term-μ-loop
+term-same-length-2 t c = c .before .before .named-part .kept .1 .1 .1 .1 .1 .1 .1 .1 .1 .0 ∙ c .before .before .before .before .before .before .before .before .before .before .loop .inv .0 .4
 
-term-returns-2 : (t : ℕ) → term-lts.Need-returns-2 (term-calls t) (term-at t) term.Post term-Inv-loop term-μ-loop
-term-returns-2 t c =
+term-returns : (t : ℕ) → term-lts.Need-returns (term-calls t) (term-at t) term.Post term-Inv-loop term-μ-loop
+term-returns t c =
     let start = c .before .before .before .before .before .before .before .before .before .before .before .before .before .before .before .before .before .before .before in
     let args = start .args in
     let here = c .before .before .before .before .before .before .before .before .before .before .loop in
@@ -202,14 +195,14 @@ term-kids-requires t c κs = tt
 term-constant-requires : (t : ℕ) → term-lts.Need-constant-requires (term-calls t) (term-at t) term.Post term-Inv-loop term-μ-loop
 term-constant-requires t c κs = omega arith
 
-term-same-length-5 : (t : ℕ) → term-lts.Need-same-length-5 (term-calls t) (term-at t) term.Post term-Inv-loop term-μ-loop
-term-same-length-5 t c = c .before .before .before .before .before .before .before .before .before .before .before .loop .inv .0 .3
+term-same-length-3 : (t : ℕ) → term-lts.Need-same-length-3 (term-calls t) (term-at t) term.Post term-Inv-loop term-μ-loop
+term-same-length-3 t c = c .before .before .before .before .before .before .before .before .before .before .before .loop .inv .0 .3
 
-term-same-length-6 : (t : ℕ) → term-lts.Need-same-length-6 (term-calls t) (term-at t) term.Post term-Inv-loop term-μ-loop
-term-same-length-6 t c = c .before .before .constant .kept .1 .1 .1 .0 ∙ c .before .before .before .before .before .before .before .before .before .before .before .loop .inv .0 .4
+term-same-length-4 : (t : ℕ) → term-lts.Need-same-length-4 (term-calls t) (term-at t) term.Post term-Inv-loop term-μ-loop
+term-same-length-4 t c = c .before .before .constant .kept .1 .1 .1 .0 ∙ c .before .before .before .before .before .before .before .before .before .before .before .loop .inv .0 .4
 
-term-returns-3 : (t : ℕ) → term-lts.Need-returns-3 (term-calls t) (term-at t) term.Post term-Inv-loop term-μ-loop
-term-returns-3 t c =
+term-returns-2 : (t : ℕ) → term-lts.Need-returns-2 (term-calls t) (term-at t) term.Post term-Inv-loop term-μ-loop
+term-returns-2 t c =
     let start = c .before .before .before .before .before .before .before .before .before .before .before .before .before .before .before .before .before .before .before .before in
     let args = start .args in
     let here = c .before .before .before .before .before .before .before .before .before .before .before .loop in
@@ -233,73 +226,63 @@ term-loop-again-2 t c =
     let start = c .before .before .before .before .before .before .before .before .before .before .before .before .before .before .before .before .before in
     let args = start .args in
     let here = c .before .before .before .before .before .before .before .before .loop in
+    let loop-test = c .before .before .before .before .before .before .before .loop-test in
     let cell = c .before .before .before .before .before .before .cell in
     let q = start .pre .1 in
     let i = here .inv .0 in
+    let h = loop-test .taken in
+    let j = here .inv .0 .2 (omega arith) in
     let x = sym (c .before .before .before .before .tokens .ensures .0 ∙ ap tokens-of (cell .ensures)) in
     let y = sym (c .before .before .kids .ensures .0 ∙ ap kids-of (cell .ensures)) in
-    (omega arith, here .inv .1, term-single (args .s .now) (args .raw .now) (args .sorts .now) (args .funcs .now) (args .acts .now) (args .procs .now) (args .scope .now) (args .n) (args .at) (args .after) (args .w) (args .out .now) (here .p) (here .m) (here .r) (here .v) (here .scope) (here .out) (here .inv .2) (omega arith) (omega arith) (c .before .before .before .before .before .before .before .loop-test .taken))
+    (omega arith, here .inv .1, term-single (args .s .now) (args .raw .now) (args .sorts .now) (args .funcs .now) (args .acts .now) (args .procs .now) (args .scope .now) (args .n) (args .at) (args .after) (args .w) (args .out .now) (here .p) (here .m) (here .r) (here .v) (here .scope) (here .out) (here .inv .2) (omega arith) (omega arith) (loop-test .taken))
 
 term-first-part-requires : (t : ℕ) → term-lts.Need-first-part-requires (term-calls t) (term-at t) term.Post term-Inv-loop term-μ-loop
 term-first-part-requires t c κs =
+    let here = c .before .before .before .before .before .before .before .before .before .before .loop in
     let q = c .before .before .before .before .before .before .before .before .before .before .before .before .before .before .before .before .before .before .before .pre .1 in
-    let i = c .before .before .before .before .before .before .before .before .before .before .loop .inv .0 in
-    let m = c .before .before .before .before .before .before .before .before .before .before .before .before .before .before .before .before .before .before .before .pre .0 in
-    let h = c .before .before .before .before .before .before .before .before .before .loop-test .taken in
-    (omega arith, omega arith)
-
-term-same-length-7 : (t : ℕ) → term-lts.Need-same-length-7 (term-calls t) (term-at t) term.Post term-Inv-loop term-μ-loop
-term-same-length-7 t c = c .before .before .before .before .before .before .first-part .kept .1 .1 .1 .1 .1 .1 .0 ∙ c .before .before .before .before .before .before .before .before .before .before .before .before .before .before .before .before .before .loop .inv .0 .3
-
-term-same-length-8 : (t : ℕ) → term-lts.Need-same-length-8 (term-calls t) (term-at t) term.Post term-Inv-loop term-μ-loop
-term-same-length-8 t c = c .before .before .before .before .before .before .first-part .kept .1 .1 .1 .1 .1 .1 .1 .1 .1 .1 .0 ∙ c .before .before .before .before .before .before .before .before .before .before .before .before .before .before .before .before .before .loop .inv .0 .4
-
-term-returns-4 : (t : ℕ) → term-lts.Need-returns-4 (term-calls t) (term-at t) term.Post term-Inv-loop term-μ-loop
-term-returns-4 t c =
-    let start = c .before .before .before .before .before .before .before .before .before .before .before .before .before .before .before .before .before .before .before .before .before .before .before .before .before .before in
-    let args = start .args in
-    let here = c .before .before .before .before .before .before .before .before .before .before .before .before .before .before .before .before .before .loop in
-    let called = c .before .before .before .before .before .before .first-part in
-    let q = start .pre .1 in
     let i = here .inv .0 in
-    let y = sym (c .before .before .before .before .before .before .before .before .before .before .before .kids .ensures .0 ∙ ap kids-of (c .before .before .before .before .before .before .before .before .before .before .before .before .before .before .before .cell .ensures)) in
-    let z = c .if6 .taken in
-    (omega arith, (kept-on (args .n) (here .m) (called .last .1 .1 .1 .1 .1 .1 .0) (here .scope) (args .scope .now) (here .inv .0 .1) (called .ensures .1 .0) (here .inv .1), first-lost (args .s .now) (args .raw .now) (args .sorts .now) (args .funcs .now) (args .acts .now) (args .procs .now) (args .scope .now) (args .n) (args .at) (args .after) (args .w) (args .out .now) (here .p) (here .m) (here .r) (here .v) (here .scope) (here .out) (here .inv .2) (let g = c .before .before .before .before .before .before .before .before .before .before .if4 .left in let h = c .before .before .before .before .before .before .before .before .before .if5 .left in omega arith) (c .before .before .before .before .before .before .before .before .before .before .before .before .before .before .before .before .loop-test .taken) (here .inv .0 .3) (called .result) (called .last .1 .1 .1 .1 .1 .1 .1 .1 .1 .1 .0) (called .ensures .1 .1) (c .if6 .taken)))
+    let h = c .before .before .before .before .before .before .before .before .before .loop-test .taken in
+    let j = here .inv .0 .2 (omega arith) in
+    let m = c .before .before .before .before .before .before .before .before .before .before .before .before .before .before .before .before .before .before .before .pre .0 in
+    (omega arith, omega arith)
 
 term-loop-less-3 : (t : ℕ) → term-lts.Need-loop-less-3 (term-calls t) (term-at t) term.Post term-Inv-loop term-μ-loop
 term-loop-less-3 t c =
-    let q = c .before .before .before .before .before .before .before .before .before .before .before .before .before .before .before .before .before .before .before .before .before .before .before .before .before .before .pre .1 in
-    let i = c .before .before .before .before .before .before .before .before .before .before .before .before .before .before .before .before .before .loop .inv .0 in
-    let a = c .before .before .before .before .before .before .first-part .ensures .0 in
-    let h = c .before .before .before .before .before .before .before .before .before .before .before .before .before .before .before .before .loop-test .taken in
+    let q = c .before .before .before .before .before .before .before .before .before .before .before .before .before .before .before .before .before .before .before .before .before .before .before .before .pre .1 in
+    let i = c .before .before .before .before .before .before .before .before .before .before .before .before .before .before .before .loop .inv .0 in
+    let a = c .before .before .before .before .first-part .ensures .0 in
+    let h = c .before .before .before .before .before .before .before .before .before .before .before .before .before .before .loop-test .taken in
     omega arith
 
 term-loop-again-3 : (t : ℕ) → term-lts.Need-loop-again-3 (term-calls t) (term-at t) term.Post term-Inv-loop term-μ-loop
 term-loop-again-3 t c =
-    let start = c .before .before .before .before .before .before .before .before .before .before .before .before .before .before .before .before .before .before .before .before .before .before .before .before .before .before in
+    let start = c .before .before .before .before .before .before .before .before .before .before .before .before .before .before .before .before .before .before .before .before .before .before .before .before in
     let args = start .args in
-    let here = c .before .before .before .before .before .before .before .before .before .before .before .before .before .before .before .before .before .loop in
-    let cell = c .before .before .before .before .before .before .before .before .before .before .before .before .before .before .before .cell in
-    let called = c .before .before .before .before .before .before .first-part in
+    let here = c .before .before .before .before .before .before .before .before .before .before .before .before .before .before .before .loop in
+    let loop-test = c .before .before .before .before .before .before .before .before .before .before .before .before .before .before .loop-test in
+    let cell = c .before .before .before .before .before .before .before .before .before .before .before .before .before .cell in
+    let called = c .before .before .before .before .first-part in
     let q = start .pre .1 in
     let i = here .inv .0 in
-    let y = sym (c .before .before .before .before .before .before .before .before .before .before .before .kids .ensures .0 ∙ ap kids-of (cell .ensures)) in
+    let h = loop-test .taken in
+    let j = here .inv .0 .2 (omega arith) in
+    let y = sym (c .before .before .before .before .before .before .before .before .before .kids .ensures .0 ∙ ap kids-of (cell .ensures)) in
     let a = called .ensures .0 in
     let k = called .kept .1 .1 .1 .1 .1 .1 .0 in
     let l = called .kept .1 .1 .1 .1 .1 .1 .1 .1 .1 .1 .0 in
-    (omega arith, kept-on (args .n) (here .m) (called .last .1 .1 .1 .1 .1 .1 .0) (here .scope) (args .scope .now) (here .inv .0 .1) (called .ensures .1 .0) (here .inv .1), term-second (args .s .now) (args .raw .now) (args .sorts .now) (args .funcs .now) (args .acts .now) (args .procs .now) (args .scope .now) (args .n) (args .at) (args .after) (args .w) (args .out .now) (here .p) (here .m) (here .r) (here .v) (here .scope) (here .out) (here .inv .2) (let g = c .before .before .before .before .before .before .before .before .before .before .if4 .left in let h = c .before .before .before .before .before .before .before .before .before .if5 .left in omega arith) (c .before .before .before .before .before .before .before .before .before .before .before .before .before .before .before .before .loop-test .taken) (here .inv .0 .3) (called .result) (called .last .1 .1 .1 .1 .1 .1 .1 .1 .1 .1 .0) (called .ensures .1 .1) (cell .result) (cell .ensures) (c .if6 .left) (called .last .1 .1 .1 .1 .1 .1 .0) (called .ensures .1 .0))
+    (omega arith, kept-on (args .n) (here .m) (called .last .1 .1 .1 .1 .1 .1 .0) (here .scope) (args .scope .now) (here .inv .0 .1) (called .ensures .1 .0) (here .inv .1), term-second (args .s .now) (args .raw .now) (args .sorts .now) (args .funcs .now) (args .acts .now) (args .procs .now) (args .scope .now) (args .n) (args .at) (args .after) (args .w) (args .out .now) (here .p) (here .m) (here .r) (here .v) (here .scope) (here .out) (here .inv .2) (let g = c .before .before .before .before .before .before .before .before .if3 .left in let g₁ = c .before .before .before .before .before .before .before .if4 .left in omega arith) (loop-test .taken) (here .inv .0 .3) (called .result) (called .last .1 .1 .1 .1 .1 .1 .1 .1 .1 .1 .0) (called .ensures .1 .1) (called .last .1 .1 .1 .1 .1 .1 .0) (called .ensures .1 .0) (cell .result) (cell .ensures))
 
 term-lost-requires : (t : ℕ) → term-lts.Need-lost-requires (term-calls t) (term-at t) term.Post term-Inv-loop term-μ-loop
 term-lost-requires t c κs = tt
 
-term-same-length-9 : (t : ℕ) → term-lts.Need-same-length-9 (term-calls t) (term-at t) term.Post term-Inv-loop term-μ-loop
-term-same-length-9 t c = c .before .before .loop .inv .0 .3
+term-same-length-5 : (t : ℕ) → term-lts.Need-same-length-5 (term-calls t) (term-at t) term.Post term-Inv-loop term-μ-loop
+term-same-length-5 t c = c .before .before .loop .inv .0 .3
 
-term-same-length-10 : (t : ℕ) → term-lts.Need-same-length-10 (term-calls t) (term-at t) term.Post term-Inv-loop term-μ-loop
-term-same-length-10 t c = c .before .before .loop .inv .0 .4
+term-same-length-6 : (t : ℕ) → term-lts.Need-same-length-6 (term-calls t) (term-at t) term.Post term-Inv-loop term-μ-loop
+term-same-length-6 t c = c .before .before .loop .inv .0 .4
 
-term-returns-5 : (t : ℕ) → term-lts.Need-returns-5 (term-calls t) (term-at t) term.Post term-Inv-loop term-μ-loop
-term-returns-5 t c =
+term-returns-3 : (t : ℕ) → term-lts.Need-returns-3 (term-calls t) (term-at t) term.Post term-Inv-loop term-μ-loop
+term-returns-3 t c =
     let args = c .before .before .before .before .before .before .before .before .before .before .before .args in
     let here = c .before .before .loop in
     let i = here .inv .0 in
@@ -327,32 +310,26 @@ pub +first-part+term-spec : {M : Type 1} → statement M
     (term-loop-holds t)
     (term-cell-requires t)
     (term-binder-requires t)
-    (term-same-length t)
-    (term-same-length-2 t)
-    (term-returns t)
     (term-add-m t)
     (term-loop-less t)
     (term-loop-again t)
     (term-tokens-requires t)
     (term-named-part-requires t)
+    (term-same-length t)
+    (term-same-length-2 t)
+    (term-returns t)
+    (term-kids-requires t)
+    (term-constant-requires t)
     (term-same-length-3 t)
     (term-same-length-4 t)
     (term-returns-2 t)
-    (term-kids-requires t)
-    (term-constant-requires t)
-    (term-same-length-5 t)
-    (term-same-length-6 t)
-    (term-returns-3 t)
     (term-add-p t)
     (term-loop-less-2 t)
     (term-loop-again-2 t)
     (term-first-part-requires t)
-    (term-same-length-7 t)
-    (term-same-length-8 t)
-    (term-returns-4 t)
     (term-loop-less-3 t)
     (term-loop-again-3 t)
     (term-lost-requires t)
-    (term-same-length-9 t)
-    (term-same-length-10 t)
-    (term-returns-5 t)
+    (term-same-length-5 t)
+    (term-same-length-6 t)
+    (term-returns-3 t)
