@@ -1,13 +1,11 @@
 -- What is learnt from a search: a number below the count is the name's, and the count itself says that the name is not there.
 use mathlib.Core.Path.{_≡_, refl, sym, ap, _∙_}
-use mathlib.Core.List.{List, [], _∷_}
+use mathlib.Core.List.{List}
 use mathlib.Core.Option.{Option, none, some}
-use Prim.Native.Nat.{ℕ, suc, _≤_, _<_}
+use Prim.Native.Nat.{ℕ, _≤_, _<_}
 use native.Mathlib.Omega.{arith}
 use lib.ListN.{length, take, length-map}
 use lib.Seq.{length-take-le}
-use Rattle.pcrl.specs.Maybe.{_>>=_}
-use Rattle.pcrl.specs.Tests.{same?}
 use Rattle.pcrl.specs.Tree.{Name}
 use Rattle.pcrl.specs.Names.{number-of}
 use Rattle.laws.specs.Numbers.{number-below}

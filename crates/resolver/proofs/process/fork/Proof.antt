@@ -1,5 +1,4 @@
 -- A condition is found by passing over the first part.
-use borrow.Author.Needs.{needs}
 use mathlib.Core.Path.{sym, _∙_}
 use native.Mathlib.Omega.{arith}
 use Rattle.resolver.proofs.ForkLaws.{fork-then, fork-plus, fork-cond}
