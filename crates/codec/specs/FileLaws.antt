@@ -20,7 +20,7 @@ use Rattle.codec.specs.StreamLaws.{decode-encode, encode-decode}
 use Rattle.codec.specs.Padding.{zeros, every-zero}
 use Rattle.codec.specs.FileOfStream.{spare, right-length-file, right-blocks-file, stream-of-file, length-stream-of-file, fewest-blocks, file-is-written}
 
-stream-begins : (T : Table) → 1 ≤ length (encode T)
+pub stream-begins : (T : Table) → 1 ≤ length (encode T)
 unfolding encode encode-sig encode-sorts encode-numbers
 stream-begins T = omega arith
 

@@ -33,9 +33,14 @@ use Rattle.emit.proofs.Signed.{joined-all}
 use Rattle.parts.proofs.TableParams.{all-map}
 use Rattle.listing.specs.declared.Source.{Source}
 use Rattle.listing.specs.Summands.{SummandsWithin, summands-bytes}
-use Rattle.listing.specs.Listing.{summands-at, bytes-at, summed, count-cut, SourceOf, Posed, Sources, CountsAll, ListPut, EquationPut, SoFar, AllPut, PutsAll}
+use Rattle.listing.specs.Listing.{summands-at, bytes-at, count-cut, SourceOf, Posed, Sources, CountsAll, ListPut, EquationPut, AllPut, PutsAll}
 
 -- ---- COUNTS
+-- how many there are in the first n lists
+unfoldable summed : ℕ → (ℕ → List Summand) → ℕ
+summed zero f = 0
+summed (suc n) f = summed n f + length (f n)
+
 summed-front : (n : ℕ) (f : ℕ → List Summand) → summed (suc n) f ≡ length (f zero) + summed n (λ i. f (suc i))
 unfolding summed
 summed-front zero f = omega arith
@@ -93,6 +98,12 @@ module _ (procs cells starts counts firsts : List ℕ) (n : Outline) (rows : Lis
       sofar H p ∙ ap (λ (i : ℕ). min count-cut (summed i (summands-at H))) z ∙ ap (min count-cut) (summed-table H)
 
 -- ---- ONE EQUATION
+-- those of the first k equations are written
+pub record SoFar (H : Sheet) (k w : ℕ) (o : List ℕ) (v : ℕ) (o′ : List ℕ) : Type 0 where
+  pub within : (j : ℕ) → j < k → Every SummandWithin (summands-at H j)
+  pub place : v ≡ w + length (joined k (bytes-at H))
+  pub adds : take v o′ ≡ take w o ++ joined k (bytes-at H)
+
 pub equation-put : (cells starts counts firsts : List ℕ) (f : ℕ) (s : Source) (slots : List ℕ) (w : ℕ) (o : List ℕ) (r : Done) (o′ : List ℕ) → Slots (as-params (bits (s .scope) (s .marks)) 0) slots (s .scope)
     → SummandsWritten cells starts counts firsts f (s .at) (s .first) slots (s .scope) (s .next) w o r o′ → EquationPut cells starts counts firsts f s w o r o′
 equation-put cells starts counts firsts f s slots w o r o′ held put H k ready ef x few =

@@ -6,7 +6,6 @@ use Prim.Native.Nat.{ℕ, zero, suc, _+_, _*_, _≤_, _<_, min}
 use lib.ListN.{length, take, drop, getD}
 use Rattle.pcrl.specs.Limits.{max-summands, max-equations, max-processes}
 use Rattle.pcrl.specs.Tests.{Every}
-use Rattle.pcrl.specs.Blocks.{joined}
 use Rattle.pcrl.specs.Sheet.{Proc, Sheet}
 use Rattle.pcrl.specs.Parts.{new-count, as-params, all-new-parts, count}
 use Rattle.pcrl.specs.Table.{Summand, equation, summand-count}
@@ -39,11 +38,6 @@ summands-at H k = equation (table-of H) k .summands
 
 unfoldable pub bytes-at : Sheet → ℕ → List ℕ
 bytes-at H k = encode-list encode-summand (summands-at H k)
-
--- how many there are in the first n lists
-unfoldable pub summed : ℕ → (ℕ → List Summand) → ℕ
-summed zero f = 0
-summed (suc n) f = summed n f + length (f n)
 
 pub record Bounded (r : Source) : Type 0 where
   pub scope-few : r .scope ≤ max-scope
@@ -106,12 +100,6 @@ pub record ListPut (hs : List Summand) (w : ℕ) (o : List ℕ) (r : Done) (o′
 abbrev pub EquationPut : (cells starts counts firsts : List ℕ) (f : ℕ) → Source → (w : ℕ) (o : List ℕ) → Done → List ℕ → Type 0
 EquationPut cells starts counts firsts f s w o r o′ =
     (H : Sheet) (k : ℕ) → Ready H f cells starts counts firsts → f ≡ fuel H → SourceOf H cells k s → length (summands-at H k) < byte-limit → ListPut (summands-at H k) w o r o′
-
--- those of the first k equations are written
-pub record SoFar (H : Sheet) (k w : ℕ) (o : List ℕ) (v : ℕ) (o′ : List ℕ) : Type 0 where
-  pub within : (j : ℕ) → j < k → Every SummandWithin (summands-at H j)
-  pub place : v ≡ w + length (joined k (bytes-at H))
-  pub adds : take v o′ ≡ take w o ++ joined k (bytes-at H)
 
 pub record AllPut (H : Sheet) (w : ℕ) (o : List ℕ) (r : Done) (o′ : List ℕ) : Type 0 where
   pub right : r .ok ≡ true → SummandsWithin (table-of H .equations) × (r .w ≡ w + length (summands-bytes (table-of H .equations))) × (take (r .w) o′ ≡ take w o ++ summands-bytes (table-of H .equations)) × (r .w ≤ length o)

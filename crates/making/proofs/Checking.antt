@@ -3,22 +3,19 @@ use mathlib.Core.Path.{_≡_, refl, sym, ap, _∙_}
 use mathlib.Core.List.{List}
 use Prim.Native.Nat.{ℕ, _≤_, _<_}
 use native.Mathlib.Omega.{arith}
-use lib.ListN.{length, length-append}
+use lib.ListN.{length}
 use Rattle.pcrl.specs.Result.{Result, refused, accepted, refusal, after}
 use Rattle.pcrl.specs.Table.{Table}
-use Rattle.pcrl.specs.Stream.{encode-list, encode-sorts, encode-sig, encode}
+use Rattle.pcrl.specs.Stream.{encode}
 use Rattle.pcrl.specs.Blocks.{blocks-for, file-of-stream, Room, room?}
 use Rattle.pcrl.specs.Answers.{table-made, stream-filed, file-made}
 use Rattle.laws.specs.Questions.{question-fails}
 use Rattle.codec.specs.FileOfStream.{length-file}
+use Rattle.codec.specs.FileLaws.{stream-begins}
 use Rattle.making.specs.declared.Made.{Made}
 use Rattle.making.specs.Making.{made-answer}
 use Rattle.making.proofs.Numbers.{table-number}
 use Rattle.making.proofs.MakingLaws.{told}
-
-stream-begins : (T : Table) → 1 ≤ length (encode T)
-unfolding encode encode-sig encode-sorts encode-list
-stream-begins T = simp length-append (omega arith)
 
 -- one byte is no room for a block
 no-room : (T : Table) → stream-filed (encode T) 1 ≡ refused 11
