@@ -7,6 +7,7 @@ pub mod files;
 pub mod followed;
 pub mod inputs;
 pub mod large;
+pub mod layouts;
 pub mod listings;
 pub mod made;
 pub mod painted;

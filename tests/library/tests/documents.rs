@@ -1,5 +1,5 @@
-//! Every listing of the README, of docs/RULES.md and of docs/LANGUAGE.md, checked by the programs and the library, and the
-//! pictures. How listings are marked stands at the end of docs/RULES.md.
+//! Every listing of the README, of docs/RULES.md, docs/LANGUAGE.md and docs/LAYOUTS.md, checked by the programs and the
+//! library, and the pictures. How listings are marked stands at the end of docs/RULES.md.
 
 use std::collections::BTreeMap;
 use std::path::{Path, PathBuf};
@@ -7,6 +7,7 @@ use std::process::Command;
 
 use library::followed::Followed;
 use library::inputs::{answer, in_words};
+use library::layouts;
 use library::listings::{listings, stream, Listing};
 use library::program::written;
 use library::stepping::Frame;
@@ -102,6 +103,14 @@ fn check(listing: &Listing, sheet: Option<&str>) -> Result<(), String> {
         }
         ["walk"] => same(written("walk", before()?.as_bytes()).as_str(), text),
         ["stream"] => stream_is(before()?, &stream(text)),
+        ["stream", "places"] => stream_is(before()?, &layouts::placed(text)?),
+        ["numbers", file] => layouts::numbers_are(file, text),
+        ["cells", "tokens"] => layouts::tokens_are(before()?, text),
+        ["cells", "raw"] => layouts::raw_is(before()?, text),
+        ["cells", "terms"] => layouts::terms_are(before()?, text),
+        ["file", length] => layouts::file_is(before()?, length, text),
+        ["frames", ref ks @ ..] => layouts::frames_are(before()?, ks, text),
+        ["answers", ref ks @ ..] => layouts::answers_are(before()?, ks, text),
         ["steps"] => {
             let followed = followed(before()?)?;
             same(followed.reached(MOST).as_str(), text)?;
@@ -142,6 +151,12 @@ fn every_listing() {
             &["cases", "input", "pcrl", "stream", "walk"],
         ),
         ("docs/LANGUAGE.md", &["pcrl", "steps", "walk"]),
+        (
+            "docs/LAYOUTS.md",
+            &[
+                "answers", "cells", "file", "frames", "numbers", "pcrl", "stream", "text",
+            ],
+        ),
     ] {
         let counts = check_all(&document(name)).unwrap_or_else(|wrong| panic!("{name}, {wrong}"));
         println!("{name}: {counts:?}");
@@ -164,6 +179,21 @@ fn every_question_has_an_input_that_fails_it() {
     }
 }
 
+/// The tokens of the sheet below, in cells, and its raw tree.
+const TOKENS: &str = "```cells tokens
+0  162 1028 59 162 1034 59         act a ; act b ;
+6  163 1041 61 1043 46 1045 59     proc X = a . b ;
+13  164 1052 59                    init X ;
+```
+";
+const RAW: &str = "```cells raw
+0  22 1028 18 22 1034 18           act a end act b end
+6  23 1041 18 6 8                  proc X end only plain
+11  11 14 1043 10 14 1045          then bare a last bare b
+17  24 14 1052                     init bare X
+```
+";
+
 /// A wrong listing is found, and so is one that is not marked rightly.
 #[test]
 fn wrong_listings_are_found() {
@@ -171,6 +201,11 @@ fn wrong_listings_are_found() {
     let right = [
         "```walk\n1 a 1\n2 b 0\nended\n```\n",
         "```steps\n0 a 1\n1 b 2\n2 ended\n```\n",
+        "```frames 0\n01 00 00 00 00  b\n```\n",
+        "```file 512\n0  00 00 01 00  block 0 of 1\n```\n",
+        TOKENS,
+        RAW,
+        "```cells terms\n0  10 0 0\n3  4 1 0\n6  20 2 0\n9  8 0 0\n```\n",
     ];
     for listing in right {
         assert!(check_all(&format!("{sheet}{listing}")).is_ok(), "{listing}");
@@ -184,6 +219,21 @@ fn wrong_listings_are_found() {
         "```\n1 a 1\n2 b 0\nended\n```\n",
         "```steps\n0 a 1\n1 b 2\n```\n",
         "```stream\n01 02 00 03\n```\n",
+        "```stream places\n0  01 02\n3  00\n```\n",
+        "```frames 0\n01 00 00 00 01\n```\n",
+        "```frames 0 0\n01 00 00 00 00\n```\n",
+        "```answers 0\n02 01 00 00 00 01 61\n```\n",
+        "```file 512\n2  02 00\n```\n",
+        "```file 1024\n0  00 00 01 00\n```\n",
+        "```cells tokens\n0  162 1028 59\n```\n",
+        &TOKENS.replace("1028", "1029"),
+        &TOKENS.replace("\n6", "\n7"),
+        &RAW.replace("22 1034", "21 1034"),
+        &RAW.replace("1045", "1044"),
+        "```cells terms\n0  10 0 0\n3  4 1 0\n6  20 2 0\n```\n",
+        "```cells terms\n0  10 0 0\n3  4 1 0 20 2 0\n9  8 0 0\n```\n",
+        "```numbers crates/parts/src/row.rt\nROW 4\n```\n",
+        "```numbers crates/parts/src/row.rt\n```\n",
         "```pcrl refused 7\nact a;proc X=a;init X;\n```\n",
         "```pcrl refused 7\nproc X=X;init X;\n```\n",
         "```pcrl accepted\nproc X=a;init X;\n```\n",

@@ -1,0 +1,264 @@
+//! What docs/LAYOUTS.md shows of a sheet, held against the sheet, the sources and the library.
+
+use std::collections::BTreeMap;
+use std::path::Path;
+
+use reader::limits::FRAMES;
+
+use crate::asked::{asked_all, started, After, UNSET};
+use crate::followed::Followed;
+use crate::inputs::in_words;
+use crate::stepping::{Frame, ANSWER};
+
+const WORDS: [&str; 8] = ["sort", "func", "act", "proc", "init", "sum", "delta", "tau"];
+const LONG_MARKS: [(&str, &str); 3] = [("->", "ARROW"), ("<|", "IF"), ("|>", "ELSE")];
+
+const LEXER: &str = "crates/lexer/src/lib.rt";
+const PARSER: &str = "crates/parser/src/codes.rt";
+
+/// Cells of the raw tree below this are tags.
+const FIRST_TOKEN: usize = 32;
+
+/// Constants by their names.
+type Numbers = BTreeMap<String, usize>;
+
+/// A line of a listing: the place of its first element, the elements up to two blanks, and the words behind them.
+struct Line<'a> {
+    place: usize,
+    elements: Vec<&'a str>,
+    words: Vec<&'a str>,
+}
+
+fn number(word: &str) -> Result<usize, String> {
+    word.parse().map_err(|_| format!("no number: {word}"))
+}
+
+fn byte(word: &str) -> Result<u8, String> {
+    u8::from_str_radix(word, 16).map_err(|_| format!("no byte: {word}"))
+}
+
+fn same<T: PartialEq + std::fmt::Debug>(got: T, wanted: T) -> Result<(), String> {
+    match got == wanted {
+        true => Ok(()),
+        false => Err(format!("{got:?}, and not {wanted:?}")),
+    }
+}
+
+fn lines(text: &str) -> Result<Vec<Line<'_>>, String> {
+    let line = |line| {
+        let line: &str = line;
+        let (place, rest) = line.trim_start().split_once(' ').ok_or("no place")?;
+        let rest = rest.trim_start();
+        let (elements, words) = rest.split_once("  ").unwrap_or((rest, ""));
+        Ok(Line {
+            place: number(place)?,
+            elements: elements.split(' ').collect(),
+            words: words.split_whitespace().collect(),
+        })
+    };
+    text.lines().map(line).collect()
+}
+
+/// The lines of a listing, if each begins where the one before it ends.
+fn tiled(text: &str) -> Result<Vec<Line<'_>>, String> {
+    let lines = lines(text)?;
+    let mut at = 0;
+    for line in &lines {
+        same(line.place, at)?;
+        at += line.elements.len();
+    }
+    Ok(lines)
+}
+
+/// Each cell of a listing with the word for it.
+fn glossed(text: &str) -> Result<Vec<(usize, &str)>, String> {
+    let mut pairs = Vec::new();
+    for line in tiled(text)? {
+        same(line.words.len(), line.elements.len())?;
+        for (cell, word) in line.elements.into_iter().zip(line.words) {
+            pairs.push((number(cell)?, word));
+        }
+    }
+    Ok(pairs)
+}
+
+/// The public constants of a source file.
+fn constants(file: &str) -> Result<Numbers, String> {
+    let path = Path::new(env!("CARGO_MANIFEST_DIR"))
+        .join("../..")
+        .join(file);
+    let text = std::fs::read_to_string(path).map_err(|wrong| format!("{file}: {wrong}"))?;
+    let constant = |line: &str| {
+        let (name, rest) = line.strip_prefix("pub const ")?.split_once(": ")?;
+        let (_, value) = rest.strip_suffix(';')?.split_once(" = ")?;
+        Some((name.to_string(), value.parse().ok()?))
+    };
+    Ok(text.lines().filter_map(constant).collect())
+}
+
+/// The public constants of a file are these: names, each with its number.
+pub fn numbers_are(file: &str, text: &str) -> Result<(), String> {
+    let words: Vec<&str> = text.split_whitespace().collect();
+    let pairs = words.chunks(2).map(|pair| match pair {
+        [name, value] => Ok((name.to_string(), number(value)?)),
+        _ => Err("a name without a number".to_string()),
+    });
+    same(pairs.collect::<Result<Numbers, _>>()?, constants(file)?)
+}
+
+/// The tokens of a right sheet, each with its place.
+fn tokens(sheet: &str) -> Vec<(usize, &str)> {
+    let in_name = |c: char| c.is_ascii_alphanumeric() || c == '_';
+    let mut found = Vec::new();
+    let mut at = 0;
+    while at < sheet.len() {
+        let rest = &sheet[at..];
+        let run = rest.find(|c| !in_name(c)).unwrap_or(rest.len());
+        let long = LONG_MARKS.iter().any(|(mark, _)| rest.starts_with(mark));
+        let length = if long { 2 } else { run.max(1) };
+        if !rest.starts_with([' ', '\n']) {
+            found.push((at, &rest[..length]));
+        }
+        at += length;
+    }
+    found
+}
+
+/// The cell of a token at a place.
+fn cell(codes: &Numbers, (place, token): (usize, &str)) -> Result<usize, String> {
+    let code = |name: &str| codes.get(name).copied().ok_or(format!("no {name}"));
+    let first = token.as_bytes()[0];
+    if let Some((_, name)) = LONG_MARKS.iter().find(|(mark, _)| *mark == token) {
+        return code(name);
+    }
+    if WORDS.contains(&token) {
+        return code(&token.to_uppercase());
+    }
+    match first {
+        b'0'..=b'9' => Ok(code("FIRST_NUMERAL")? + number(token)?),
+        b'A'..=b'Z' | b'a'..=b'z' => Ok(code("FIRST_NAME")? + place),
+        _ => Ok(first.into()),
+    }
+}
+
+/// The cells of a sheet's tokens, each with its token.
+fn token_cells(sheet: &str) -> Result<Vec<(usize, &str)>, String> {
+    let codes = constants(LEXER)?;
+    let each = tokens(sheet).into_iter();
+    each.map(|token| Ok((cell(&codes, token)?, token.1)))
+        .collect()
+}
+
+/// The cells are those of the sheet's tokens.
+pub fn tokens_are(sheet: &str, text: &str) -> Result<(), String> {
+    same(glossed(text)?, token_cells(sheet)?)
+}
+
+/// The cells below 32 are the tags that the words name, the others those of the sheet's names and numerals, in order.
+pub fn raw_is(sheet: &str, text: &str) -> Result<(), String> {
+    let (lexer, tags) = (constants(LEXER)?, constants(PARSER)?);
+    let (shown, rest): (Vec<_>, Vec<_>) = glossed(text)?
+        .into_iter()
+        .partition(|pair| pair.0 < FIRST_TOKEN);
+    for (tag, word) in shown {
+        let name = format!("{}_TAG", word.to_uppercase());
+        same((word, tags.get(&name)), (word, Some(&tag)))?;
+    }
+    let mut wanted = token_cells(sheet)?;
+    wanted.retain(|pair| pair.0 >= lexer["FIRST_NUMERAL"]);
+    same(rest, wanted)
+}
+
+/// Where the data terms of a node end.
+fn data_end(node: &[usize]) -> Result<usize, String> {
+    let (mut need, mut at) = (*node.get(2).ok_or("no node")?, 3);
+    while need > 0 {
+        let first = *node.get(at).ok_or("a data term is missing")?;
+        let function = first % 4 == 2;
+        need -= 1;
+        need += node.get(at + 1).filter(|_| function).unwrap_or(&0);
+        at += if function { 2 } else { 1 };
+    }
+    Ok(at)
+}
+
+/// Each line is a node with its data terms, and all of them are as many terms as the sheet has processes and inits.
+pub fn terms_are(sheet: &str, text: &str) -> Result<(), String> {
+    let (mut terms, mut need) = (0, 0);
+    for line in tiled(text)? {
+        let cells = line.elements.iter().map(|cell| number(cell));
+        let node: Vec<usize> = cells.collect::<Result<_, _>>()?;
+        same(data_end(&node)?, node.len())?;
+        if need == 0 {
+            terms += 1;
+            need = 1;
+        }
+        need = need - 1 + node[0] % 4;
+    }
+    let wanted = tokens(sheet).into_iter();
+    let wanted = wanted.filter(|token| ["proc", "init"].contains(&token.1));
+    same((terms, need), (wanted.count(), 0))
+}
+
+/// The bytes of a listing whose lines begin with their places.
+pub fn placed(text: &str) -> Result<Vec<u8>, String> {
+    let lines = tiled(text)?.into_iter();
+    lines.flat_map(|line| line.elements).map(byte).collect()
+}
+
+fn followed(sheet: &str) -> Result<Followed, String> {
+    Followed::of(sheet.as_bytes()).map_err(in_words)
+}
+
+/// The sheet's file is so long, and has these bytes at these places.
+pub fn file_is(sheet: &str, length: &str, text: &str) -> Result<(), String> {
+    let file = followed(sheet)?.file;
+    same(file.len(), number(length)?)?;
+    for line in lines(text)? {
+        for (at, shown) in (line.place..).zip(line.elements) {
+            same((at, file.get(at)), (at, Some(&byte(shown)?)))?;
+        }
+    }
+    Ok(())
+}
+
+/// What a list of questions, from the start on, leaves.
+fn after(sheet: &str, questions: &[&str]) -> Result<After, String> {
+    let file = followed(sheet)?.file;
+    let start = started(&file, &[Frame::default(); FRAMES], UNSET);
+    let numbers = questions.iter().map(|k| Ok(number(k)? as u64));
+    let ks: Vec<u64> = numbers.collect::<Result<_, String>>()?;
+    let after = asked_all(&file, &start.frames, start.depth, &ks, ANSWER * ks.len());
+    same(after.number, 0)?;
+    Ok(after)
+}
+
+/// Each line has a piece of the bytes, in hex, before two blanks.
+fn pieces_are(bytes: &[u8], length: usize, text: &str) -> Result<(), String> {
+    let hex = |piece: &[u8]| piece.iter().map(|byte| format!("{byte:02x}")).collect();
+    let wanted: Vec<Vec<String>> = bytes.chunks(length).map(hex).collect();
+    let front = |line: &str| line.split("  ").next().unwrap_or_default().to_string();
+    let shown = text.lines().map(front);
+    same(
+        shown.collect(),
+        wanted
+            .iter()
+            .map(|piece| piece.join(" "))
+            .collect::<Vec<_>>(),
+    )
+}
+
+/// The stack that these questions lead to has these frames, in bytes.
+pub fn frames_are(sheet: &str, questions: &[&str], text: &str) -> Result<(), String> {
+    let after = after(sheet, questions)?;
+    let used = after.frames[..after.depth].iter();
+    let bytes: Vec<u8> = used
+        .flat_map(|frame| [&[frame.equation][..], &frame.values].concat())
+        .collect();
+    pieces_are(&bytes, std::mem::size_of::<Frame>(), text)
+}
+
+/// These questions get these answers, in bytes.
+pub fn answers_are(sheet: &str, questions: &[&str], text: &str) -> Result<(), String> {
+    pieces_are(&after(sheet, questions)?.answers, ANSWER, text)
+}
