@@ -1,12 +1,12 @@
 //! What docs/LAYOUTS.md shows of a sheet, held against the sheet, the sources and the library.
 
-use std::collections::BTreeMap;
 use std::path::Path;
 
 use reader::limits::FRAMES;
 
 use crate::asked::{asked_all, started, After, UNSET};
 use crate::followed::Followed;
+use crate::held::{arrays, index, Arrays, Numbers};
 use crate::inputs::in_words;
 use crate::stepping::{Frame, ANSWER};
 
@@ -15,12 +15,10 @@ const LONG_MARKS: [(&str, &str); 3] = [("->", "ARROW"), ("<|", "IF"), ("|>", "EL
 
 const LEXER: &str = "crates/lexer/src/lib.rt";
 const PARSER: &str = "crates/parser/src/codes.rt";
+const NODES: &str = "crates/nodes/src/lib.rt";
 
 /// Cells of the raw tree below this are tags.
 const FIRST_TOKEN: usize = 32;
-
-/// Constants by their names.
-type Numbers = BTreeMap<String, usize>;
 
 /// A line of a listing: the place of its first element, the elements up to two blanks, and the words behind them.
 struct Line<'a> {
@@ -169,35 +167,49 @@ pub fn raw_is(sheet: &str, text: &str) -> Result<(), String> {
     same(rest, wanted)
 }
 
-/// Where the data terms of a node end.
-fn data_end(node: &[usize]) -> Result<usize, String> {
-    let (mut need, mut at) = (*node.get(2).ok_or("no node")?, 3);
-    while need > 0 {
-        let first = *node.get(at).ok_or("a data term is missing")?;
-        let function = first % 4 == 2;
-        need -= 1;
-        need += node.get(at + 1).filter(|_| function).unwrap_or(&0);
-        at += if function { 2 } else { 1 };
-    }
-    Ok(at)
+/// The arrays that hold the sheet.
+fn held(sheet: &str) -> Result<Arrays, String> {
+    let sheet = reader::check_sheet(sheet.as_bytes()).map_err(|wrong| format!("{wrong:?}"))?;
+    Ok(arrays(&sheet, &constants(NODES)?))
 }
 
-/// Each line is a node with its data terms, and all of them are as many terms as the sheet has processes and inits.
+fn decimals(words: &[&str]) -> Result<Vec<usize>, String> {
+    words.iter().map(|word| number(word)).collect()
+}
+
+/// The cells are those of the sheet's resolved terms.
 pub fn terms_are(sheet: &str, text: &str) -> Result<(), String> {
-    let (mut terms, mut need) = (0, 0);
-    for line in tiled(text)? {
-        let cells = line.elements.iter().map(|cell| number(cell));
-        let node: Vec<usize> = cells.collect::<Result<_, _>>()?;
-        same(data_end(&node)?, node.len())?;
-        if need == 0 {
-            terms += 1;
-            need = 1;
-        }
-        need = need - 1 + node[0] % 4;
+    let lines = tiled(text)?.into_iter();
+    let shown: Vec<&str> = lines.flat_map(|line| line.elements).collect();
+    same(decimals(&shown)?, held(sheet)?["cells"].clone())
+}
+
+/// Each line has the name of an array and, before two blanks, what is used of it.
+fn arrays_are(mut arrays: Arrays, text: &str) -> Result<(), String> {
+    for line in text.lines() {
+        let (name, rest) = line.split_once(' ').ok_or("no array")?;
+        let front = rest.trim_start().split("  ").next().unwrap_or_default();
+        let shown = decimals(&front.split(' ').collect::<Vec<_>>())?;
+        same((name, Some(shown)), (name, arrays.remove(name)))?;
     }
-    let wanted = tokens(sheet).into_iter();
-    let wanted = wanted.filter(|token| ["proc", "init"].contains(&token.1));
-    same((terms, need), (wanted.count(), 0))
+    Ok(())
+}
+
+/// These arrays hold the sheet, or say where its new equations are.
+pub fn rows_are(sheet: &str, text: &str) -> Result<(), String> {
+    let mut arrays = held(sheet)?;
+    let cells = token_cells(sheet)?;
+    let declared = cells
+        .windows(2)
+        .filter(|pair| WORDS[..4].contains(&pair[0].1));
+    arrays.insert("names", declared.map(|pair| pair[1].0).collect());
+    arrays_are(arrays, text)
+}
+
+/// This is the index of the stream of the sheet's table.
+pub fn index_is(sheet: &str, text: &str) -> Result<(), String> {
+    let table = reader::read_table(&followed(sheet)?.file);
+    arrays_are(index(&table.map_err(|wrong| format!("{wrong:?}"))?), text)
 }
 
 /// The bytes of a listing whose lines begin with their places.

@@ -5,6 +5,7 @@ pub mod asked;
 pub mod common;
 pub mod files;
 pub mod followed;
+pub mod held;
 pub mod inputs;
 pub mod large;
 pub mod layouts;

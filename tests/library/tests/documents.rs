@@ -108,6 +108,8 @@ fn check(listing: &Listing, sheet: Option<&str>) -> Result<(), String> {
         ["cells", "tokens"] => layouts::tokens_are(before()?, text),
         ["cells", "raw"] => layouts::raw_is(before()?, text),
         ["cells", "terms"] => layouts::terms_are(before()?, text),
+        ["rows"] => layouts::rows_are(before()?, text),
+        ["index"] => layouts::index_is(before()?, text),
         ["file", length] => layouts::file_is(before()?, length, text),
         ["frames", ref ks @ ..] => layouts::frames_are(before()?, ks, text),
         ["answers", ref ks @ ..] => layouts::answers_are(before()?, ks, text),
@@ -154,7 +156,8 @@ fn every_listing() {
         (
             "docs/LAYOUTS.md",
             &[
-                "answers", "cells", "file", "frames", "numbers", "pcrl", "stream", "text",
+                "answers", "cells", "file", "frames", "index", "numbers", "pcrl", "rows", "stream",
+                "text",
             ],
         ),
     ] {
@@ -206,6 +209,8 @@ fn wrong_listings_are_found() {
         TOKENS,
         RAW,
         "```cells terms\n0  10 0 0\n3  4 1 0\n6  20 2 0\n9  8 0 0\n```\n",
+        "```rows\nparts  6 0 0\nnames  1028 1034 1041  a, b, X\n```\n",
+        "```index\nacts  4 7\nparams  11 12\nrows  13 19\nstart  24\n```\n",
     ];
     for listing in right {
         assert!(check_all(&format!("{sheet}{listing}")).is_ok(), "{listing}");
@@ -231,7 +236,12 @@ fn wrong_listings_are_found() {
         &RAW.replace("22 1034", "21 1034"),
         &RAW.replace("1045", "1044"),
         "```cells terms\n0  10 0 0\n3  4 1 0\n6  20 2 0\n```\n",
-        "```cells terms\n0  10 0 0\n3  4 1 0 20 2 0\n9  8 0 0\n```\n",
+        "```cells terms\n0  10 0 0\n3  4 1 0\n6  4 2 0\n9  8 0 0\n```\n",
+        "```rows\nparts  6 0 1\n```\n",
+        "```rows\nacts  0 0 0\n```\n",
+        "```rows\nfuncs  0\n```\n",
+        "```index\nrows  13 18\n```\n",
+        "```index\ncells  13 18\n```\n",
         "```numbers crates/parts/src/row.rt\nROW 4\n```\n",
         "```numbers crates/parts/src/row.rt\n```\n",
         "```pcrl refused 7\nact a;proc X=a;init X;\n```\n",
