@@ -1,6 +1,7 @@
 pub mod Asked
 pub mod SignatureLaws
 pub mod Placed
+pub mod TermRoom
 pub mod ProcessLaws
 pub mod ProcessesLaws
 pub mod SheetLaws

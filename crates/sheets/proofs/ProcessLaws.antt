@@ -5,7 +5,7 @@ use mathlib.Core.Bool.{Bool, true, false}
 use mathlib.Core.Option.{Option, none, some}
 use Prim.Native.Nat.{ℕ, _+_, _*_, _≤_}
 use native.Mathlib.Omega.{arith}
-use lib.ListN.{length, drop, length-append}
+use lib.ListN.{length, drop}
 use Rattle.pcrl.specs.Text.{bytes}
 use Rattle.pcrl.specs.Limits.{max-open, frame-width}
 use Rattle.pcrl.specs.Maybe.{_>>=_}
@@ -13,6 +13,7 @@ use Rattle.pcrl.specs.Tokens.{name}
 use Rattle.pcrl.specs.Tree.{Name, ProcLine}
 use Rattle.pcrl.specs.Sheet.{Proc}
 use Rattle.pcrl.specs.Names.{Names, declared, resolve-choice, resolve-params, resolve-proc}
+use Rattle.grammar.specs.Print.{line, print-proc}
 use Rattle.parser.specs.Cells.{Symbol, tag, token, proc-tag, enc-items, enc-param, enc-choice, enc-proc}
 use Rattle.nodes.specs.Scoped.{max-scope}
 use Rattle.names.specs.declared.Params.{Params}
@@ -26,8 +27,8 @@ use Rattle.resolver.specs.Raw.{sum-depth}
 use Rattle.resolver.specs.Resolving.{Declared, ResolvesRight}
 use Rattle.resolver.specs.Resolving.{Answers as SideAnswers}
 use Rattle.resolver.specs.InScope.{process-scoped}
-use Rattle.resolver.specs.Room.{choice-room}
 use Rattle.sheets.specs.Resolving.{ProcessRow, ProcessRead}
+use Rattle.sheets.proofs.TermRoom.{right-room}
 
 -- a name of the parameters is not as it must be
 params-missing : (N : Names) (l : ProcLine) → resolve-params N [] (l .params) ≡ none → resolve-proc N l ≡ none
@@ -39,11 +40,6 @@ params-there : (N : Names) (l : ProcLine) (x : List Name × List ℕ) → resolv
     → resolve-proc N l ≡ _>>=_ (resolve-choice N (x .0) (l .right)) (λ t. some (record { params = x .1; right = t }))
 unfolding resolve-proc
 params-there N l x e = rw e
-
--- the right side takes fewer cells than the line
-right-shorter : (l : ProcLine) → length (enc-choice (l .right)) ≤ length (enc-proc l)
-unfolding enc-proc
-right-shorter l = omega (arith, length-append (enc-items enc-param (l .params)) (enc-choice (l .right)))
 
 module _ (s raw sorts funcs acts procs names : List ℕ) (n at : ℕ) (rows : List ℕ) (p : ℕ) (scope : List ℕ) (a : Params) (read : ParamsRead s raw sorts names n (at + 2) rows p scope a) where
   -- the parameters behind the tag and the name
@@ -74,19 +70,17 @@ module _ (s raw sorts funcs acts procs names : List ℕ) (n at : ℕ) (rows : Li
     -- the answer of the right side is that of the process
     right-answered : (N : Names) (l : ProcLine) (rest rest′ : List Symbol) (x : List Name × List ℕ) → Row rest′ x → length (x .1) ≤ frame-width → sum-depth (l .right) ≤ max-open
         → resolve-params N [] (l .params) ≡ some x → SideAnswers (symbols s raw) rest w o (resolve-choice N (x .0) (l .right)) r o′
-        → Answers (λ q. ProcessRow (length (N .procs)) q rows p w o (r .w) o′ (3 * length (enc-proc l))) (resolve-proc N l) (r .ok)
+        → Answers (λ q. ProcessRow (length (N .procs)) q rows p w o (r .w) o′ (3 * length (line "proc" (print-proc l)))) (resolve-proc N l) (r .ok)
     unfolding SideAnswers
     right-answered N l rest rest′ x row few deep e h = go (resolve-choice N (x .0) (l .right)) refl h
       where
         go : (t : Option Proc) → resolve-choice N (x .0) (l .right) ≡ t → SideAnswers (symbols s raw) rest w o t r o′
-            → Answers (λ q. ProcessRow (length (N .procs)) q rows p w o (r .w) o′ (3 * length (enc-proc l))) (resolve-proc N l) (r .ok)
+            → Answers (λ q. ProcessRow (length (N .procs)) q rows p w o (r .w) o′ (3 * length (line "proc" (print-proc l)))) (resolve-proc N l) (r .ok)
         go none f h = let none-there : resolve-proc N l ≡ none = params-there N l x e ∙ (rw f) in rw none-there h
         go (some t) f h =
             let there : resolve-proc N l ≡ some (record { params = x .1; right = t }) = params-there N l x e ∙ (rw f) in
-            let room = choice-room N false (x .0) (l .right) t f in
-            let shorter = right-shorter l in
             let scoped = process-scoped N l (record { params = x .1; right = t }) there (omega arith) in
-            rw there (h .0, record { few = few; params = row .sorts; scoped = scoped; right = h .2; size = omega arith })
+            rw there (h .0, record { few = few; params = row .sorts; scoped = scoped; right = h .2; size = right-room N (x .0) l t f })
 
     -- THE PARAMETERS, AND THE RIGHT SIDE WITH THEM IN SCOPE.
     pub process-read : a .ok ≡ true → a .count ≤ frame-width → length scope ≡ max-scope → ResolvesRight s raw sorts funcs acts procs scope (a .count) (a .at) w o r o′

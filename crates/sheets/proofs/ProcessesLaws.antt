@@ -10,10 +10,12 @@ use Rattle.pcrl.specs.Text.{bytes}
 use Rattle.pcrl.specs.Limits.{max-open, frame-width}
 use Rattle.pcrl.specs.Tests.{Every}
 use Rattle.pcrl.specs.Reader.{all}
+use Rattle.pcrl.specs.Tokens.{Token}
 use Rattle.pcrl.specs.Tree.{ProcLine}
 use Rattle.pcrl.specs.Sheet.{Process, no-process}
 use Rattle.pcrl.specs.Names.{Names, declared, resolve-proc}
 use Rattle.laws.specs.Each.{each-length}
+use Rattle.grammar.specs.Print.{line, print-lines, print-proc}
 use Rattle.parser.specs.Cells.{enc-proc}
 use Rattle.nodes.specs.Layout.{cell-limit, enc}
 use Rattle.nodes.specs.Held.{proc-width, ProcAt}
@@ -31,7 +33,7 @@ use Rattle.sheets.proofs.Placed.{term-kept, term-written}
 
 -- the most cells that the right sides of some lines take
 abbrev pub room : List ProcLine → ℕ
-room ls = 3 * length (all enc-proc ls)
+room ls = 3 * length (print-lines "proc" print-proc ls)
 
 -- the arrays keep their lengths, and nothing is missing so far
 pub record Stays (out₀ rows out starts : List ℕ) (ok : Bool) : Type 0 where
@@ -109,9 +111,10 @@ module _ (s raw sorts funcs acts procs names : List ℕ) (n : ℕ) where
           let deep = every-at _ ls k x (drop (k + 1) ls) t e in
           let G = g N ls d ns l f t (omega arith) in
           let m = length (N .procs) in
-          let (q, known, row) = answered-yes (λ q. ProcessRow m q rows′ (5 * k) w out (r .w) out′ (3 * length (enc-proc x))) (resolve-proc N x) (r .ok) (a N x (here .0) d ns (rw place (here .1)) few deep) o in
-          let more : length (all enc-proc (drop k ls)) ≡ length (enc-proc x) + length (all enc-proc (drop (k + 1) ls))
-          = ap (λ (ms : List ProcLine). length (all enc-proc ms)) e ∙ length-append (enc-proc x) (all enc-proc (drop (k + 1) ls)) in
+          let (q, known, row) = answered-yes (λ q. ProcessRow m q rows′ (5 * k) w out (r .w) out′ (3 * length (line "proc" (print-proc x)))) (resolve-proc N x) (r .ok) (a N x (here .0) d ns (rw place (here .1)) few deep) o in
+          let printed : List ProcLine → List Token = print-lines "proc" print-proc in
+          let more : length (printed (drop k ls)) ≡ length (line "proc" (print-proc x)) + length (printed (drop (k + 1) ls))
+          = ap (λ (ms : List ProcLine). length (printed ms)) e ∙ length-append (line "proc" (print-proc x)) (printed (drop (k + 1) ls)) in
           let left = G .left in
           let size = row .size in
           let written = row .right .with-room (omega arith) in

@@ -9,7 +9,6 @@ use lib.ListN.{length, take, drop, getD, length-map, length-append, length-take,
 use lib.Seq.{getD-take, getD-append-add, take-length}
 use Rattle.pcrl.specs.Text.{bytes}
 use Rattle.pcrl.specs.Tests.{and, distinct}
-use Rattle.pcrl.specs.Reader.{all}
 use Rattle.pcrl.specs.Maybe.{_>>=_, for-each}
 use Rattle.pcrl.specs.Tree.{Name, RawSheet, ActLine, ProcLine}
 use Rattle.pcrl.specs.Sheet.{Data, call, Process, Func, Action, Sig, Sheet, no-action, no-process}
@@ -18,6 +17,7 @@ use Rattle.pcrl.specs.Names.{names-of, declared, sizes-of, sorts-of, resolve-fu
 use Rattle.laws.specs.Lists.{getD-map}
 use Rattle.laws.specs.Each.{each-length, each-map}
 use Rattle.laws.specs.Optional.{first-given, each-given}
+use Rattle.grammar.specs.Print.{print-lines, print-proc, print-init}
 use Rattle.parser.specs.Cells.{Symbol, enc-proc, enc-init}
 use Rattle.nodes.specs.declared.Outline.{Outline}
 use Rattle.nodes.specs.Layout.{enc}
@@ -29,7 +29,6 @@ use Rattle.names.specs.Rows.{Answers, sorts-at}
 use Rattle.names.proofs.NamesOf.{sorts-are, funcs-are, acts-are, procs-are, declared-are}
 use Rattle.resolver.specs.Writing.{Writes}
 use Rattle.resolver.specs.Resolving.{Declared, ResolvesInit, called, Answers as Resolves-to}
-use Rattle.resolver.specs.Room.{init-room}
 use Rattle.resolver.specs.InScope.{init-scoped}
 use Rattle.resolver.specs.declared.Resolved.{Resolved as Side}
 use Rattle.sheets.specs.declared.SigRows.{SigRows}
@@ -37,6 +36,7 @@ use Rattle.sheets.specs.declared.ProcRows.{ProcRows}
 use Rattle.sheets.specs.declared.Rows.{Rows}
 use Rattle.sheets.specs.Resolving.{FewLines, LinesStand, HoldsSignature, SignatureRead, resolve-signature, ProcessesHeld, ProcessesRead, arrays, Named, LinesResolve}
 use Rattle.sheets.proofs.Asked.{answers-then, answers-last, answers-test}
+use Rattle.sheets.proofs.TermRoom.{init-room}
 use Rattle.sheets.proofs.Placed.{proc-kept, written-whole, written-at}
 
 -- the signature first
@@ -111,7 +111,7 @@ module _ (s raw sorts funcs acts procs : List ℕ) (R : RawSheet) (stand : Lines
   -- PROCESSES AND INIT ARE HELD, init behind the right sides
   procs-held : (S : Sig) (ps : List Process) (x : ℕ × List Data) (b : ProcRows) (o o′ : List ℕ) (most w′ : ℕ) (n : Outline) → n .procs ≡ length procs → n .init ≡ b .w → FewLines raw sorts funcs acts procs
       → for-each (resolve-proc (names-of R)) (R .procs) ≡ some ps → ProcessesHeld (length (names-of R .procs)) b o most ps → resolve-init (names-of R) (R .start) ≡ some x
-      → Writes (enc false (call (x .0) (x .1))) (b .w) o w′ o′ → most + 3 * length (enc-init (R .start)) ≤ length o
+      → Writes (enc false (call (x .0) (x .1))) (b .w) o w′ o′ → most + 3 * length (print-init (R .start)) ≤ length o
       → HeldProcs (record { sig = S; procs = ps; start = x }) (b .procs) o′ (b .starts) n
   procs-held S ps x b o o′ most w′ n np ni few pe held xe wr room =
       let many = each-length (λ (l : ProcLine) (q : Process). resolve-proc (names-of R) l ≡ some q) (R .procs) ps (each-given (resolve-proc (names-of R)) (R .procs) ps pe) in
@@ -173,7 +173,6 @@ lines-resolve s raw sorts funcs acts procs at values o o′ names n fresh a b c 
     let rows : Rows = rows-of sorts funcs acts procs names a b in
     let D = lines-declare s raw sorts funcs acts procs R stand in
     let known : declared (names-of R) ≡ bytes "Bool" ∷ scope-at s names n = declared-are s raw R sorts funcs acts procs (stand .sorts-at) (stand .funcs-at) (stand .acts-at) (stand .procs-at) names n scoped in
-    let cells = bounded .cells-few in
     let both = bounded .processes-few in
     let f = sig R m (stand .sorts-at) (stand .funcs-at) (stand .acts-at) counted bounded values-room in
     let g = procs-read (names-of R) (R .procs) D known (stand .procs-at) (counted .1 .1 .1 .1 .1) (bounded .sums-shallow) (omega arith) in
@@ -183,12 +182,12 @@ lines-resolve s raw sorts funcs acts procs at values o o′ names n fresh a b c 
     (subst (λ (q : Option Sheet). Answers (Holds s rows values o′) q (and (a .ok) (and (b .ok) (c .ok)))) (signature-then R _)
     (answers-then (Holds s rows values o′) (HoldsSignature sorts funcs acts values a) (resolve-signature R)
     (λ S. _>>=_ (for-each (resolve-proc (names-of R)) (R .procs)) (λ ps. _>>=_ (resolve-init (names-of R) (R .start)) (λ x. some (record { sig = S; procs = ps; start = x })))) (a .ok) _ f
-    (λ S se held. answers-then (Holds s rows values o′) (ProcessesHeld (length (names-of R .procs)) b o (3 * length (all enc-proc (R .procs)))) (for-each (resolve-proc (names-of R)) (R .procs)) _ (b .ok) (c .ok) g
+    (λ S se held. answers-then (Holds s rows values o′) (ProcessesHeld (length (names-of R .procs)) b o (3 * length (print-lines "proc" print-proc (R .procs)))) (for-each (resolve-proc (names-of R)) (R .procs)) _ (b .ok) (c .ok) g
     (λ ps pe pheld. answers-last (Holds s rows values o′) (λ (x : ℕ × List Data). Writes (enc false (call (x .0) (x .1))) (b .w) o (c .w) o′) (resolve-init (names-of R) (R .start)) _ (c .ok) h
     (λ x xe w. (
       record {
         signature = held (rows .outline) refl refl refl;
-        processes = procs-held s raw sorts funcs acts procs R stand S ps x b o o′ (3 * length (all enc-proc (R .procs))) (c .w) (rows .outline) refl refl few pe pheld xe w (omega arith);
+        processes = procs-held s raw sorts funcs acts procs R stand S ps x b o o′ (3 * length (print-lines "proc" print-proc (R .procs))) (c .w) (rows .outline) refl refl few pe pheld xe w (omega arith);
       },
       actions-named s raw sorts funcs acts procs R stand names n scoped S se,
     )))))))

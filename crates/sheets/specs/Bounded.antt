@@ -1,10 +1,10 @@
--- The tree of a sheet that passes questions 1 to 5 is bounded: its lists, its values, its sums and its cells.
+-- The tree of a sheet that passes questions 1 to 5 is bounded: its lists, its values, its sums and its processes.
 use mathlib.Core.Path.{_≡_, ap, subst, subst⁻¹}
 use mathlib.Core.List.{List}
 use mathlib.Core.Option.{some}
-use Prim.Native.Nat.{ℕ, _+_, _*_, _≤_}
+use Prim.Native.Nat.{ℕ, _+_, _≤_}
 use native.Mathlib.Omega.{arith}
-use lib.ListN.{length, length-append}
+use lib.ListN.{length}
 use Rattle.pcrl.specs.Limits.{max-open}
 use Rattle.pcrl.specs.Result.{accepted}
 use Rattle.pcrl.specs.Tests.{Every}
@@ -15,13 +15,12 @@ use Rattle.pcrl.specs.Tree.{FuncLine, ProcLine, RawSheet}
 use Rattle.pcrl.specs.Grammar.{parse}
 use Rattle.pcrl.specs.Answers.{tokens-read}
 use Rattle.laws.specs.Questions.{past-question, past-question-of}
-use Rattle.grammar.specs.Print.{print-sheet, FormedFunc, FormedAct}
+use Rattle.grammar.specs.Print.{print-lines, print-proc, print-init, print-sheet, FormedFunc, FormedAct}
+use Rattle.grammar.specs.PrintLaws.{sheet-length}
 use Rattle.grammar.specs.Parsed.{print-parse}
 use Rattle.grammar.specs.TokenLaws.{ValidToken, tokens-valid}
-use Rattle.parser.specs.Cells.{enc-proc, enc-init, enc-sheet}
 use Rattle.names.specs.Rows.{SmallValues}
 use Rattle.resolver.specs.Raw.{sum-depth}
-use Rattle.parser.proofs.Room.{sheet-room}
 use Rattle.sheets.specs.Depth.{sums-below}
 use Rattle.sheets.specs.FuncValues.{sheet-values, values-below}
 
@@ -32,8 +31,7 @@ pub record Bounded (R : RawSheet) (n : ℕ) : Type 0 where
   pub values-small : Every SmallValues (R .funcs)
   pub sums-shallow : Every (λ (l : ProcLine). sum-depth (l .right) ≤ max-open) (R .procs)
   pub values-few : length (all (λ (l : FuncLine). l .values) (R .funcs)) ≤ n
-  pub cells-few : length (enc-sheet R) ≤ 3 * n
-  pub processes-few : length (all enc-proc (R .procs)) + length (enc-init (R .start)) ≤ length (enc-sheet R)
+  pub processes-few : length (print-lines "proc" print-proc (R .procs)) + length (print-init (R .start)) ≤ n
 
 -- the tokens of a sheet's bytes are valid, and never too many brackets are open
 pub record Taken (ts : List Token) : Type 0 where
@@ -49,10 +47,6 @@ tokens-taken s ts e =
     past-question 4 (shallow? us) _ ts e₃ λ h₄ e₄.
     let same : us ≡ ts = cc in
     subst Taken same (record { valid = tokens-valid s us t; shallow = h₄ })
-
-processes-below : (R : RawSheet) → length (all enc-proc (R .procs)) + length (enc-init (R .start)) ≤ length (enc-sheet R)
-unfolding enc-sheet
-processes-below R = simp length-append (omega arith)
 
 values-of : (R : RawSheet) → Every ValidToken (print-sheet R) → Every SmallValues (R .funcs)
 unfolding ValidToken
@@ -70,6 +64,5 @@ bounded s ts R e f =
       values-small = values-of R (read .valid);
       sums-shallow = sums-below R (read .shallow);
       values-few = omega (arith, values-below R);
-      cells-few = omega (arith, sheet-room R);
-      processes-few = processes-below R;
+      processes-few = omega (arith, sheet-length R);
     }

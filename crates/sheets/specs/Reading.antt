@@ -22,7 +22,7 @@ pub record Room (sheet toks raw values cells : List ℕ) : Type 0 where
   pub tree-few : length raw < cell-limit
   pub values-room : length toks ≤ length values
   pub values-few : length values < cell-limit
-  pub cells-room : 9 * length toks ≤ length cells
+  pub cells-room : 3 * length toks ≤ length cells
   pub cells-few : length cells < cell-limit
 
 -- questions 8 and 9 of a resolved sheet

@@ -8,12 +8,12 @@ use lib.ListN.{length, take, drop, getD}
 use Rattle.pcrl.specs.Text.{bytes}
 use Rattle.pcrl.specs.Limits.{max-open, max-sorts, max-functions, max-actions, max-processes, frame-width}
 use Rattle.pcrl.specs.Tests.{Every}
-use Rattle.pcrl.specs.Reader.{all}
 use Rattle.pcrl.specs.Maybe.{_>>=_, for-each}
 use Rattle.pcrl.specs.Tree.{ProcLine, RawSheet}
 use Rattle.pcrl.specs.Sheet.{Process, Sig, Sheet, no-action, no-process}
 use Rattle.pcrl.specs.Counts.{Counted}
 use Rattle.pcrl.specs.Names.{Names, names-of, declared, sizes-of, resolve-func, resolve-act, resolve-proc, resolve}
+use Rattle.grammar.specs.Print.{line, print-lines, print-proc}
 use Rattle.parser.specs.Cells.{Symbol, enc-sort, enc-func, enc-act, enc-proc, enc-init}
 use Rattle.parser.specs.declared.Lines.{Lines}
 use Rattle.nodes.specs.declared.Outline.{Outline}
@@ -80,7 +80,7 @@ abbrev pub ProcessRead : (s raw sorts funcs acts procs names : List ℕ) (n at :
 ProcessRead s raw sorts funcs acts procs names n at rows p w o r o′ =
     (N : Names) (l : ProcLine) (rest : List Symbol) → Declared s raw sorts funcs acts procs N → declared N ≡ bytes "Bool" ∷ scope-at s names n
     → drop at (symbols s raw) ≡ enc-proc l ++ rest → length (l .params) ≤ frame-width → sum-depth (l .right) ≤ max-open
-    → Answers (λ q. ProcessRow (length (N .procs)) q rows p w o (r .w) o′ (3 * length (enc-proc l))) (resolve-proc N l) (r .ok)
+    → Answers (λ q. ProcessRow (length (N .procs)) q rows p w o (r .w) o′ (3 * length (line "proc" (print-proc l)))) (resolve-proc N l) (r .ok)
 
 -- all of them: each has its row, and its right side stands among the first w cells
 pub record ProcessesHeld (m : ℕ) (r : ProcRows) (cells : List ℕ) (most : ℕ) (ps : List Process) : Type 0 where
@@ -90,8 +90,8 @@ pub record ProcessesHeld (m : ℕ) (r : ProcRows) (cells : List ℕ) (most : ℕ
 abbrev pub ProcessesRead : (s raw sorts funcs acts procs names : List ℕ) (n : ℕ) → ProcRows → List ℕ → Type 0
 ProcessesRead s raw sorts funcs acts procs names n r o′ =
     (N : Names) (ls : List ProcLine) → Declared s raw sorts funcs acts procs N → declared N ≡ bytes "Bool" ∷ scope-at s names n → LinesAt enc-proc s raw procs ls
-    → Every (λ (l : ProcLine). length (l .params) ≤ frame-width) ls → Every (λ (l : ProcLine). sum-depth (l .right) ≤ max-open) ls → 3 * length (all enc-proc ls) ≤ length o′
-    → Answers (ProcessesHeld (length (N .procs)) r o′ (3 * length (all enc-proc ls))) (for-each (resolve-proc N) ls) (r .ok)
+    → Every (λ (l : ProcLine). length (l .params) ≤ frame-width) ls → Every (λ (l : ProcLine). sum-depth (l .right) ≤ max-open) ls → 3 * length (print-lines "proc" print-proc ls) ≤ length o′
+    → Answers (ProcessesHeld (length (N .procs)) r o′ (3 * length (print-lines "proc" print-proc ls))) (for-each (resolve-proc N) ls) (r .ok)
 
 -- ---- the whole sheet
 -- the arrays of a sheet that was read
@@ -118,7 +118,7 @@ Named s r H = (i : ℕ) → i < length (H .sig .acts) → name-at s (getD (r .na
 -- n tokens: room for their values and for the cells of their terms
 abbrev pub Resolves : (s : List ℕ) → RawSheet → (values o : List ℕ) → Resolved → Type 0
 Resolves s R values o r =
-    (n : ℕ) → Counted R → Bounded R n → n ≤ length values → 9 * n ≤ length o → Answers (λ H. Held H (arrays (r .rows) values o) (r .rows .outline) × Named s (r .rows) H) (resolve R) (r .ok)
+    (n : ℕ) → Counted R → Bounded R n → n ≤ length values → 3 * n ≤ length o → Answers (λ H. Held H (arrays (r .rows) values o) (r .rows .outline) × Named s (r .rows) H) (resolve R) (r .ok)
 
 abbrev pub LinesResolve : (s raw sorts funcs acts procs : List ℕ) (at : ℕ) (values o : List ℕ) → Resolved → Type 0
 LinesResolve s raw sorts funcs acts procs at values o r =
