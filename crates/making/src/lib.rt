@@ -39,17 +39,16 @@ pub struct Tried {
 // Questions 1 to 11 in their order, over arrays that are lent.
 fn make(
     sheet: &[u8],
-    toks: &mut [u16],
     raw: &mut [u16],
     values: &mut [u8],
     cells: &mut [u16],
     stream: &mut [u8],
     out: &mut [u8],
 ) -> Tried
-    requires { ⌜ Room (now sheet) (now toks) (now raw) (now values) (now cells) × (length (now stream) ≤ max-stream) ⌝ }
+    requires { ⌜ Room (now sheet) (now raw) (now values) (now cells) × (length (now stream) ≤ max-stream) ⌝ }
     ensures { λ r. ⌜ Tries (file-made (now (sheet .entry)) (length (now (out .entry)))) (length (now (stream .entry))) (now (out .entry)) r (now (out .exit)) ⌝ }
 {
-    let a = read_sheet(sheet, toks, raw, values, cells);
+    let a = read_sheet(sheet, raw, values, cells);
     if a.refused != 0 {
         return Tried {
             done: true,
@@ -93,60 +92,33 @@ fn make_short(sheet: &[u8], out: &mut [u8]) -> Tried
     requires { ⌜ length (now sheet) ≤ 64 ⌝ }
     ensures { λ r. ⌜ Tries (file-made (now (sheet .entry)) (length (now (out .entry)))) 1024 (now (out .entry)) r (now (out .exit)) ⌝ }
 {
-    let mut toks = [0u16; 64];
     let mut raw = [0u16; 192];
     let mut values = [0u8; 64];
-    let mut cells = [0u16; 576];
+    let mut cells = [0u16; 192];
     let mut stream = [0u8; 1024];
-    make(
-        sheet,
-        &mut toks,
-        &mut raw,
-        &mut values,
-        &mut cells,
-        &mut stream,
-        out,
-    )
+    make(sheet, &mut raw, &mut values, &mut cells, &mut stream, out)
 }
 
 fn make_middle(sheet: &[u8], out: &mut [u8]) -> Tried
     requires { ⌜ length (now sheet) ≤ 512 ⌝ }
     ensures { λ r. ⌜ Tries (file-made (now (sheet .entry)) (length (now (out .entry)))) 8192 (now (out .entry)) r (now (out .exit)) ⌝ }
 {
-    let mut toks = [0u16; 512];
     let mut raw = [0u16; 1536];
     let mut values = [0u8; 512];
-    let mut cells = [0u16; 4608];
+    let mut cells = [0u16; 1536];
     let mut stream = [0u8; 8192];
-    make(
-        sheet,
-        &mut toks,
-        &mut raw,
-        &mut values,
-        &mut cells,
-        &mut stream,
-        out,
-    )
+    make(sheet, &mut raw, &mut values, &mut cells, &mut stream, out)
 }
 
 fn make_long(sheet: &[u8], out: &mut [u8]) -> Made
     ensures answer { λ r. ⌜ r ≡ made-answer (file-made (now (sheet .entry)) (length (now (out .entry)))) ⌝ }
     ensures written { λ r. ⌜ now (out .exit) ≡ output-after (file-made (now (sheet .entry)) (length (now (out .entry)))) (now (out .entry)) ⌝ }
 {
-    let mut toks = [0u16; 4096];
     let mut raw = [0u16; 12288];
     let mut values = [0u8; 4096];
-    let mut cells = [0u16; 36864];
+    let mut cells = [0u16; 12288];
     let mut stream = [0u8; 64768];
-    let t = make(
-        sheet,
-        &mut toks,
-        &mut raw,
-        &mut values,
-        &mut cells,
-        &mut stream,
-        out,
-    );
+    let t = make(sheet, &mut raw, &mut values, &mut cells, &mut stream, out);
     Made {
         refused: t.refused,
         length: t.length,

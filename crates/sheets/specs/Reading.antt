@@ -15,14 +15,13 @@ use Rattle.sheets.specs.declared.Rows.{Rows}
 use Rattle.sheets.specs.declared.Answer.{Answer}
 use Rattle.sheets.specs.Resolving.{arrays, Named}
 
--- room for the tokens of a sheet, for its tree, and for what it resolves to
-pub record Room (sheet toks raw values cells : List ℕ) : Type 0 where
-  pub tokens-room : min (length sheet) max-bytes ≤ length toks
-  pub tree-room : 3 * length toks ≤ length raw
+-- room for the tree of a sheet, and for its tokens and then what it resolves to; a sheet has no more tokens than bytes
+pub record Room (sheet raw values cells : List ℕ) : Type 0 where
+  pub tree-room : 3 * min (length sheet) max-bytes ≤ length raw
   pub tree-few : length raw < cell-limit
-  pub values-room : length toks ≤ length values
+  pub values-room : min (length sheet) max-bytes ≤ length values
   pub values-few : length values < cell-limit
-  pub cells-room : 3 * length toks ≤ length cells
+  pub cells-room : 3 * min (length sheet) max-bytes ≤ length cells
   pub cells-few : length cells < cell-limit
 
 -- questions 8 and 9 of a resolved sheet

@@ -76,23 +76,18 @@ fn judge(rows: Rows, values: &[u8], cells: &[u16]) -> u8
     0
 }
 
-// Check a sheet: the resolved sheet is left in the rows, the values and the cells. What is left of the tokens and the raw tree is not needed afterwards.
-pub fn read_sheet(
-    sheet: &[u8],
-    toks: &mut [u16],
-    raw: &mut [u16],
-    values: &mut [u8],
-    cells: &mut [u16],
-) -> Answer
-    requires { ⌜ Room (now sheet) (now toks) (now raw) (now values) (now cells) ⌝ }
+// Check a sheet: the resolved sheet is left in the rows, the values and the cells. The tokens stand in the cells until the
+// raw tree is made of them; what is left of the raw tree is not needed afterwards.
+pub fn read_sheet(sheet: &[u8], raw: &mut [u16], values: &mut [u8], cells: &mut [u16]) -> Answer
+    requires { ⌜ Room (now sheet) (now raw) (now values) (now cells) ⌝ }
     ensures { λ r. ⌜ Reads (sheet-read (now (sheet .entry))) (now (sheet .entry)) r (now (values .exit)) (now (cells .exit)) ⌝ }
 {
-    let l = lex(sheet, toks);
+    let l = lex(sheet, cells);
     if l.refused != 0 {
         return refusal(l.refused);
     }
     let n = l.count;
-    let t = parse(&toks[0..n], raw);
+    let t = parse(&cells[0..n], raw);
     if !t.ok {
         return refusal(NO_SHEET);
     }

@@ -16,9 +16,6 @@ slice-aggregate-make-3 c = search needs
 slice-aggregate-make-4 : tie.Need-slice-aggregate-make-4
 slice-aggregate-make-4 c = search needs
 
-slice-aggregate-make-5 : tie.Need-slice-aggregate-make-5
-slice-aggregate-make-5 c = search needs
-
 make-requires : tie.Need-make-requires
 make-requires c κs = search needs
 
@@ -26,7 +23,7 @@ same-length : tie.Need-same-length
 same-length c = search needs
 
 returns : tie.Need-returns
-returns c = let t = c .before .before .before .before .before .before .before .make in let d = t .ensures .full (omega arith) in (t .ensures .answer d, t .ensures .output d)
+returns c = let t = c .before .before .before .before .before .before .make in let d = t .ensures .full (omega arith) in (t .ensures .answer d, t .ensures .output d)
 
 pub make-long-spec : {M : Type 1} → statement M
 make-long-spec =
@@ -36,7 +33,6 @@ make-long-spec =
     slice-aggregate-make-2
     slice-aggregate-make-3
     slice-aggregate-make-4
-    slice-aggregate-make-5
     make-requires
     same-length
     returns)

@@ -13,7 +13,7 @@ use Rattle.sheets.proofs.read.read_sheet.Statement.{statement}
 use Rattle.sheets.proofs.read.read_sheet.Tie as tie
 
 lex-requires : tie.Need-lex-requires
-lex-requires c κs = search needs
+lex-requires c κs = let room = c .before .before .before .before .before .pre in omega (arith, room .cells-room)
 
 refusal-requires : tie.Need-refusal-requires
 refusal-requires c κs = search needs
@@ -23,7 +23,7 @@ same-length c = search needs
 
 returns : tie.Need-returns
 returns c =
-    let start = c .before .before .before .before .before .before .before .before .before .before .before .before in
+    let start = c .before .before .before .before .before .before .before .before .before .before .before in
     let lexed = c .before .before .before .before .before .lex in
     refused-by (start .args .sheet .now) _ _ _ _ (refused-early (start .args .sheet .now) (lexed .last .1 .0) (lexed .result) (lexed .ensures) (c .before .if1 .taken)) (c .refusal .ensures)
 
@@ -35,16 +35,17 @@ part-parse-start c = search needs
 
 part-parse-end : tie.Need-part-parse-end
 part-parse-end c =
-    let start = c .before .before .before .before .before .before .before .before .before .before .before .before in
+    let start = c .before .before .before .before .before .before .before .before .before .before .before in
     let lexed = c .before .before .before .before .before .lex in
     accepted-cells (start .args .sheet .now) (lexed .last .1 .0) (lexed .result) (lexed .ensures) (c .before .if1 .left) .room
 
 parse-requires : tie.Need-parse-requires
 parse-requires c κs =
-    let start = c .before .before .before .before .before .before .before .before .before .before .before .before .before .before in
+    let start = c .before .before .before .before .before .before .before .before .before .before .before .before .before in
     let lexed = c .before .before .before .before .before .before .before .lex in
     let room = start .pre in
-    (rw (length-take (lexed .result .count - 0) (lexed .last .1 .0)) (omega (arith, room .tree-room, lexed .kept .1 .0)), room .tree-few)
+    let few = accepted-cells (start .args .sheet .now) (lexed .last .1 .0) (lexed .result) (lexed .ensures) (c .before .before .before .if1 .left) in
+    (rw (length-take (lexed .result .count - 0) (lexed .last .1 .0)) (omega (arith, room .tree-room, few .fits, few .short)), room .tree-few)
 
 refusal-requires-2 : tie.Need-refusal-requires-2
 refusal-requires-2 c κs = search needs
@@ -57,7 +58,7 @@ same-length-3 c = search needs
 
 returns-2 : tie.Need-returns-2
 returns-2 c =
-    let start = c .before .before .before .before .before .before .before .before .before .before .before .before .before .before .before .before .before .before .before .before in
+    let start = c .before .before .before .before .before .before .before .before .before .before .before .before .before .before .before .before .before .before .before in
     let lexed = c .before .before .before .before .before .before .before .before .before .before .before .before .before .lex in
     let parsed = c .before .before .before .before .before .parse in
     let whole : lexed .result .count - 0 ≡ lexed .result .count = omega arith in
@@ -78,7 +79,7 @@ same-length-5 c = search needs
 
 returns-3 : tie.Need-returns-3
 returns-3 c =
-    let start = c .before .before .before .before .before .before .before .before .before .before .before .before .before .before .before .before .before .before .before .before .before .before .before .before in
+    let start = c .before .before .before .before .before .before .before .before .before .before .before .before .before .before .before .before .before .before .before .before .before .before .before in
     let lexed = c .before .before .before .before .before .before .before .before .before .before .before .before .before .before .before .before .before .lex in
     let parsed = c .before .before .before .before .before .before .before .before .before .parse in
     let asked = c .before .before .counted in
@@ -89,7 +90,7 @@ returns-3 c =
 
 resolve-requires : tie.Need-resolve-requires
 resolve-requires c κs =
-    let start = c .before .before .before .before .before .before .before .before .before .before .before .before .before .before .before .before .before .before .before .before .before .before .before .before .before .before in
+    let start = c .before .before .before .before .before .before .before .before .before .before .before .before .before .before .before .before .before .before .before .before .before .before .before .before .before in
     let lexed = c .before .before .before .before .before .before .before .before .before .before .before .before .before .before .before .before .before .before .before .lex in
     let parsed = c .before .before .before .before .before .before .before .before .before .before .before .parse in
     let asked = c .before .before .before .before .counted in
@@ -98,26 +99,23 @@ resolve-requires c κs =
     let parses = rw whole at (parsed .ensures (start .args .sheet .now)) in
     let tree = parsable (start .args .sheet .now) (lexed .last .1 .0) (lexed .result) (lexed .ensures) (c .before .before .before .before .before .before .before .before .before .before .before .before .before .before .before .if1 .left) (parsed .last .1 .0) (parsed .result) parses (not-false _ (c .before .before .before .before .before .before .before .if2 .left)) in
     let count = said-yes (asked .result) (asked .ensures (start .args .sheet .now) (tree .sheet) (tree .lines)) (not-false _ (c .before .before .before .if3 .left)) in
-    (few-found (start .args .sheet .now) (parsed .last .1 .0) (parsed .result .lines) (tree .sheet) (omega (arith, room .tree-few, parsed .kept .1 .0)) (tree .inside) (tree .lines) count, room .values-few, room .cells-few)
+    (few-found (start .args .sheet .now) (parsed .last .1 .0) (parsed .result .lines) (tree .sheet) (omega (arith, room .tree-few, parsed .kept .1 .0)) (tree .inside) (tree .lines) count, room .values-few, omega (arith, room .cells-few, lexed .kept .1 .0))
 
 refusal-requires-4 : tie.Need-refusal-requires-4
 refusal-requires-4 c κs = search needs
 
 same-length-6 : tie.Need-same-length-6
-same-length-6 c = c .before .before .before .before .before .before .before .before .before .before .before .before .before .before .before .before .before .before .before .before .before .before .before .before .before .before .before .lex .kept .1 .0
+same-length-6 c = c .before .before .before .before .before .before .before .before .before .before .before .before .before .before .before .before .before .before .before .parse .kept .1 .0
 
 same-length-7 : tie.Need-same-length-7
-same-length-7 c = c .before .before .before .before .before .before .before .before .before .before .before .before .before .before .before .before .before .before .before .parse .kept .1 .0
+same-length-7 c = search needs
 
 same-length-8 : tie.Need-same-length-8
-same-length-8 c = search needs
-
-same-length-9 : tie.Need-same-length-9
-same-length-9 c = search needs
+same-length-8 c = c .before .before .before .before .before .before .before .resolve .kept .1 .1 .1 .1 .0 ∙ c .before .before .before .before .before .before .before .before .before .before .before .before .before .before .before .before .before .before .before .before .before .before .before .before .before .before .before .lex .kept .1 .0
 
 returns-4 : tie.Need-returns-4
 returns-4 c =
-    let start = c .before .before .before .before .before .before .before .before .before .before .before .before .before .before .before .before .before .before .before .before .before .before .before .before .before .before .before .before .before .before .before .before .before .before in
+    let start = c .before .before .before .before .before .before .before .before .before .before .before .before .before .before .before .before .before .before .before .before .before .before .before .before .before .before .before .before .before .before .before .before .before in
     let lexed = c .before .before .before .before .before .before .before .before .before .before .before .before .before .before .before .before .before .before .before .before .before .before .before .before .before .before .before .lex in
     let parsed = c .before .before .before .before .before .before .before .before .before .before .before .before .before .before .before .before .before .before .before .parse in
     let asked = c .before .before .before .before .before .before .before .before .before .before .before .before .counted in
@@ -127,27 +125,24 @@ returns-4 c =
     let parses = rw whole at (parsed .ensures (start .args .sheet .now)) in
     let tree = parsable (start .args .sheet .now) (lexed .last .1 .0) (lexed .result) (lexed .ensures) (c .before .before .before .before .before .before .before .before .before .before .before .before .before .before .before .before .before .before .before .before .before .before .before .if1 .left) (parsed .last .1 .0) (parsed .result) parses (not-false _ (c .before .before .before .before .before .before .before .before .before .before .before .before .before .before .before .if2 .left)) in
     let count = said-yes (asked .result) (asked .ensures (start .args .sheet .now) (tree .sheet) (tree .lines)) (not-false _ (c .before .before .before .before .before .before .before .before .before .before .before .if3 .left)) in
-    let few = accepted-cells (start .args .sheet .now) (lexed .last .1 .0) (lexed .result) (lexed .ensures) (c .before .before .before .before .before .before .before .before .before .before .before .before .before .before .before .before .before .before .before .before .before .before .before .if1 .left) .room in
-    refused-by (start .args .sheet .now) _ _ _ _ (refused-7 (start .args .sheet .now) (tree .sheet) (tree .answer) count (answered-no _ _ (held .result .ok) (held .ensures (tree .sheet) (tree .lines) (tree .init) (lexed .result .count) count (tree .bounds) (omega (arith, room .values-room, lexed .kept .1 .0, few, held .kept .1 .1 .1 .0)) (omega (arith, room .cells-room, lexed .kept .1 .0, few, held .kept .1 .1 .1 .1 .0))) (not-true _ (c .before .if4 .taken)))) (c .refusal4 .ensures)
+    let few = accepted-cells (start .args .sheet .now) (lexed .last .1 .0) (lexed .result) (lexed .ensures) (c .before .before .before .before .before .before .before .before .before .before .before .before .before .before .before .before .before .before .before .before .before .before .before .if1 .left) in
+    refused-by (start .args .sheet .now) _ _ _ _ (refused-7 (start .args .sheet .now) (tree .sheet) (tree .answer) count (answered-no _ _ (held .result .ok) (held .ensures (tree .sheet) (tree .lines) (tree .init) (lexed .result .count) count (tree .bounds) (omega (arith, room .values-room, few .fits, few .short, held .kept .1 .1 .1 .0)) (omega (arith, room .cells-room, lexed .kept .1 .0, few .fits, few .short, held .kept .1 .1 .1 .1 .0))) (not-true _ (c .before .if4 .taken)))) (c .refusal4 .ensures)
 
 judge-requires : tie.Need-judge-requires
 judge-requires c κs = search needs
 
+same-length-9 : tie.Need-same-length-9
+same-length-9 c = search needs
+
 same-length-10 : tie.Need-same-length-10
-same-length-10 c = c .before .before .before .before .before .before .before .before .before .before .before .before .before .before .before .before .before .before .before .before .before .before .before .before .before .before .before .before .before .before .lex .kept .1 .0
+same-length-10 c = search needs
 
 same-length-11 : tie.Need-same-length-11
-same-length-11 c = search needs
-
-same-length-12 : tie.Need-same-length-12
-same-length-12 c = search needs
-
-same-length-13 : tie.Need-same-length-13
-same-length-13 c = search needs
+same-length-11 c = c .before .before .before .before .before .before .before .before .before .before .resolve .kept .1 .1 .1 .1 .0 ∙ c .before .before .before .before .before .before .before .before .before .before .before .before .before .before .before .before .before .before .before .before .before .before .before .before .before .before .before .before .before .before .lex .kept .1 .0
 
 returns-5 : tie.Need-returns-5
 returns-5 c =
-    let start = c .before .before .before .before .before .before .before .before .before .before .before .before .before .before .before .before .before .before .before .before .before .before .before .before .before .before .before .before .before .before .before .before .before .before .before .before .before in
+    let start = c .before .before .before .before .before .before .before .before .before .before .before .before .before .before .before .before .before .before .before .before .before .before .before .before .before .before .before .before .before .before .before .before .before .before .before .before in
     let lexed = c .before .before .before .before .before .before .before .before .before .before .before .before .before .before .before .before .before .before .before .before .before .before .before .before .before .before .before .before .before .before .lex in
     let parsed = c .before .before .before .before .before .before .before .before .before .before .before .before .before .before .before .before .before .before .before .before .before .before .parse in
     let asked = c .before .before .before .before .before .before .before .before .before .before .before .before .before .before .before .counted in
@@ -157,8 +152,8 @@ returns-5 c =
     let parses = rw whole at (parsed .ensures (start .args .sheet .now)) in
     let tree = parsable (start .args .sheet .now) (lexed .last .1 .0) (lexed .result) (lexed .ensures) (c .before .before .before .before .before .before .before .before .before .before .before .before .before .before .before .before .before .before .before .before .before .before .before .before .before .before .if1 .left) (parsed .last .1 .0) (parsed .result) parses (not-false _ (c .before .before .before .before .before .before .before .before .before .before .before .before .before .before .before .before .before .before .if2 .left)) in
     let count = said-yes (asked .result) (asked .ensures (start .args .sheet .now) (tree .sheet) (tree .lines)) (not-false _ (c .before .before .before .before .before .before .before .before .before .before .before .before .before .before .if3 .left)) in
-    let few = accepted-cells (start .args .sheet .now) (lexed .last .1 .0) (lexed .result) (lexed .ensures) (c .before .before .before .before .before .before .before .before .before .before .before .before .before .before .before .before .before .before .before .before .before .before .before .before .before .before .if1 .left) .room in
-    let (H, found, holds) = answered-yes _ _ (held .result .ok) (held .ensures (tree .sheet) (tree .lines) (tree .init) (lexed .result .count) count (tree .bounds) (omega (arith, room .values-room, lexed .kept .1 .0, few, held .kept .1 .1 .1 .0)) (omega (arith, room .cells-room, lexed .kept .1 .0, few, held .kept .1 .1 .1 .1 .0))) (not-false _ (c .before .before .before .before .if4 .left)) in
+    let few = accepted-cells (start .args .sheet .now) (lexed .last .1 .0) (lexed .result) (lexed .ensures) (c .before .before .before .before .before .before .before .before .before .before .before .before .before .before .before .before .before .before .before .before .before .before .before .before .before .before .if1 .left) in
+    let (H, found, holds) = answered-yes _ _ (held .result .ok) (held .ensures (tree .sheet) (tree .lines) (tree .init) (lexed .result .count) count (tree .bounds) (omega (arith, room .values-room, few .fits, few .short, held .kept .1 .1 .1 .0)) (omega (arith, room .cells-room, lexed .kept .1 .0, few .fits, few .short, held .kept .1 .1 .1 .1 .0))) (not-false _ (c .before .before .before .before .if4 .left)) in
     answered (start .args .sheet .now) _ _ _ H (with-sheet (start .args .sheet .now) (tree .sheet) H (tree .answer) count found) holds (c .judge .ensures H (holds .0))
 
 pub read-sheet-spec : {M : Type 1} → statement M
@@ -187,11 +182,9 @@ read-sheet-spec =
     same-length-6
     same-length-7
     same-length-8
-    same-length-9
     returns-4
     judge-requires
+    same-length-9
     same-length-10
     same-length-11
-    same-length-12
-    same-length-13
     returns-5)
