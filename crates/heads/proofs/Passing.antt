@@ -2,25 +2,46 @@
 use mathlib.Core.Path.{_≡_, refl, sym, ap, _∙_, subst}
 use mathlib.Core.List.{List, [], _++_}
 use mathlib.Core.Bool.{true, false}
-use mathlib.Core.Logic.{inl}
+use mathlib.Core.Logic.{_⊎_, inl, inr}
 use Prim.Native.Nat.{ℕ, _+_, _*_, _<_, _≤_}
 use native.Mathlib.Omega.{arith}
-use lib.ListN.{length}
+use lib.ListN.{length, getD}
+use Rattle.pcrl.specs.Sheet.{Data, Proc, call}
+use Rattle.pcrl.specs.Parts.{new-count, new-parts}
 use Rattle.pcrl.specs.Table.{Summand}
 use Rattle.pcrl.specs.Heads.{heads}
-use Rattle.nodes.specs.Layout.{byte-limit, alt-kind}
-use Rattle.counting.specs.Limits.{row-width, row}
+use Rattle.nodes.specs.declared.Node.{Node}
+use Rattle.nodes.specs.Layout.{byte-limit, alt-kind, call-kind, encs}
+use Rattle.nodes.specs.Nodes.{node-number, node-kids}
+use Rattle.nodes.specs.Views.{Views}
+use Rattle.nodes.proofs.Nodes.{one-item}
+use Rattle.counting.specs.Limits.{row-width, cut, row}
+use Rattle.counting.specs.Count.{count-by}
 use Rattle.counting.specs.Counting.{Counts}
 use Rattle.putting.specs.declared.Done.{Done}
 use Rattle.putting.proofs.PutLaws.{never}
 use Rattle.contexts.specs.declared.Spot.{Spot}
 use Rattle.contexts.specs.declared.Side.{Side}
 use Rattle.contexts.specs.Spots.{Arrays, Bound, Spotted, around, weight}
-use Rattle.contexts.proofs.Spotting.{map-none, deeper-same, deeper-then}
+use Rattle.contexts.proofs.Spotting.{case-call, map-none, deeper-same, deeper-then}
 use Rattle.contexts.proofs.Sides.{sides, side-plain}
 use Rattle.heads.specs.declared.Ahead.{Ahead}
-use Rattle.heads.specs.Progress.{Ends, Looked, SecondSide, side-spot, Headless, Past}
+use Rattle.heads.specs.Progress.{Ends, Looked, SecondSide, side-spot, Behind, Past}
 use Rattle.heads.proofs.Walking.{counted, passed, ends}
+
+-- the count of a call without heads, from its node
+pub call-counts : (cells K : List ℕ) (at : ℕ) (d : Node) → Views cells at d → d .kind ≡ call-kind → getD K (d .number) 0 ≡ 0 → Counts cells K at (record { next = d .next; heads = 0; own = 0 })
+unfolding node-number node-kids encs count-by new-count new-parts cut
+call-counts cells K at d vw is none b p rest e =
+    let o = vw b p [] rest (e ∙ one-item b p rest) in
+    let (k, ds, same) = case-call (λ q. p ≡ q) ((k : ℕ) × (ds : List Data) × (p ≡ call k ds)) p refl (sym (o .kind-is) ∙ is) (λ k ds q. (k, ds, q)) in
+    let number : d .number ≡ k = o .number-is ∙ ap node-number same in
+    let heads-none : count-by (λ i. getD K i 0) p ≡ 0 = ap (count-by (λ i. getD K i 0)) same ∙ ap (λ (i : ℕ). getD K i 0) (sym number) ∙ none in
+    let new-none : new-count b p ≡ 0 = ap (new-count b) same in (
+      sym (ap cut heads-none),
+      o .next-is ∙ ap (λ (q : Proc). encs (node-kids b q ++ []) ++ rest) same,
+      sym (ap cut new-none),
+    )
 
 -- the count of the first side says whether it has heads
 pub first-ends : (cells counts : List ℕ) (g : Ahead) → Counts cells (row (row-width * g .s .fuel) counts) (g .d .next) (g .a) → (z : Done) → (z .ok ≡ true → g .a .heads ≡ 0) → (z .ok ≡ false → g .a .heads ≡ 0 → ⊥)
@@ -29,13 +50,14 @@ first-ends cells counts g ct z y n = ends cells counts (g .s .fuel) (g .d .next)
 
 module _ (cells counts : List ℕ) where
   pub past-same : (s : Spot) → Past cells counts s s
-  past-same s = record { fuel-same = refl; further = omega arith; deeper = deeper-same s; stays = λ lk ls b. b; spotted = λ H F A hs few t sp. sp }
+  past-same s = record { fuel-same = refl; further = omega arith; deeper = deeper-same s; small = λ l. l; stays = λ lk ls b. b; spotted = λ H F A hs few t sp. sp }
 
   pub past-then : (s r t : Spot) → Past cells counts s r → Past cells counts r t → Past cells counts s t
   past-then s r t p q = record {
     fuel-same = q .fuel-same ∙ p .fuel-same;
     further = omega (arith, p .further, q .further);
     deeper = deeper-then s r t (p .deeper) (q .deeper);
+    small = λ l. q .small (p .small l);
     stays = λ lk ls b. q .stays lk ls (p .stays lk ls b);
     spotted = λ H F A hs few t sp. q .spotted H F A hs few t (p .spotted H F A hs few t sp);
   }
@@ -49,6 +71,7 @@ module _ (cells counts : List ℕ) where
         fuel-same = refl;
         further = let z = ap (λ (x : Side). x .at) ee in omega (arith, cf .0, lk .on .on);
         deeper = record { n-on = omega arith; nv-on = omega arith; lc-on = omega arith; top-on = omega arith };
+        small = λ l. small;
         stays = λ lk ls b. record {
           fuel-small = b .fuel-small;
           n-small = b .n-small;
@@ -72,6 +95,19 @@ module _ (cells counts : List ℕ) where
             let v = side-plain cells (g .d) (g .s) e₂ (A .slots) (A .conds) (λ y. omega arith) (A .vars) (A .calls) .2 H F (b .hs₂) (b .on₂) .0 refl in
             subst (λ (x : Side). Spotted H F cells (side-spot (g .s) x) A hs) (sym ee) (subst (λ (l : List Summand). Spotted H F cells (side-spot (g .s) e₂) A l) (sym u) v);
       }
+
+  -- past a call without heads
+  pub past-call : (s : Spot) (r : ℕ) → s .at < length cells → s .c < byte-limit → Behind cells (row (row-width * s .fuel) counts) (s .at) r → Past cells counts s (side-spot s (record { second = true; at = r; c = s .c }))
+  past-call s r inside small bh =
+      past-side (record { s = s; d = bh .d; a = record { next = r; heads = 0; own = 0 } }) (record { second = true; at = r; c = s .c })
+      (record { inside = inside; on = bh .on; views = bh .views; counts-first = λ t. (bh .further, bh .counted) }) (bh .is) refl (refl, small, λ t. omega arith)
+
+  abbrev pub spot-at : Spot → ℕ → Spot
+  spot-at s p = side-spot s (record { second = true; at = p; c = s .c })
+
+  pub past-more : (s : Spot) (p q : ℕ) → s .c < byte-limit → p < length cells → Behind cells (row (row-width * s .fuel) counts) p q → (p ≡ s .at) ⊎ Past cells counts s (spot-at s p) → Past cells counts s (spot-at s q)
+  past-more s p q small inside bh (inl e) = past-call s q (omega arith) small (subst (λ (x : ℕ). Behind cells (row (row-width * s .fuel) counts) x q) e bh)
+  past-more s p q small inside bh (inr pt) = past-then s (spot-at s p) (spot-at s q) pt (past-call (spot-at s p) q inside small bh)
 
   -- the weight does not grow
   pub past-weight : (l : ℕ) (s r : Spot) → Past cells counts s r → weight l (r .fuel) (r .at) ≤ weight l (s .fuel) (s .at)

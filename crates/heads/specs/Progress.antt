@@ -13,6 +13,7 @@ use Rattle.pcrl.specs.Table.{Summand}
 use Rattle.pcrl.specs.Stream.{encode-summand}
 use Rattle.pcrl.specs.Right.{SummandWithin}
 use Rattle.pcrl.specs.Heads.{heads}
+use Rattle.nodes.specs.declared.Node.{Node}
 use Rattle.nodes.specs.Layout.{byte-limit, alt-kind, atom-kind, cond-kind, call-kind, enc}
 use Rattle.nodes.specs.Views.{On, Views}
 use Rattle.counting.specs.Limits.{row-width, row}
@@ -67,11 +68,21 @@ side-spot s e = record { ok = true; at = e .at; fuel = s .fuel; n = s .n; m = s 
 abbrev pub Headless : Ahead → ℕ → Type 0
 Headless g l = (g .d .kind ≡ alt-kind) × (g .a .heads ≡ 0) × (g .a .next < l)
 
+-- the first side of `+` at p has no heads and no new equations, and ends at r
+pub record Behind (cells K : List ℕ) (p r : ℕ) : Type 0 where
+  pub d : Node
+  pub on : On p d
+  pub views : Views cells p d
+  pub is : d .kind ≡ alt-kind
+  pub further : d .next ≤ r
+  pub counted : Counts cells K (d .next) (record { next = r; heads = 0; own = 0 })
+
 -- From s on to r: what is passed has no heads.
 pub record Past (cells counts : List ℕ) (s r : Spot) : Type 0 where
   pub fuel-same : r .fuel ≡ s .fuel
   pub further : s .at ≤ r .at
   pub deeper : Deeper s r
+  pub small : s .c < byte-limit → r .c < byte-limit
   pub stays : Stays s r
   pub spotted : (H : Sheet) (F : ℕ) (A : Arrays) (hs : List Summand) → length (H .procs) ≤ row-width → Tallied H F counts → Spotted H F cells s A hs → Spotted H F cells r A hs
 

@@ -4,9 +4,9 @@ ghost use mathlib.Core.List.{[], _∷_};
 ghost use mathlib.Core.Bool.{true, false};
 ghost use Prim.Native.Nat.{_+_, _*_, _≤_, _<_};
 ghost use lib.ListN.{length};
-ghost use Rattle.nodes.specs.Layout.{byte-limit};
+ghost use Rattle.nodes.specs.Layout.{cell-limit, byte-limit};
 ghost use Rattle.nodes.specs.Scoped.{max-scope};
-ghost use Rattle.counting.specs.Limits.{row-width, max-fuel};
+ghost use Rattle.counting.specs.Limits.{row-width, max-fuel, row};
 ghost use Rattle.pcrl.specs.Parts.{as-params};
 ghost use Rattle.pcrl.specs.Stream.{encode-data};
 ghost use Rattle.nodes.specs.Bits.{odd};
@@ -15,7 +15,7 @@ ghost use Rattle.putting.specs.Slots.{slot-width, Slots};
 ghost use Rattle.contexts.specs.Spots.{variable-limit, arrays, Bound};
 ghost use Rattle.contexts.specs.Steps.{Written, SideWritten};
 ghost use Rattle.heads.specs.Writing.{slots-room, BytePut, param-of, HeadsWritten, HeadsCounted, SummandsWritten, NumbersFirst};
-ghost use Rattle.heads.specs.Progress.{Rooms, Choice, LeafKind, Ends, Looked, SecondSide, side-spot, Headless, Past, Reaches, Nearer, StepsOn};
+ghost use Rattle.heads.specs.Progress.{Rooms, Choice, LeafKind, Ends, Looked, SecondSide, side-spot, Headless, Behind, Past, Reaches, Nearer, StepsOn};
 use contexts::Side;
 use contexts::Spot;
 use counting::Counted;
@@ -131,13 +131,59 @@ fn headless(g: Ahead, l: usize) -> bool
     g.a.next < l
 }
 
+// The second side of `+` whose first side is a call without heads; else the same place.
+fn behind_call(cells: &[u16], counts: &[u16], base: usize, p: usize) -> usize
+    requires { ⌜ (p < length (now cells)) × (base < cell-limit) ⌝ }
+    ensures { λ r. ⌜ (p ≤ r) × (r < length (now (cells .entry))) ⌝ }
+    ensures { λ r. ⌜ (p < r → Behind (now (cells .entry)) (row base (now (counts .entry))) p r) ⌝ }
+{
+    let d = nodes::node_at(cells, p);
+    if d.kind != nodes::ALT {
+        return p;
+    }
+    if d.next >= cells.len() {
+        return p;
+    }
+    let e = nodes::node_at(cells, d.next);
+    if e.kind != nodes::CALL {
+        return p;
+    }
+    if e.number >= counting::ROW {
+        return p;
+    }
+    if nodes::cell(counts, base + e.number) != 0 {
+        return p;
+    }
+    if e.next < cells.len() { e.next } else { p }
+}
+
+// The first alternatives passed that are calls without heads.
+fn pass_calls(cells: &[u16], counts: &[u16], s: Spot) -> Spot
+    requires { ⌜ (s .at < length (now cells)) × (s .fuel ≤ max-fuel) × (s .c < byte-limit) ⌝ }
+    ensures { λ r. ⌜ (r .at < length (now (cells .entry))) × Past (now (cells .entry)) (now (counts .entry)) s r ⌝ }
+{
+    let base = counting::ROW * s.fuel;
+    let mut p = s.at;
+    let mut q = behind_call(cells, counts, base, p);
+    while p < q {
+        p = q;
+        q = behind_call(cells, counts, base, p);
+    }
+    let e = Side {
+        second: true,
+        at: p,
+        c: s.c,
+    };
+    if p == s.at { s } else { beside(s, e) }
+}
+
 // The first alternatives passed that have no heads.
 fn pass_headless(cells: &[u16], counts: &[u16], s: Spot) -> Ahead
     requires { ⌜ (s .at < length (now cells)) × (s .fuel ≤ max-fuel) × (s .c < byte-limit) ⌝ }
     ensures { λ r. ⌜ Looked (now (cells .entry)) (now (counts .entry)) r ⌝ }
     ensures { λ r. ⌜ Past (now (cells .entry)) (now (counts .entry)) s (r .s) ⌝ }
 {
-    let mut g = look(cells, counts, s);
+    let mut g = look(cells, counts, pass_calls(cells, counts, s));
     while headless(g, cells.len()) {
         g = look(cells, counts, beside(g.s, second_side(g)));
     }
