@@ -1,22 +1,48 @@
--- Question 2 by indices: every byte before i is printable, or one is not.
-use mathlib.Core.Path.{_≡_, refl, subst, sym}
+-- Question 2 by indices: every byte of a block is printable, or one is not.
+use mathlib.Core.Path.{_≡_, refl, subst, sym, _∙_}
 use mathlib.Core.Bool.{Bool, true, false}
 use mathlib.Core.List.{List}
-use Prim.Native.Nat.{ℕ, _<_, _≤_}
+use Prim.Native.Nat.{ℕ, _+_, _<_, _≤_}
 use native.Mathlib.Omega.{arith}
-use lib.Dec.{T}
+use lib.Dec.{T, ltb}
 use lib.ListN.{length, getD}
-use Rattle.pcrl.specs.Tests.{negated}
+use borrow.Author.Count.{below-more}
+use borrow.Author.Tests.{ltb-true, ltb-false}
+use Rattle.pcrl.specs.Tests.{and, negated}
 use Rattle.pcrl.specs.Bytes.{printable, Printable}
 use Rattle.laws.specs.Every.{every-at, at-every}
+use Rattle.laws.specs.Says.{Says}
+use Rattle.laws.specs.Tests.{is-true}
+use Rattle.lexer.proofs.Signs.{never}
 
 pub is-false : (t : Bool) → T (negated t) → false ≡ t
 is-false true h = absurd h
 is-false false h = refl
 
-pub unprintable : (s : List ℕ) (i : ℕ) → i < length s → printable (getD s i 0) ≡ false → Printable s → ⊥
+abbrev Prints : List ℕ → ℕ → Type 0
+Prints s k = printable (getD s k 0) ≡ true
+
+-- each byte from a on and before e is printable
+abbrev pub Between : List ℕ → ℕ → ℕ → Type 0
+Between s a e = (k : ℕ) → k < e → a ≤ k → Prints s k
+
+-- one byte more
+pub says-more : (s : List ℕ) (a i : ℕ) (g t : Bool) → a ≤ i → t ≡ printable (getD s i 0) → Says g (Between s a i) → Says (and g t) (Between s a (i + 1))
+says-more s a i true true h e f = below-more (λ k. a ≤ k → Prints s k) i f (λ l. sym e)
+says-more s a i true false h e f = λ g. let z : false ≡ true = e ∙ g i (omega arith) h in never z
+says-more s a i false t h e n = λ g. n (λ k l m. g k (omega arith) m)
+
+-- the bytes before a and those from a on
+pub up-to : (s : List ℕ) (a e : ℕ) → ((k : ℕ) → k < a → Prints s k) → Between s a e → (k : ℕ) → k < e → Prints s k
+up-to s a e f g k h = go (ltb k a) refl
+  where
+    go : (t : Bool) → ltb k a ≡ t → Prints s k
+    go true q = f k (ltb-true k a q)
+    go false q = g k h (ltb-false k a q)
+
+pub unprintable : (s : List ℕ) (a e : ℕ) → e ≤ length s → (Between s a e → ⊥) → Printable s → ⊥
 unfolding Printable
-unprintable s i h e p = subst T e (every-at (λ b. T (printable b)) s 0 i p h)
+unprintable s a e h n p = n (λ k l m. is-true (printable (getD s k 0)) (every-at (λ b. T (printable b)) s 0 k p (omega arith)))
 
 pub all-printable : (s : List ℕ) (n : ℕ) → length s ≤ n → ((i : ℕ) → i < n → printable (getD s i 0) ≡ true) → Printable s
 unfolding Printable

@@ -9,7 +9,7 @@ use native.Mathlib.Nat.{add-sub-cancel-left}
 use native.Mathlib.Omega.{arith}
 use lib.Dec.{leb, eqb, ltb}
 use lib.ListN.{length, take, drop, getD, drop-of-length-le}
-use borrow.Author.Tests.{le-leb, lt-leb, eq-eqb, ne-eqb, lt-ltb, le-ltb, leb-true, leb-false}
+use borrow.Author.Tests.{le-leb, lt-leb, eq-eqb, ne-eqb, lt-ltb, le-ltb, leb-true, leb-false, ltb-true, ltb-false}
 use Rattle.pcrl.specs.Text.{byte}
 use Rattle.pcrl.specs.Limits.{max-name, max-numeral}
 use Rattle.pcrl.specs.Tests.{or, among}
@@ -43,6 +43,13 @@ name-new : (w : List ℕ) → length w ≤ max-name → among w words ≡ false 
 unfolding name-of
 name-new w h e = rw (le-leb _ _ h, e, name-of)
 
+-- a run that goes past the most is none, of which only the first n bytes were looked at
+pub reads-long : (s : List ℕ) (at n : ℕ) → n ≤ run (in-classes 2 4) (drop at s) → max-name < n → Reads s (name-of (front name-byte (drop at s))) (record { cell = 0; len = n })
+reads-long s at n e h =
+    reads-none s (name-of (front name-byte (drop at s))) (record { cell = 0; len = n })
+    (name-long (front name-byte (drop at s)) (omega (arith, length-front name-byte (drop at s), run-same (in-classes 2 4) name-byte is-name-byte (drop at s))))
+    refl
+
 module _ (s : List ℕ) (at n : ℕ) (e : n ≡ run (in-classes 2 4) (drop at s)) where
   name-run : n ≡ run name-byte (drop at s)
   name-run = e ∙ run-same (in-classes 2 4) name-byte is-name-byte (drop at s)
@@ -52,9 +59,6 @@ module _ (s : List ℕ) (at n : ℕ) (e : n ≡ run (in-classes 2 4) (drop at s)
 
   part : take (at + n - at) (drop at s) ≡ front name-byte (drop at s)
   part = ap (λ (k : ℕ). take k (drop at s)) (add-sub-cancel-left at n ∙ name-run)
-
-  pub reads-long : max-name < n → Reads s (name-of (front name-byte (drop at s))) (record { cell = 0; len = n })
-  reads-long h = reads-none s (name-of (front name-byte (drop at s))) (record { cell = 0; len = n }) (name-long (front name-byte (drop at s)) (omega (arith, width))) refl
 
   module _ (h : n ≤ max-name) (w : ℕ) (f : w ≡ sign-cell first-word words (take (at + n - at) (drop at s))) where
     cell-is : w ≡ sign-cell first-word words (front name-byte (drop at s))
@@ -84,13 +88,13 @@ module _ (s : List ℕ) (at n : ℕ) (e : n ≡ run (in-classes 2 4) (drop at s)
     reads-name z =
         ⊎-elim (λ q. absurd (let c = q .cell in let i = cell-is in omega arith)) (λ q. reads-missing q) (look-up first-word words (front name-byte (drop at s)))
 
--- the run of a byte that starts one has a byte at least, and no more than there are
-pub run-fit : (lo hi : ℕ) (s : List ℕ) (at n c : ℕ) → n ≡ run (in-classes lo hi) (drop at s) → at < length s → lo ≤ class-of (getD s at 0) → class-of (getD s at 0) ≤ hi
-    → Fits (length s) at (record { cell = c; len = n })
-run-fit lo hi s at n c e h l u =
+-- what was looked at of the run of a byte that starts one has a byte at least, and no more than there are
+pub run-fit : (lo hi : ℕ) (s : List ℕ) (at n c : ℕ) → n ≤ run (in-classes lo hi) (drop at s) → (1 ≤ run (in-classes lo hi) (drop at s) → 1 ≤ n)
+    → at < length s → lo ≤ class-of (getD s at 0) → class-of (getD s at 0) ≤ hi → Fits (length s) at (record { cell = c; len = n })
+run-fit lo hi s at n c e p h l u =
     let m = run-more (in-classes lo hi) s at h (within-both lo hi (class-of (getD s at 0)) l u) in
     let f = run-fits (in-classes lo hi) s at in
-    record { least = omega arith; most = omega arith }
+    record { least = p (omega arith); most = omega arith }
 
 -- ---- numerals
 pub value-ge : (v : ℕ) (t : List ℕ) → v ≤ value-of v t
@@ -166,6 +170,32 @@ module _ (s t : List ℕ) where
             (λ z. omega arith)
             (cell-numeral s v (omega arith) ∙ ap numeral (e ∙ a))
             refl
+
+-- four digits have a zero first, or spell more than the most
+value-long : (t : List ℕ) → 4 ≤ length t → byte "0" < getD t 0 0 → max-numeral < value-of 0 t
+unfolding value-of
+value-long [] h k = absurd (omega arith)
+value-long (a ∷ []) h k = absurd (omega arith)
+value-long (a ∷ b ∷ []) h k = absurd (omega arith)
+value-long (a ∷ b ∷ c ∷ []) h k = absurd (omega arith)
+value-long (a ∷ b ∷ c ∷ d ∷ t) h k =
+    let v : ℕ = (((0 * 10 + (a - byte "0")) * 10 + (b - byte "0")) * 10 + (c - byte "0")) * 10 + (d - byte "0") in
+    let z : v ≤ value-of 0 (a ∷ b ∷ c ∷ d ∷ t) = value-ge v t in
+    omega arith
+
+numeral-long : (t : List ℕ) → 4 ≤ length t → numeral-of t ≡ none
+numeral-long t h = go (ltb (byte "0") (getD t 0 0)) refl
+  where
+    go : (x : Bool) → ltb (byte "0") (getD t 0 0) ≡ x → numeral-of t ≡ none
+    go true e = let k = ltb-true (byte "0") (getD t 0 0) e in numeral-over t (inl k) (value-long t h k)
+    go false e = numeral-zero t (λ q. omega arith) (ltb-false (byte "0") (getD t 0 0) e)
+
+-- of so many digits only the first n were looked at
+pub reads-many : (s : List ℕ) (at n : ℕ) → n ≤ run (in-classes 2 2) (drop at s) → 3 < n → Reads s (numeral-of (front digit (drop at s))) (record { cell = 0; len = n })
+reads-many s at n e h =
+    reads-none s (numeral-of (front digit (drop at s))) (record { cell = 0; len = n })
+    (numeral-long (front digit (drop at s)) (omega (arith, length-front digit (drop at s), run-same (in-classes 2 2) digit is-digit (drop at s))))
+    refl
 
 -- what is read of the digits at a place is read of their run
 pub reads-digits : (s : List ℕ) (at n c : ℕ) → n ≡ run (in-classes 2 2) (drop at s)

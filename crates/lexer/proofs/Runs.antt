@@ -1,15 +1,16 @@
 -- Laws of `run` at a place of a list, and the tests of bytes as classes.
-use mathlib.Core.Path.{_≡_, refl, sym, ap₂, subst}
+use mathlib.Core.Path.{_≡_, refl, sym, ap, ap₂, subst}
 use mathlib.Core.Logic.{_⊎_, inl, inr, ⊎-elim}
 use mathlib.Core.Bool.{Bool, true, false}
 use mathlib.Core.List.{List, [], _∷_}
-use Prim.Native.Nat.{ℕ, suc, _+_, _-_, _<_, _≤_}
+use Prim.Native.Nat.{ℕ, zero, suc, _+_, _-_, _<_, _≤_, min}
+use native.Mathlib.Nat.{add-sub-cancel-left}
 use native.Mathlib.Numerals.{add-one}
 use native.Mathlib.Omega.{arith}
 use lib.Dec.{eqb}
-use lib.ListN.{length, drop, getD, drop-of-length-le, length-drop}
+use lib.ListN.{length, take, drop, getD, drop-of-length-le, length-drop}
 use lib.Seq.{drop-cons, length-take-le}
-use borrow.Author.Tests.{le-leb, lt-leb, eqb-true}
+use borrow.Author.Tests.{le-leb, lt-leb, eqb-true, ne-eqb}
 use Rattle.pcrl.specs.Text.{byte}
 use Rattle.pcrl.specs.Tests.{or, within}
 use Rattle.pcrl.specs.Bytes.{separator, letter, digit, name-byte}
@@ -59,6 +60,23 @@ run-fits test s i = rw length-drop at (run-le test (drop i s))
 pub length-front : (test : ℕ → Bool) (l : List ℕ) → length (front test l) ≡ run test l
 length-front test l = length-take-le (run test l) l (run-le test l)
 
+-- ---- the run in the first m bytes
+run-take-step : (t : Bool) (m k n : ℕ) → k ≡ min m n
+    → _≡_ {A = ℕ} (elim t as (λ _. ℕ) [ true ↦ suc k | false ↦ 0 ]) (min (suc m) (elim t as (λ _. ℕ) [ true ↦ suc n | false ↦ 0 ]))
+run-take-step true m k n e = omega arith
+run-take-step false m k n e = omega arith
+
+run-take : (test : ℕ → Bool) (m : ℕ) (l : List ℕ) → run test (take m l) ≡ min m (run test l)
+unfolding run
+run-take test zero l = omega arith
+run-take test (suc m) [] = omega arith
+run-take test (suc m) (b ∷ l) = run-take-step (test b) m (run test (take m l)) (run test l) (run-take test m l)
+
+pub run-part : (test : ℕ → Bool) (s : List ℕ) (at most m n : ℕ) → m ≡ min (length s - at) most → n ≡ run test (take (at + m - at) (drop at s))
+    → n ≡ min most (run test (drop at s))
+run-part test s at most m n e f =
+    omega (arith, ap (λ (k : ℕ). run test (take k (drop at s))) (add-sub-cancel-left at m), run-take test m (drop at s), run-fits test s at)
+
 -- two tests that agree have one run
 run-same-step : (t u : Bool) (k m : ℕ) → t ≡ u → k ≡ m
     → _≡_ {A = ℕ} (elim t as (λ _. ℕ) [ true ↦ suc k | false ↦ 0 ]) (elim u as (λ _. ℕ) [ true ↦ suc m | false ↦ 0 ])
@@ -75,20 +93,14 @@ or-left true b e = inl refl
 or-left false b e = inr e
 
 -- a separator is one of two bytes, so that what holds of both holds of it
-pub of-separator : (P : ℕ → Type 0) → P 0x20 → P 0x0A → (b : ℕ) → separator b ≡ true → P b
+of-separator : (P : ℕ → Type 0) → P 0x20 → P 0x0A → (b : ℕ) → separator b ≡ true → P b
 of-separator P p q b e =
     ⊎-elim (λ h. subst P (sym (eqb-true b 0x20 h)) p) (λ h. subst P (sym (eqb-true b 0x0A h)) q) (or-left (eqb b 0x20) (eqb b 0x0A) e)
 
--- what a test of the class says, by the first test that passes
-separators : (s d l u a p : Bool) → within 1 1 (class-by s d l u a p) ≡ s
-separators true d l u a p = refl
-separators false true l u a p = refl
-separators false false true u a p = refl
-separators false false false true a p = refl
-separators false false false false true p = refl
-separators false false false false false true = refl
-separators false false false false false false = refl
+pub no-separator : (b : ℕ) → (b ≡ 0x20 → ⊥) → (b ≡ 0x0A → ⊥) → separator b ≡ false
+no-separator b n m = rw (ne-eqb _ _ n, ne-eqb _ _ m)
 
+-- what a test of the class says, by the first test that passes
 digits : (d l u a p : Bool) → within 2 2 (class-by false d l u a p) ≡ d
 digits true l u a p = refl
 digits false true u a p = refl
@@ -112,10 +124,6 @@ by-separator P b p q r = go (separator b) refl
     go : (t : Bool) → separator b ≡ t → P b
     go true e = of-separator P p q b e
     go false e = r e
-
-pub is-separator : (b : ℕ) → in-classes 1 1 b ≡ separator b
-unfolding class-of
-is-separator b = separators (separator b) (digit b) (letter b) (eqb b (byte "_")) (alone b) (leads b)
 
 pub is-digit : (b : ℕ) → in-classes 2 2 b ≡ digit b
 unfolding class-of

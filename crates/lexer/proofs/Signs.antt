@@ -76,20 +76,37 @@ module _ (w : List ℕ) where
   unfolding words Every
   no-word n₁ n₂ n₃ n₄ n₅ n₆ n₇ n₈ = sym (sign-cell-none first-word words w (n₁, (n₂, (n₃, (n₄, (n₅, (n₆, (n₇, (n₈, tt)))))))))
 
-  other-length : (v : List ℕ) → (length w ≡ length v → ⊥) → w ≡ v → ⊥
-  other-length v n e = n (ap length e)
+  other-first : (v : List ℕ) → (getD w 0 0 ≡ getD v 0 0 → ⊥) → w ≡ v → ⊥
+  other-first v n e = n (ap (λ (l : List ℕ). getD l 0 0) e)
 
-  pub short-word : length w < 3 → 0 ≡ sign-cell first-word words w
-  short-word h =
-      no-word (other-length (bytes "sort") (λ q. omega arith)) (other-length (bytes "func") (λ q. omega arith)) (other-length (bytes "act") (λ q. omega arith))
-      (other-length (bytes "proc") (λ q. omega arith)) (other-length (bytes "init") (λ q. omega arith)) (other-length (bytes "sum") (λ q. omega arith))
-      (other-length (bytes "delta") (λ q. omega arith)) (other-length (bytes "tau") (λ q. omega arith))
+  -- no word begins with its first byte
+  pub first-unlike : (getD w 0 0 ≡ 115 → ⊥) → (getD w 0 0 ≡ 102 → ⊥) → (getD w 0 0 ≡ 97 → ⊥) → (getD w 0 0 ≡ 112 → ⊥)
+      → (getD w 0 0 ≡ 105 → ⊥) → (getD w 0 0 ≡ 100 → ⊥) → (getD w 0 0 ≡ 116 → ⊥) → 0 ≡ sign-cell first-word words w
+  first-unlike s f a p i d t =
+      no-word (other-first (bytes "sort") s) (other-first (bytes "func") f) (other-first (bytes "act") a) (other-first (bytes "proc") p)
+      (other-first (bytes "init") i) (other-first (bytes "sum") s) (other-first (bytes "delta") d) (other-first (bytes "tau") t)
 
-  pub long-word : 5 < length w → 0 ≡ sign-cell first-word words w
-  long-word h =
-      no-word (other-length (bytes "sort") (λ q. omega arith)) (other-length (bytes "func") (λ q. omega arith)) (other-length (bytes "act") (λ q. omega arith))
-      (other-length (bytes "proc") (λ q. omega arith)) (other-length (bytes "init") (λ q. omega arith)) (other-length (bytes "sum") (λ q. omega arith))
-      (other-length (bytes "delta") (λ q. omega arith)) (other-length (bytes "tau") (λ q. omega arith))
+-- the signs that begin with b
+abbrev pub starting : ℕ → List (List ℕ) → List (List ℕ)
+starting b [] = []
+starting b (v ∷ vs) = elim (eqb b (getD v 0 0)) as (λ _. List (List ℕ)) [ true ↦ v ∷ starting b vs | false ↦ starting b vs ]
+
+-- what is none of the signs that begin with its first byte is none of all
+module _ (w : List ℕ) (b : ℕ) (first : getD w 0 0 ≡ b) where
+  starting-step : (v : List ℕ) (vs : List (List ℕ)) (t : Bool) → eqb b (getD v 0 0) ≡ t
+      → Every (λ v. w ≡ v → ⊥) (elim t as (λ _. List (List ℕ)) [ true ↦ v ∷ starting b vs | false ↦ starting b vs ])
+      → (Every (λ v. w ≡ v → ⊥) (starting b vs) → Every (λ v. w ≡ v → ⊥) vs) → Every (λ v. w ≡ v → ⊥) (v ∷ vs)
+  unfolding Every
+  starting-step v vs true e h ih = (h .0, ih (h .1))
+  starting-step v vs false e h ih = (other-first w v (λ q. eqb-false b (getD v 0 0) e (sym first ∙ q)), ih h)
+
+  starting-none : (vs : List (List ℕ)) → Every (λ v. w ≡ v → ⊥) (starting b vs) → Every (λ v. w ≡ v → ⊥) vs
+  unfolding Every
+  starting-none [] h = tt
+  starting-none (v ∷ vs) h = starting-step v vs (eqb b (getD v 0 0)) refl h (starting-none vs)
+
+  pub no-word-starting : Every (λ v. w ≡ v → ⊥) (starting b words) → 0 ≡ sign-cell first-word words w
+  no-word-starting h = sym (sign-cell-none first-word words w (starting-none words h))
 
 -- ---- the mark that bytes begin with
 mark-miss : (m : List ℕ) (ms : List (List ℕ)) (s : List ℕ) → (m ≡ take (length m) s → ⊥) → mark-of (m ∷ ms) s ≡ mark-of ms s

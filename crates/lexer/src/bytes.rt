@@ -1,7 +1,10 @@
 // Bytes: their classes, runs of them, and question 2.
+ghost use mathlib.Core.Bool.{true};
 ghost use mathlib.Core.Path.{_≡_};
-ghost use Prim.Native.Nat.{_+_};
-ghost use lib.ListN.{drop, getD};
+ghost use Prim.Native.Nat.{ℕ, _+_, _≤_, _<_, min};
+ghost use lib.ListN.{length, drop, getD};
+ghost use Rattle.pcrl.specs.Limits.{max-bytes};
+ghost use Rattle.pcrl.specs.Tests.{and};
 ghost use Rattle.pcrl.specs.Bytes as B;
 ghost use Rattle.pcrl.specs.Tokens as T;
 ghost use Rattle.laws.specs.Says.{Says};
@@ -60,6 +63,21 @@ pub fn run(s: &[u8], at: usize, lo: u8, hi: u8) -> usize
     end - at
 }
 
+fn least(a: usize, b: usize) -> usize
+    ensures { λ r. ⌜ r ≡ min a b ⌝ }
+{
+    if a < b { a } else { b }
+}
+
+// The same, but no more than `most` of them: what stands further on is not looked at.
+pub fn run_within(s: &[u8], at: usize, most: usize, lo: u8, hi: u8) -> usize
+    requires { ⌜ at ≤ length (now s) ⌝ }
+    ensures { λ r. ⌜ r ≡ min most (T.run (in-classes lo hi) (drop at (now (s .entry)))) ⌝ }
+{
+    let end = at + least(s.len() - at, most);
+    run(&s[at..end], 0, lo, hi)
+}
+
 // A place in the sheet.
 pub struct Cursor {
     pub at: usize,
@@ -70,10 +88,22 @@ impl Cursor {
     pub fn skip(self, s: &[u8]) -> Cursor
         ensures { λ r. ⌜ r .at ≡ self .at + T.run B.separator (drop (self .at) (now (s .entry))) ⌝ }
     {
-        let at = self.at;
-        Cursor {
-            at: at + run(s, at, SEPARATOR, SEPARATOR),
+        let mut at = self.at;
+        while at < s.len() {
+            match s[at] {
+                b' ' | b'\n' => at += 1,
+                _ => return Cursor { at },
+            }
         }
+        Cursor { at }
+    }
+
+    // Past n bytes.
+    pub fn past(self, n: usize) -> Cursor
+        requires { ⌜ self .at + n ≤ max-bytes ⌝ }
+        ensures { λ r. ⌜ r .at ≡ self .at + n ⌝ }
+    {
+        Cursor { at: self.at + n }
     }
 }
 
@@ -108,16 +138,40 @@ fn printable(b: u8) -> bool
     }
 }
 
+fn both(a: bool, b: bool) -> bool
+    ensures { λ r. ⌜ r ≡ and a b ⌝ }
+{
+    if a { b } else { false }
+}
+
+// How many bytes are tested before the first answer.
+const BLOCK: usize = 256;
+
+// Is each byte from `at` on and before `end` printable? The loop has one way out, so that the compiler tests many bytes at once.
+fn block_printable(s: &[u8], at: usize, end: usize) -> bool
+    requires { ⌜ (at ≤ end) × (end ≤ length (now s)) ⌝ }
+    ensures { λ r. ⌜ Says r ((k : ℕ) → k < end → at ≤ k → B.printable (getD (now (s .entry)) k 0) ≡ true) ⌝ }
+{
+    let mut good = true;
+    let mut i = at;
+    while i < end {
+        good = both(good, printable(s[i]));
+        i += 1;
+    }
+    good
+}
+
 // Question 2: each byte hex 20 to 7E or hex 0A?
 pub fn all_printable(s: &[u8]) -> bool
     ensures { λ r. ⌜ Says r (B.Printable (now (s .entry))) ⌝ }
 {
     let mut i = 0;
     while i < s.len() {
-        if !printable(s[i]) {
+        let end = i + least(s.len() - i, BLOCK);
+        if !block_printable(s, i, end) {
             return false;
         }
-        i += 1;
+        i = end;
     }
     true
 }

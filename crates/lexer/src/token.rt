@@ -30,7 +30,7 @@ use crate::bytes::MARK;
 use crate::bytes::UNDERSCORE;
 use crate::bytes::byte_at;
 use crate::bytes::class;
-use crate::bytes::run;
+use crate::bytes::run_within;
 use crate::bytes::same;
 use crate::bytes::wide;
 
@@ -38,45 +38,29 @@ const MAX_NAME: usize = 16;
 
 const MAX_NUMERAL: u16 = 255;
 
-const SHORTEST_WORD: usize = 3;
+// more digits have a zero first, or spell more
+const MAX_DIGITS: usize = 3;
 
-const LONGEST_WORD: usize = 5;
-
-// The cell of a word, or 0.
+// The cell of a word, or 0: by the first byte, which only `sort` and `sum` share.
 fn word(t: &[u8]) -> u16
     ensures { λ r. ⌜ r ≡ sign-cell first-word T.words (now (t .entry)) ⌝ }
 {
-    if t.len() < SHORTEST_WORD {
-        return NO_TOKEN;
+    match byte_at(t, 0) {
+        b's' => if same(t, b"sort") {
+            SORT
+        } else if same(t, b"sum") {
+            SUM
+        } else {
+            NO_TOKEN
+        },
+        b'f' => if same(t, b"func") { FUNC } else { NO_TOKEN },
+        b'a' => if same(t, b"act") { ACT } else { NO_TOKEN },
+        b'p' => if same(t, b"proc") { PROC } else { NO_TOKEN },
+        b'i' => if same(t, b"init") { INIT } else { NO_TOKEN },
+        b'd' => if same(t, b"delta") { DELTA } else { NO_TOKEN },
+        b't' => if same(t, b"tau") { TAU } else { NO_TOKEN },
+        _ => NO_TOKEN,
     }
-    if LONGEST_WORD < t.len() {
-        return NO_TOKEN;
-    }
-    if same(t, b"sort") {
-        return SORT;
-    }
-    if same(t, b"func") {
-        return FUNC;
-    }
-    if same(t, b"act") {
-        return ACT;
-    }
-    if same(t, b"proc") {
-        return PROC;
-    }
-    if same(t, b"init") {
-        return INIT;
-    }
-    if same(t, b"sum") {
-        return SUM;
-    }
-    if same(t, b"delta") {
-        return DELTA;
-    }
-    if same(t, b"tau") {
-        return TAU;
-    }
-    NO_TOKEN
 }
 
 // The name or word at `at`, where a letter stands.
@@ -85,7 +69,7 @@ fn name_at(s: &[u8], at: usize) -> Taken
     ensures { λ r. ⌜ Fits (length (now (s .entry))) at r ⌝ }
     ensures { λ r. ⌜ Reads (now (s .entry)) (T.name-of (T.front B.name-byte (drop at (now (s .entry))))) r ⌝ }
 {
-    let n = run(s, at, DIGIT, UNDERSCORE);
+    let n = run_within(s, at, MAX_NAME + 1, DIGIT, UNDERSCORE);
     if MAX_NAME < n {
         return Taken {
             cell: NO_TOKEN,
@@ -148,7 +132,13 @@ fn numeral_at(s: &[u8], at: usize) -> Taken
     ensures { λ r. ⌜ Fits (length (now (s .entry))) at r ⌝ }
     ensures { λ r. ⌜ Reads (now (s .entry)) (T.numeral-of (T.front B.digit (drop at (now (s .entry))))) r ⌝ }
 {
-    let n = run(s, at, DIGIT, DIGIT);
+    let n = run_within(s, at, MAX_DIGITS + 1, DIGIT, DIGIT);
+    if MAX_DIGITS < n {
+        return Taken {
+            cell: NO_TOKEN,
+            len: n,
+        };
+    }
     Taken {
         cell: numeral(&s[at..at + n]),
         len: n,

@@ -16,17 +16,18 @@ pub fn tokens(sheet: &[u8], out: &mut [u16]) -> Lexed
     ensures { λ r. ⌜ r .count ≤ length (now (sheet .entry)) ⌝ }
     ensures { λ r. ⌜ Lexes (question-of 3 (T.tokens (now (sheet .entry))) accepted) (now (sheet .entry)) r (now (out .exit)) ⌝ }
 {
-    let mut at = 0;
+    let mut cursor = Cursor { at: 0 };
     let mut n: usize = 0;
     loop {
-        let p = Cursor { at }.skip(sheet).at;
-        if sheet.len() <= p {
+        cursor = cursor.skip(sheet);
+        let at = cursor.at;
+        if sheet.len() <= at {
             return Lexed {
                 refused: 0,
                 count: n,
             };
         }
-        let t = token_at(sheet, p);
+        let t = token_at(sheet, at);
         if t.cell == NO_TOKEN {
             return Lexed {
                 refused: 3,
@@ -35,6 +36,6 @@ pub fn tokens(sheet: &[u8], out: &mut [u16]) -> Lexed
         }
         out[n] = t.cell;
         n += 1;
-        at = p + t.len;
+        cursor = cursor.past(t.len);
     }
 }

@@ -1,19 +1,22 @@
--- `lexer::token::name_at`: classes 2 to 4 are the bytes of a name, and the part of the sheet is their run.
-use native.Mathlib.Omega.{arith}
+-- `lexer::token::name_at`: classes 2 to 4 are the bytes of a name; the part of the sheet is their run, if it is not too long.
 use borrow.Author.Needs.{needs}
+use native.Mathlib.Omega.{arith}
 use Rattle.lexer.specs.Classes.{in-classes}
 use Rattle.lexer.proofs.Reading.{run-fit, reads-long, reads-word, reads-name}
 use Rattle.lexer.proofs.Runs.{run-fits}
 use Rattle.lexer.proofs.token.name_at.Statement.{statement}
 use Rattle.lexer.proofs.token.name_at.Tie as tie
 
-run-requires : tie.Need-run-requires
-run-requires c κs = search needs
+add-run-within : tie.Need-add-run-within
+add-run-within c = search needs
+
+run-within-requires : tie.Need-run-within-requires
+run-within-requires c κs = search needs
 
 returns : tie.Need-returns
 returns c = let a = c .before .before .before .args in (
-  run-fit 2 4 (a .s .now) (a .at) (c .before .run .result) 0 (c .before .run .ensures) (omega arith) (omega arith) (omega arith),
-  reads-long (a .s .now) (a .at) (c .before .run .result) (c .before .run .ensures) (omega arith),
+  run-fit 2 4 (a .s .now) (a .at) (c .before .run-within .result) 0 (omega arith) (λ k. omega arith) (omega arith) (omega arith) (omega arith),
+  reads-long (a .s .now) (a .at) (c .before .run-within .result) (omega arith) (omega arith),
 )
 
 add-word : tie.Need-add-word
@@ -39,21 +42,22 @@ add-t13 c = search needs
 
 returns-2 : tie.Need-returns-2
 returns-2 c = let a = c .before .before .before .before .before .before .args in (
-  run-fit 2 4 (a .s .now) (a .at) (c .before .before .before .before .run .result) _ (c .before .before .before .before .run .ensures) (omega arith) (omega arith) (omega arith),
-  reads-name (a .s .now) (a .at) (c .before .before .before .before .run .result) (c .before .before .before .before .run .ensures) (omega arith) (c .before .word .result) (c .before .word .ensures) (c .if2 .taken),
+  run-fit 2 4 (a .s .now) (a .at) (c .before .before .before .before .run-within .result) _ (omega arith) (λ k. omega arith) (omega arith) (omega arith) (omega arith),
+  reads-name (a .s .now) (a .at) (c .before .before .before .before .run-within .result) (omega arith) (omega arith) (c .before .word .result) (c .before .word .ensures) (c .if2 .taken),
 )
 
 returns-3 : tie.Need-returns-3
 returns-3 c = let a = c .before .before .before .before .before .before .args in (
-  run-fit 2 4 (a .s .now) (a .at) (c .before .before .before .before .run .result) (c .before .word .result) (c .before .before .before .before .run .ensures) (omega arith) (omega arith) (omega arith),
-  reads-word (a .s .now) (a .at) (c .before .before .before .before .run .result) (c .before .before .before .before .run .ensures) (omega arith) (c .before .word .result) (c .before .word .ensures) (c .if2 .left),
+  run-fit 2 4 (a .s .now) (a .at) (c .before .before .before .before .run-within .result) (c .before .word .result) (omega arith) (λ k. omega arith) (omega arith) (omega arith) (omega arith),
+  reads-word (a .s .now) (a .at) (c .before .before .before .before .run-within .result) (omega arith) (omega arith) (c .before .word .result) (c .before .word .ensures) (c .if2 .left),
 )
 
 pub name-at-spec : {M : Type 1} → statement M
 name-at-spec =
     tie.close
     (tie.spec
-    run-requires
+    add-run-within
+    run-within-requires
     returns
     add-word
     sub-word
