@@ -1,20 +1,21 @@
 -- Blocks of assignments: what a condition says on one of them it says on all, if it names no variable that changes there.
-use mathlib.Core.Path.{_≡_, refl, sym, _∙_, ap}
+use mathlib.Core.Path.{_≡_, refl, sym, _∙_, ap, ap₂, subst}
 use mathlib.Core.List.{List, [], _∷_}
 use mathlib.Core.Bool.{Bool, true, false}
 use Prim.Native.Nat.{ℕ, zero, suc, _+_, _-_, _*_, _/_, _%_, _≤_, _<_}
-use native.Mathlib.Nat.{div-div-eq-div-mul, mul-one, mul-comm, mul-assoc, mul-pos, div-eq-of-lt-le, div-mul-le-self}
+use native.Mathlib.Nat.{div-div-eq-div-mul, mul-one, mul-comm, mul-assoc, mul-pos, mul-zero, div-eq-of-lt-le, div-mul-le-self}
 use native.Mathlib.Omega.{arith}
 use lib.Dec.{eqb, ltb}
 use lib.ListN.{length, getD, drop, take, List·getD-append}
-use lib.Seq.{length-take-le, getD-append-add}
+use lib.Seq.{length-take-le, getD-append-add, drop-drop}
 use borrow.Author.Tests.{eq-eqb, ne-eqb, lt-ltb, le-ltb, ltb-true, ltb-false}
 use Rattle.pcrl.specs.Tests.{and}
-use Rattle.evaluation.specs.Run.{top, peak}
+use Rattle.evaluation.specs.Run.{pick, top, peak}
 use Rattle.evaluation.specs.Known.{Alike}
 use Rattle.evaluation.proofs.Bytes.{run-same}
-use Rattle.assignments.specs.Places.{product, valuesOf, Sizes}
-use Rattle.assignments.specs.Conditions.{env, code, holds, all-below, met, Ready, tried-of, Tested}
+use Rattle.assignments.specs.Places.{product, valuesOf}
+use Rattle.assignments.specs.Conditions.{env, code, holds, all-below, tried-of, Tested}
+use Rattle.assignments.specs.Parting.{asked, part-met, Part}
 
 -- products of sizes
 pub product-pos : (l : ℕ) (s : List ℕ) → ((i : ℕ) → i < length s → 0 < getD s i 0) → 0 < product (drop l s)
@@ -31,6 +32,33 @@ product-split (suc l) (n ∷ s) = ap (λ (x : ℕ). n * x) (product-split l s) �
 coarser : (l : ℕ) (s : List ℕ) (i j : ℕ) → i / product (drop l s) ≡ j / product (drop l s) → i / product s ≡ j / product s
 coarser l s i j h =
     rw (product-split l s) (sym (div-div-eq-div-mul i (product (drop l s)) (product (take l s))) ∙ ap (λ (x : ℕ). x / product (take l s)) h ∙ div-div-eq-div-mul j (product (drop l s)) (product (take l s)))
+
+-- a longer product of last sizes is the larger one
+pub product-mono : (a b : ℕ) (s : List ℕ) → ((i : ℕ) → i < length s → 0 < getD s i 0) → a ≤ b → product (drop b s) ≤ product (drop a s)
+product-mono a b s h k =
+    let z : a + (b - a) ≡ b = omega arith in
+    let e : product (drop a s) ≡ product (drop b s) * product (take (b - a) (drop a s)) = product-split (b - a) (drop a s) ∙ ap (λ (x : List ℕ). product x * product (take (b - a) (drop a s))) (drop-drop (b - a) a s ∙ ap (λ (x : ℕ). drop x s) z) in
+    go (product (take (b - a) (drop a s))) e (product-pos a s h)
+  where
+    go : (x : ℕ) → product (drop a s) ≡ product (drop b s) * x → 0 < product (drop a s) → product (drop b s) ≤ product (drop a s)
+    go zero e p = absurd (omega (arith, mul-zero (product (drop b s))))
+    go (suc x) e p = let z : suc x * product (drop b s) ≡ product (drop b s) + x * product (drop b s) = omega arith in omega (arith, mul-comm (product (drop b s)) (suc x))
+
+-- what is in one block is in one larger block
+pub finer : (a b : ℕ) (s : List ℕ) → ((i : ℕ) → i < length s → 0 < getD s i 0) → product (drop a s) ≤ product (drop b s) → (i j : ℕ) → i / product (drop a s) ≡ j / product (drop a s) → i / product (drop b s) ≡ j / product (drop b s)
+finer a b s h k i j q = go (ltb a b) refl
+  where
+    go : (t : Bool) → ltb a b ≡ t → i / product (drop b s) ≡ j / product (drop b s)
+    go true r =
+        let l = ltb-true a b r in
+        let m = product-mono a b s h (omega arith) in
+        let e : product (drop a s) ≡ product (drop b s) = omega arith in
+        subst (λ (x : ℕ). i / x ≡ j / x) e q
+    go false r =
+        let l = ltb-false a b r in
+        let z : b + (a - b) ≡ a = omega arith in
+        let e : drop (a - b) (drop b s) ≡ drop a s = drop-drop (a - b) b s ∙ ap (λ (x : ℕ). drop x s) z in
+        coarser (a - b) (drop b s) i j (subst (λ (x : List ℕ). i / product x ≡ j / product x) (sym e) q)
 
 -- two places of one block have the same first values
 pub same-values : (l : ℕ) (s : List ℕ) (i j : ℕ) → i / product (drop l s) ≡ j / product (drop l s) → (v : ℕ) → v < l → getD (valuesOf s i) v 0 ≡ getD (valuesOf s j) v 0
@@ -83,39 +111,76 @@ one-false (suc n) t m h e = go (ltb m n) refl (λ k. one-false n t m k e)
     go true q ih = rw (ih (ltb-true m n q)) (both-false (t n))
     go false q ih = let l = ltb-false m n q in let z : n ≡ m = omega arith in let f : t n ≡ false = ap t z ∙ e in rw f refl
 
+pub all-same : (n : ℕ) (t u : ℕ → Bool) → ((i : ℕ) → i < n → t i ≡ u i) → all-below n t ≡ all-below n u
+unfolding all-below
+all-same zero t u h = refl
+all-same (suc n) t u h = ap₂ and (h n (omega arith)) (all-same n t u (λ i k. h i (omega arith)))
+
 -- WHAT A TEST OF THE CONDITIONS SAYS OF A WHOLE BLOCK
 
-module _ (s funcs froms ends blocks : List ℕ) (n p reach low : ℕ) (sizes a : List ℕ) (few : p ≤ length a) (ready : (i : ℕ) → i < n → Ready s p sizes froms ends blocks reach low i) where
+module _ (s funcs froms ends blocks : List ℕ) where
   abbrev holds-in : List ℕ → ℕ → Bool
   holds-in e i = holds s funcs e (getD froms i 0) (getD ends i 0)
 
-  holds-same : (e f : List ℕ) (m : ℕ) → ((v : ℕ) → v < peak (code s (getD froms m 0) (getD ends m 0)) → getD e v 0 ≡ getD f v 0) → holds-in e m ≡ holds-in f m
-  holds-same e f m h = ap (λ (l : List ℕ). eqb (top l) (getD s (getD froms m 0) 0)) (run-same s funcs e f (code s (getD froms m 0) (getD ends m 0)) h)
+  abbrev asked-in : List ℕ → ℕ → Bool
+  asked-in = asked s funcs froms ends blocks
 
-  module _ (f : List ℕ) (j : ℕ) (alike : Alike f (env p a (valuesOf sizes j))) where
-    pub blocked : (d : ℕ) → Tested (holds-in f) blocks n d → 0 < d → (i : ℕ) → i / d ≡ j / d → met s funcs froms ends n (env p a (valuesOf sizes i)) ≡ false
-    blocked d t h i q =
+  pub asked-same : (e f : List ℕ) (m : ℕ) → (0 < getD blocks m 0 → holds-in e m ≡ holds-in f m) → asked-in e m ≡ asked-in f m
+  asked-same e f m h = go (ltb 0 (getD blocks m 0)) refl
+    where
+      go : (t : Bool) → ltb 0 (getD blocks m 0) ≡ t → pick t (holds-in e m) true ≡ pick t (holds-in f m) true
+      go true q = h (ltb-true 0 (getD blocks m 0) q)
+      go false q = refl
+
+  -- only what is asked can fail
+  asked-block : (e : List ℕ) (m : ℕ) → asked-in e m ≡ false → 0 < getD blocks m 0
+  asked-block e m h = go (ltb 0 (getD blocks m 0)) refl h
+    where
+      go : (t : Bool) → ltb 0 (getD blocks m 0) ≡ t → pick t (holds-in e m) true ≡ false → 0 < getD blocks m 0
+      go true q z = ltb-true 0 (getD blocks m 0) q
+      go false q z = absurd (let y : _≡_ {A = ℕ} 0 1 = cc in omega arith)
+
+  pub asked-none : (e : List ℕ) (m : ℕ) → getD blocks m 0 ≡ 0 → asked-in e m ≡ true
+  asked-none e m h = rw (le-ltb 0 (getD blocks m 0) (omega arith)) refl
+
+  pub asked-some : (e : List ℕ) (m : ℕ) → 0 < getD blocks m 0 → asked-in e m ≡ holds-in e m
+  asked-some e m h = rw (lt-ltb 0 (getD blocks m 0) h) refl
+
+  module _ (n p g : ℕ) (sizes a : List ℕ) (few : p ≤ length a) (positive : (i : ℕ) → i < length sizes → 0 < getD sizes i 0) (part : (i : ℕ) → i < n → Part s p sizes froms ends blocks g i) where
+    -- the values of a condition's variables are the same on its block
+    same-on : (f : List ℕ) (j : ℕ) → Alike f (env p a (valuesOf sizes j)) → (m i : ℕ) → i / product (drop (peak (code s (getD froms m 0) (getD ends m 0)) - p) sizes) ≡ j / product (drop (peak (code s (getD froms m 0) (getD ends m 0)) - p) sizes)
+        → holds-in (env p a (valuesOf sizes i)) m ≡ holds-in f m
+    same-on f j alike m i q =
+        ap (λ (l : List ℕ). eqb (top l) (getD s (getD froms m 0) 0)) (run-same s funcs (env p a (valuesOf sizes i)) f (code s (getD froms m 0) (getD ends m 0)) (λ v w. env-agree p a sizes f i j few alike (peak (code s (getD froms m 0) (getD ends m 0)) - p) q v (omega arith)))
+
+    pub blocked : (f : List ℕ) (j : ℕ) → Alike f (env p a (valuesOf sizes j)) → (d : ℕ) → Tested (asked-in f) blocks n d → 0 < d → (i : ℕ) → i / d ≡ j / d → part-met s funcs froms ends blocks n (env p a (valuesOf sizes i)) ≡ false
+    blocked f j alike d t h i q =
         let (m, k, e, b) = t .one-fails h in
-        let r = ready m k in
-        let l : ℕ = peak (code s (getD froms m 0) (getD ends m 0)) - p in
-        let z : d ≡ product (drop l sizes) = b ∙ r .block-is in
-        one-false n (holds-in (env p a (valuesOf sizes i))) m k
-        (holds-same (env p a (valuesOf sizes i)) f m (λ v w. env-agree p a sizes f i j few alike l (ap (λ (x : ℕ). i / x) (sym z) ∙ q ∙ ap (λ (x : ℕ). j / x) z) v (omega arith)) ∙ e)
+        let z : d ≡ product (drop (peak (code s (getD froms m 0) (getD ends m 0)) - p) sizes) = b ∙ part m k .block-is (asked-block f m e) in
+        one-false n (asked-in (env p a (valuesOf sizes i))) m k
+        (asked-same (env p a (valuesOf sizes i)) f m (λ w. same-on f j alike m i (ap (λ (x : ℕ). i / x) (sym z) ∙ q ∙ ap (λ (x : ℕ). j / x) z)) ∙ e)
 
-    pub accepted : (d : ℕ) → Tested (holds-in f) blocks n d → d ≡ 0 → (i : ℕ) → i / product (drop (reach - p) sizes) ≡ j / product (drop (reach - p) sizes)
-        → met s funcs froms ends n (env p a (valuesOf sizes i)) ≡ true
-    accepted d t h i q =
-        all-true n (holds-in (env p a (valuesOf sizes i))) (λ m k.
-        let r = ready m k .below in
-        holds-same (env p a (valuesOf sizes i)) f m (λ v w. env-agree p a sizes f i j few alike (reach - p) q v (omega arith)) ∙ t .all-pass h m k)
+    module _ (l : ℕ) (is-grain : g ≡ product (drop l sizes)) where
+      in-grain : (f : List ℕ) (j : ℕ) → Alike f (env p a (valuesOf sizes j)) → (i : ℕ) → i / g ≡ j / g → (m : ℕ) → m < n → asked-in (env p a (valuesOf sizes i)) m ≡ asked-in f m
+      in-grain f j alike i q m k =
+          asked-same (env p a (valuesOf sizes i)) f m (λ w.
+          let b = part m k .block-is w in
+          let c : g ≤ getD blocks m 0 = part m k .coarse w in
+          same-on f j alike m i (finer l (peak (code s (getD froms m 0) (getD ends m 0)) - p) sizes positive (subst (λ (x : ℕ). x ≤ product (drop (peak (code s (getD froms m 0) (getD ends m 0)) - p) sizes)) is-grain (subst (λ (x : ℕ). g ≤ x) b c)) i j (subst (λ (x : ℕ). i / x ≡ j / x) is-grain q)))
+
+      pub accepted : (f : List ℕ) (j : ℕ) → Alike f (env p a (valuesOf sizes j)) → (d : ℕ) → Tested (asked-in f) blocks n d → d ≡ 0 → (i : ℕ) → i / g ≡ j / g → part-met s funcs froms ends blocks n (env p a (valuesOf sizes i)) ≡ true
+      accepted f j alike d t h i q = all-true n (asked-in (env p a (valuesOf sizes i))) (λ m k. in-grain f j alike i q m k ∙ t .all-pass h m k)
+
+      pub met-alike : (i j : ℕ) → i / g ≡ j / g → part-met s funcs froms ends blocks n (env p a (valuesOf sizes i)) ≡ part-met s funcs froms ends blocks n (env p a (valuesOf sizes j))
+      met-alike i j q = all-same n (asked-in (env p a (valuesOf sizes i))) (asked-in (env p a (valuesOf sizes j))) (in-grain (env p a (valuesOf sizes j)) j (λ v. refl) i q)
 
 -- A TEST, CONDITION BY CONDITION
 
 pub tested-none : (t : ℕ → Bool) (blocks : List ℕ) → Tested t blocks 0 0
 tested-none t blocks = record { all-pass = λ e i h. absurd (omega arith); one-fails = λ h. absurd (omega arith) }
 
-pub tested-more : (t : ℕ → Bool) (blocks : List ℕ) (n r r′ : ℕ) → 0 < getD blocks n 0 → Tested t blocks n r → r′ ≡ tried-of (t n) (getD blocks n 0) r → Tested t blocks (n + 1) r′
-tested-more t blocks n r r′ pos w e = go (ltb r (getD blocks n 0)) refl (t n) refl
+pub tested-more : (t : ℕ → Bool) (blocks : List ℕ) (n r r′ : ℕ) → (getD blocks n 0 ≡ 0 → t n ≡ true) → Tested t blocks n r → r′ ≡ tried-of (t n) (getD blocks n 0) r → Tested t blocks (n + 1) r′
+tested-more t blocks n r r′ none w e = go (ltb r (getD blocks n 0)) refl (t n) refl
   where
     keep : r′ ≡ r → (r ≡ 0 → t n ≡ true) → Tested t blocks (n + 1) r′
     keep z h =
@@ -134,9 +199,10 @@ tested-more t blocks n r r′ pos w e = go (ltb r (getD blocks n 0)) refl (t n) 
     go : (c : Bool) → ltb r (getD blocks n 0) ≡ c → (h : Bool) → t n ≡ h → Tested t blocks (n + 1) r′
     go true q true k = keep (e ∙ rw (q, k) refl) (λ z. k)
     go true q false k =
+        let u = ltb-true r (getD blocks n 0) q in
         let z : r′ ≡ getD blocks n 0 = e ∙ rw (q, k) refl in
         record { all-pass = λ y i l. absurd (omega arith); one-fails = λ y. (n, omega arith, k, z) }
-    go false q h k = let u = ltb-false r (getD blocks n 0) q in keep (e ∙ rw q refl) (λ z. absurd (omega arith))
+    go false q h k = let u = ltb-false r (getD blocks n 0) q in keep (e ∙ rw q refl) (λ z. none (omega arith))
 
 -- what one condition gives
 pub tried-known : (h : Bool) (block out : ℕ) → block ≤ out → out ≡ tried-of h block out
@@ -148,6 +214,10 @@ tried-holds x y block out l e = rw (lt-ltb out block l, eq-eqb x y e) refl
 pub tried-fails : (x y block out : ℕ) → out < block → (x ≡ y → ⊥) → block ≡ tried-of (eqb x y) block out
 tried-fails x y block out l e = rw (lt-ltb out block l, ne-eqb x y e) refl
 
--- blocks are of one assignment at least
-pub block-pos : (s : List ℕ) (p : ℕ) (sizes froms ends blocks : List ℕ) (reach low i : ℕ) → Sizes sizes → length sizes ≡ 4 → Ready s p sizes froms ends blocks reach low i → 0 < getD blocks i 0
-block-pos s p sizes froms ends blocks reach low i z l r = rw (r .block-is) (product-pos (peak (code s (getD froms i 0) (getD ends i 0)) - p) sizes (λ m h. z m (omega arith) .0))
+-- a condition that is not asked changes nothing
+pub tried-asked : (h : Bool) (block out : ℕ) → tried-of h block out ≡ tried-of (pick (ltb 0 block) h true) block out
+tried-asked h block out = go (ltb 0 block) refl
+  where
+    go : (t : Bool) → ltb 0 block ≡ t → tried-of h block out ≡ tried-of (pick t h true) block out
+    go true q = refl
+    go false q = let l = ltb-false 0 block q in let z : ltb out block ≡ false = le-ltb out block (omega arith) in rw z refl

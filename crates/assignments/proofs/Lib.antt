@@ -2,3 +2,6 @@ pub mod Counter
 pub mod Passing
 pub mod Blocks
 pub mod Periods
+pub mod TwoTests
+pub mod Separating
+pub mod Searching

@@ -10,29 +10,29 @@ use lib.Dec.{eqb, ltb}
 use lib.ListN.{length, getD, getElem?, take, drop, length-append, length-map, List·getD-append}
 use lib.Seq.{length-take-le}
 use borrow.Author.Tests.{ltb-true, ltb-false}
-use Rattle.pcrl.specs.Tests.{and}
 use Rattle.laws.specs.Lists.{some-append}
 use Rattle.evaluation.specs.Run.{pick, top}
 use Rattle.evaluation.proofs.Bytes.{run-past}
 use Rattle.assignments.specs.Places.{product, valuesOf, places}
-use Rattle.assignments.specs.Conditions.{env, code, holds, all-below, met, Ready, Finds}
-use Rattle.assignments.proofs.Blocks.{product-pos, product-split, split-at}
+use Rattle.assignments.specs.Conditions.{env, code, Finds}
+use Rattle.assignments.specs.Parting.{asked, part-met, Above}
+use Rattle.assignments.proofs.Blocks.{product-pos, product-split, split-at, all-same, asked-same}
 
 -- LISTS
 
-map-some : (f : ℕ → ℕ) (l : List ℕ) (k a : ℕ) → getElem? l k ≡ some a → getElem? (map f l) k ≡ some (f a)
+pub map-some : (f : ℕ → ℕ) (l : List ℕ) (k a : ℕ) → getElem? l k ≡ some a → getElem? (map f l) k ≡ some (f a)
 map-some f [] k a e = absurd (let z : _≡_ {A = ℕ} 0 1 = cc in omega arith)
 map-some f (x ∷ l) zero a e = ap some (let z : x ≡ a = cc in ap f z)
 map-some f (x ∷ l) (suc k) a e = map-some f l k a e
 
-behind-some : (l m : List ℕ) (k : ℕ) → getElem? (l ++ m) (length l + k) ≡ getElem? m k
+pub behind-some : (l m : List ℕ) (k : ℕ) → getElem? (l ++ m) (length l + k) ≡ getElem? m k
 behind-some [] m k = let z : 0 + k ≡ k = omega arith in ap (getElem? m) z
 behind-some (x ∷ l) m k = let z : suc (length l) + k ≡ suc (length l + k) = omega arith in ap (getElem? (x ∷ (l ++ m))) z ∙ behind-some l m k
 
 -- PERIODS
 
 module _ (acc : ℕ → Bool) where
-  places-append : (m n j : ℕ) → places acc (m + n) j ≡ places acc m j ++ places acc n (j + m)
+  pub places-append : (m n j : ℕ) → places acc (m + n) j ≡ places acc m j ++ places acc n (j + m)
   unfolding places
   places-append zero n j = let z : 0 + n ≡ n = omega arith in let w : j ≡ j + 0 = omega arith in ap (λ (x : ℕ). places acc x j) z ∙ ap (places acc n) w
   places-append (suc m) n j = ap (λ (x : ℕ). places acc x j) z ∙ go (acc j) (places-append m n (j + 1))
@@ -137,11 +137,6 @@ later-values (suc l) (n ∷ s) j h (suc v) k = later-values l s j (λ i q. h (su
 
 -- CONDITIONS SAY THE SAME A ROUND LATER
 
-all-same : (n : ℕ) (t u : ℕ → Bool) → ((i : ℕ) → i < n → t i ≡ u i) → all-below n t ≡ all-below n u
-unfolding all-below
-all-same zero t u h = refl
-all-same (suc n) t u h = ap₂ and (h n (omega arith)) (all-same n t u (λ i k. h i (omega arith)))
-
 module _ (p low : ℕ) (sizes a : List ℕ) (few : p ≤ length a) (positive : (i : ℕ) → i < length sizes → 0 < getD sizes i 0) where
   later-env : (j v : ℕ) → (p ≤ v → low ≤ v) → getD (env p a (valuesOf sizes (product (drop (low - p) sizes) + j))) v 0 ≡ getD (env p a (valuesOf sizes j)) v 0
   later-env j v h = go (ltb v p) refl
@@ -158,14 +153,15 @@ module _ (p low : ℕ) (sizes a : List ℕ) (few : p ≤ length a) (positive : (
           let y = h x in
           split-at p a (valuesOf sizes J) few v x ∙ later-values (low - p) sizes j positive (v - p) (omega arith) ∙ sym (split-at p a (valuesOf sizes j) few v x)
 
-  pub met-again : (s funcs froms ends blocks : List ℕ) (n reach : ℕ) → ((i : ℕ) → i < n → Ready s p sizes froms ends blocks reach low i)
-      → (j : ℕ) → met s funcs froms ends n (env p a (valuesOf sizes (product (drop (low - p) sizes) + j))) ≡ met s funcs froms ends n (env p a (valuesOf sizes j))
-  met-again s funcs froms ends blocks n reach ready j =
+  pub met-again : (s funcs froms ends blocks : List ℕ) (n : ℕ) → Above s p froms ends blocks n low
+      → (j : ℕ) → part-met s funcs froms ends blocks n (env p a (valuesOf sizes (product (drop (low - p) sizes) + j))) ≡ part-met s funcs froms ends blocks n (env p a (valuesOf sizes j))
+  met-again s funcs froms ends blocks n above j =
       let e : List ℕ = env p a (valuesOf sizes (product (drop (low - p) sizes) + j)) in
       let f : List ℕ = env p a (valuesOf sizes j) in
-      all-same n (λ i. holds s funcs e (getD froms i 0) (getD ends i 0)) (λ i. holds s funcs f (getD froms i 0) (getD ends i 0)) (λ m k.
-      let r = ready m k .above in
-      ap (λ (l : List ℕ). eqb (top l) (getD s (getD froms m 0) 0)) (run-past s funcs e f p (code s (getD froms m 0) (getD ends m 0)) (λ v w. later-env j v (λ x. let y = w x in omega arith))))
+      all-same n (asked s funcs froms ends blocks e) (asked s funcs froms ends blocks f) (λ m k.
+      asked-same s funcs froms ends blocks e f m (λ h.
+      let r = above m k h in
+      ap (λ (l : List ℕ). eqb (top l) (getD s (getD froms m 0) 0)) (run-past s funcs e f p (code s (getD froms m 0) (getD ends m 0)) (λ v w. later-env j v (λ x. let y = w x in omega arith)))))
 
 -- all assignments are whole rounds
 pub whole-rounds : (l : ℕ) (sizes : List ℕ) → ((i : ℕ) → i < length sizes → 0 < getD sizes i 0) → (product sizes ≡ product sizes / product (drop l sizes) * product (drop l sizes)) × (0 < product sizes / product (drop l sizes))
@@ -183,12 +179,12 @@ whole-rounds l sizes positive =
 
 -- THE SEARCH IN ONE ROUND SAYS WHAT IS FOUND IN ALL
 
-module _ (s funcs froms ends blocks : List ℕ) (count p reach low : ℕ) (sizes a : List ℕ) (few : p ≤ length a) (positive : (i : ℕ) → i < length sizes → 0 < getD sizes i 0) (ready : (i : ℕ) → i < count → Ready s p sizes froms ends blocks reach low i) (round : ℕ) (is-round : round ≡ product (drop (low - p) sizes)) where
+module _ (s funcs froms ends blocks : List ℕ) (count p low : ℕ) (sizes a : List ℕ) (few : p ≤ length a) (positive : (i : ℕ) → i < length sizes → 0 < getD sizes i 0) (above : Above s p froms ends blocks count low) (round : ℕ) (is-round : round ≡ product (drop (low - p) sizes)) where
   abbrev passes : ℕ → Bool
-  passes j = met s funcs froms ends count (env p a (valuesOf sizes j))
+  passes j = part-met s funcs froms ends blocks count (env p a (valuesOf sizes j))
 
   again : (j : ℕ) → passes (round + j) ≡ passes j
-  again j = ap (λ (x : ℕ). passes (x + j)) is-round ∙ met-again p low sizes a few positive s funcs froms ends blocks count reach ready j
+  again j = ap (λ (x : ℕ). passes (x + j)) is-round ∙ met-again p low sizes a few positive s funcs froms ends blocks count above j
 
   all-rounds : (product sizes ≡ product sizes / round * round) × (0 < product sizes / round)
   all-rounds = subst (λ (x : ℕ). (product sizes ≡ product sizes / x * x) × (0 < product sizes / x)) (sym is-round) (whole-rounds (low - p) sizes positive)

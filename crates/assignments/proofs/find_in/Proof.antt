@@ -8,7 +8,8 @@ use mathlib.Core.Bool.{Bool, true, false}
 use lib.ListN.{length, drop, getD}
 use Rattle.evaluation.specs.Known.{Alike}
 use Rattle.assignments.specs.Places.{product, valuesOf}
-use Rattle.assignments.specs.Conditions.{env, met, Ready, Finds}
+use Rattle.assignments.specs.Conditions.{env, Finds}
+use Rattle.assignments.specs.Parting.{part-met, Part}
 use Rattle.assignments.proofs.Counter.{four-length, eight-length}
 use Rattle.assignments.proofs.Passing.{Going, going-start, going-skip, going-on, going-found, going-end}
 use Rattle.assignments.proofs.Blocks.{blocked, accepted}
@@ -16,13 +17,13 @@ use Rattle.assignments.proofs.find_in.Statement.{statement}
 use Rattle.assignments.proofs.find_in.Tie as tie
 
 abbrev Inv-loop : tie.InvT-loop
-Inv-loop s funcs params p sizes froms ends blocks n g total k j₀ left₀ j left = (left ≤ k) × ((reach low : ℕ) → g ≡ product (drop (reach - p) (sizes .at)) → ((i : ℕ) → i < n → Ready s p (sizes .at) froms ends blocks reach low i) → Going (λ i. met s funcs froms ends n (env p (params .at) (valuesOf (sizes .at) i))) total k j left)
+Inv-loop s funcs params p sizes froms ends blocks n g total k j₀ left₀ j left = (left ≤ k) × ((l : ℕ) → g ≡ product (drop l (sizes .at)) → ((i : ℕ) → i < n → Part s p (sizes .at) froms ends blocks g i) → Going (λ i. part-met s funcs froms ends blocks n (env p (params .at) (valuesOf (sizes .at) i))) total k j left)
 
 abbrev μ-loop : tie.MeasureT-loop
 μ-loop s funcs params p sizes froms ends blocks n g total k j₀ left₀ j left = total - j
 
 loop-holds : tie.Need-loop-holds Inv-loop μ-loop
-loop-holds c = (omega arith, λ reach low e r. going-start _ _ _)
+loop-holds c = (omega arith, λ l e r. going-start _ _ _)
 
 values-requires : tie.Need-values-requires Inv-loop μ-loop
 values-requires c κs = λ i h. c .before .before .before .before .pre .1 .1 .1 .0 i h .0
@@ -54,17 +55,17 @@ returns c = (
   omega (arith, c .before .smaller .ensures, c .before .before .before .before .before .before .before .before .before .before .before .before .before .pre .1 .1 .1 .1 .0),
   (
     omega arith,
-    λ reach low e ready. let a = c .before .before .before .before .before .before .before .before .before .before .before .before .before .args in let l = c .before .before .before .before .before .before .before .before .before .before .loop in let s = a .s .now in let fs = a .funcs .now in
-        let acc : ℕ → Bool = λ i. met s fs (a .froms .now) (a .ends .now) (a .n) (env (a .p) (a .params .at) (valuesOf (a .sizes .at) i)) in
+    λ lv e part. let a = c .before .before .before .before .before .before .before .before .before .before .before .before .before .args in let l = c .before .before .before .before .before .before .before .before .before .before .loop in let s = a .s .now in let fs = a .funcs .now in
+        let acc : ℕ → Bool = λ i. part-met s fs (a .froms .now) (a .ends .now) (a .blocks .now) (a .n) (env (a .p) (a .params .at) (valuesOf (a .sizes .at) i)) in
         let len = four-length (a .sizes) _ (c .before .before .before .before .before .before .before .before .before .before .before .before .before .good .1 .1 .1 .1 .0) in
+        let positive : (i : ℕ) → i < length (a .sizes .at) → 0 < getD (a .sizes .at) i 0 = λ i h. c .before .before .before .before .before .before .before .before .before .before .before .before .before .pre .1 .1 .1 .0 i (omega arith) .0 in
         let few : a .p ≤ length (a .params .at) = let w = eight-length (a .params) _ (c .before .before .before .before .before .before .before .before .before .before .before .before .before .good .1 .1 .0) in omega (arith, c .before .before .before .before .before .before .before .before .before .before .before .before .before .pre .0) in
         let alike : Alike (c .before .before .before .before .before .before .before .environment .result .at) (env (a .p) (a .params .at) (valuesOf (a .sizes .at) (l .j))) = λ v. c .before .before .before .before .before .before .before .environment .ensures v ∙ ap (λ (w : List ℕ). getD (env (a .p) (a .params .at) w) v 0) (c .before .before .before .before .before .before .before .before .values .ensures) in
         let taken : (i : ℕ) → l .j ≤ i → i < c .before .smaller .result → acc i ≡ true = λ i u v.
-        let tested = c .before .before .before .before .test .ensures (a .p) (a .sizes .at) reach low (c .before .before .before .before .before .before .before .before .before .before .before .before .before .pre .1 .1 .1 .0) len ready in
-        let same : i / product (drop (reach - a .p) (a .sizes .at)) ≡ l .j / product (drop (reach - a .p) (a .sizes .at)) =
-        ap (λ (x : ℕ). i / x) (sym e) ∙ c .before .before .next .ensures .1 i u (omega (arith, c .before .smaller .ensures)) ∙ ap (λ (x : ℕ). l .j / x) e in
-        accepted s fs (a .froms .now) (a .ends .now) (a .blocks .now) (a .n) (a .p) reach low (a .sizes .at) (a .params .at) few ready (c .before .before .before .before .before .before .before .environment .result .at) (l .j) alike (c .before .before .before .before .test .result) tested (c .before .before .before .if1 .taken) i same in
-        going-found acc (a .total) (a .k) (l .j) (l .left) (c .before .smaller .result) (l .j + l .left) (omega (arith, c .before .before .next .ensures .0, c .before .smaller .ensures)) (omega (arith, c .before .smaller .ensures)) taken (c .if2 .taken) refl (l .inv .1 reach low e ready),
+        let tested = c .before .before .before .before .test .ensures (λ i k. part i k .standing) in
+        let same : i / a .g ≡ l .j / a .g = c .before .before .next .ensures .1 i u (omega (arith, c .before .smaller .ensures)) in
+        accepted s fs (a .froms .now) (a .ends .now) (a .blocks .now) (a .n) (a .p) (a .g) (a .sizes .at) (a .params .at) few positive part lv e (c .before .before .before .before .before .before .before .environment .result .at) (l .j) alike (c .before .before .before .before .test .result) tested (c .before .before .before .if1 .taken) i same in
+        going-found acc (a .total) (a .k) (l .j) (l .left) (c .before .smaller .result) (l .j + l .left) (omega (arith, c .before .before .next .ensures .0, c .before .smaller .ensures)) (omega (arith, c .before .smaller .ensures)) taken (c .if2 .taken) refl (l .inv .1 lv e part),
   ),
 )
 
@@ -74,17 +75,17 @@ loop-less c = omega (arith, c .before .smaller .ensures, c .before .before .next
 loop-again : tie.Need-loop-again Inv-loop μ-loop
 loop-again c = (
   omega arith,
-  λ reach low e ready. let a = c .before .before .before .before .before .before .before .before .before .before .before .before .before .args in let l = c .before .before .before .before .before .before .before .before .before .before .loop in let s = a .s .now in let fs = a .funcs .now in
-      let acc : ℕ → Bool = λ i. met s fs (a .froms .now) (a .ends .now) (a .n) (env (a .p) (a .params .at) (valuesOf (a .sizes .at) i)) in
+  λ lv e part. let a = c .before .before .before .before .before .before .before .before .before .before .before .before .before .args in let l = c .before .before .before .before .before .before .before .before .before .before .loop in let s = a .s .now in let fs = a .funcs .now in
+      let acc : ℕ → Bool = λ i. part-met s fs (a .froms .now) (a .ends .now) (a .blocks .now) (a .n) (env (a .p) (a .params .at) (valuesOf (a .sizes .at) i)) in
       let len = four-length (a .sizes) _ (c .before .before .before .before .before .before .before .before .before .before .before .before .before .good .1 .1 .1 .1 .0) in
+      let positive : (i : ℕ) → i < length (a .sizes .at) → 0 < getD (a .sizes .at) i 0 = λ i h. c .before .before .before .before .before .before .before .before .before .before .before .before .before .pre .1 .1 .1 .0 i (omega arith) .0 in
       let few : a .p ≤ length (a .params .at) = let w = eight-length (a .params) _ (c .before .before .before .before .before .before .before .before .before .before .before .before .before .good .1 .1 .0) in omega (arith, c .before .before .before .before .before .before .before .before .before .before .before .before .before .pre .0) in
       let alike : Alike (c .before .before .before .before .before .before .before .environment .result .at) (env (a .p) (a .params .at) (valuesOf (a .sizes .at) (l .j))) = λ v. c .before .before .before .before .before .before .before .environment .ensures v ∙ ap (λ (w : List ℕ). getD (env (a .p) (a .params .at) w) v 0) (c .before .before .before .before .before .before .before .before .values .ensures) in
       let taken : (i : ℕ) → l .j ≤ i → i < c .before .smaller .result → acc i ≡ true = λ i u v.
-      let tested = c .before .before .before .before .test .ensures (a .p) (a .sizes .at) reach low (c .before .before .before .before .before .before .before .before .before .before .before .before .before .pre .1 .1 .1 .0) len ready in
-      let same : i / product (drop (reach - a .p) (a .sizes .at)) ≡ l .j / product (drop (reach - a .p) (a .sizes .at)) =
-      ap (λ (x : ℕ). i / x) (sym e) ∙ c .before .before .next .ensures .1 i u (omega (arith, c .before .smaller .ensures)) ∙ ap (λ (x : ℕ). l .j / x) e in
-      accepted s fs (a .froms .now) (a .ends .now) (a .blocks .now) (a .n) (a .p) reach low (a .sizes .at) (a .params .at) few ready (c .before .before .before .before .before .before .before .environment .result .at) (l .j) alike (c .before .before .before .before .test .result) tested (c .before .before .before .if1 .taken) i same in
-      going-on acc (a .total) (a .k) (l .j) (l .left) (c .before .smaller .result) (l .left - (c .before .smaller .result - l .j)) (omega (arith, c .before .before .next .ensures .0, c .before .smaller .ensures)) (omega (arith, c .before .smaller .ensures)) taken (omega (arith, c .if2 .left)) refl (l .inv .1 reach low e ready),
+      let tested = c .before .before .before .before .test .ensures (λ i k. part i k .standing) in
+      let same : i / a .g ≡ l .j / a .g = c .before .before .next .ensures .1 i u (omega (arith, c .before .smaller .ensures)) in
+      accepted s fs (a .froms .now) (a .ends .now) (a .blocks .now) (a .n) (a .p) (a .g) (a .sizes .at) (a .params .at) few positive part lv e (c .before .before .before .before .before .before .before .environment .result .at) (l .j) alike (c .before .before .before .before .test .result) tested (c .before .before .before .if1 .taken) i same in
+      going-on acc (a .total) (a .k) (l .j) (l .left) (c .before .smaller .result) (l .left - (c .before .smaller .result - l .j)) (omega (arith, c .before .before .next .ensures .0, c .before .smaller .ensures)) (omega (arith, c .before .smaller .ensures)) taken (omega (arith, c .if2 .left)) refl (l .inv .1 lv e part),
 )
 
 wide-block-requires : tie.Need-wide-block-requires Inv-loop μ-loop
@@ -99,16 +100,17 @@ loop-less-2 c = omega (arith, c .next2 .ensures .0)
 loop-again-2 : tie.Need-loop-again-2 Inv-loop μ-loop
 loop-again-2 c = (
   omega arith,
-  λ reach low e ready. let a = c .before .before .before .before .before .before .before .before .before .before .before .before .args in let l = c .before .before .before .before .before .before .before .before .before .loop in let s = a .s .now in let fs = a .funcs .now in
-      let acc : ℕ → Bool = λ i. met s fs (a .froms .now) (a .ends .now) (a .n) (env (a .p) (a .params .at) (valuesOf (a .sizes .at) i)) in
+  λ lv e part. let a = c .before .before .before .before .before .before .before .before .before .before .before .before .args in let l = c .before .before .before .before .before .before .before .before .before .loop in let s = a .s .now in let fs = a .funcs .now in
+      let acc : ℕ → Bool = λ i. part-met s fs (a .froms .now) (a .ends .now) (a .blocks .now) (a .n) (env (a .p) (a .params .at) (valuesOf (a .sizes .at) i)) in
       let len = four-length (a .sizes) _ (c .before .before .before .before .before .before .before .before .before .before .before .before .good .1 .1 .1 .1 .0) in
+      let positive : (i : ℕ) → i < length (a .sizes .at) → 0 < getD (a .sizes .at) i 0 = λ i h. c .before .before .before .before .before .before .before .before .before .before .before .before .pre .1 .1 .1 .0 i (omega arith) .0 in
       let few : a .p ≤ length (a .params .at) = let w = eight-length (a .params) _ (c .before .before .before .before .before .before .before .before .before .before .before .before .good .1 .1 .0) in omega (arith, c .before .before .before .before .before .before .before .before .before .before .before .before .pre .0) in
       let alike : Alike (c .before .before .before .before .before .before .environment .result .at) (env (a .p) (a .params .at) (valuesOf (a .sizes .at) (l .j))) = λ v. c .before .before .before .before .before .before .environment .ensures v ∙ ap (λ (w : List ℕ). getD (env (a .p) (a .params .at) w) v 0) (c .before .before .before .before .before .before .before .values .ensures) in
       let none : (i : ℕ) → l .j ≤ i → i < c .next2 .result → acc i ≡ false = λ i u v.
-      let tested = c .before .before .before .test .ensures (a .p) (a .sizes .at) reach low (c .before .before .before .before .before .before .before .before .before .before .before .before .pre .1 .1 .1 .0) len ready in
+      let tested = c .before .before .before .test .ensures (λ i k. part i k .standing) in
       let same : i / c .before .before .before .test .result ≡ l .j / c .before .before .before .test .result = ap (λ (x : ℕ). i / x) (sym (c .before .wide-block .ensures .0)) ∙ c .next2 .ensures .1 i u v ∙ ap (λ (x : ℕ). l .j / x) (c .before .wide-block .ensures .0) in
-      blocked s fs (a .froms .now) (a .ends .now) (a .blocks .now) (a .n) (a .p) reach low (a .sizes .at) (a .params .at) few ready (c .before .before .before .before .before .before .environment .result .at) (l .j) alike (c .before .before .before .test .result) tested (omega (arith, c .before .before .if1 .left)) i same in
-      going-skip acc (a .total) (a .k) (l .j) (l .left) (c .next2 .result) (omega (arith, c .next2 .ensures .0)) none (l .inv .1 reach low e ready),
+      blocked s fs (a .froms .now) (a .ends .now) (a .blocks .now) (a .n) (a .p) (a .g) (a .sizes .at) (a .params .at) few positive part (c .before .before .before .before .before .before .environment .result .at) (l .j) alike (c .before .before .before .test .result) tested (omega (arith, c .before .before .if1 .left)) i same in
+      going-skip acc (a .total) (a .k) (l .j) (l .left) (c .next2 .result) (omega (arith, c .next2 .ensures .0)) none (l .inv .1 lv e part),
 )
 
 returns-2 : tie.Need-returns-2 Inv-loop μ-loop
@@ -117,9 +119,9 @@ returns-2 c = (
   omega arith,
   (
     c .before .loop .inv .0,
-    λ reach low e ready. let a = c .before .before .before .before .args in let l = c .before .loop in let s = a .s .now in let fs = a .funcs .now in
-        let acc : ℕ → Bool = λ i. met s fs (a .froms .now) (a .ends .now) (a .n) (env (a .p) (a .params .at) (valuesOf (a .sizes .at) i)) in
-        going-end acc (a .total) (a .k) (l .j) (l .left) (c .loop-test .left) (l .inv .1 reach low e ready),
+    λ lv e part. let a = c .before .before .before .before .args in let l = c .before .loop in let s = a .s .now in let fs = a .funcs .now in
+        let acc : ℕ → Bool = λ i. part-met s fs (a .froms .now) (a .ends .now) (a .blocks .now) (a .n) (env (a .p) (a .params .at) (valuesOf (a .sizes .at) i)) in
+        going-end acc (a .total) (a .k) (l .j) (l .left) (c .loop-test .left) (l .inv .1 lv e part),
   ),
 )
 

@@ -1,0 +1,99 @@
+-- A block that the early conditions accept, and in it a place that the late ones accept.
+use borrow.Author.Needs.{needs}
+use native.Mathlib.Omega.{arith}
+use Prim.Native.Nat.{ℕ, _+_, _-_, _*_, _/_, _≤_, _<_, min}
+use mathlib.Core.Path.{_≡_, refl, _∙_, ap}
+use lib.ListN.{length, getD}
+use Rattle.assignments.proofs.Counter.{four-length, eight-length}
+use native.Mathlib.Nat.{mul-le-mul}
+use Rattle.assignments.proofs.TwoTests.{passed-few, passed-fits}
+use Rattle.assignments.proofs.Separating.{early-part, late-part, early-above}
+use Rattle.assignments.proofs.Searching.{parts-none, parts-found, parts-past}
+use Rattle.assignments.proofs.find_parted.Statement.{statement}
+use Rattle.assignments.proofs.find_parted.Tie as tie
+
+grain-requires : tie.Need-grain-requires
+grain-requires c κs = search needs
+
+block-size-requires : tie.Need-block-size-requires
+block-size-requires c κs = search needs
+
+find-in-requires : tie.Need-find-in-requires
+find-in-requires c κs = (c .before .before .before .before .before .before .before .pre .0, (c .before .before .before .before .before .before .before .pre .1 .0, (c .before .before .before .before .before .before .before .pre .1 .1 .0, (c .before .before .before .before .before .before .before .pre .1 .1 .1 .0, (c .before .before .grain .ensures .1, (c .before .before .before .before .before .before .before .pre .1 .1 .1 .1 .1 .1 .0, c .before .before .before .before .before .before .before .pre .1 .1 .1 .1 .1 .1 .1 .0))))))
+
+sub-m : tie.Need-sub-m
+sub-m c = c .before .find-in .ensures .1 .0
+
+returns : tie.Need-returns
+returns c = λ blocks reach low ge re ready apart. let a = c .before .before .before .before .before .before .before .before .before .before .args in let len = four-length (a .sizes) _ (c .before .before .before .before .before .before .before .before .before .before .good .1 .1 .1 .1 .0) in
+    let positive : (i : ℕ) → i < length (a .sizes .at) → 0 < getD (a .sizes .at) i 0 = λ i h. c .before .before .before .before .before .before .before .before .before .before .pre .1 .1 .1 .0 i (omega arith) .0 in
+    let few : a .p ≤ length (a .params .at) = let w = eight-length (a .params) _ (c .before .before .before .before .before .before .before .before .before .before .good .1 .1 .0) in omega (arith, c .before .before .before .before .before .before .before .before .before .before .pre .0) in
+    parts-none (a .s .now) (a .funcs .now) (a .froms .now) (a .ends .now) blocks (a .n) (a .p) reach low (a .sizes .at) (a .params .at) positive ready few (a .t) apart (c .before .before .before .before .before .grain .result) (c .before .before .before .before .before .grain .ensures .0) (a .k) (c .before .before .find-in .result .found) (c .before .before .find-in .result .at) (c .before .before .find-in .result .left) (c .before .before .find-in .ensures .1 .1 (reach - a .p) ge (late-part (a .s .now) (a .p) (a .sizes .at) (a .froms .now) (a .ends .now) blocks (a .n) reach low positive ready (a .t) apart (a .g) ge)) (c .before .before .before .before .before .grain .result - c .before .before .find-in .result .left) refl (omega arith) 0
+
+div-bounded : tie.Need-div-bounded
+div-bounded c = search needs
+
+bounded-requires : tie.Need-bounded-requires
+bounded-requires c κs = search needs
+
+mul-q : tie.Need-mul-q
+mul-q c = let h : c .bounded .result ≤ 65536 = omega (arith, c .bounded .ensures, c .before .before .before .before .before .block-size .ensures .1) in omega (arith, mul-le-mul h (c .before .before .before .before .before .before .grain .ensures .1))
+
+find-rounds-requires : tie.Need-find-rounds-requires
+find-rounds-requires c κs = (c .before .before .before .before .before .before .before .before .before .before .before .before .pre .0, (c .before .before .before .before .before .before .before .before .before .before .before .before .pre .1 .0, (c .before .before .before .before .before .before .before .before .before .before .before .before .pre .1 .1 .0, (c .before .before .before .before .before .before .before .before .before .before .before .before .pre .1 .1 .1 .0, (c .before .before .before .before .before .before .before .before .before .before .before .before .pre .1 .1 .1 .1 .0, (c .before .before .before .before .before .before .before .before .before .before .before .before .pre .1 .1 .1 .1 .1 .0, (c .before .before .before .before .before .before .before .before .before .before .before .before .pre .1 .1 .1 .1 .1 .1 .1 .1 .0, c .before .before .before .before .before .before .before .before .before .before .before .before .pre .1 .1 .1 .1 .1 .1 .1 .1 .1)))))))
+
+rem-find-in : tie.Need-rem-find-in
+rem-find-in c = search needs
+
+find-in-requires-2 : tie.Need-find-in-requires-2
+find-in-requires-2 c κs = (c .before .before .before .before .before .before .before .before .before .before .before .before .before .before .before .pre .0, (c .before .before .before .before .before .before .before .before .before .before .before .before .before .before .before .pre .1 .0, (c .before .before .before .before .before .before .before .before .before .before .before .before .before .before .before .pre .1 .1 .0, (c .before .before .before .before .before .before .before .before .before .before .before .before .before .before .before .pre .1 .1 .1 .0, (c .before .before .before .before .before .before .before .before .before .before .grain .ensures .1, (c .before .before .before .before .before .before .before .before .before .before .before .before .before .before .before .pre .1 .1 .1 .1 .1 .1 .0, c .before .before .before .before .before .before .before .before .before .before .before .before .before .before .before .pre .1 .1 .1 .1 .1 .1 .1 .0))))))
+
+add-t30 : tie.Need-add-t30
+add-t30 c = omega (arith, c .before .before .before .before .before .find-rounds .ensures .0, c .before .before .find-in2 .ensures .0)
+
+returns-2 : tie.Need-returns-2
+returns-2 c = λ blocks reach low ge re ready apart. let a = c .before .before .before .before .before .before .before .before .before .before .before .before .before .before .before .before .before .before .args in let len = four-length (a .sizes) _ (c .before .before .before .before .before .before .before .before .before .before .before .before .before .before .before .before .before .before .good .1 .1 .1 .1 .0) in
+    let positive : (i : ℕ) → i < length (a .sizes .at) → 0 < getD (a .sizes .at) i 0 = λ i h. c .before .before .before .before .before .before .before .before .before .before .before .before .before .before .before .before .before .before .pre .1 .1 .1 .0 i (omega arith) .0 in
+    let few : a .p ≤ length (a .params .at) = let w = eight-length (a .params) _ (c .before .before .before .before .before .before .before .before .before .before .before .before .before .before .before .before .before .before .good .1 .1 .0) in omega (arith, c .before .before .before .before .before .before .before .before .before .before .before .before .before .before .before .before .before .before .pre .0) in
+    parts-found (a .s .now) (a .funcs .now) (a .froms .now) (a .ends .now) blocks (a .n) (a .p) reach low (a .sizes .at) (a .params .at) positive ready few (a .t) apart (c .before .before .before .before .before .before .before .before .before .before .before .before .before .grain .result) (c .before .before .before .before .before .before .before .before .before .before .before .before .before .grain .ensures .0) (a .k) (c .before .before .before .before .before .before .before .before .before .before .find-in .result .found) (c .before .before .before .before .before .before .before .before .before .before .find-in .result .at) (c .before .before .before .before .before .before .before .before .before .before .find-in .result .left) (c .before .before .before .before .before .before .before .before .before .before .find-in .ensures .1 .1 (reach - a .p) ge (late-part (a .s .now) (a .p) (a .sizes .at) (a .froms .now) (a .ends .now) blocks (a .n) reach low positive ready (a .t) apart (a .g) ge)) (c .before .before .before .before .before .before .before .before .before .before .before .before .before .grain .result - c .before .before .before .before .before .before .before .before .before .before .find-in .result .left) refl (omega arith) (c .before .before .before .before .before .before .before .bounded .result) (c .before .before .before .before .before .before .before .bounded .ensures ∙ ap (λ (x : ℕ). min ((a .k) / (c .before .before .before .before .before .before .before .before .before .before .before .before .before .grain .result - c .before .before .before .before .before .before .before .before .before .before .find-in .result .left)) x) (c .before .before .before .before .before .before .before .before .before .before .before .before .block-size .ensures .0)) (c .before .before .before .before .before .find-rounds .result .found) (c .before .before .before .before .before .find-rounds .result .at) (c .before .before .before .before .before .find-rounds .result .left) (c .before .before .before .before .before .find-rounds .ensures .1 .1 (apart .level) low (apart .grain-is) re (early-part (a .s .now) (a .p) (a .sizes .at) (a .froms .now) (a .ends .now) blocks (a .n) reach low positive ready (a .t) apart) (early-above (a .s .now) (a .p) (a .sizes .at) (a .froms .now) (a .ends .now) blocks (a .n) reach low positive ready (a .t) apart)) (c .before .before .before .before .if2 .taken) (c .before .before .find-in2 .result .found) (c .before .before .find-in2 .result .at) (c .before .before .find-in2 .result .left) (c .before .before .find-in2 .ensures .1 .1 (reach - a .p) ge (late-part (a .s .now) (a .p) (a .sizes .at) (a .froms .now) (a .ends .now) blocks (a .n) reach low positive ready (a .t) apart (a .g) ge)) 0
+
+sub-t26 : tie.Need-sub-t26
+sub-t26 c = c .before .before .find-rounds .ensures .1 .0
+
+div-t25 : tie.Need-div-t25
+div-t25 c = search needs
+
+mul-t31 : tie.Need-mul-t31
+mul-t31 c = record { fits = passed-fits (c .before .before .before .before .before .before .before .before .before .before .grain .result) (c .before .before .before .before .bounded .result) (c .before .before .find-rounds .result .left) (c .before .before .before .before .before .before .before .before .before .before .before .before .before .before .before .args .k) (c .before .before .before .before .before .before .before .before .before .before .grain .result - c .before .before .before .before .before .before .before .find-in .result .left) _ (omega (arith, c .before .before .before .before .bounded .ensures)) (c .before .before .before .before .before .before .before .before .before .before .before .before .before .before .before .fits .k .fits) }
+
+sub-t32 : tie.Need-sub-t32
+sub-t32 c = passed-few (c .before .before .before .before .before .before .before .before .before .before .grain .result) (c .before .before .before .before .bounded .result) (c .before .before .find-rounds .result .left) (c .before .before .before .before .before .before .before .before .before .before .before .before .before .before .before .args .k) (c .before .before .before .before .before .before .before .before .before .before .grain .result - c .before .before .before .before .before .before .before .find-in .result .left) (omega (arith, c .before .before .before .before .bounded .ensures))
+
+returns-3 : tie.Need-returns-3
+returns-3 c = λ blocks reach low ge re ready apart. let a = c .before .before .before .before .before .before .before .before .before .before .before .before .before .before .before .args in let len = four-length (a .sizes) _ (c .before .before .before .before .before .before .before .before .before .before .before .before .before .before .before .good .1 .1 .1 .1 .0) in
+    let positive : (i : ℕ) → i < length (a .sizes .at) → 0 < getD (a .sizes .at) i 0 = λ i h. c .before .before .before .before .before .before .before .before .before .before .before .before .before .before .before .pre .1 .1 .1 .0 i (omega arith) .0 in
+    let few : a .p ≤ length (a .params .at) = let w = eight-length (a .params) _ (c .before .before .before .before .before .before .before .before .before .before .before .before .before .before .before .good .1 .1 .0) in omega (arith, c .before .before .before .before .before .before .before .before .before .before .before .before .before .before .before .pre .0) in
+    parts-past (a .s .now) (a .funcs .now) (a .froms .now) (a .ends .now) blocks (a .n) (a .p) reach low (a .sizes .at) (a .params .at) positive ready few (a .t) apart (c .before .before .before .before .before .before .before .before .before .before .grain .result) (c .before .before .before .before .before .before .before .before .before .before .grain .ensures .0) (a .k) (c .before .before .before .before .before .before .before .find-in .result .found) (c .before .before .before .before .before .before .before .find-in .result .at) (c .before .before .before .before .before .before .before .find-in .result .left) (c .before .before .before .before .before .before .before .find-in .ensures .1 .1 (reach - a .p) ge (late-part (a .s .now) (a .p) (a .sizes .at) (a .froms .now) (a .ends .now) blocks (a .n) reach low positive ready (a .t) apart (a .g) ge)) (c .before .before .before .before .before .before .before .before .before .before .grain .result - c .before .before .before .before .before .before .before .find-in .result .left) refl (omega arith) (c .before .before .before .before .bounded .result) (c .before .before .before .before .bounded .ensures ∙ ap (λ (x : ℕ). min ((a .k) / (c .before .before .before .before .before .before .before .before .before .before .grain .result - c .before .before .before .before .before .before .before .find-in .result .left)) x) (c .before .before .before .before .before .before .before .before .before .block-size .ensures .0)) (c .before .before .find-rounds .result .found) (c .before .before .find-rounds .result .at) (c .before .before .find-rounds .result .left) (c .before .before .find-rounds .ensures .1 .1 (apart .level) low (apart .grain-is) re (early-part (a .s .now) (a .p) (a .sizes .at) (a .froms .now) (a .ends .now) blocks (a .n) reach low positive ready (a .t) apart) (early-above (a .s .now) (a .p) (a .sizes .at) (a .froms .now) (a .ends .now) blocks (a .n) reach low positive ready (a .t) apart)) (c .before .if2 .left) 0
+
+pub find-parted-spec : {M : Type 1} → statement M
+find-parted-spec =
+    tie.close
+    (tie.spec
+    grain-requires
+    block-size-requires
+    find-in-requires
+    sub-m
+    returns
+    div-bounded
+    bounded-requires
+    mul-q
+    find-rounds-requires
+    rem-find-in
+    find-in-requires-2
+    add-t30
+    returns-2
+    sub-t26
+    div-t25
+    mul-t31
+    sub-t32
+    returns-3)
