@@ -48,6 +48,10 @@ CallPut cells at c slots n w o r o′ = (H : Sheet) (b : Bool) (p : Proc) (rest 
     → (r .ok ≡ true → Every CallSmall (calls-of σ c p) × Adds (all encode-call (calls-of σ c p)) w o (r .w) o′)
     × (r .ok ≡ false → ¬ (Every CallSmall (calls-of σ c p)))
 
+-- they are too many, too long, or not there
+abbrev pub no-calls : Calls
+no-calls = record { ok = false; w = 0; n = 0 }
+
 -- all calls, at most so many
 abbrev pub CallsPut : List ℕ → ℕ → ℕ → List ℕ → ℕ → ℕ → ℕ → List ℕ → Calls → List ℕ → Type 0
 CallsPut cells at c slots n most w o r o′ = (H : Sheet) (q : Proc) (rest : List ℕ) (σ : List Data) → Few H → drop at cells ≡ enc true q ++ rest → Slots σ slots n → Fine H n q → c + new-count true q < byte-limit

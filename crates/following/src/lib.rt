@@ -7,7 +7,7 @@ ghost use Rattle.pcrl.specs.Limits.{max-calls};
 ghost use Rattle.nodes.specs.Layout.{byte-limit};
 ghost use Rattle.nodes.specs.Scoped.{max-scope};
 ghost use Rattle.putting.specs.Slots.{term-bytes, slot-width};
-ghost use Rattle.following.specs.Follows.{call-bytes, calls-room, OnePut, MarkedPut, CallPut, CallsPut, Pushes};
+ghost use Rattle.following.specs.Follows.{call-bytes, calls-room, no-calls, OnePut, MarkedPut, CallPut, CallsPut, Pushes};
 use putting::Done;
 
 pub const MAX_CALLS: usize = 8;
@@ -28,6 +28,16 @@ pub struct Pushed {
     pub ok: bool,
     pub top: usize,
     pub n: usize,
+}
+
+fn none() -> Calls
+    ensures { λ r. ⌜ r ≡ no-calls ⌝ }
+{
+    Calls {
+        ok: false,
+        w: 0,
+        n: 0,
+    }
 }
 
 // A number of equations, and some more: right below 256.
@@ -135,11 +145,7 @@ fn put_calls(
     let mut v: usize = 0;
     while need > 0 {
         if p >= cells.len() {
-            return Calls {
-                ok: false,
-                w: 0,
-                n: 0,
-            };
+            return none();
         }
         let d = nodes::node_at(cells, p);
         if d.kind == nodes::SEQ {
@@ -148,19 +154,11 @@ fn put_calls(
             continue;
         }
         if k >= most {
-            return Calls {
-                ok: false,
-                w: 0,
-                n: 0,
-            };
+            return none();
         }
         let r = put_call(cells, p, e, slots, n, &mut *out, v);
         if !r.ok {
-            return Calls {
-                ok: false,
-                w: 0,
-                n: 0,
-            };
+            return none();
         }
         let s = nodes::skip(cells, p);
         v = r.w;

@@ -1,12 +1,13 @@
 -- One part after another, however the sequences are nested. The measure is what is left of the cells.
 use native.Mathlib.Omega.{arith}
 use Prim.Native.Nat.{ℕ, _+_, _*_, _-_, _≤_, _<_}
-use mathlib.Core.Path.{_≡_, refl, sym, ap, _∙_}
+use mathlib.Core.Path.{_≡_, refl, sym, ap, _∙_, subst}
 use mathlib.Core.Bool.{true, false}
 use borrow.Author.Tests.{not-true, not-false}
 use lib.ListN.{length, take}
 use Rattle.nodes.specs.Layout.{byte-limit}
-use Rattle.following.specs.Follows.{call-bytes}
+use Rattle.following.specs.declared.Calls.{Calls}
+use Rattle.following.specs.Follows.{call-bytes, CallsPut}
 use Rattle.following.proofs.Parts.{Left, parts-start, parts-stuck, parts-done, parts-seq, parts-many, parts-on, parts-long}
 use Rattle.following.proofs.put_calls.Statement.{statement}
 use Rattle.following.proofs.put_calls.Tie as tie
@@ -26,12 +27,16 @@ loop-holds : tie.Need-loop-holds Inv-loop μ-loop
 loop-holds c =
     ((omega arith, omega arith, omega arith, omega arith, c .before .before .before .pre .0, refl), parts-start (c .before .before .before .args .cells .now) (c .before .before .before .args .at) (c .before .before .before .args .c) (c .before .before .before .args .slots .now) (c .before .before .before .args .n) (c .before .before .before .args .most) (c .before .before .before .args .out .now))
 
+none-requires : tie.Need-none-requires Inv-loop μ-loop
+none-requires c κs = tt
+
 same-length : tie.Need-same-length Inv-loop μ-loop
-same-length c = c .before .before .loop .inv .0 .5
+same-length c = c .before .before .before .loop .inv .0 .5
 
 returns : tie.Need-returns Inv-loop μ-loop
 returns c =
-    (omega arith, parts-stuck (c .before .before .before .before .before .before .args .cells .now) (c .before .before .before .before .before .before .args .at) (c .before .before .before .before .before .before .args .c) (c .before .before .before .before .before .before .args .slots .now) (c .before .before .before .before .before .before .args .n) (c .before .before .before .before .before .before .args .most) (c .before .before .before .before .before .before .args .out .now) (c .before .before .loop .p) (c .before .before .loop .need) (c .before .before .loop .k) (c .before .before .loop .e) (c .before .before .loop .v) (c .before .before .loop .out) (c .before .before .loop .inv .1) (omega arith) (omega arith) (record { ok = false; w = 0; n = 0 }) (c .before .before .loop .out))
+    let e = c .none .ensures in
+    (omega (arith, ap (λ (x : Calls). x .n) e, ap (λ (x : Calls). x .w) e), parts-stuck (c .before .before .before .before .before .before .before .args .cells .now) (c .before .before .before .before .before .before .before .args .at) (c .before .before .before .before .before .before .before .args .c) (c .before .before .before .before .before .before .before .args .slots .now) (c .before .before .before .before .before .before .before .args .n) (c .before .before .before .before .before .before .before .args .most) (c .before .before .before .before .before .before .before .args .out .now) (c .before .before .before .loop .p) (c .before .before .before .loop .need) (c .before .before .before .loop .k) (c .before .before .before .loop .e) (c .before .before .before .loop .v) (c .before .before .before .loop .out) (c .before .before .before .loop .inv .1) (omega arith) (omega arith) (c .none .result) (c .before .before .before .loop .out))
 
 node-at-requires : tie.Need-node-at-requires Inv-loop μ-loop
 node-at-requires c κs = omega arith
@@ -46,24 +51,38 @@ loop-again : tie.Need-loop-again Inv-loop μ-loop
 loop-again c =
     ((omega arith, omega arith, omega arith, omega arith, c .before .before .before .before .before .loop .inv .0 .4, c .before .before .before .before .before .loop .inv .0 .5), parts-seq (c .before .before .before .before .before .before .before .before .before .args .cells .now) (c .before .before .before .before .before .before .before .before .before .args .at) (c .before .before .before .before .before .before .before .before .before .args .c) (c .before .before .before .before .before .before .before .before .before .args .slots .now) (c .before .before .before .before .before .before .before .before .before .args .n) (c .before .before .before .before .before .before .before .before .before .args .most) (c .before .before .before .before .before .before .before .before .before .args .out .now) (c .before .before .before .before .before .loop .p) (c .before .before .before .before .before .loop .need) (c .before .before .before .before .before .loop .k) (c .before .before .before .before .before .loop .e) (c .before .before .before .before .before .loop .v) (c .before .before .before .before .before .loop .out) (c .before .before .before .before .before .loop .inv .1) (omega arith) (c .before .before .node-at .result) (c .before .before .node-at .ensures .1) (omega arith))
 
+none-requires-2 : tie.Need-none-requires-2 Inv-loop μ-loop
+none-requires-2 c κs = tt
+
 same-length-2 : tie.Need-same-length-2 Inv-loop μ-loop
-same-length-2 c = c .before .before .before .before .before .before .loop .inv .0 .5
+same-length-2 c = c .before .before .before .before .before .before .before .loop .inv .0 .5
 
 returns-2 : tie.Need-returns-2 Inv-loop μ-loop
 returns-2 c =
-    (omega arith, parts-many (c .before .before .before .before .before .before .before .before .before .before .args .cells .now) (c .before .before .before .before .before .before .before .before .before .before .args .at) (c .before .before .before .before .before .before .before .before .before .before .args .c) (c .before .before .before .before .before .before .before .before .before .before .args .slots .now) (c .before .before .before .before .before .before .before .before .before .before .args .n) (c .before .before .before .before .before .before .before .before .before .before .args .most) (c .before .before .before .before .before .before .before .before .before .before .args .out .now) (c .before .before .before .before .before .before .loop .p) (c .before .before .before .before .before .before .loop .need) (c .before .before .before .before .before .before .loop .k) (c .before .before .before .before .before .before .loop .e) (c .before .before .before .before .before .before .loop .v) (c .before .before .before .before .before .before .loop .out) (c .before .before .before .before .before .before .loop .inv .1) (omega arith) (c .before .before .before .node-at .result) (c .before .before .before .node-at .ensures .1) (λ z. omega arith) (omega arith) 0 0 (c .before .before .before .before .before .before .loop .out))
+    let e = c .none2 .ensures in
+    let a = c .before .before .before .before .before .before .before .before .before .before .before .args in (
+      omega (arith, ap (λ (x : Calls). x .n) e, ap (λ (x : Calls). x .w) e),
+      subst (λ (x : Calls). CallsPut (a .cells .now) (a .at) (a .c) (a .slots .now) (a .n) (a .most) 0 (a .out .now) x (c .before .before .before .before .before .before .before .loop .out)) (sym e) (parts-many (c .before .before .before .before .before .before .before .before .before .before .before .args .cells .now) (c .before .before .before .before .before .before .before .before .before .before .before .args .at) (c .before .before .before .before .before .before .before .before .before .before .before .args .c) (c .before .before .before .before .before .before .before .before .before .before .before .args .slots .now) (c .before .before .before .before .before .before .before .before .before .before .before .args .n) (c .before .before .before .before .before .before .before .before .before .before .before .args .most) (c .before .before .before .before .before .before .before .before .before .before .before .args .out .now) (c .before .before .before .before .before .before .before .loop .p) (c .before .before .before .before .before .before .before .loop .need) (c .before .before .before .before .before .before .before .loop .k) (c .before .before .before .before .before .before .before .loop .e) (c .before .before .before .before .before .before .before .loop .v) (c .before .before .before .before .before .before .before .loop .out) (c .before .before .before .before .before .before .before .loop .inv .1) (omega arith) (c .before .before .before .before .node-at .result) (c .before .before .before .before .node-at .ensures .1) (λ z. omega arith) (omega arith) 0 0 (c .before .before .before .before .before .before .before .loop .out)),
+    )
 
 put-call-requires : tie.Need-put-call-requires Inv-loop μ-loop
 put-call-requires c κs =
     let q = c .before .before .before .before .before .before .before .before .before .before .before .pre in let i = c .before .before .before .before .before .before .before .loop .inv .0 in (omega arith, omega arith, omega arith, omega arith, omega arith)
 
+none-requires-3 : tie.Need-none-requires-3 Inv-loop μ-loop
+none-requires-3 c κs = tt
+
 same-length-3 : tie.Need-same-length-3 Inv-loop μ-loop
 same-length-3 c =
-    c .before .before .before .before .put-call .kept .1 .1 .1 .1 .1 .0 ∙ c .before .before .before .before .before .before .before .before .before .before .before .before .loop .inv .0 .5
+    c .before .before .before .before .before .put-call .kept .1 .1 .1 .1 .1 .0 ∙ c .before .before .before .before .before .before .before .before .before .before .before .before .before .loop .inv .0 .5
 
 returns-3 : tie.Need-returns-3 Inv-loop μ-loop
 returns-3 c =
-    (omega arith, parts-long (c .before .before .before .before .before .before .before .before .before .before .before .before .before .before .before .before .args .cells .now) (c .before .before .before .before .before .before .before .before .before .before .before .before .before .before .before .before .args .at) (c .before .before .before .before .before .before .before .before .before .before .before .before .before .before .before .before .args .c) (c .before .before .before .before .before .before .before .before .before .before .before .before .before .before .before .before .args .slots .now) (c .before .before .before .before .before .before .before .before .before .before .before .before .before .before .before .before .args .n) (c .before .before .before .before .before .before .before .before .before .before .before .before .before .before .before .before .args .most) (c .before .before .before .before .before .before .before .before .before .before .before .before .before .before .before .before .args .out .now) (c .before .before .before .before .before .before .before .before .before .before .before .before .loop .p) (c .before .before .before .before .before .before .before .before .before .before .before .before .loop .need) (c .before .before .before .before .before .before .before .before .before .before .before .before .loop .k) (c .before .before .before .before .before .before .before .before .before .before .before .before .loop .e) (c .before .before .before .before .before .before .before .before .before .before .before .before .loop .v) (c .before .before .before .before .before .before .before .before .before .before .before .before .loop .out) (c .before .before .before .before .before .before .before .before .before .before .before .before .loop .inv .1) (omega arith) (c .before .before .before .before .before .before .before .before .before .node-at .result) (c .before .before .before .before .before .before .before .before .before .node-at .ensures .1) (λ z. omega arith) (c .before .before .before .before .put-call .result) (c .before .before .before .before .put-call .last .1 .1 .1 .1 .1 .0) (c .before .before .before .before .put-call .ensures .1 .1) (not-true _ (c .if4 .taken)) 0 0 (c .before .before .before .before .put-call .last .1 .1 .1 .1 .1 .0))
+    let e = c .none3 .ensures in
+    let a = c .before .before .before .before .before .before .before .before .before .before .before .before .before .before .before .before .before .args in (
+      omega (arith, ap (λ (x : Calls). x .n) e, ap (λ (x : Calls). x .w) e),
+      subst (λ (x : Calls). CallsPut (a .cells .now) (a .at) (a .c) (a .slots .now) (a .n) (a .most) 0 (a .out .now) x (c .before .before .before .before .before .put-call .last .1 .1 .1 .1 .1 .0)) (sym e) (parts-long (c .before .before .before .before .before .before .before .before .before .before .before .before .before .before .before .before .before .args .cells .now) (c .before .before .before .before .before .before .before .before .before .before .before .before .before .before .before .before .before .args .at) (c .before .before .before .before .before .before .before .before .before .before .before .before .before .before .before .before .before .args .c) (c .before .before .before .before .before .before .before .before .before .before .before .before .before .before .before .before .before .args .slots .now) (c .before .before .before .before .before .before .before .before .before .before .before .before .before .before .before .before .before .args .n) (c .before .before .before .before .before .before .before .before .before .before .before .before .before .before .before .before .before .args .most) (c .before .before .before .before .before .before .before .before .before .before .before .before .before .before .before .before .before .args .out .now) (c .before .before .before .before .before .before .before .before .before .before .before .before .before .loop .p) (c .before .before .before .before .before .before .before .before .before .before .before .before .before .loop .need) (c .before .before .before .before .before .before .before .before .before .before .before .before .before .loop .k) (c .before .before .before .before .before .before .before .before .before .before .before .before .before .loop .e) (c .before .before .before .before .before .before .before .before .before .before .before .before .before .loop .v) (c .before .before .before .before .before .before .before .before .before .before .before .before .before .loop .out) (c .before .before .before .before .before .before .before .before .before .before .before .before .before .loop .inv .1) (omega arith) (c .before .before .before .before .before .before .before .before .before .before .node-at .result) (c .before .before .before .before .before .before .before .before .before .before .node-at .ensures .1) (λ z. omega arith) (c .before .before .before .before .before .put-call .result) (c .before .before .before .before .before .put-call .last .1 .1 .1 .1 .1 .0) (c .before .before .before .before .before .put-call .ensures .1 .1) (not-true _ (c .before .if4 .taken)) 0 0 (c .before .before .before .before .before .put-call .last .1 .1 .1 .1 .1 .0)),
+    )
 
 skip-requires : tie.Need-skip-requires Inv-loop μ-loop
 skip-requires c κs = omega arith
@@ -104,15 +123,18 @@ put-calls-spec =
     Inv-loop
     μ-loop
     loop-holds
+    none-requires
     same-length
     returns
     node-at-requires
     add-need
     loop-less
     loop-again
+    none-requires-2
     same-length-2
     returns-2
     put-call-requires
+    none-requires-3
     same-length-3
     returns-3
     skip-requires
