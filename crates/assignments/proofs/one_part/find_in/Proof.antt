@@ -13,8 +13,8 @@ use Rattle.assignments.specs.Parting.{part-met, Part}
 use Rattle.assignments.proofs.Counter.{four-length, eight-length}
 use Rattle.assignments.proofs.Passing.{Going, going-start, going-skip, going-on, going-found, going-end}
 use Rattle.assignments.proofs.Blocks.{blocked, accepted}
-use Rattle.assignments.proofs.find_in.Statement.{statement}
-use Rattle.assignments.proofs.find_in.Tie as tie
+use Rattle.assignments.proofs.one_part.find_in.Statement.{statement}
+use Rattle.assignments.proofs.one_part.find_in.Tie as tie
 
 abbrev Inv-loop : tie.InvT-loop
 Inv-loop s funcs params p sizes froms ends blocks n g total k j₀ left₀ j left = (left ≤ k) × ((l : ℕ) → g ≡ product (drop l (sizes .at)) → ((i : ℕ) → i < n → Part s p (sizes .at) froms ends blocks g i) → Going (λ i. part-met s funcs froms ends blocks n (env p (params .at) (valuesOf (sizes .at) i))) total k j left)

@@ -1,6 +1,6 @@
 -- What is known of the first i conditions is known of one more.
-use Rattle.assignments.proofs.test.Statement.{statement}
-use Rattle.assignments.proofs.test.Tie as tie
+use Rattle.assignments.proofs.one_part.test.Statement.{statement}
+use Rattle.assignments.proofs.one_part.test.Tie as tie
 use mathlib.Core.Path.{subst, _≡_, _∙_}
 use native.Mathlib.Omega.{arith}
 use Prim.Native.Nat.{ℕ, _-_, _≤_, _<_}

@@ -7,8 +7,8 @@ use lib.ListN.{length, getD}
 use Rattle.assignments.proofs.Counter.{four-length, eight-length}
 use native.Mathlib.Nat.{mul-le-mul-left, mul-le-mul-right, mul-div-le, div-mul-le-self}
 use Rattle.assignments.proofs.Periods.{search-whole, search-first, search-none, search-past, search-later}
-use Rattle.assignments.proofs.find_rounds.Statement.{statement}
-use Rattle.assignments.proofs.find_rounds.Tie as tie
+use Rattle.assignments.proofs.one_part.find_rounds.Statement.{statement}
+use Rattle.assignments.proofs.one_part.find_rounds.Tie as tie
 
 block-size-requires : tie.Need-block-size-requires
 block-size-requires c κs = search needs

@@ -1,7 +1,7 @@
 -- The numbers up to the next multiple divide alike.
 use borrow.Author.Needs.{needs}
-use Rattle.assignments.proofs.next.Statement.{statement}
-use Rattle.assignments.proofs.next.Tie as tie
+use Rattle.assignments.proofs.one_part.next.Statement.{statement}
+use Rattle.assignments.proofs.one_part.next.Tie as tie
 use native.Mathlib.Omega.{arith}
 use Prim.Native.Nat.{ℕ, _+_, _*_, _/_}
 use mathlib.Core.Path.{_≡_, _∙_, ap}

@@ -9,8 +9,8 @@ use native.Mathlib.Nat.{mul-le-mul}
 use Rattle.assignments.proofs.TwoTests.{passed-few, passed-fits}
 use Rattle.assignments.proofs.Separating.{early-part, late-part, early-above}
 use Rattle.assignments.proofs.Searching.{parts-none, parts-found, parts-past}
-use Rattle.assignments.proofs.find_parted.Statement.{statement}
-use Rattle.assignments.proofs.find_parted.Tie as tie
+use Rattle.assignments.proofs.two_parts.find_parted.Statement.{statement}
+use Rattle.assignments.proofs.two_parts.find_parted.Tie as tie
 
 grain-requires : tie.Need-grain-requires
 grain-requires c κs = search needs

@@ -6,8 +6,8 @@ use mathlib.Core.Path.{_≡_}
 use lib.ListN.{length, getD}
 use Rattle.assignments.proofs.Counter.{four-length}
 use Rattle.assignments.proofs.Blocks.{product-pos}
-use Rattle.assignments.proofs.apart_at.Statement.{statement}
-use Rattle.assignments.proofs.apart_at.Tie as tie
+use Rattle.assignments.proofs.two_parts.apart_at.Statement.{statement}
+use Rattle.assignments.proofs.two_parts.apart_at.Tie as tie
 
 block-size-requires : tie.Need-block-size-requires
 block-size-requires c κs = c .before .pre .1 .1 .0

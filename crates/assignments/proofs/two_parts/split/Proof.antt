@@ -1,8 +1,8 @@
 -- The first level where the conditions are apart.
 use borrow.Author.Needs.{needs}
 use native.Mathlib.Omega.{arith}
-use Rattle.assignments.proofs.split.Statement.{statement}
-use Rattle.assignments.proofs.split.Tie as tie
+use Rattle.assignments.proofs.two_parts.split.Statement.{statement}
+use Rattle.assignments.proofs.two_parts.split.Tie as tie
 
 apart-at-requires : tie.Need-apart-at-requires
 apart-at-requires c κs = (c .before .pre .0, (c .before .pre .1 .0, (c .before .pre .1 .1, omega arith)))

@@ -10,8 +10,8 @@ use Rattle.evaluation.specs.Run.{peak}
 use Rattle.assignments.specs.Places.{product}
 use Rattle.assignments.specs.Conditions.{code, Ready}
 use Rattle.assignments.proofs.Separating.{Parting, parting-none, parting-late, parting-early, parting-all, grain-more, zeros}
-use Rattle.assignments.proofs.parted.Statement.{statement}
-use Rattle.assignments.proofs.parted.Tie as tie
+use Rattle.assignments.proofs.two_parts.parted.Statement.{statement}
+use Rattle.assignments.proofs.two_parts.parted.Tie as tie
 
 abbrev Inv-loop : tie.InvT-loop
 Inv-loop s p froms ends blocks n b total l early₀ late₀ grain₀ low₀ i₀ early late grain low i = (i ≤ n) × ((length early ≡ 8) × ((length late ≡ 8) × ((0 < grain) × ((grain ≤ 65536) × (Parting s p froms ends blocks n b early late grain low i × ((sizes : List ℕ) (reach lowest : ℕ) → total ≡ product sizes → ((m : ℕ) → m < n → Ready s p sizes froms ends blocks reach lowest m) → (level : ℕ) × (grain ≡ product (drop level sizes))))))))

@@ -1,7 +1,7 @@
 -- A condition is evaluated only where its block is larger than what is known.
 use borrow.Author.Needs.{needs}
-use Rattle.assignments.proofs.tried.Statement.{statement}
-use Rattle.assignments.proofs.tried.Tie as tie
+use Rattle.assignments.proofs.one_part.tried.Statement.{statement}
+use Rattle.assignments.proofs.one_part.tried.Tie as tie
 use native.Mathlib.Omega.{arith}
 use Prim.Native.Nat.{_-_}
 use mathlib.Core.Path.{sym, _∙_}

@@ -1,0 +1,182 @@
+// The search with one part of the conditions: blocks of assignments are passed or counted as wholes, and rounds of them.
+ghost use mathlib.Core.Path.{_≡_};
+ghost use Prim.Native.Nat.{ℕ, _+_, _-_, _/_, _≤_, _<_};
+ghost use lib.ListN.{length, getD, drop};
+ghost use Rattle.pcrl.specs.Limits.{frame-width, max-conditions, max-nodes};
+ghost use Rattle.assignments.specs.Places.{product, valuesOf, places, Sizes};
+ghost use Rattle.assignments.specs.Conditions.{env, holds, tried-of, Tested, Finds};
+ghost use Rattle.assignments.specs.Parting.{Standing, asked, part-met, Part, Above};
+use crate::Eight;
+use crate::Found;
+use crate::Four;
+use crate::block_size;
+use crate::environment;
+use crate::values;
+use crate::wide_block;
+
+// The first number of the next block of d.
+fn next(j: usize, d: usize) -> usize
+    requires { ⌜ (0 < d) × ((d < 4294967296) × (j < 65536)) ⌝ }
+    ensures { λ r. ⌜ (j < r) × ((i : ℕ) → j ≤ i → i < r → i / d ≡ j / d) ⌝ }
+{
+    (j / d + 1) * d
+}
+
+// The larger of out and the condition's block, if the condition fails; it is not evaluated if that changes nothing.
+fn tried(s: &[u8], funcs: &[u16], e: &[u8], from: usize, end: usize, block: u32, out: u32) -> u32
+    ensures { λ r. ⌜ (from + 1 ≤ end → end ≤ from + 1 + max-nodes → end ≤ length (now (s .entry)) → r ≡ tried-of (holds (now (s .entry)) (now (funcs .entry)) (now (e .entry)) from end) block out) ⌝ }
+{
+    if block <= out {
+        return out;
+    }
+    if s.len() <= from {
+        return out;
+    }
+    let v = evaluation::value(s, funcs, e, from + 1, end);
+    if v == s[from] {
+        return out;
+    }
+    block
+}
+
+// The block of a condition that fails, the largest of such blocks; 0 if all hold. A condition with block 0 is not asked.
+fn test(
+    s: &[u8],
+    funcs: &[u16],
+    e: &[u8],
+    froms: &[usize; 8],
+    ends: &[usize; 8],
+    blocks: &[u32; 8],
+    n: usize,
+) -> u32
+    requires { ⌜ n ≤ max-conditions ⌝ }
+    ensures { λ r. ⌜ (((i : ℕ) → i < n → Standing (now (s .entry)) (now (froms .entry)) (now (ends .entry)) i) → Tested (asked (now (s .entry)) (now (funcs .entry)) (now (froms .entry)) (now (ends .entry)) (now (blocks .entry)) (now (e .entry))) (now (blocks .entry)) n r) ⌝ }
+{
+    let mut out: u32 = 0;
+    let mut i: usize = 0;
+    while i < n {
+        out = tried(s, funcs, e, froms[i], ends[i], blocks[i], out);
+        i += 1;
+    }
+    out
+}
+
+// The k-th of the assignments below `total` that meet the conditions asked, or how much of k is left; what they say changes only between blocks of g.
+pub fn find_in(
+    s: &[u8],
+    funcs: &[u16],
+    params: Eight,
+    p: usize,
+    sizes: Four,
+    froms: &[usize; 8],
+    ends: &[usize; 8],
+    blocks: &[u32; 8],
+    n: usize,
+    g: usize,
+    total: usize,
+    k: u64,
+) -> Found
+    requires { ⌜ (p ≤ frame-width) × (((i : ℕ) → p ≤ i → getD (params .at) i 0 ≡ 0) × ((n ≤ max-conditions) × (Sizes (sizes .at) × ((total ≤ 65536) × ((0 < g) × (g ≤ 65536)))))) ⌝ }
+    ensures { λ r. ⌜ (r .at ≤ 65536) × ((r .left ≤ k) × ((l : ℕ) → g ≡ product (drop l (sizes .at)) → ((i : ℕ) → i < n → Part (now (s .entry)) p (sizes .at) (now (froms .entry)) (now (ends .entry)) (now (blocks .entry)) g i) → Finds (places (λ j. part-met (now (s .entry)) (now (funcs .entry)) (now (froms .entry)) (now (ends .entry)) (now (blocks .entry)) n (env p (params .at) (valuesOf (sizes .at) j))) total 0) k (r .found) (r .at) (r .left))) ⌝ }
+{
+    let mut j: usize = 0;
+    let mut left = k;
+    while j < total {
+        let e = environment(params, p, values(sizes, j));
+        let a = e.at;
+        let d = test(s, funcs, &a, froms, ends, blocks, n);
+        if d == 0 {
+            let r = evaluation::smaller(next(j, g), total);
+            let m = (r - j) as u64;
+            if left < m {
+                return Found {
+                    found: true,
+                    at: j + (left as usize),
+                    left: 0,
+                };
+            }
+            left -= m;
+            j = r;
+        } else {
+            j = next(j, wide_block(d));
+        }
+    }
+    Found {
+        found: false,
+        at: 0,
+        left: left,
+    }
+}
+
+// The k-th of all assignments that meet the conditions asked, or how much of k is left: they say the same again after each round.
+pub fn find_rounds(
+    s: &[u8],
+    funcs: &[u16],
+    params: Eight,
+    p: usize,
+    sizes: Four,
+    froms: &[usize; 8],
+    ends: &[usize; 8],
+    blocks: &[u32; 8],
+    n: usize,
+    g: usize,
+    round: usize,
+    k: u64,
+) -> Found
+    requires { ⌜ (p ≤ frame-width) × (((i : ℕ) → p ≤ i → getD (params .at) i 0 ≡ 0) × ((n ≤ max-conditions) × (Sizes (sizes .at) × ((round ≤ 65536) × ((0 < round) × ((0 < g) × (g ≤ 65536))))))) ⌝ }
+    ensures { λ r. ⌜ (r .at ≤ 131072) × ((r .left ≤ k) × ((l low : ℕ) → g ≡ product (drop l (sizes .at)) → round ≡ product (drop (low - p) (sizes .at)) → ((i : ℕ) → i < n → Part (now (s .entry)) p (sizes .at) (now (froms .entry)) (now (ends .entry)) (now (blocks .entry)) g i) → Above (now (s .entry)) p (now (froms .entry)) (now (ends .entry)) (now (blocks .entry)) n low → Finds (places (λ j. part-met (now (s .entry)) (now (funcs .entry)) (now (froms .entry)) (now (ends .entry)) (now (blocks .entry)) n (env p (params .at) (valuesOf (sizes .at) j))) (product (sizes .at)) 0) k (r .found) (r .at) (r .left))) ⌝ }
+{
+    let total = block_size(sizes, 0);
+    let r = find_in(
+        s,
+        funcs,
+        params,
+        p,
+        sizes,
+        froms,
+        ends,
+        blocks,
+        n,
+        g,
+        round,
+        k,
+    );
+    if r.found {
+        return r;
+    }
+    let m = k - r.left;
+    if m == 0 {
+        return r;
+    }
+    if round == total {
+        return r;
+    }
+    let q = k / m;
+    let rounds = (total / round) as u64;
+    if rounds <= q {
+        return Found {
+            found: false,
+            at: 0,
+            left: k - m * rounds,
+        };
+    }
+    let f = find_in(
+        s,
+        funcs,
+        params,
+        p,
+        sizes,
+        froms,
+        ends,
+        blocks,
+        n,
+        g,
+        round,
+        k % m,
+    );
+    Found {
+        found: true,
+        at: (q as usize) * round + f.at,
+        left: 0,
+    }
+}
