@@ -25,7 +25,7 @@ use Rattle.contexts.specs.declared.Side.{Side}
 use Rattle.contexts.specs.Spots.{Arrays, Bound, Spotted, around, weight}
 use Rattle.contexts.proofs.Spotting.{case-call, map-none, deeper-same, deeper-then}
 use Rattle.contexts.proofs.Sides.{sides, side-plain}
-use Rattle.heads.specs.declared.Ahead.{Ahead}
+use Rattle.heads.specs.declared.alternatives.Ahead.{Ahead}
 use Rattle.heads.specs.Progress.{Ends, Looked, SecondSide, side-spot, Behind, Past}
 use Rattle.heads.proofs.Walking.{counted, passed, ends}
 

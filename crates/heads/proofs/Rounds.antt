@@ -13,8 +13,8 @@ use Rattle.contexts.specs.declared.Side.{Side}
 use Rattle.contexts.specs.Spots.{Arrays, arrays, Bound, Leads, weight}
 use Rattle.contexts.specs.Steps.{SideDown, Written, SideWritten}
 use Rattle.contexts.proofs.Sides.{Passed}
-use Rattle.heads.specs.declared.Ahead.{Ahead}
-use Rattle.heads.specs.declared.Reached.{Reached}
+use Rattle.heads.specs.declared.alternatives.Ahead.{Ahead}
+use Rattle.heads.specs.declared.walk.Reached.{Reached}
 use Rattle.heads.specs.Progress.{Ends, Looked, SecondSide, Reaches, Nearer, Onward, StepsOn}
 use Rattle.heads.proofs.Walking.{passed, on-step, step-fails, side-fails, first-fails, second-out, on-choice}
 

@@ -25,8 +25,8 @@ use Rattle.contexts.specs.declared.Spot.{Spot}
 use Rattle.contexts.specs.declared.Side.{Side}
 use Rattle.contexts.specs.Spots.{conds-room, Ready, Arrays, Bound, Spotted, Deeper, Kept, weight}
 use Rattle.contexts.specs.Steps.{Stays, Written}
-use Rattle.heads.specs.declared.Ahead.{Ahead}
-use Rattle.heads.specs.declared.Reached.{Reached}
+use Rattle.heads.specs.declared.alternatives.Ahead.{Ahead}
+use Rattle.heads.specs.declared.walk.Reached.{Reached}
 
 -- rooms of the arrays of a walk: sum variables, conditions, calls after a first part, calls
 pub record Rooms (lv lc la lk : ℕ) : Type 0 where

@@ -150,7 +150,7 @@ fn put_equation(
     ensures { λ r. ⌜ EquationPut (now (cells .entry)) (now (starts .entry)) (now (counts .entry)) (now (firsts .entry)) fuel s w (now (out .entry)) r (now (out .exit)) ⌝ }
 {
     let mut slots = [0u8; 1056];
-    heads::put_params(&mut slots, s.marks, s.scope);
+    heads::params::put_params(&mut slots, s.marks, s.scope);
     heads::write_summands(
         cells,
         starts,
@@ -219,7 +219,7 @@ pub fn put_summands(
     let fuel = n.procs + 1;
     let total = n.procs + count;
     let t = counting::rounds(cells, starts, n.procs, fuel);
-    let f = heads::first_numbers(cells, starts, n.procs);
+    let f = heads::numbering::first_numbers(cells, starts, n.procs);
     let counts = t.at;
     let firsts = f.at;
     if count_all(procs, cells, starts, &counts, &firsts, n, rows, total, fuel) > MAX_SUMMANDS {

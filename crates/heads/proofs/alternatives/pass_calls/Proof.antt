@@ -1,0 +1,68 @@
+-- `heads::alternatives::pass_calls` meets its contract: each round passes one call.
+use borrow.Author.Needs.{needs}
+use native.Mathlib.Omega.{arith}
+use Prim.Native.Nat.{_-_, _*_, _≤_, _<_}
+use mathlib.Core.Path.{_≡_, refl, sym, ap, subst}
+use mathlib.Core.Logic.{_⊎_, inl, inr}
+use lib.ListN.{length}
+use Rattle.counting.specs.Limits.{row-width, row}
+use Rattle.contexts.specs.declared.Spot.{Spot}
+use Rattle.heads.specs.Progress.{Behind, Past}
+use Rattle.heads.proofs.Passing.{past-same, spot-at, past-more}
+use Rattle.heads.proofs.Rounds.{the-other}
+use Rattle.heads.proofs.alternatives.pass_calls.Statement.{statement}
+use Rattle.heads.proofs.alternatives.pass_calls.Tie as tie
+
+abbrev Inv-loop : tie.InvT-loop
+Inv-loop cells counts s base p₀ q₀ p q = (base ≡ row-width * s .fuel) × ((p < length cells) × (p ≤ q) × (q < length cells)) × (p < q → Behind cells (row base counts) p q) × ((p ≡ s .at) ⊎ Past cells counts s (spot-at cells counts s p))
+
+abbrev μ-loop : tie.MeasureT-loop
+μ-loop cells counts s base p₀ q₀ p q = length cells - p
+
+mul-base : tie.Need-mul-base Inv-loop μ-loop
+mul-base c = let q = c .before .before .before .pre in omega arith
+
+behind-call-requires : tie.Need-behind-call-requires Inv-loop μ-loop
+behind-call-requires c κs = let q = c .before .before .before .pre in (q .0, omega arith)
+
+loop-holds : tie.Need-loop-holds Inv-loop μ-loop
+loop-holds c = (refl, (c .before .before .before .before .pre .0, c .behind-call .ensures .0 .0, c .behind-call .ensures .0 .1), c .behind-call .ensures .1, inl refl)
+
+behind-call-requires-2 : tie.Need-behind-call-requires-2 Inv-loop μ-loop
+behind-call-requires-2 c κs = let i = c .before .loop .inv in let q = c .before .before .before .before .before .before .pre in (i .1 .2, omega arith)
+
+loop-less : tie.Need-loop-less Inv-loop μ-loop
+loop-less c = let i = c .before .before .loop .inv in omega (arith, i .1 .2)
+
+loop-again : tie.Need-loop-again Inv-loop μ-loop
+loop-again c = let i = c .before .before .loop .inv in
+    let a = c .before .before .before .before .before .before .before .args in
+    let u = c .behind-call2 .ensures in
+    (i .0, (i .1 .2, u .0 .0, u .0 .1), u .1, inr (past-more (a .cells .now) (a .counts .now) (a .s) (c .before .before .loop .p) (c .before .before .loop .q) (c .before .before .before .before .before .before .before .pre .2) (i .1 .0) (i .2 (omega arith)) (i .3)))
+
+beside-requires : tie.Need-beside-requires Inv-loop μ-loop
+beside-requires c κs = tt
+
+returns : tie.Need-returns Inv-loop μ-loop
+returns c = (c .before .before .before .before .before .before .before .before .pre .0, past-same (c .before .before .before .before .before .before .before .before .args .cells .now) (c .before .before .before .before .before .before .before .before .args .counts .now) (c .before .before .before .before .before .before .before .before .args .s))
+
+returns-2 : tie.Need-returns-2 Inv-loop μ-loop
+returns-2 c = let i = c .before .before .before .before .loop .inv in
+    let e = c .beside .ensures in
+    (omega (arith, i .1 .0, ap (λ (x : Spot). x .at) e), subst (λ (x : Spot). Past (c .before .before .before .before .before .before .before .before .before .args .cells .now) (c .before .before .before .before .before .before .before .before .before .args .counts .now) (c .before .before .before .before .before .before .before .before .before .args .s) x) (sym e) (the-other _ _ (i .3) (c .before .if1 .left)))
+
+pub pass-calls-spec : {M : Type 1} → statement M
+pass-calls-spec =
+    tie.close
+    (tie.spec
+    Inv-loop
+    μ-loop
+    mul-base
+    behind-call-requires
+    loop-holds
+    behind-call-requires-2
+    loop-less
+    loop-again
+    beside-requires
+    returns
+    returns-2)
