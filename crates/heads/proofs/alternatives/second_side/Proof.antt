@@ -1,8 +1,8 @@
--- `heads::second_side` meets its contract.
+-- `heads::alternatives::second_side` meets its contract.
 use borrow.Author.Needs.{needs}
 use mathlib.Core.Path.{refl}
-use Rattle.heads.proofs.second_side.Statement.{statement}
-use Rattle.heads.proofs.second_side.Tie as tie
+use Rattle.heads.proofs.alternatives.second_side.Statement.{statement}
+use Rattle.heads.proofs.alternatives.second_side.Tie as tie
 
 later-requires : tie.Need-later-requires
 later-requires c κs = search needs
