@@ -12,7 +12,9 @@ count-heads-requires : tie.Need-count-heads-requires
 count-heads-requires c κs = search needs
 
 returns : tie.Need-returns
-returns c = (omega arith, list-full (c .before .before .before .before .before .before .before .before .args .cells .now) (c .before .before .before .before .before .before .before .before .args .starts .now) (c .before .before .before .before .before .before .before .before .args .counts .now) (c .before .before .before .before .before .before .before .before .args .firsts .now) (c .before .before .before .before .before .before .before .before .args .fuel) (c .before .before .before .before .before .before .before .before .args .at) (c .before .before .before .before .before .before .before .before .args .c) (c .before .before .before .before .before .before .before .before .args .slots .now) (c .before .before .before .before .before .before .before .before .args .n) (c .before .before .before .before .before .before .before .before .args .m) (c .before .before .before .before .before .before .before .before .args .w) (c .before .before .before .before .before .before .before .before .args .out .now) (omega arith) (c .before .before .before .before .before .before .before .before .args .w) (c .before .before .before .before .before .before .before .before .args .out .now))
+returns c =
+    let args = c .before .before .before .before .before .before .before .before .args in
+    (omega arith, list-full (args .cells .now) (args .starts .now) (args .counts .now) (args .firsts .now) (args .fuel) (args .at) (args .c) (args .slots .now) (args .n) (args .m) (args .w) (args .out .now) (omega arith) (args .w) (args .out .now))
 
 cast-out : tie.Need-cast-out
 cast-out c = search needs
@@ -24,15 +26,21 @@ add-write-heads : tie.Need-add-write-heads
 add-write-heads c = search needs
 
 write-heads-requires : tie.Need-write-heads-requires
-write-heads-requires c κs = let q = c .before .before .before .before .before .before .before .before .before .pre in omega (arith, length-set (c .before .before .before .before .before .before .before .before .before .args .out .now) (c .before .before .before .before .before .before .before .before .before .args .w) (c .before .before .count-heads .result % 256))
+write-heads-requires c κs =
+    let args = c .before .before .before .before .before .before .before .before .before .args in
+    let q = c .before .before .before .before .before .before .before .before .before .pre in omega (arith, length-set (args .out .now) (args .w) (c .before .before .count-heads .result % 256))
 
 same-length : tie.Need-same-length
-same-length c = c .before .before .write-heads .kept .1 .1 .1 .1 .1 .1 .1 .1 .1 .1 .0 ∙ length-set (c .before .before .before .before .before .before .before .before .before .before .before .before .args .out .now) (c .before .before .before .before .before .before .before .before .before .before .before .before .args .w) (c .before .before .before .before .before .count-heads .result % 256)
+same-length c =
+    let args = c .before .before .before .before .before .before .before .before .before .before .before .before .args in
+    c .before .before .write-heads .kept .1 .1 .1 .1 .1 .1 .1 .1 .1 .1 .0 ∙ length-set (args .out .now) (args .w) (c .before .before .before .before .before .count-heads .result % 256)
 
 returns-2 : tie.Need-returns-2
-returns-2 c = let q = c .before .before .before .before .before .before .before .before .before .before .before .before .pre in
+returns-2 c =
+    let args = c .before .before .before .before .before .before .before .before .before .before .before .before .args in
+    let q = c .before .before .before .before .before .before .before .before .before .before .before .before .pre in
     let u = c .before .before .write-heads .ensures .0 in
-    (omega (arith, length-set (c .before .before .before .before .before .before .before .before .before .before .before .before .args .out .now) (c .before .before .before .before .before .before .before .before .before .before .before .before .args .w) (c .before .before .before .before .before .count-heads .result % 256)), list-right (c .before .before .before .before .before .before .before .before .before .before .before .before .args .cells .now) (c .before .before .before .before .before .before .before .before .before .before .before .before .args .starts .now) (c .before .before .before .before .before .before .before .before .before .before .before .before .args .counts .now) (c .before .before .before .before .before .before .before .before .before .before .before .before .args .firsts .now) (c .before .before .before .before .before .before .before .before .before .before .before .before .args .fuel) (c .before .before .before .before .before .before .before .before .before .before .before .before .args .at) (c .before .before .before .before .before .before .before .before .before .before .before .before .args .c) (c .before .before .before .before .before .before .before .before .before .before .before .before .args .slots .now) (c .before .before .before .before .before .before .before .before .before .before .before .before .args .n) (c .before .before .before .before .before .before .before .before .before .before .before .before .args .m) (c .before .before .before .before .before .before .before .before .before .before .before .before .args .w) (c .before .before .before .before .before .before .before .before .before .before .before .before .args .out .now) (c .before .before .before .before .before .count-heads .result) (c .before .before .before .before .before .count-heads .ensures) (omega arith) (c .before .before .write-heads .result) (c .before .before .write-heads .last .1 .1 .1 .1 .1 .1 .1 .1 .1 .1 .0) (c .before .before .write-heads .ensures .1))
+    (omega (arith, length-set (args .out .now) (args .w) (c .before .before .before .before .before .count-heads .result % 256)), list-right (args .cells .now) (args .starts .now) (args .counts .now) (args .firsts .now) (args .fuel) (args .at) (args .c) (args .slots .now) (args .n) (args .m) (args .w) (args .out .now) (c .before .before .before .before .before .count-heads .result) (c .before .before .before .before .before .count-heads .ensures) (omega arith) (c .before .before .write-heads .result) (c .before .before .write-heads .last .1 .1 .1 .1 .1 .1 .1 .1 .1 .1 .0) (c .before .before .write-heads .ensures .1))
 
 pub write-summands-spec : {M : Type 1} → statement M
 write-summands-spec =

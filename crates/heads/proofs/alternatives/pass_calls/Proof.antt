@@ -35,21 +35,27 @@ loop-less : tie.Need-loop-less Inv-loop μ-loop
 loop-less c = let i = c .before .before .loop .inv in omega (arith, i .1 .2)
 
 loop-again : tie.Need-loop-again Inv-loop μ-loop
-loop-again c = let i = c .before .before .loop .inv in
+loop-again c =
+    let here = c .before .before .loop in
+    let i = here .inv in
     let a = c .before .before .before .before .before .before .before .args in
     let u = c .behind-call2 .ensures in
-    (i .0, (i .1 .2, u .0 .0, u .0 .1), u .1, inr (past-more (a .cells .now) (a .counts .now) (a .s) (c .before .before .loop .p) (c .before .before .loop .q) (c .before .before .before .before .before .before .before .pre .2) (i .1 .0) (i .2 (omega arith)) (i .3)))
+    (i .0, (i .1 .2, u .0 .0, u .0 .1), u .1, inr (past-more (a .cells .now) (a .counts .now) (a .s) (here .p) (here .q) (c .before .before .before .before .before .before .before .pre .2) (i .1 .0) (i .2 (omega arith)) (i .3)))
 
 beside-requires : tie.Need-beside-requires Inv-loop μ-loop
 beside-requires c κs = tt
 
 returns : tie.Need-returns Inv-loop μ-loop
-returns c = (c .before .before .before .before .before .before .before .before .pre .0, past-same (c .before .before .before .before .before .before .before .before .args .cells .now) (c .before .before .before .before .before .before .before .before .args .counts .now) (c .before .before .before .before .before .before .before .before .args .s))
+returns c =
+    let args = c .before .before .before .before .before .before .before .before .args in
+    (c .before .before .before .before .before .before .before .before .pre .0, past-same (args .cells .now) (args .counts .now) (args .s))
 
 returns-2 : tie.Need-returns-2 Inv-loop μ-loop
-returns-2 c = let i = c .before .before .before .before .loop .inv in
+returns-2 c =
+    let args = c .before .before .before .before .before .before .before .before .before .args in
+    let i = c .before .before .before .before .loop .inv in
     let e = c .beside .ensures in
-    (omega (arith, i .1 .0, ap (λ (x : Spot). x .at) e), subst (λ (x : Spot). Past (c .before .before .before .before .before .before .before .before .before .args .cells .now) (c .before .before .before .before .before .before .before .before .before .args .counts .now) (c .before .before .before .before .before .before .before .before .before .args .s) x) (sym e) (the-other _ _ (i .3) (c .before .if1 .left)))
+    (omega (arith, i .1 .0, ap (λ (x : Spot). x .at) e), subst (λ (x : Spot). Past (args .cells .now) (args .counts .now) (args .s) x) (sym e) (the-other _ _ (i .3) (c .before .if1 .left)))
 
 pub pass-calls-spec : {M : Type 1} → statement M
 pass-calls-spec =

@@ -42,9 +42,11 @@ look-requires : tie.Need-look-requires Inv-loop μ-loop
 look-requires c κs = let t = c .pass-calls .ensures in (t .0, omega (arith, t .1 .fuel-same, c .before .before .before .pre .1))
 
 loop-holds : tie.Need-loop-holds Inv-loop μ-loop
-loop-holds c = let t = c .before .pass-calls .ensures in
+loop-holds c =
+    let args = c .before .before .before .before .args in
+    let t = c .before .pass-calls .ensures in
     let e = c .look .ensures .0 in
-    (c .look .ensures .1, past-same (c .before .before .before .before .args .cells .now) (c .before .before .before .before .args .counts .now) (c .look .result .s), omega (arith, ap (λ (x : Spot). x .c) e, t .1 .small (c .before .before .before .before .pre .2)), omega (arith, ap (λ (x : Spot). x .fuel) e, t .1 .fuel-same, c .before .before .before .before .pre .1))
+    (c .look .ensures .1, past-same (args .cells .now) (args .counts .now) (c .look .result .s), omega (arith, ap (λ (x : Spot). x .c) e, t .1 .small (c .before .before .before .before .pre .2)), omega (arith, ap (λ (x : Spot). x .fuel) e, t .1 .fuel-same, c .before .before .before .before .pre .1))
 
 headless-requires : tie.Need-headless-requires Inv-loop μ-loop
 headless-requires c κs = tt
@@ -62,13 +64,18 @@ loop-less : tie.Need-loop-less Inv-loop μ-loop
 loop-less c = let i = c .before .before .before .before .before .loop .inv in let h = c .before .before .before .before .headless .ensures (c .before .before .before .if1 .taken) in let s = c .before .before .second-side .ensures in let e = c .look2 .ensures .0 ∙ c .before .beside .ensures in omega (arith, i .0 .inside, i .0 .on .on, i .0 .counts-first (inl (h .0)) .0, ap (λ (x : Side). x .at) (s .0), ap (λ (x : Spot). x .at) e)
 
 loop-again : tie.Need-loop-again Inv-loop μ-loop
-loop-again c = let i = c .before .before .before .before .before .loop .inv in let h = c .before .before .before .before .headless .ensures (c .before .before .before .if1 .taken) in passed-one (c .before .before .before .before .before .before .before .before .before .before .args .cells .now) (c .before .before .before .before .before .before .before .before .before .before .args .counts .now) (c .before .before .before .before .before .before .look .result) (c .before .before .before .before .before .loop .g) (c .look2 .result) (c .before .before .second-side .result) (c .before .beside .result) i (h .0) (h .1) (c .before .before .second-side .ensures) (c .before .beside .ensures) (c .look2 .ensures .0) (c .look2 .ensures .1)
+loop-again c =
+    let here = c .before .before .before .before .before .loop in
+    let args = c .before .before .before .before .before .before .before .before .before .before .args in
+    let i = here .inv in let h = c .before .before .before .before .headless .ensures (c .before .before .before .if1 .taken) in passed-one (args .cells .now) (args .counts .now) (c .before .before .before .before .before .before .look .result) (here .g) (c .look2 .result) (c .before .before .second-side .result) (c .before .beside .result) i (h .0) (h .1) (c .before .before .second-side .ensures) (c .before .beside .ensures) (c .look2 .ensures .0) (c .look2 .ensures .1)
 
 returns : tie.Need-returns Inv-loop μ-loop
-returns c = let i = c .before .before .loop .inv in
+returns c =
+    let here = c .before .before .loop in
+    let i = here .inv in
     let a = c .before .before .before .before .before .before .before .args in
     let t = c .before .before .before .before .pass-calls .result in
-    (i .0, past-then (a .cells .now) (a .counts .now) (a .s) t (c .before .before .loop .g .s) (c .before .before .before .before .pass-calls .ensures .1) (subst (λ (x : Spot). Past (a .cells .now) (a .counts .now) x (c .before .before .loop .g .s)) (c .before .before .before .look .ensures .0) (i .1)))
+    (i .0, past-then (a .cells .now) (a .counts .now) (a .s) t (here .g .s) (c .before .before .before .before .pass-calls .ensures .1) (subst (λ (x : Spot). Past (a .cells .now) (a .counts .now) x (here .g .s)) (c .before .before .before .look .ensures .0) (i .1)))
 
 pub pass-headless-spec : {M : Type 1} → statement M
 pass-headless-spec =

@@ -20,7 +20,8 @@ abbrev μ-loop : tie.MeasureT-loop
 
 loop-holds : tie.Need-loop-holds Inv-loop μ-loop
 loop-holds c =
-    ((omega arith, omega arith, length-replicate {A = ℕ} 16 0), numbering-start (c .before .before .args .cells .now) (c .before .before .args .starts .now) (c .before .before .args .n) _)
+    let args = c .before .before .args in
+    ((omega arith, omega arith, length-replicate {A = ℕ} 16 0), numbering-start (args .cells .now) (args .starts .now) (args .n) _)
 
 cell-requires : tie.Need-cell-requires Inv-loop μ-loop
 cell-requires c κs = omega arith
@@ -44,14 +45,18 @@ loop-less : tie.Need-loop-less Inv-loop μ-loop
 loop-less c = omega arith
 
 loop-again : tie.Need-loop-again Inv-loop μ-loop
-loop-again c = (
-  (omega arith, c .later .ensures .0, length-set (c .before .before .before .before .loop .t) _ _ ∙ c .before .before .before .before .loop .inv .0 .2),
-  numbering-on (c .before .before .before .before .before .before .before .args .cells .now) (c .before .before .before .before .before .before .before .args .starts .now) (c .before .before .before .before .before .before .before .args .n) (c .before .before .before .before .loop .k) (c .before .before .before .before .loop .c) (c .before .before .before .before .loop .t) (c .before .before .before .before .loop .inv .1) (omega arith) (omega arith) (c .before .before .cell .result) (c .before .before .cell .ensures .0) (c .before .skip .result) (c .before .skip .ensures .1) (c .later .result) (c .later .ensures .1),
-)
+loop-again c =
+    let here = c .before .before .before .before .loop in
+    let args = c .before .before .before .before .before .before .before .args in (
+      (omega arith, c .later .ensures .0, length-set (here .t) _ _ ∙ here .inv .0 .2),
+      numbering-on (args .cells .now) (args .starts .now) (args .n) (here .k) (here .c) (here .t) (here .inv .1) (omega arith) (omega arith) (c .before .before .cell .result) (c .before .before .cell .ensures .0) (c .before .skip .result) (c .before .skip .ensures .1) (c .later .result) (c .later .ensures .1),
+    )
 
 returns : tie.Need-returns Inv-loop μ-loop
 returns c =
-    numbering-done (c .before .before .before .before .args .cells .now) (c .before .before .before .before .args .starts .now) (c .before .before .before .before .args .n) (c .before .loop .k) (c .before .loop .c) (c .before .loop .t) (c .before .loop .inv .1) (omega arith)
+    let args = c .before .before .before .before .args in
+    let here = c .before .loop in
+    numbering-done (args .cells .now) (args .starts .now) (args .n) (here .k) (here .c) (here .t) (here .inv .1) (omega arith)
 
 pub first-numbers-spec : {M : Type 1} → statement M
 first-numbers-spec =

@@ -19,7 +19,9 @@ abbrev μ-loop : tie.MeasureT-loop
 μ-loop slots₀ m n rest₀ k₀ i₀ slots rest k i = n - i
 
 loop-holds : tie.Need-loop-holds Inv-loop μ-loop
-loop-holds c = ((omega arith, omega arith, refl), params-start (c .before .args .m) (c .before .args .slots .now))
+loop-holds c =
+    let args = c .before .args in
+    ((omega arith, omega arith, refl), params-start (args .m) (args .slots .now))
 
 param-code-requires : tie.Need-param-code-requires Inv-loop μ-loop
 param-code-requires c κs = omega arith
@@ -42,15 +44,18 @@ loop-less c = omega arith
 
 loop-again : tie.Need-loop-again Inv-loop μ-loop
 loop-again c =
-    let i = c .before .before .before .before .before .before .loop .inv .0 in
-    ((omega arith, omega arith, c .before .before .put-byte .kept .0 ∙ i .2), params-on (c .before .before .before .before .before .before .before .before .args .m) (c .before .before .before .before .before .before .loop .i) (c .before .before .before .before .before .before .loop .k) (c .before .before .before .before .before .before .loop .rest) (c .before .before .before .before .before .before .loop .slots) (c .before .before .put-byte .last .0) (c .before .before .before .before .before .before .loop .inv .1) (c .before .before .before .param-code .result) (c .before .before .before .param-code .ensures) (c .before .before .put-byte .ensures))
+    let here = c .before .before .before .before .before .before .loop in
+    let i = here .inv .0 in
+    ((omega arith, omega arith, c .before .before .put-byte .kept .0 ∙ i .2), params-on (c .before .before .before .before .before .before .before .before .args .m) (here .i) (here .k) (here .rest) (here .slots) (c .before .before .put-byte .last .0) (here .inv .1) (c .before .before .before .param-code .result) (c .before .before .before .param-code .ensures) (c .before .before .put-byte .ensures))
 
 same-length : tie.Need-same-length Inv-loop μ-loop
 same-length c = c .before .loop .inv .0 .2
 
 returns : tie.Need-returns Inv-loop μ-loop
 returns c =
-    let z : c .before .loop .i ≡ c .before .before .before .args .n = omega arith in subst (λ (j : ℕ). Slots (as-params (bits j (c .before .before .before .args .m)) 0) (c .before .loop .slots) j) z (c .before .loop .inv .1 .held)
+    let here = c .before .loop in
+    let args = c .before .before .before .args in
+    let z : here .i ≡ args .n = omega arith in subst (λ (j : ℕ). Slots (as-params (bits j (args .m)) 0) (here .slots) j) z (here .inv .1 .held)
 
 pub put-params-spec : {M : Type 1} → statement M
 put-params-spec =

@@ -1,4 +1,5 @@
 -- The walk meets its contract: each way through is one law of `Walking` or `Rounds`; the weight of the place falls.
+-- What is found by search, or said by one path, stands in the list at the end.
 use borrow.Author.Needs.{needs}
 use native.Mathlib.Omega.{arith}
 use Prim.Native.Nat.{_+_, _-_, _*_, _≤_, ℕ, _<_}
@@ -94,274 +95,159 @@ abbrev walk-calls : ℕ → walk-lts.Claims
 walk-calls t = (pass-headless-reads.Asked, pass-headless-reads.Learnt, is-leaf-reads.Asked, is-leaf-reads.Learnt, leaf-below t, leaf.Post, onward-below t, onward.Post)
 
 first-side-returns : (t : ℕ) → first-side-lts.Need-returns (first-side-calls t) (first-side-at t) first-side.Post
-first-side-returns t c = let start = c .before .before .before .before .before .before .before .before .before .before .before .before in
-    let the-if1 = c .if1 in
-    let p = (start .pre .1 .0 .2) in
-    let z : Done = record { ok = true; w = (start .args .w) } in
-    (omega arith, side-none (start .args .cells .now) (start .args .starts .now) (start .args .counts .now) (start .args .firsts .now) (start .args .g .s) (arrays (start .args .slots .now) (start .args .vars .now) (start .args .conds .now) (start .args .calls .now)) (start .args .w) (start .args .out .now) (start .args .g .d) (record { second = false; at = (start .args .g .d) .next; c = (start .args .g .s) .c }) z refl refl (first-ends (start .args .cells .now) (start .args .counts .now) (start .args .g) ((start .pre .1 .1 .0) .counts-first ((start .pre .1 .1 .1) .0 refl) .1) z (λ t. the-if1 .taken) (λ t. never (sym t))))
+first-side-returns t c =
+    let start = c .before .before .before .before .before .before .before .before .before .before .before .before in
+    let args = start .args in
+    let p = start .pre .1 .0 .2 in
+    let z : Done = record { ok = true; w = args .w } in
+    (omega arith, side-none (args .cells .now) (args .starts .now) (args .counts .now) (args .firsts .now) (args .g .s) (arrays (args .slots .now) (args .vars .now) (args .conds .now) (args .calls .now)) (args .w) (args .out .now) (args .g .d) (record { second = false; at = args .g .d .next; c = args .g .s .c }) z refl refl (first-ends (args .cells .now) (args .counts .now) (args .g) (start .pre .1 .1 .0 .counts-first (start .pre .1 .1 .1 .0 refl) .1) z (λ t. c .if1 .taken) (λ t. never (sym t))))
 
 first-side-down-side-requires : (t : ℕ) → first-side-lts.Need-down-side-requires (first-side-calls t) (first-side-at t) first-side.Post
-first-side-down-side-requires t c κs = let start = c .before .before .before .before .before .before .before .before .before .before .before .before .before .before in
-    ((start .pre .1 .0 .0) .lc-few, (start .pre .1 .0 .1) .conds-fit, omega (arith, (start .pre .1 .0 .0) .n-room, (start .pre .1 .0 .0) .nv-few))
-
-first-side-same-length : (t : ℕ) → first-side-lts.Need-same-length (first-side-calls t) (first-side-at t) first-side.Post
-first-side-same-length t c = search needs
-
-first-side-same-length-2 : (t : ℕ) → first-side-lts.Need-same-length-2 (first-side-calls t) (first-side-at t) first-side.Post
-first-side-same-length-2 t c = search needs
+first-side-down-side-requires t c κs =
+    let start = c .before .before .before .before .before .before .before .before .before .before .before .before .before .before in
+    let bound = start .pre .1 .0 .0 in
+    (bound .lc-few, start .pre .1 .0 .1 .conds-fit, omega (arith, bound .n-room, bound .nv-few))
 
 first-side-returns-2 : (t : ℕ) → first-side-lts.Need-returns-2 (first-side-calls t) (first-side-at t) first-side.Post
-first-side-returns-2 t c = let start = c .before .before .before .before .before .before .before .before .before .before .before .before .before .before .before .before .before .before .before in
-    let the-if1 = c .before .before .before .before .before .before .before .if1 in
+first-side-returns-2 t c =
+    let start = c .before .before .before .before .before .before .before .before .before .before .before .before .before .before .before .before .before .before .before in
+    let args = start .args in
     let the-down-side = c .before .before .before .before .down-side in
-    let the-if2 = c .if2 in
-    let p = (start .pre .1 .0 .2) in
-    let z : Done = record { ok = false; w = (start .args .w) } in
-    (omega arith, side-fails (start .args .cells .now) (start .args .starts .now) (start .args .counts .now) (start .args .firsts .now) (start .args .g .s) (start .args .slots .now) (start .args .vars .now) (start .args .conds .now) (start .args .calls .now) (start .args .w) (start .args .out .now) (start .args .g .d) (record { second = false; at = (start .args .g .d) .next; c = (start .args .g .s) .c }) (the-down-side .result) (the-down-side .last .1 .1 .1 .1 .1 .0) (the-down-side .ensures .1 .1) (not-true _ (the-if2 .taken)) z refl (first-ends (start .args .cells .now) (start .args .counts .now) (start .args .g) ((start .pre .1 .1 .0) .counts-first ((start .pre .1 .1 .1) .0 refl) .1) z (λ t. never t) (λ t. the-if1 .left)))
+    let p = start .pre .1 .0 .2 in
+    let z : Done = record { ok = false; w = args .w } in
+    (omega arith, side-fails (args .cells .now) (args .starts .now) (args .counts .now) (args .firsts .now) (args .g .s) (args .slots .now) (args .vars .now) (args .conds .now) (args .calls .now) (args .w) (args .out .now) (args .g .d) (record { second = false; at = args .g .d .next; c = args .g .s .c }) (the-down-side .result) (the-down-side .last .1 .1 .1 .1 .1 .0) (the-down-side .ensures .1 .1) (not-true _ (c .if2 .taken)) z refl (first-ends (args .cells .now) (args .counts .now) (args .g) (start .pre .1 .1 .0 .counts-first (start .pre .1 .1 .1 .0 refl) .1) z (λ t. never t) (λ t. c .before .before .before .before .before .before .before .if1 .left)))
 
 first-side-walk-requires : (t : ℕ) → first-side-lts.Need-walk-requires (first-side-calls t) (first-side-at t) first-side.Post
-first-side-walk-requires t c κs = let start = c .before .before .before .before .before .before .before .before .before .before .before .before .before .before .before .before .before .before .before .before .before .before .before .before .before in
+first-side-walk-requires t c κs =
+    let start = c .before .before .before .before .before .before .before .before .before .before .before .before .before .before .before .before .before .before .before .before .before .before .before .before .before in
+    let args = start .args in
+    let bound = start .pre .1 .0 .0 in
+    let looked = start .pre .1 .1 .0 in
     let the-down-side = c .before .before .before .before .before .before .before .before .before .before .down-side in
-    let the-if2 = c .before .before .before .before .before .before .if2 in
-    let y = the-down-side .ensures .1 .0 (not-false _ (the-if2 .left)) in
-    let m = (start .pre .1 .0 .1) in
-    let less = weight-same (length (start .args .cells .now)) ((start .args .g .s) .fuel) ((start .args .g .s) .at) (the-down-side .result .fuel) (the-down-side .result .at) (y .0) ((start .pre .1 .1 .0) .inside) (omega (arith, y .1, (start .pre .1 .1 .0) .on .on)) in
-    (omega (arith, start .pre .0), (the-down-side .ensures .0 ((start .pre .1 .0 .0) .c-small) (length (start .args .calls .now)) (length (start .args .slots .now)) (start .pre .1 .0 .0), record { vars-room = m .vars-room; conds-fit = omega (arith, m .conds-fit, (the-down-side .kept .1 .1 .1 .1 .1 .0)); after-fit = m .after-fit; calls-fit = m .calls-fit }, (start .pre .1 .0 .2)))
-
-first-side-same-length-3 : (t : ℕ) → first-side-lts.Need-same-length-3 (first-side-calls t) (first-side-at t) first-side.Post
-first-side-same-length-3 t c = search needs
-
-first-side-same-length-4 : (t : ℕ) → first-side-lts.Need-same-length-4 (first-side-calls t) (first-side-at t) first-side.Post
-first-side-same-length-4 t c = search needs
-
-first-side-same-length-5 : (t : ℕ) → first-side-lts.Need-same-length-5 (first-side-calls t) (first-side-at t) first-side.Post
-first-side-same-length-5 t c = search needs
-
-first-side-same-length-6 : (t : ℕ) → first-side-lts.Need-same-length-6 (first-side-calls t) (first-side-at t) first-side.Post
-first-side-same-length-6 t c = search needs
-
-first-side-same-length-7 : (t : ℕ) → first-side-lts.Need-same-length-7 (first-side-calls t) (first-side-at t) first-side.Post
-first-side-same-length-7 t c = search needs
-
-first-side-same-length-8 : (t : ℕ) → first-side-lts.Need-same-length-8 (first-side-calls t) (first-side-at t) first-side.Post
-first-side-same-length-8 t c = search needs
+    let y = the-down-side .ensures .1 .0 (not-false _ (c .before .before .before .before .before .before .if2 .left)) in
+    let rooms = start .pre .1 .0 .1 in
+    let less = weight-same (length (args .cells .now)) (args .g .s .fuel) (args .g .s .at) (the-down-side .result .fuel) (the-down-side .result .at) (y .0) (looked .inside) (omega (arith, y .1, looked .on .on)) in
+    (omega (arith, start .pre .0), (the-down-side .ensures .0 (bound .c-small) (length (args .calls .now)) (length (args .slots .now)) bound, record { vars-room = rooms .vars-room; conds-fit = omega (arith, rooms .conds-fit, the-down-side .kept .1 .1 .1 .1 .1 .0); after-fit = rooms .after-fit; calls-fit = rooms .calls-fit }, start .pre .1 .0 .2))
 
 first-side-returns-3 : (t : ℕ) → first-side-lts.Need-returns-3 (first-side-calls t) (first-side-at t) first-side.Post
-first-side-returns-3 t c = let start = c .before .before .before .before .before .before .before .before .before .before .before .before .before .before .before .before .before .before .before .before .before .before .before .before .before .before .before .before .before .before .before .before .before .before .before .before .before .before in
+first-side-returns-3 t c =
+    let start = c .before .before .before .before .before .before .before .before .before .before .before .before .before .before .before .before .before .before .before .before .before .before .before .before .before .before .before .before .before .before .before .before .before .before .before .before .before .before in
+    let args = start .args in
     let the-down-side = c .before .before .before .before .before .before .before .before .before .before .before .before .before .before .before .before .before .before .before .before .before .before .before .down-side in
-    let the-if2 = c .before .before .before .before .before .before .before .before .before .before .before .before .before .before .before .before .before .before .before .if2 in
     let the-walk = c .before .before .before .before .before .before .before .before .before .before .before .before .walk in
-    (the-walk .ensures .0, side-out (start .args .cells .now) (start .args .starts .now) (start .args .counts .now) (start .args .firsts .now) (start .args .g .s) (start .args .slots .now) (start .args .vars .now) (start .args .conds .now) (start .args .calls .now) (start .args .w) (start .args .out .now) (start .args .g .d) (record { second = false; at = (start .args .g .d) .next; c = (start .args .g .s) .c }) (the-down-side .result) (the-down-side .last .1 .1 .1 .1 .1 .0) (the-down-side .ensures .1 .1) (not-false _ (the-if2 .left)) (the-walk .result) (arrays (the-walk .last .1 .1 .1 .1 .1 .0) (the-walk .last .1 .1 .1 .1 .1 .1 .0) (the-walk .last .1 .1 .1 .1 .1 .1 .1 .0) (the-walk .last .1 .1 .1 .1 .1 .1 .1 .1 .1 .0)) (the-walk .last .1 .1 .1 .1 .1 .1 .1 .1 .1 .1 .0) (the-walk .ensures .1))
-
-leaf-slice-aggregate-emit : (t : ℕ) → leaf-lts.Need-slice-aggregate-emit (leaf-calls t) (leaf-at t) leaf.Post
-leaf-slice-aggregate-emit t c = search needs
+    (the-walk .ensures .0, side-out (args .cells .now) (args .starts .now) (args .counts .now) (args .firsts .now) (args .g .s) (args .slots .now) (args .vars .now) (args .conds .now) (args .calls .now) (args .w) (args .out .now) (args .g .d) (record { second = false; at = args .g .d .next; c = args .g .s .c }) (the-down-side .result) (the-down-side .last .1 .1 .1 .1 .1 .0) (the-down-side .ensures .1 .1) (not-false _ (c .before .before .before .before .before .before .before .before .before .before .before .before .before .before .before .before .before .before .before .if2 .left)) (the-walk .result) (arrays (the-walk .last .1 .1 .1 .1 .1 .0) (the-walk .last .1 .1 .1 .1 .1 .1 .0) (the-walk .last .1 .1 .1 .1 .1 .1 .1 .0) (the-walk .last .1 .1 .1 .1 .1 .1 .1 .1 .1 .0)) (the-walk .last .1 .1 .1 .1 .1 .1 .1 .1 .1 .1 .0) (the-walk .ensures .1))
 
 leaf-emit-requires : (t : ℕ) → leaf-lts.Need-emit-requires (leaf-calls t) (leaf-at t) leaf.Post
-leaf-emit-requires t c κs = let start = c .before .before .before .before .before .before .before .before .before .before .before .before .before .before .before .before .before in
-    let the-if1 = c .before .before .before .before .before .if1 in
-    (((start .pre .1 .0 .0), the-if1 .taken, (start .pre .1 .1 .0) .views), ((start .pre .1 .0 .1) .vars-room, (start .pre .1 .0 .1) .conds-fit, omega arith, (start .pre .1 .0 .1) .calls-fit, (start .pre .1 .0 .2)))
-
-leaf-same-length : (t : ℕ) → leaf-lts.Need-same-length (leaf-calls t) (leaf-at t) leaf.Post
-leaf-same-length t c = search needs
-
-leaf-same-length-2 : (t : ℕ) → leaf-lts.Need-same-length-2 (leaf-calls t) (leaf-at t) leaf.Post
-leaf-same-length-2 t c = search needs
-
-leaf-same-length-3 : (t : ℕ) → leaf-lts.Need-same-length-3 (leaf-calls t) (leaf-at t) leaf.Post
-leaf-same-length-3 t c = search needs
-
-leaf-same-length-4 : (t : ℕ) → leaf-lts.Need-same-length-4 (leaf-calls t) (leaf-at t) leaf.Post
-leaf-same-length-4 t c = search needs
+leaf-emit-requires t c κs =
+    let start = c .before .before .before .before .before .before .before .before .before .before .before .before .before .before .before .before .before in
+    let rooms = start .pre .1 .0 .1 in
+    ((start .pre .1 .0 .0, c .before .before .before .before .before .if1 .taken, start .pre .1 .1 .0 .views), (rooms .vars-room, rooms .conds-fit, omega arith, rooms .calls-fit, start .pre .1 .0 .2))
 
 leaf-returns : (t : ℕ) → leaf-lts.Need-returns (leaf-calls t) (leaf-at t) leaf.Post
-leaf-returns t c = let start = c .before .before .before .before .before .before .before .before .before .before .before .before .before .before .before .before .before .before .before .before .before in
+leaf-returns t c =
+    let start = c .before .before .before .before .before .before .before .before .before .before .before .before .before .before .before .before .before .before .before .before .before in
+    let args = start .args in
     let the-emit = c .before .before .before .emit in
-    (the-emit .ensures .0, the-emit .ensures .1 (start .args .starts .now) (start .args .counts .now) (start .args .firsts .now))
-
-leaf-ended-requires : (t : ℕ) → leaf-lts.Need-ended-requires (leaf-calls t) (leaf-at t) leaf.Post
-leaf-ended-requires t c κs = let start = c .before .before .before .before .before .before .before .before .before .before .before .before in
-    (start .pre .1 .0 .0) .fuel-small
+    (the-emit .ensures .0, the-emit .ensures .1 (args .starts .now) (args .counts .now) (args .firsts .now))
 
 leaf-returns-2 : (t : ℕ) → leaf-lts.Need-returns-2 (leaf-calls t) (leaf-at t) leaf.Post
-leaf-returns-2 t c = let start = c .before .before .before .before .before .before .before .before .before .before .before .before .before .before in
+leaf-returns-2 t c =
+    let start = c .before .before .before .before .before .before .before .before .before .before .before .before .before .before in
+    let args = start .args in
     let the-ended = c .before .ended in
-    let the-if2 = c .if2 in
     let z = the-ended .ensures .0 in
-    let p = (start .pre .1 .0 .2) in
-    (omega arith, none-out (start .args .cells .now) (start .args .starts .now) (start .args .counts .now) (start .args .firsts .now) (start .args .g .s) (arrays (start .args .slots .now) (start .args .vars .now) (start .args .conds .now) (start .args .calls .now)) (start .args .w) (start .args .out .now) (the-ended .result) (the-if2 .taken) z (the-ended .ensures .1))
-
-leaf-slice-aggregate-down-call : (t : ℕ) → leaf-lts.Need-slice-aggregate-down-call (leaf-calls t) (leaf-at t) leaf.Post
-leaf-slice-aggregate-down-call t c = search needs
+    let p = start .pre .1 .0 .2 in
+    (omega arith, none-out (args .cells .now) (args .starts .now) (args .counts .now) (args .firsts .now) (args .g .s) (arrays (args .slots .now) (args .vars .now) (args .conds .now) (args .calls .now)) (args .w) (args .out .now) (the-ended .result) (c .if2 .taken) z (the-ended .ensures .1))
 
 leaf-down-call-requires : (t : ℕ) → leaf-lts.Need-down-call-requires (leaf-calls t) (leaf-at t) leaf.Post
-leaf-down-call-requires t c κs = let start = c .before .before .before .before .before .before .before .before .before .before .before .before .before .before .before in
-    omega (arith, (start .pre .1 .0 .0) .n-room, (start .pre .1 .0 .0) .nv-few)
+leaf-down-call-requires t c κs =
+    let start = c .before .before .before .before .before .before .before .before .before .before .before .before .before .before .before in
+    let bound = start .pre .1 .0 .0 in
+    omega (arith, bound .n-room, bound .nv-few)
 
 leaf-returns-3 : (t : ℕ) → leaf-lts.Need-returns-3 (leaf-calls t) (leaf-at t) leaf.Post
-leaf-returns-3 t c = let start = c .before .before .before .before .before .before .before .before .before .before .before .before .before .before .before .before .before .before .before in
-    let the-if1 = c .before .before .before .before .before .before .before .if1 in
+leaf-returns-3 t c =
+    let start = c .before .before .before .before .before .before .before .before .before .before .before .before .before .before .before .before .before .before .before in
+    let args = start .args in
     let the-ended = c .before .before .before .before .before .before .ended in
     let the-down-call = c .before .before .before .down-call in
-    let the-if3 = c .if3 in
     let z = the-ended .ensures .0 in
-    let p = (start .pre .1 .0 .2) in
-    let is = the-other _ _ ((start .pre .1 .1 .1) .0 refl) (the-if1 .left) in
-    (omega arith, call-fails (start .args .cells .now) (start .args .starts .now) (start .args .counts .now) (start .args .firsts .now) (start .args .g .s) (start .args .slots .now) (start .args .vars .now) (start .args .conds .now) (start .args .calls .now) (start .args .w) (start .args .out .now) (start .args .g .d) ((start .pre .1 .1 .0) .views) is (the-down-call .result) (the-down-call .last .1 .1 .1 .1 .1 .1 .0) (the-down-call .ensures .1) (not-true _ (the-if3 .taken)) (the-ended .result) z (the-ended .ensures .1))
-
-leaf-slice-aggregate-walk : (t : ℕ) → leaf-lts.Need-slice-aggregate-walk (leaf-calls t) (leaf-at t) leaf.Post
-leaf-slice-aggregate-walk t c = search needs
+    let p = start .pre .1 .0 .2 in
+    let is = the-other _ _ (start .pre .1 .1 .1 .0 refl) (c .before .before .before .before .before .before .before .if1 .left) in
+    (omega arith, call-fails (args .cells .now) (args .starts .now) (args .counts .now) (args .firsts .now) (args .g .s) (args .slots .now) (args .vars .now) (args .conds .now) (args .calls .now) (args .w) (args .out .now) (args .g .d) (start .pre .1 .1 .0 .views) is (the-down-call .result) (the-down-call .last .1 .1 .1 .1 .1 .1 .0) (the-down-call .ensures .1) (not-true _ (c .if3 .taken)) (the-ended .result) z (the-ended .ensures .1))
 
 leaf-walk-requires : (t : ℕ) → leaf-lts.Need-walk-requires (leaf-calls t) (leaf-at t) leaf.Post
-leaf-walk-requires t c κs = let start = c .before .before .before .before .before .before .before .before .before .before .before .before .before .before .before .before .before .before .before .before .before .before .before .before .before in
+leaf-walk-requires t c κs =
+    let start = c .before .before .before .before .before .before .before .before .before .before .before .before .before .before .before .before .before .before .before .before .before .before .before .before .before in
+    let args = start .args in
     let the-down-call = c .before .before .before .before .before .before .before .before .before .down-call in
-    let the-if3 = c .before .before .before .before .before .before .if3 in
-    let y = the-down-call .ensures .0 (not-false _ (the-if3 .left)) in
-    let less = weight-call (length (start .args .cells .now)) (the-down-call .result .fuel) ((start .args .g .s) .fuel) ((start .args .g .s) .at) (the-down-call .result .at) (y .0) in
-    let e : length (the-down-call .last .1 .1 .1 .1 .1 .1 .0) ≡ call-room = (the-down-call .kept .1 .1 .1 .1 .1 .1 .0) in
-    (omega (arith, start .pre .0), (subst (λ (x : ℕ). Bound (length (start .args .calls .now)) x (the-down-call .result)) (sym e) (y .1 (length (start .args .calls .now)) (length (start .args .slots .now)) (start .pre .1 .0 .0)), (start .pre .1 .0 .1), (start .pre .1 .0 .2)))
-
-leaf-same-length-5 : (t : ℕ) → leaf-lts.Need-same-length-5 (leaf-calls t) (leaf-at t) leaf.Post
-leaf-same-length-5 t c = search needs
-
-leaf-same-length-6 : (t : ℕ) → leaf-lts.Need-same-length-6 (leaf-calls t) (leaf-at t) leaf.Post
-leaf-same-length-6 t c = search needs
-
-leaf-same-length-7 : (t : ℕ) → leaf-lts.Need-same-length-7 (leaf-calls t) (leaf-at t) leaf.Post
-leaf-same-length-7 t c = search needs
-
-leaf-same-length-8 : (t : ℕ) → leaf-lts.Need-same-length-8 (leaf-calls t) (leaf-at t) leaf.Post
-leaf-same-length-8 t c = search needs
-
-leaf-same-length-9 : (t : ℕ) → leaf-lts.Need-same-length-9 (leaf-calls t) (leaf-at t) leaf.Post
-leaf-same-length-9 t c = search needs
+    let y = the-down-call .ensures .0 (not-false _ (c .before .before .before .before .before .before .if3 .left)) in
+    let less = weight-call (length (args .cells .now)) (the-down-call .result .fuel) (args .g .s .fuel) (args .g .s .at) (the-down-call .result .at) (y .0) in
+    let e : length (the-down-call .last .1 .1 .1 .1 .1 .1 .0) ≡ call-room = the-down-call .kept .1 .1 .1 .1 .1 .1 .0 in
+    (omega (arith, start .pre .0), (subst (λ (x : ℕ). Bound (length (args .calls .now)) x (the-down-call .result)) (sym e) (y .1 (length (args .calls .now)) (length (args .slots .now)) (start .pre .1 .0 .0)), start .pre .1 .0 .1, start .pre .1 .0 .2))
 
 leaf-returns-4 : (t : ℕ) → leaf-lts.Need-returns-4 (leaf-calls t) (leaf-at t) leaf.Post
-leaf-returns-4 t c = let start = c .before .before .before .before .before .before .before .before .before .before .before .before .before .before .before .before .before .before .before .before .before .before .before .before .before .before .before .before .before .before .before .before .before .before .before .before .before in
-    let the-if1 = c .before .before .before .before .before .before .before .before .before .before .before .before .before .before .before .before .before .before .before .before .before .before .before .before .before .if1 in
+leaf-returns-4 t c =
+    let start = c .before .before .before .before .before .before .before .before .before .before .before .before .before .before .before .before .before .before .before .before .before .before .before .before .before .before .before .before .before .before .before .before .before .before .before .before .before in
+    let args = start .args in
     let the-down-call = c .before .before .before .before .before .before .before .before .before .before .before .before .before .before .before .before .before .before .before .before .before .down-call in
-    let the-if3 = c .before .before .before .before .before .before .before .before .before .before .before .before .before .before .before .before .before .before .if3 in
     let the-walk = c .before .before .before .before .before .before .before .before .before .before .before .walk in
-    let is = the-other _ _ ((start .pre .1 .1 .1) .0 refl) (the-if1 .left) in
-    (the-walk .ensures .0, call-out (start .args .cells .now) (start .args .starts .now) (start .args .counts .now) (start .args .firsts .now) (start .args .g .s) (start .args .slots .now) (start .args .vars .now) (start .args .conds .now) (start .args .calls .now) (start .args .w) (start .args .out .now) (start .args .g .d) ((start .pre .1 .1 .0) .views) is (the-down-call .result) (the-down-call .last .1 .1 .1 .1 .1 .1 .0) (the-down-call .ensures .1) (not-false _ (the-if3 .left)) (the-walk .result) (the-walk .last .1 .1 .1 .1 .1 .0) (the-walk .last .1 .1 .1 .1 .1 .1 .0) (the-walk .last .1 .1 .1 .1 .1 .1 .1 .0) (the-walk .last .1 .1 .1 .1 .1 .1 .1 .1 .1 .0) (the-walk .last .1 .1 .1 .1 .1 .1 .1 .1 .1 .1 .0) (the-walk .ensures .1))
-
-onward-choice-requires : (t : ℕ) → onward-lts.Need-choice-requires (onward-calls t) (onward-at t) onward.Post
-onward-choice-requires t c κs = tt
+    let is = the-other _ _ (start .pre .1 .1 .1 .0 refl) (c .before .before .before .before .before .before .before .before .before .before .before .before .before .before .before .before .before .before .before .before .before .before .before .before .before .if1 .left) in
+    (the-walk .ensures .0, call-out (args .cells .now) (args .starts .now) (args .counts .now) (args .firsts .now) (args .g .s) (args .slots .now) (args .vars .now) (args .conds .now) (args .calls .now) (args .w) (args .out .now) (args .g .d) (start .pre .1 .1 .0 .views) is (the-down-call .result) (the-down-call .last .1 .1 .1 .1 .1 .1 .0) (the-down-call .ensures .1) (not-false _ (c .before .before .before .before .before .before .before .before .before .before .before .before .before .before .before .before .before .before .if3 .left)) (the-walk .result) (the-walk .last .1 .1 .1 .1 .1 .0) (the-walk .last .1 .1 .1 .1 .1 .1 .0) (the-walk .last .1 .1 .1 .1 .1 .1 .1 .0) (the-walk .last .1 .1 .1 .1 .1 .1 .1 .1 .1 .0) (the-walk .last .1 .1 .1 .1 .1 .1 .1 .1 .1 .1 .0) (the-walk .ensures .1))
 
 onward-step-requires : (t : ℕ) → onward-lts.Need-step-requires (onward-calls t) (onward-at t) onward.Post
-onward-step-requires t c κs = let start = c .before .before .before .before .before .before .before .before .before .before .before .before .before .before .before .before .before in
-    (((start .pre .1 .1 .0) .inside, (start .pre .1 .1 .0) .on, (start .pre .1 .1 .0) .views, (start .pre .1 .0 .0)), ((start .pre .1 .0 .1) .vars-room, (start .pre .1 .0 .1) .after-fit))
-
-onward-after-step-requires : (t : ℕ) → onward-lts.Need-after-step-requires (onward-calls t) (onward-at t) onward.Post
-onward-after-step-requires t c κs = let start = c .before .before .before .before .before .before .before .before .before .before .before .before .before .before .before .before .before .before .before .before .before .before .before .before .before .before in
-    (start .pre .1 .0 .0) .fuel-small
-
-onward-same-length : (t : ℕ) → onward-lts.Need-same-length (onward-calls t) (onward-at t) onward.Post
-onward-same-length t c = search needs
-
-onward-same-length-2 : (t : ℕ) → onward-lts.Need-same-length-2 (onward-calls t) (onward-at t) onward.Post
-onward-same-length-2 t c = search needs
-
-onward-same-length-3 : (t : ℕ) → onward-lts.Need-same-length-3 (onward-calls t) (onward-at t) onward.Post
-onward-same-length-3 t c = search needs
-
-onward-same-length-4 : (t : ℕ) → onward-lts.Need-same-length-4 (onward-calls t) (onward-at t) onward.Post
-onward-same-length-4 t c = search needs
+onward-step-requires t c κs =
+    let start = c .before .before .before .before .before .before .before .before .before .before .before .before .before .before .before .before .before in
+    let rooms = start .pre .1 .0 .1 in
+    let looked = start .pre .1 .1 .0 in
+    ((looked .inside, looked .on, looked .views, start .pre .1 .0 .0), (rooms .vars-room, rooms .after-fit))
 
 onward-returns : (t : ℕ) → onward-lts.Need-returns (onward-calls t) (onward-at t) onward.Post
-onward-returns t c = let start = c .before .before .before .before .before .before .before .before .before .before .before .before .before .before .before .before .before .before .before .before .before .before .before .before .before .before .before in
-    let the-choice = c .before .before .before .before .before .before .before .before .before .before .before .before .before .before .before .choice in
-    let the-if1 = c .before .before .before .before .before .before .before .before .before .before .before .before .before .before .if1 in
+onward-returns t c =
+    let start = c .before .before .before .before .before .before .before .before .before .before .before .before .before .before .before .before .before .before .before .before .before .before .before .before .before .before .before in
+    let args = start .args in
     let the-step = c .before .before .before .before .before .before .before .before .before .step in
     let the-after-step = c .after-step in
     let q = the-after-step .ensures .0 in
     let k = the-after-step .ensures .1 in
-    let p = (start .pre .1 .0 .2) in
-    let no = the-choice .ensures .1 (not-true _ (the-if1 .taken)) in
-    let leafless = (start .pre .1 .1 .1) .1 refl in
-    let B = arrays (the-step .last .1 .1 .1 .0) (the-step .last .1 .1 .1 .1 .0) (start .args .conds .now) (the-step .last .1 .1 .1 .1 .1 .1 .0) in (
+    let p = start .pre .1 .0 .2 in
+    let no = c .before .before .before .before .before .before .before .before .before .before .before .before .before .before .before .choice .ensures .1 (not-true _ (c .before .before .before .before .before .before .before .before .before .before .before .before .before .before .if1 .taken)) in
+    let leafless = start .pre .1 .1 .1 .1 refl in
+    let B = arrays (the-step .last .1 .1 .1 .0) (the-step .last .1 .1 .1 .1 .0) (args .conds .now) (the-step .last .1 .1 .1 .1 .1 .1 .0) in (
       omega (arith, q .1),
       (
-        nearer (length (start .args .cells .now)) (length (start .args .calls .now)) (length (start .args .slots .now)) (start .args .g .s) (the-step .result) (the-after-step .result) (q .0) (the-step .ensures .0) (λ t. the-step .ensures .1 .0 (k .0 t)),
-        step-round (start .args .cells .now) (start .args .starts .now) (start .args .counts .now) (start .args .firsts .now) (start .args .g .s) (arrays (start .args .slots .now) (start .args .vars .now) (start .args .conds .now) (start .args .calls .now)) (start .args .w) (start .args .out .now) (the-step .result) B (the-step .ensures .1 .1 (start .args .conds .now) (start .args .starts .now) (start .args .counts .now) (start .args .firsts .now) (leafless .0) (leafless .1) (no .0) (no .1)) (the-after-step .result) (q .0) (q .1) k,
+        nearer (length (args .cells .now)) (length (args .calls .now)) (length (args .slots .now)) (args .g .s) (the-step .result) (the-after-step .result) (q .0) (the-step .ensures .0) (λ t. the-step .ensures .1 .0 (k .0 t)),
+        step-round (args .cells .now) (args .starts .now) (args .counts .now) (args .firsts .now) (args .g .s) (arrays (args .slots .now) (args .vars .now) (args .conds .now) (args .calls .now)) (args .w) (args .out .now) (the-step .result) B (the-step .ensures .1 .1 (args .conds .now) (args .starts .now) (args .counts .now) (args .firsts .now) (leafless .0) (leafless .1) (no .0) (no .1)) (the-after-step .result) (q .0) (q .1) k,
       ),
     )
 
 onward-first-side-requires : (t : ℕ) → onward-lts.Need-first-side-requires (onward-calls t) (onward-at t) onward.Post
-onward-first-side-requires t c κs = let start = c .before .before .before .before .before .before .before .before .before .before .before .before .before .before .before .before .before .before .before in
-    let the-choice = c .before .before .before .before .before .before .before .choice in
-    let the-if1 = c .before .before .before .before .before .before .if1 in
-    (omega (arith, start .pre .0), (((start .pre .1 .0 .0), (start .pre .1 .0 .1), (start .pre .1 .0 .2)), ((start .pre .1 .1 .0), (λ t. (the-choice .ensures .0 (not-false _ (the-if1 .left))), λ t. never (sym t)))))
-
-onward-same-length-5 : (t : ℕ) → onward-lts.Need-same-length-5 (onward-calls t) (onward-at t) onward.Post
-onward-same-length-5 t c = search needs
-
-onward-same-length-6 : (t : ℕ) → onward-lts.Need-same-length-6 (onward-calls t) (onward-at t) onward.Post
-onward-same-length-6 t c = search needs
-
-onward-same-length-7 : (t : ℕ) → onward-lts.Need-same-length-7 (onward-calls t) (onward-at t) onward.Post
-onward-same-length-7 t c = search needs
-
-onward-same-length-8 : (t : ℕ) → onward-lts.Need-same-length-8 (onward-calls t) (onward-at t) onward.Post
-onward-same-length-8 t c = search needs
-
-onward-same-length-9 : (t : ℕ) → onward-lts.Need-same-length-9 (onward-calls t) (onward-at t) onward.Post
-onward-same-length-9 t c = search needs
-
-onward-same-length-10 : (t : ℕ) → onward-lts.Need-same-length-10 (onward-calls t) (onward-at t) onward.Post
-onward-same-length-10 t c = search needs
+onward-first-side-requires t c κs =
+    let start = c .before .before .before .before .before .before .before .before .before .before .before .before .before .before .before .before .before .before .before in
+    (omega (arith, start .pre .0), ((start .pre .1 .0 .0, start .pre .1 .0 .1, start .pre .1 .0 .2), (start .pre .1 .1 .0, (λ t. (c .before .before .before .before .before .before .before .choice .ensures .0 (not-false _ (c .before .before .before .before .before .before .if1 .left))), λ t. never (sym t)))))
 
 onward-returns-2 : (t : ℕ) → onward-lts.Need-returns-2 (onward-calls t) (onward-at t) onward.Post
-onward-returns-2 t c = let start = c .before .before .before .before .before .before .before .before .before .before .before .before .before .before .before .before .before .before .before .before .before .before .before .before .before .before .before .before .before .before .before .before .before .before in
-    let the-choice = c .before .before .before .before .before .before .before .before .before .before .before .before .before .before .before .before .before .before .before .before .before .before .choice in
-    let the-if1 = c .before .before .before .before .before .before .before .before .before .before .before .before .before .before .before .before .before .before .before .before .before .if1 in
+onward-returns-2 t c =
+    let start = c .before .before .before .before .before .before .before .before .before .before .before .before .before .before .before .before .before .before .before .before .before .before .before .before .before .before .before .before .before .before .before .before .before .before in
+    let args = start .args in
     let the-first-side = c .before .before .before .before .before .before .before .before .before .before .before .before .before .before .first-side in
-    let the-if2 = c .if2 in
-    (the-first-side .ensures .0, (λ t. never (sym t), (λ t. never (sym t), λ t. first-round (start .args .cells .now) (start .args .starts .now) (start .args .counts .now) (start .args .firsts .now) (start .args .g) (start .pre .1 .1 .0) (the-choice .ensures .0 (not-false _ (the-if1 .left))) (arrays (start .args .slots .now) (start .args .vars .now) (start .args .conds .now) (start .args .calls .now)) (start .args .w) (start .args .out .now) (the-first-side .result) (the-first-side .last .1 .1 .1 .1 .1 .0) (the-first-side .last .1 .1 .1 .1 .1 .1 .0) (the-first-side .last .1 .1 .1 .1 .1 .1 .1 .0) (the-first-side .last .1 .1 .1 .1 .1 .1 .1 .1 .1 .0) (the-first-side .last .1 .1 .1 .1 .1 .1 .1 .1 .1 .1 .0) (the-first-side .ensures .1) (not-true _ (the-if2 .taken)))))
-
-onward-second-side-requires : (t : ℕ) → onward-lts.Need-second-side-requires (onward-calls t) (onward-at t) onward.Post
-onward-second-side-requires t c κs = let start = c .before .before .before .before .before .before .before .before .before .before .before .before .before .before .before .before .before .before .before .before .before .before .before .before .before .before .before .before .before .before .before .before .before .before in
-    (start .pre .1 .0 .0) .c-small
+    (the-first-side .ensures .0, (λ t. never (sym t), (λ t. never (sym t), λ t. first-round (args .cells .now) (args .starts .now) (args .counts .now) (args .firsts .now) (args .g) (start .pre .1 .1 .0) (c .before .before .before .before .before .before .before .before .before .before .before .before .before .before .before .before .before .before .before .before .before .before .choice .ensures .0 (not-false _ (c .before .before .before .before .before .before .before .before .before .before .before .before .before .before .before .before .before .before .before .before .before .if1 .left))) (arrays (args .slots .now) (args .vars .now) (args .conds .now) (args .calls .now)) (args .w) (args .out .now) (the-first-side .result) (the-first-side .last .1 .1 .1 .1 .1 .0) (the-first-side .last .1 .1 .1 .1 .1 .1 .0) (the-first-side .last .1 .1 .1 .1 .1 .1 .1 .0) (the-first-side .last .1 .1 .1 .1 .1 .1 .1 .1 .1 .0) (the-first-side .last .1 .1 .1 .1 .1 .1 .1 .1 .1 .1 .0) (the-first-side .ensures .1) (not-true _ (c .if2 .taken)))))
 
 onward-down-side-requires : (t : ℕ) → onward-lts.Need-down-side-requires (onward-calls t) (onward-at t) onward.Post
-onward-down-side-requires t c κs = let start = c .before .before .before .before .before .before .before .before .before .before .before .before .before .before .before .before .before .before .before .before .before .before .before .before .before .before .before .before .before .before .before .before .before .before .before .before .before in
+onward-down-side-requires t c κs =
+    let start = c .before .before .before .before .before .before .before .before .before .before .before .before .before .before .before .before .before .before .before .before .before .before .before .before .before .before .before .before .before .before .before .before .before .before .before .before .before in
+    let bound = start .pre .1 .0 .0 in
     let the-first-side = c .before .before .before .before .before .before .before .before .before .before .before .before .before .before .before .before .before .first-side in
-    ((start .pre .1 .0 .0) .lc-few, omega (arith, (start .pre .1 .0 .1) .conds-fit, (the-first-side .kept .1 .1 .1 .1 .1 .1 .1 .0)), omega (arith, (start .pre .1 .0 .0) .n-room, (start .pre .1 .0 .0) .nv-few, (the-first-side .kept .1 .1 .1 .1 .1 .0)))
-
-onward-after-step-requires-2 : (t : ℕ) → onward-lts.Need-after-step-requires-2 (onward-calls t) (onward-at t) onward.Post
-onward-after-step-requires-2 t c κs = let start = c .before .before .before .before .before .before .before .before .before .before .before .before .before .before .before .before .before .before .before .before .before .before .before .before .before .before .before .before .before .before .before .before .before .before .before .before .before .before .before .before in
-    (start .pre .1 .0 .0) .fuel-small
-
-onward-same-length-11 : (t : ℕ) → onward-lts.Need-same-length-11 (onward-calls t) (onward-at t) onward.Post
-onward-same-length-11 t c = let the-first-side = c .before .before .before .before .before .before .before .before .before .before .before .before .before .before .before .before .before .before .before .before .before .first-side in
-    (the-first-side .kept .1 .1 .1 .1 .1 .0)
-
-onward-same-length-12 : (t : ℕ) → onward-lts.Need-same-length-12 (onward-calls t) (onward-at t) onward.Post
-onward-same-length-12 t c = let the-first-side = c .before .before .before .before .before .before .before .before .before .before .before .before .before .before .before .before .before .before .before .before .before .first-side in
-    (the-first-side .kept .1 .1 .1 .1 .1 .1 .0)
-
-onward-same-length-13 : (t : ℕ) → onward-lts.Need-same-length-13 (onward-calls t) (onward-at t) onward.Post
-onward-same-length-13 t c = let the-first-side = c .before .before .before .before .before .before .before .before .before .before .before .before .before .before .before .before .before .before .before .before .before .first-side in
-    let the-down-side = c .before .before .before .down-side in
-    (the-down-side .kept .1 .1 .1 .1 .1 .0) ∙ (the-first-side .kept .1 .1 .1 .1 .1 .1 .1 .0)
-
-onward-same-length-14 : (t : ℕ) → onward-lts.Need-same-length-14 (onward-calls t) (onward-at t) onward.Post
-onward-same-length-14 t c = let the-first-side = c .before .before .before .before .before .before .before .before .before .before .before .before .before .before .before .before .before .before .before .before .before .first-side in
-    (the-first-side .kept .1 .1 .1 .1 .1 .1 .1 .1 .0)
-
-onward-same-length-15 : (t : ℕ) → onward-lts.Need-same-length-15 (onward-calls t) (onward-at t) onward.Post
-onward-same-length-15 t c = let the-first-side = c .before .before .before .before .before .before .before .before .before .before .before .before .before .before .before .before .before .before .before .before .before .first-side in
-    (the-first-side .kept .1 .1 .1 .1 .1 .1 .1 .1 .1 .0)
-
-onward-same-length-16 : (t : ℕ) → onward-lts.Need-same-length-16 (onward-calls t) (onward-at t) onward.Post
-onward-same-length-16 t c = let the-first-side = c .before .before .before .before .before .before .before .before .before .before .before .before .before .before .before .before .before .before .before .before .before .first-side in
-    (the-first-side .kept .1 .1 .1 .1 .1 .1 .1 .1 .1 .1 .0)
+    (bound .lc-few, omega (arith, start .pre .1 .0 .1 .conds-fit, the-first-side .kept .1 .1 .1 .1 .1 .1 .1 .0), omega (arith, bound .n-room, bound .nv-few, the-first-side .kept .1 .1 .1 .1 .1 .0))
 
 onward-returns-3 : (t : ℕ) → onward-lts.Need-returns-3 (onward-calls t) (onward-at t) onward.Post
-onward-returns-3 t c = let start = c .before .before .before .before .before .before .before .before .before .before .before .before .before .before .before .before .before .before .before .before .before .before .before .before .before .before .before .before .before .before .before .before .before .before .before .before .before .before .before .before .before in
+onward-returns-3 t c =
+    let start = c .before .before .before .before .before .before .before .before .before .before .before .before .before .before .before .before .before .before .before .before .before .before .before .before .before .before .before .before .before .before .before .before .before .before .before .before .before .before .before .before .before in
+    let args = start .args in
+    let looked = start .pre .1 .1 .0 in
     let the-choice = c .before .before .before .before .before .before .before .before .before .before .before .before .before .before .before .before .before .before .before .before .before .before .before .before .before .before .before .before .before .choice in
     let the-if1 = c .before .before .before .before .before .before .before .before .before .before .before .before .before .before .before .before .before .before .before .before .before .before .before .before .before .before .before .before .if1 in
     let the-first-side = c .before .before .before .before .before .before .before .before .before .before .before .before .before .before .before .before .before .before .before .before .before .first-side in
-    let the-if2 = c .before .before .before .before .before .before .before .if2 in
     let the-second-side = c .before .before .before .before .before .before .second-side in
     let the-down-side = c .before .before .before .down-side in
     let the-after-step2 = c .after-step2 in
@@ -370,11 +256,11 @@ onward-returns-3 t c = let start = c .before .before .before .before .before .be
     let u = the-first-side .ensures .0 in
     let se = the-second-side .ensures in
     let sd = the-down-side .ensures in
-    let bound = sd .0 (se .1) (length (start .args .calls .now)) (length (start .args .slots .now)) (start .pre .1 .0 .0) in (
+    let bound = sd .0 (se .1) (length (args .calls .now)) (length (args .slots .now)) (start .pre .1 .0 .0) in (
       omega (arith, q .1),
       (
-        nearer (length (start .args .cells .now)) (length (start .args .calls .now)) (length (start .args .slots .now)) (start .args .g .s) (the-down-side .result) (the-after-step2 .result) (q .0) bound (λ t. let y = sd .1 .0 (k .0 t) in weight-same (length (start .args .cells .now)) ((start .args .g .s) .fuel) ((start .args .g .s) .at) (the-down-side .result .fuel) (the-down-side .result .at) (y .0) ((start .pre .1 .1 .0) .inside) (omega (arith, y .1, ap (λ (x : Side). x .at) (se .0), (start .pre .1 .1 .0) .on .on, (start .pre .1 .1 .0) .counts-first (the-choice .ensures .0 (not-false _ (the-if1 .left))) .0))),
-        second-round (start .args .cells .now) (start .args .starts .now) (start .args .counts .now) (start .args .firsts .now) (start .args .g) (start .pre .1 .1 .0) (the-choice .ensures .0 (not-false _ (the-if1 .left))) (arrays (start .args .slots .now) (start .args .vars .now) (start .args .conds .now) (start .args .calls .now)) (start .args .w) (start .args .out .now) (the-first-side .result) (the-first-side .last .1 .1 .1 .1 .1 .0) (the-first-side .last .1 .1 .1 .1 .1 .1 .0) (the-first-side .last .1 .1 .1 .1 .1 .1 .1 .0) (the-first-side .last .1 .1 .1 .1 .1 .1 .1 .1 .1 .0) (the-first-side .last .1 .1 .1 .1 .1 .1 .1 .1 .1 .1 .0) (the-first-side .ensures .1) (not-false _ (the-if2 .left)) (start .pre .1 .0 .2) (omega (arith, u .1, (the-first-side .kept .1 .1 .1 .1 .1 .1 .1 .1 .1 .1 .0))) (the-first-side .kept .1 .1 .1 .1 .1 .1 .1 .1 .1 .1 .0) (the-second-side .result) se (the-down-side .result) (the-down-side .last .1 .1 .1 .1 .1 .0) (sd .1 .1) (the-after-step2 .result) (q .0) (q .1) k,
+        nearer (length (args .cells .now)) (length (args .calls .now)) (length (args .slots .now)) (args .g .s) (the-down-side .result) (the-after-step2 .result) (q .0) bound (λ t. let y = sd .1 .0 (k .0 t) in weight-same (length (args .cells .now)) (args .g .s .fuel) (args .g .s .at) (the-down-side .result .fuel) (the-down-side .result .at) (y .0) (looked .inside) (omega (arith, y .1, ap (λ (x : Side). x .at) (se .0), looked .on .on, looked .counts-first (the-choice .ensures .0 (not-false _ (the-if1 .left))) .0))),
+        second-round (args .cells .now) (args .starts .now) (args .counts .now) (args .firsts .now) (args .g) looked (the-choice .ensures .0 (not-false _ (the-if1 .left))) (arrays (args .slots .now) (args .vars .now) (args .conds .now) (args .calls .now)) (args .w) (args .out .now) (the-first-side .result) (the-first-side .last .1 .1 .1 .1 .1 .0) (the-first-side .last .1 .1 .1 .1 .1 .1 .0) (the-first-side .last .1 .1 .1 .1 .1 .1 .1 .0) (the-first-side .last .1 .1 .1 .1 .1 .1 .1 .1 .1 .0) (the-first-side .last .1 .1 .1 .1 .1 .1 .1 .1 .1 .1 .0) (the-first-side .ensures .1) (not-false _ (c .before .before .before .before .before .before .before .if2 .left)) (start .pre .1 .0 .2) (omega (arith, u .1, the-first-side .kept .1 .1 .1 .1 .1 .1 .1 .1 .1 .1 .0)) (the-first-side .kept .1 .1 .1 .1 .1 .1 .1 .1 .1 .1 .0) (the-second-side .result) se (the-down-side .result) (the-down-side .last .1 .1 .1 .1 .1 .0) (sd .1 .1) (the-after-step2 .result) (q .0) (q .1) k,
       ),
     )
 
@@ -390,165 +276,92 @@ walk-μ-loop cells starts counts firsts slots₀ vars₀ conds₀ after₀ calls
     weight (length cells) (s .fuel) (s .at)
 
 walk-loop-holds : (t : ℕ) → walk-lts.Need-loop-holds (walk-calls t) (walk-at t) walk.Post walk-Inv-loop walk-μ-loop
-walk-loop-holds t c = let start = c .before .before .before .before .before .before .before .before .before .before in
-    ((refl, refl, refl, refl, refl, refl), (start .pre .1) .0, (omega arith, (start .pre .1) .2, omega arith), on-start (start .args .cells .now) (start .args .starts .now) (start .args .counts .now) (start .args .firsts .now) (start .args .s0) (arrays (start .args .slots .now) (start .args .vars .now) (start .args .conds .now) (start .args .calls .now)) (start .args .w) (start .args .out .now))
+walk-loop-holds t c =
+    let start = c .before .before .before .before .before .before .before .before .before .before in
+    let args = start .args in
+    ((refl, refl, refl, refl, refl, refl), start .pre .1 .0, (omega arith, start .pre .1 .2, omega arith), on-start (args .cells .now) (args .starts .now) (args .counts .now) (args .firsts .now) (args .s0) (arrays (args .slots .now) (args .vars .now) (args .conds .now) (args .calls .now)) (args .w) (args .out .now))
 
 walk-pass-headless-requires : (t : ℕ) → walk-lts.Need-pass-headless-requires (walk-calls t) (walk-at t) walk.Post walk-Inv-loop walk-μ-loop
-walk-pass-headless-requires t c κs = let the-loop = c .before .before .loop in
-    let the-if1 = c .if1 in
-    (the-if1 .taken, (the-loop .inv) .1 .fuel-small, (the-loop .inv) .1 .c-small)
-
-walk-is-leaf-requires : (t : ℕ) → walk-lts.Need-is-leaf-requires (walk-calls t) (walk-at t) walk.Post walk-Inv-loop walk-μ-loop
-walk-is-leaf-requires t c κs = tt
+walk-pass-headless-requires t c κs =
+    let here = c .before .before .loop in
+    (c .if1 .taken, here .inv .1 .fuel-small, here .inv .1 .c-small)
 
 walk-leaf-requires : (t : ℕ) → walk-lts.Need-leaf-requires (walk-calls t) (walk-at t) walk.Post walk-Inv-loop walk-μ-loop
-walk-leaf-requires t c κs = let start = c .before .before .before .before .before .before .before .before .before .before .before .before .before .before .before .before .before .before .before .before .before .before in
-    let the-loop = c .before .before .before .before .before .before .before .before .before .before .before .loop in
+walk-leaf-requires t c κs =
+    let start = c .before .before .before .before .before .before .before .before .before .before .before .before .before .before .before .before .before .before .before .before .before .before in
+    let args = start .args in
+    let here = c .before .before .before .before .before .before .before .before .before .before .before .loop in
     let the-pass-headless = c .before .before .before .before .before .before .before .before .pass-headless in
-    let the-is-leaf = c .before .before .before .before .before .before .before .is-leaf in
-    let the-if2 = c .before .before .before .before .before .before .if2 in
-    let pw = past-weight (start .args .cells .now) (start .args .counts .now) (length (start .args .cells .now)) (the-loop .s) (the-pass-headless .result .s) (the-pass-headless .ensures .1) in
-    (omega (arith, start .pre .0, (the-loop .inv) .2 .2), ((the-pass-headless .ensures .1 .stays (length (the-loop .calls)) (length (the-loop .slots)) ((the-loop .inv) .1), (record { vars-room = omega (arith, (start .pre .1) .1 .vars-room, (the-loop .inv) .0 .1); conds-fit = omega (arith, (start .pre .1) .1 .conds-fit, (the-loop .inv) .0 .2); after-fit = omega (arith, (start .pre .1) .1 .after-fit, (the-loop .inv) .0 .3); calls-fit = omega (arith, (start .pre .1) .1 .calls-fit, (the-loop .inv) .0 .4) }), (the-loop .inv) .2 .1), (the-pass-headless .ensures .0, (λ t. the-is-leaf .ensures .0 (the-if2 .taken), λ t. never (sym t)))))
-
-walk-same-length : (t : ℕ) → walk-lts.Need-same-length (walk-calls t) (walk-at t) walk.Post walk-Inv-loop walk-μ-loop
-walk-same-length t c = let the-loop = c .before .before .before .before .before .before .before .before .before .before .before .before .before .before .before .before .before .before .before .before .before .before .loop in
-    (the-loop .inv) .0 .0
-
-walk-same-length-2 : (t : ℕ) → walk-lts.Need-same-length-2 (walk-calls t) (walk-at t) walk.Post walk-Inv-loop walk-μ-loop
-walk-same-length-2 t c = let the-loop = c .before .before .before .before .before .before .before .before .before .before .before .before .before .before .before .before .before .before .before .before .before .before .loop in
-    let the-leaf = c .before .before .before .before .before .before .before .before .before .before .leaf in
-    (the-leaf .kept .1 .1 .1 .1 .1 .1 .0) ∙ (the-loop .inv) .0 .1
-
-walk-same-length-3 : (t : ℕ) → walk-lts.Need-same-length-3 (walk-calls t) (walk-at t) walk.Post walk-Inv-loop walk-μ-loop
-walk-same-length-3 t c = let the-loop = c .before .before .before .before .before .before .before .before .before .before .before .before .before .before .before .before .before .before .before .before .before .before .loop in
-    let the-leaf = c .before .before .before .before .before .before .before .before .before .before .leaf in
-    (the-leaf .kept .1 .1 .1 .1 .1 .1 .1 .0) ∙ (the-loop .inv) .0 .2
-
-walk-same-length-4 : (t : ℕ) → walk-lts.Need-same-length-4 (walk-calls t) (walk-at t) walk.Post walk-Inv-loop walk-μ-loop
-walk-same-length-4 t c = let the-loop = c .before .before .before .before .before .before .before .before .before .before .before .before .before .before .before .before .before .before .before .before .before .before .loop in
-    let the-leaf = c .before .before .before .before .before .before .before .before .before .before .leaf in
-    (the-leaf .kept .1 .1 .1 .1 .1 .1 .1 .1 .0) ∙ (the-loop .inv) .0 .3
-
-walk-same-length-5 : (t : ℕ) → walk-lts.Need-same-length-5 (walk-calls t) (walk-at t) walk.Post walk-Inv-loop walk-μ-loop
-walk-same-length-5 t c = let the-loop = c .before .before .before .before .before .before .before .before .before .before .before .before .before .before .before .before .before .before .before .before .before .before .loop in
-    let the-leaf = c .before .before .before .before .before .before .before .before .before .before .leaf in
-    (the-leaf .kept .1 .1 .1 .1 .1 .1 .1 .1 .1 .0) ∙ (the-loop .inv) .0 .4
-
-walk-same-length-6 : (t : ℕ) → walk-lts.Need-same-length-6 (walk-calls t) (walk-at t) walk.Post walk-Inv-loop walk-μ-loop
-walk-same-length-6 t c = let the-loop = c .before .before .before .before .before .before .before .before .before .before .before .before .before .before .before .before .before .before .before .before .before .before .loop in
-    let the-leaf = c .before .before .before .before .before .before .before .before .before .before .leaf in
-    (the-leaf .kept .1 .1 .1 .1 .1 .1 .1 .1 .1 .1 .0) ∙ (the-loop .inv) .0 .5
+    let pw = past-weight (args .cells .now) (args .counts .now) (length (args .cells .now)) (here .s) (the-pass-headless .result .s) (the-pass-headless .ensures .1) in
+    (omega (arith, start .pre .0, here .inv .2 .2), ((the-pass-headless .ensures .1 .stays (length (here .calls)) (length (here .slots)) (here .inv .1), (record { vars-room = omega (arith, start .pre .1 .1 .vars-room, here .inv .0 .1); conds-fit = omega (arith, start .pre .1 .1 .conds-fit, here .inv .0 .2); after-fit = omega (arith, start .pre .1 .1 .after-fit, here .inv .0 .3); calls-fit = omega (arith, start .pre .1 .1 .calls-fit, here .inv .0 .4) }), here .inv .2 .1), (the-pass-headless .ensures .0, (λ t. c .before .before .before .before .before .before .before .is-leaf .ensures .0 (c .before .before .before .before .before .before .if2 .taken), λ t. never (sym t)))))
 
 walk-returns : (t : ℕ) → walk-lts.Need-returns (walk-calls t) (walk-at t) walk.Post walk-Inv-loop walk-μ-loop
-walk-returns t c = let start = c .before .before .before .before .before .before .before .before .before .before .before .before .before .before .before .before .before .before .before .before .before .before .before .before .before .before .before .before .before .before .before .before .before in
-    let the-loop = c .before .before .before .before .before .before .before .before .before .before .before .before .before .before .before .before .before .before .before .before .before .before .loop in
+walk-returns t c =
+    let start = c .before .before .before .before .before .before .before .before .before .before .before .before .before .before .before .before .before .before .before .before .before .before .before .before .before .before .before .before .before .before .before .before .before in
+    let args = start .args in
+    let here = c .before .before .before .before .before .before .before .before .before .before .before .before .before .before .before .before .before .before .before .before .before .before .loop in
     let the-pass-headless = c .before .before .before .before .before .before .before .before .before .before .before .before .before .before .before .before .before .before .before .pass-headless in
     let the-leaf = c .before .before .before .before .before .before .before .before .before .before .leaf in
+    let A = arrays (args .slots .now) (args .vars .now) (args .conds .now) (args .calls .now) in
+    let B = arrays (here .slots) (here .vars) (here .conds) (here .calls) in
     let u = the-leaf .ensures .0 in
-    (omega (arith, (the-loop .inv) .0 .5, (the-loop .inv) .2 .0), on-end (start .args .cells .now) (start .args .starts .now) (start .args .counts .now) (start .args .firsts .now) (start .args .s0) (arrays (start .args .slots .now) (start .args .vars .now) (start .args .conds .now) (start .args .calls .now)) (start .args .w) (start .args .out .now) (the-pass-headless .result .s) (arrays (the-loop .slots) (the-loop .vars) (the-loop .conds) (the-loop .calls)) (the-loop .v) (the-loop .out) (on-past (start .args .cells .now) (start .args .starts .now) (start .args .counts .now) (start .args .firsts .now) (start .args .s0) (arrays (start .args .slots .now) (start .args .vars .now) (start .args .conds .now) (start .args .calls .now)) (start .args .w) (start .args .out .now) (the-loop .s) (arrays (the-loop .slots) (the-loop .vars) (the-loop .conds) (the-loop .calls)) (the-loop .v) (the-loop .out) ((the-loop .inv) .3) (the-pass-headless .result .s) (the-pass-headless .ensures .1)) ((start .pre .1) .2) ((the-loop .inv) .2 .1) ((the-loop .inv) .0 .5) (the-leaf .result) (arrays (the-loop .slots) (the-leaf .last .1 .1 .1 .1 .1 .1 .0) (the-leaf .last .1 .1 .1 .1 .1 .1 .1 .0) (the-leaf .last .1 .1 .1 .1 .1 .1 .1 .1 .1 .0)) (the-leaf .last .1 .1 .1 .1 .1 .1 .1 .1 .1 .1 .0) (the-leaf .ensures .1))
+    (omega (arith, here .inv .0 .5, here .inv .2 .0), on-end (args .cells .now) (args .starts .now) (args .counts .now) (args .firsts .now) (args .s0) A (args .w) (args .out .now) (the-pass-headless .result .s) B (here .v) (here .out) (on-past (args .cells .now) (args .starts .now) (args .counts .now) (args .firsts .now) (args .s0) A (args .w) (args .out .now) (here .s) B (here .v) (here .out) (here .inv .3) (the-pass-headless .result .s) (the-pass-headless .ensures .1)) (start .pre .1 .2) (here .inv .2 .1) (here .inv .0 .5) (the-leaf .result) (arrays (here .slots) (the-leaf .last .1 .1 .1 .1 .1 .1 .0) (the-leaf .last .1 .1 .1 .1 .1 .1 .1 .0) (the-leaf .last .1 .1 .1 .1 .1 .1 .1 .1 .1 .0)) (the-leaf .last .1 .1 .1 .1 .1 .1 .1 .1 .1 .1 .0) (the-leaf .ensures .1))
 
 walk-onward-requires : (t : ℕ) → walk-lts.Need-onward-requires (walk-calls t) (walk-at t) walk.Post walk-Inv-loop walk-μ-loop
-walk-onward-requires t c κs = let start = c .before .before .before .before .before .before .before .before .before .before .before .before .before .before .before .before .before .before .before .before .before .before in
-    let the-loop = c .before .before .before .before .before .before .before .before .before .before .before .loop in
+walk-onward-requires t c κs =
+    let start = c .before .before .before .before .before .before .before .before .before .before .before .before .before .before .before .before .before .before .before .before .before .before in
+    let args = start .args in
+    let here = c .before .before .before .before .before .before .before .before .before .before .before .loop in
     let the-pass-headless = c .before .before .before .before .before .before .before .before .pass-headless in
-    let the-is-leaf = c .before .before .before .before .before .before .before .is-leaf in
-    let the-if2 = c .before .before .before .before .before .before .if2 in
-    let pw = past-weight (start .args .cells .now) (start .args .counts .now) (length (start .args .cells .now)) (the-loop .s) (the-pass-headless .result .s) (the-pass-headless .ensures .1) in
-    (omega (arith, start .pre .0, (the-loop .inv) .2 .2), ((the-pass-headless .ensures .1 .stays (length (the-loop .calls)) (length (the-loop .slots)) ((the-loop .inv) .1), (record { vars-room = omega (arith, (start .pre .1) .1 .vars-room, (the-loop .inv) .0 .1); conds-fit = omega (arith, (start .pre .1) .1 .conds-fit, (the-loop .inv) .0 .2); after-fit = omega (arith, (start .pre .1) .1 .after-fit, (the-loop .inv) .0 .3); calls-fit = omega (arith, (start .pre .1) .1 .calls-fit, (the-loop .inv) .0 .4) }), (the-loop .inv) .2 .1), (the-pass-headless .ensures .0, (λ t. never t, λ t. the-is-leaf .ensures .1 (the-if2 .left)))))
-
-walk-same-length-7 : (t : ℕ) → walk-lts.Need-same-length-7 (walk-calls t) (walk-at t) walk.Post walk-Inv-loop walk-μ-loop
-walk-same-length-7 t c = let the-loop = c .before .before .before .before .before .before .before .before .before .before .before .before .before .before .before .before .before .before .before .before .before .before .before .before .before .before .loop in
-    let the-onward = c .before .before .before .before .before .before .before .before .before .before .before .before .before .before .onward in
-    (the-onward .kept .1 .1 .1 .1 .1 .0) ∙ (the-loop .inv) .0 .0
-
-walk-same-length-8 : (t : ℕ) → walk-lts.Need-same-length-8 (walk-calls t) (walk-at t) walk.Post walk-Inv-loop walk-μ-loop
-walk-same-length-8 t c = let the-loop = c .before .before .before .before .before .before .before .before .before .before .before .before .before .before .before .before .before .before .before .before .before .before .before .before .before .before .loop in
-    let the-onward = c .before .before .before .before .before .before .before .before .before .before .before .before .before .before .onward in
-    (the-onward .kept .1 .1 .1 .1 .1 .1 .0) ∙ (the-loop .inv) .0 .1
-
-walk-same-length-9 : (t : ℕ) → walk-lts.Need-same-length-9 (walk-calls t) (walk-at t) walk.Post walk-Inv-loop walk-μ-loop
-walk-same-length-9 t c = let the-loop = c .before .before .before .before .before .before .before .before .before .before .before .before .before .before .before .before .before .before .before .before .before .before .before .before .before .before .loop in
-    let the-onward = c .before .before .before .before .before .before .before .before .before .before .before .before .before .before .onward in
-    (the-onward .kept .1 .1 .1 .1 .1 .1 .1 .0) ∙ (the-loop .inv) .0 .2
-
-walk-same-length-10 : (t : ℕ) → walk-lts.Need-same-length-10 (walk-calls t) (walk-at t) walk.Post walk-Inv-loop walk-μ-loop
-walk-same-length-10 t c = let the-loop = c .before .before .before .before .before .before .before .before .before .before .before .before .before .before .before .before .before .before .before .before .before .before .before .before .before .before .loop in
-    let the-onward = c .before .before .before .before .before .before .before .before .before .before .before .before .before .before .onward in
-    (the-onward .kept .1 .1 .1 .1 .1 .1 .1 .1 .0) ∙ (the-loop .inv) .0 .3
-
-walk-same-length-11 : (t : ℕ) → walk-lts.Need-same-length-11 (walk-calls t) (walk-at t) walk.Post walk-Inv-loop walk-μ-loop
-walk-same-length-11 t c = let the-loop = c .before .before .before .before .before .before .before .before .before .before .before .before .before .before .before .before .before .before .before .before .before .before .before .before .before .before .loop in
-    let the-onward = c .before .before .before .before .before .before .before .before .before .before .before .before .before .before .onward in
-    (the-onward .kept .1 .1 .1 .1 .1 .1 .1 .1 .1 .0) ∙ (the-loop .inv) .0 .4
-
-walk-same-length-12 : (t : ℕ) → walk-lts.Need-same-length-12 (walk-calls t) (walk-at t) walk.Post walk-Inv-loop walk-μ-loop
-walk-same-length-12 t c = let the-loop = c .before .before .before .before .before .before .before .before .before .before .before .before .before .before .before .before .before .before .before .before .before .before .before .before .before .before .loop in
-    let the-onward = c .before .before .before .before .before .before .before .before .before .before .before .before .before .before .onward in
-    (the-onward .kept .1 .1 .1 .1 .1 .1 .1 .1 .1 .1 .0) ∙ (the-loop .inv) .0 .5
+    let pw = past-weight (args .cells .now) (args .counts .now) (length (args .cells .now)) (here .s) (the-pass-headless .result .s) (the-pass-headless .ensures .1) in
+    (omega (arith, start .pre .0, here .inv .2 .2), ((the-pass-headless .ensures .1 .stays (length (here .calls)) (length (here .slots)) (here .inv .1), (record { vars-room = omega (arith, start .pre .1 .1 .vars-room, here .inv .0 .1); conds-fit = omega (arith, start .pre .1 .1 .conds-fit, here .inv .0 .2); after-fit = omega (arith, start .pre .1 .1 .after-fit, here .inv .0 .3); calls-fit = omega (arith, start .pre .1 .1 .calls-fit, here .inv .0 .4) }), here .inv .2 .1), (the-pass-headless .ensures .0, (λ t. never t, λ t. c .before .before .before .before .before .before .before .is-leaf .ensures .1 (c .before .before .before .before .before .before .if2 .left)))))
 
 walk-returns-2 : (t : ℕ) → walk-lts.Need-returns-2 (walk-calls t) (walk-at t) walk.Post walk-Inv-loop walk-μ-loop
-walk-returns-2 t c = let start = c .before .before .before .before .before .before .before .before .before .before .before .before .before .before .before .before .before .before .before .before .before .before .before .before .before .before .before .before .before .before .before .before .before .before .before .before .before in
-    let the-loop = c .before .before .before .before .before .before .before .before .before .before .before .before .before .before .before .before .before .before .before .before .before .before .before .before .before .before .loop in
+walk-returns-2 t c =
+    let start = c .before .before .before .before .before .before .before .before .before .before .before .before .before .before .before .before .before .before .before .before .before .before .before .before .before .before .before .before .before .before .before .before .before .before .before .before .before in
+    let args = start .args in
+    let here = c .before .before .before .before .before .before .before .before .before .before .before .before .before .before .before .before .before .before .before .before .before .before .before .before .before .before .loop in
     let the-pass-headless = c .before .before .before .before .before .before .before .before .before .before .before .before .before .before .before .before .before .before .before .before .before .before .before .pass-headless in
     let the-onward = c .before .before .before .before .before .before .before .before .before .before .before .before .before .before .onward in
-    let the-if3 = c .before .if3 in
+    let A = arrays (args .slots .now) (args .vars .now) (args .conds .now) (args .calls .now) in
+    let B = arrays (here .slots) (here .vars) (here .conds) (here .calls) in
     let u = the-onward .ensures .0 in
-    (omega (arith, (the-loop .inv) .0 .5, (the-loop .inv) .2 .0), on-end (start .args .cells .now) (start .args .starts .now) (start .args .counts .now) (start .args .firsts .now) (start .args .s0) (arrays (start .args .slots .now) (start .args .vars .now) (start .args .conds .now) (start .args .calls .now)) (start .args .w) (start .args .out .now) (the-pass-headless .result .s) (arrays (the-loop .slots) (the-loop .vars) (the-loop .conds) (the-loop .calls)) (the-loop .v) (the-loop .out) (on-past (start .args .cells .now) (start .args .starts .now) (start .args .counts .now) (start .args .firsts .now) (start .args .s0) (arrays (start .args .slots .now) (start .args .vars .now) (start .args .conds .now) (start .args .calls .now)) (start .args .w) (start .args .out .now) (the-loop .s) (arrays (the-loop .slots) (the-loop .vars) (the-loop .conds) (the-loop .calls)) (the-loop .v) (the-loop .out) ((the-loop .inv) .3) (the-pass-headless .result .s) (the-pass-headless .ensures .1)) ((start .pre .1) .2) ((the-loop .inv) .2 .1) ((the-loop .inv) .0 .5) (the-onward .result .done) (arrays (the-onward .last .1 .1 .1 .1 .1 .0) (the-onward .last .1 .1 .1 .1 .1 .1 .0) (the-onward .last .1 .1 .1 .1 .1 .1 .1 .0) (the-onward .last .1 .1 .1 .1 .1 .1 .1 .1 .1 .0)) (the-onward .last .1 .1 .1 .1 .1 .1 .1 .1 .1 .1 .0) (the-onward .ensures .1 .1 .1 (the-if3 .taken)))
+    (omega (arith, here .inv .0 .5, here .inv .2 .0), on-end (args .cells .now) (args .starts .now) (args .counts .now) (args .firsts .now) (args .s0) A (args .w) (args .out .now) (the-pass-headless .result .s) B (here .v) (here .out) (on-past (args .cells .now) (args .starts .now) (args .counts .now) (args .firsts .now) (args .s0) A (args .w) (args .out .now) (here .s) B (here .v) (here .out) (here .inv .3) (the-pass-headless .result .s) (the-pass-headless .ensures .1)) (start .pre .1 .2) (here .inv .2 .1) (here .inv .0 .5) (the-onward .result .done) (arrays (the-onward .last .1 .1 .1 .1 .1 .0) (the-onward .last .1 .1 .1 .1 .1 .1 .0) (the-onward .last .1 .1 .1 .1 .1 .1 .1 .0) (the-onward .last .1 .1 .1 .1 .1 .1 .1 .1 .1 .0)) (the-onward .last .1 .1 .1 .1 .1 .1 .1 .1 .1 .1 .0) (the-onward .ensures .1 .1 .1 (c .before .if3 .taken)))
 
 walk-loop-less : (t : ℕ) → walk-lts.Need-loop-less (walk-calls t) (walk-at t) walk.Post walk-Inv-loop walk-μ-loop
-walk-loop-less t c = let start = c .before .before .before .before .before .before .before .before .before .before .before .before .before .before .before .before .before .before .before .before .before .before .before .before .before .before .before .before .before .before .before .before .before .before .before .before .before in
-    let the-loop = c .before .before .before .before .before .before .before .before .before .before .before .before .before .before .before .before .before .before .before .before .before .before .before .before .before .before .loop in
+walk-loop-less t c =
+    let args = c .before .before .before .before .before .before .before .before .before .before .before .before .before .before .before .before .before .before .before .before .before .before .before .before .before .before .before .before .before .before .before .before .before .before .before .before .before .args in
     let the-pass-headless = c .before .before .before .before .before .before .before .before .before .before .before .before .before .before .before .before .before .before .before .before .before .before .before .pass-headless in
-    let the-onward = c .before .before .before .before .before .before .before .before .before .before .before .before .before .before .onward in
-    let the-if3 = c .before .if3 in
-    let pw = past-weight (start .args .cells .now) (start .args .counts .now) (length (start .args .cells .now)) (the-loop .s) (the-pass-headless .result .s) (the-pass-headless .ensures .1) in
-    omega (arith, the-onward .ensures .1 .0 (the-if3 .left) .1)
+    let pw = past-weight (args .cells .now) (args .counts .now) (length (args .cells .now)) (c .before .before .before .before .before .before .before .before .before .before .before .before .before .before .before .before .before .before .before .before .before .before .before .before .before .before .loop .s) (the-pass-headless .result .s) (the-pass-headless .ensures .1) in
+    omega (arith, c .before .before .before .before .before .before .before .before .before .before .before .before .before .before .onward .ensures .1 .0 (c .before .if3 .left) .1)
 
 walk-loop-again : (t : ℕ) → walk-lts.Need-loop-again (walk-calls t) (walk-at t) walk.Post walk-Inv-loop walk-μ-loop
-walk-loop-again t c = let start = c .before .before .before .before .before .before .before .before .before .before .before .before .before .before .before .before .before .before .before .before .before .before .before .before .before .before .before .before .before .before .before .before .before .before .before .before .before in
-    let the-loop = c .before .before .before .before .before .before .before .before .before .before .before .before .before .before .before .before .before .before .before .before .before .before .before .before .before .before .loop in
+walk-loop-again t c =
+    let start = c .before .before .before .before .before .before .before .before .before .before .before .before .before .before .before .before .before .before .before .before .before .before .before .before .before .before .before .before .before .before .before .before .before .before .before .before .before in
+    let args = start .args in
+    let here = c .before .before .before .before .before .before .before .before .before .before .before .before .before .before .before .before .before .before .before .before .before .before .before .before .before .before .loop in
     let the-pass-headless = c .before .before .before .before .before .before .before .before .before .before .before .before .before .before .before .before .before .before .before .before .before .before .before .pass-headless in
     let the-onward = c .before .before .before .before .before .before .before .before .before .before .before .before .before .before .onward in
     let the-if3 = c .before .if3 in
-    let pw = past-weight (start .args .cells .now) (start .args .counts .now) (length (start .args .cells .now)) (the-loop .s) (the-pass-headless .result .s) (the-pass-headless .ensures .1) in
+    let A = arrays (args .slots .now) (args .vars .now) (args .conds .now) (args .calls .now) in
+    let B = arrays (here .slots) (here .vars) (here .conds) (here .calls) in
+    let pw = past-weight (args .cells .now) (args .counts .now) (length (args .cells .now)) (here .s) (the-pass-headless .result .s) (the-pass-headless .ensures .1) in
     let near = the-onward .ensures .1 .0 (the-if3 .left) in
     let u = the-onward .ensures .0 in (
-      ((the-onward .kept .1 .1 .1 .1 .1 .0) ∙ (the-loop .inv) .0 .0, (the-onward .kept .1 .1 .1 .1 .1 .1 .0) ∙ (the-loop .inv) .0 .1, (the-onward .kept .1 .1 .1 .1 .1 .1 .1 .0) ∙ (the-loop .inv) .0 .2, (the-onward .kept .1 .1 .1 .1 .1 .1 .1 .1 .0) ∙ (the-loop .inv) .0 .3, (the-onward .kept .1 .1 .1 .1 .1 .1 .1 .1 .1 .0) ∙ (the-loop .inv) .0 .4, (the-onward .kept .1 .1 .1 .1 .1 .1 .1 .1 .1 .1 .0) ∙ (the-loop .inv) .0 .5),
-      subst (λ (x : ℕ). Bound x (length (the-onward .last .1 .1 .1 .1 .1 .0)) (the-onward .result .s)) (sym (the-onward .kept .1 .1 .1 .1 .1 .1 .1 .1 .1 .0)) (subst (λ (x : ℕ). Bound (length (the-loop .calls)) x (the-onward .result .s)) (sym (the-onward .kept .1 .1 .1 .1 .1 .0)) (near .0)),
-      (omega (arith, (the-loop .inv) .2 .0), omega (arith, (the-onward .kept .1 .1 .1 .1 .1 .1 .1 .1 .1 .1 .0)), omega (arith, (the-loop .inv) .2 .2, near .1)),
-      on-then (start .args .cells .now) (start .args .starts .now) (start .args .counts .now) (start .args .firsts .now) (start .args .s0) (arrays (start .args .slots .now) (start .args .vars .now) (start .args .conds .now) (start .args .calls .now)) (start .args .w) (start .args .out .now) (the-pass-headless .result .s) (arrays (the-loop .slots) (the-loop .vars) (the-loop .conds) (the-loop .calls)) (the-loop .v) (the-loop .out) (on-past (start .args .cells .now) (start .args .starts .now) (start .args .counts .now) (start .args .firsts .now) (start .args .s0) (arrays (start .args .slots .now) (start .args .vars .now) (start .args .conds .now) (start .args .calls .now)) (start .args .w) (start .args .out .now) (the-loop .s) (arrays (the-loop .slots) (the-loop .vars) (the-loop .conds) (the-loop .calls)) (the-loop .v) (the-loop .out) ((the-loop .inv) .3) (the-pass-headless .result .s) (the-pass-headless .ensures .1)) (the-onward .result .s) (arrays (the-onward .last .1 .1 .1 .1 .1 .0) (the-onward .last .1 .1 .1 .1 .1 .1 .0) (the-onward .last .1 .1 .1 .1 .1 .1 .1 .0) (the-onward .last .1 .1 .1 .1 .1 .1 .1 .1 .1 .0)) (the-onward .result .done .w) (the-onward .last .1 .1 .1 .1 .1 .1 .1 .1 .1 .1 .0) (the-onward .ensures .1 .1 .0 (the-if3 .left)),
+      (the-onward .kept .1 .1 .1 .1 .1 .0 ∙ here .inv .0 .0, the-onward .kept .1 .1 .1 .1 .1 .1 .0 ∙ here .inv .0 .1, the-onward .kept .1 .1 .1 .1 .1 .1 .1 .0 ∙ here .inv .0 .2, the-onward .kept .1 .1 .1 .1 .1 .1 .1 .1 .0 ∙ here .inv .0 .3, the-onward .kept .1 .1 .1 .1 .1 .1 .1 .1 .1 .0 ∙ here .inv .0 .4, the-onward .kept .1 .1 .1 .1 .1 .1 .1 .1 .1 .1 .0 ∙ here .inv .0 .5),
+      subst (λ (x : ℕ). Bound x (length (the-onward .last .1 .1 .1 .1 .1 .0)) (the-onward .result .s)) (sym (the-onward .kept .1 .1 .1 .1 .1 .1 .1 .1 .1 .0)) (subst (λ (x : ℕ). Bound (length (here .calls)) x (the-onward .result .s)) (sym (the-onward .kept .1 .1 .1 .1 .1 .0)) (near .0)),
+      (omega (arith, here .inv .2 .0), omega (arith, the-onward .kept .1 .1 .1 .1 .1 .1 .1 .1 .1 .1 .0), omega (arith, here .inv .2 .2, near .1)),
+      on-then (args .cells .now) (args .starts .now) (args .counts .now) (args .firsts .now) (args .s0) A (args .w) (args .out .now) (the-pass-headless .result .s) B (here .v) (here .out) (on-past (args .cells .now) (args .starts .now) (args .counts .now) (args .firsts .now) (args .s0) A (args .w) (args .out .now) (here .s) B (here .v) (here .out) (here .inv .3) (the-pass-headless .result .s) (the-pass-headless .ensures .1)) (the-onward .result .s) (arrays (the-onward .last .1 .1 .1 .1 .1 .0) (the-onward .last .1 .1 .1 .1 .1 .1 .0) (the-onward .last .1 .1 .1 .1 .1 .1 .1 .0) (the-onward .last .1 .1 .1 .1 .1 .1 .1 .1 .1 .0)) (the-onward .result .done .w) (the-onward .last .1 .1 .1 .1 .1 .1 .1 .1 .1 .1 .0) (the-onward .ensures .1 .1 .0 (the-if3 .left)),
     )
 
-walk-same-length-13 : (t : ℕ) → walk-lts.Need-same-length-13 (walk-calls t) (walk-at t) walk.Post walk-Inv-loop walk-μ-loop
-walk-same-length-13 t c = let the-loop = c .before .before .loop in
-    (the-loop .inv) .0 .0
-
-walk-same-length-14 : (t : ℕ) → walk-lts.Need-same-length-14 (walk-calls t) (walk-at t) walk.Post walk-Inv-loop walk-μ-loop
-walk-same-length-14 t c = let the-loop = c .before .before .loop in
-    (the-loop .inv) .0 .1
-
-walk-same-length-15 : (t : ℕ) → walk-lts.Need-same-length-15 (walk-calls t) (walk-at t) walk.Post walk-Inv-loop walk-μ-loop
-walk-same-length-15 t c = let the-loop = c .before .before .loop in
-    (the-loop .inv) .0 .2
-
-walk-same-length-16 : (t : ℕ) → walk-lts.Need-same-length-16 (walk-calls t) (walk-at t) walk.Post walk-Inv-loop walk-μ-loop
-walk-same-length-16 t c = let the-loop = c .before .before .loop in
-    (the-loop .inv) .0 .3
-
-walk-same-length-17 : (t : ℕ) → walk-lts.Need-same-length-17 (walk-calls t) (walk-at t) walk.Post walk-Inv-loop walk-μ-loop
-walk-same-length-17 t c = let the-loop = c .before .before .loop in
-    (the-loop .inv) .0 .4
-
-walk-same-length-18 : (t : ℕ) → walk-lts.Need-same-length-18 (walk-calls t) (walk-at t) walk.Post walk-Inv-loop walk-μ-loop
-walk-same-length-18 t c = let the-loop = c .before .before .loop in
-    (the-loop .inv) .0 .5
-
 walk-returns-3 : (t : ℕ) → walk-lts.Need-returns-3 (walk-calls t) (walk-at t) walk.Post walk-Inv-loop walk-μ-loop
-walk-returns-3 t c = let start = c .before .before .before .before .before .before .before .before .before .before .before .before .before in
-    let the-loop = c .before .before .loop in
-    let the-if1 = c .if1 in
-    let x : Done = record { ok = false; w = the-loop .v } in
-    (omega (arith, (the-loop .inv) .0 .5, (the-loop .inv) .2 .0, (the-loop .inv) .2 .1), on-end (start .args .cells .now) (start .args .starts .now) (start .args .counts .now) (start .args .firsts .now) (start .args .s0) (arrays (start .args .slots .now) (start .args .vars .now) (start .args .conds .now) (start .args .calls .now)) (start .args .w) (start .args .out .now) (the-loop .s) (arrays (the-loop .slots) (the-loop .vars) (the-loop .conds) (the-loop .calls)) (the-loop .v) (the-loop .out) ((the-loop .inv) .3) ((start .pre .1) .2) ((the-loop .inv) .2 .1) ((the-loop .inv) .0 .5) x (arrays (the-loop .slots) (the-loop .vars) (the-loop .conds) (the-loop .calls)) (the-loop .out) (stuck-out (start .args .cells .now) (start .args .starts .now) (start .args .counts .now) (start .args .firsts .now) (the-loop .s) (arrays (the-loop .slots) (the-loop .vars) (the-loop .conds) (the-loop .calls)) (the-loop .v) (the-loop .out) (the-if1 .left) x (arrays (the-loop .slots) (the-loop .vars) (the-loop .conds) (the-loop .calls)) (the-loop .out)))
+walk-returns-3 t c =
+    let start = c .before .before .before .before .before .before .before .before .before .before .before .before .before in
+    let args = start .args in
+    let here = c .before .before .loop in
+    let B = arrays (here .slots) (here .vars) (here .conds) (here .calls) in
+    let x : Done = record { ok = false; w = here .v } in
+    (omega (arith, here .inv .0 .5, here .inv .2 .0, here .inv .2 .1), on-end (args .cells .now) (args .starts .now) (args .counts .now) (args .firsts .now) (args .s0) (arrays (args .slots .now) (args .vars .now) (args .conds .now) (args .calls .now)) (args .w) (args .out .now) (here .s) B (here .v) (here .out) (here .inv .3) (start .pre .1 .2) (here .inv .2 .1) (here .inv .0 .5) x B (here .out) (stuck-out (args .cells .now) (args .starts .now) (args .counts .now) (args .firsts .now) (here .s) B (here .v) (here .out) (c .if1 .left) x B (here .out)))
 
 pub +first-side+leaf+onward+walk-spec : {M : Type 1} → statement M
 +first-side+leaf+onward+walk-spec =
@@ -557,68 +370,68 @@ pub +first-side+leaf+onward+walk-spec : {M : Type 1} → statement M
     first-side.Post
     (first-side-returns t)
     (first-side-down-side-requires t)
-    (first-side-same-length t)
-    (first-side-same-length-2 t)
+    (λ c. search needs)
+    (λ c. search needs)
     (first-side-returns-2 t)
     (first-side-walk-requires t)
-    (first-side-same-length-3 t)
-    (first-side-same-length-4 t)
-    (first-side-same-length-5 t)
-    (first-side-same-length-6 t)
-    (first-side-same-length-7 t)
-    (first-side-same-length-8 t)
+    (λ c. search needs)
+    (λ c. search needs)
+    (λ c. search needs)
+    (λ c. search needs)
+    (λ c. search needs)
+    (λ c. search needs)
     (first-side-returns-3 t))
     (λ t. leaf-lts.spec (leaf-calls t)
     (leaf-at t)
     leaf.Post
-    (leaf-slice-aggregate-emit t)
+    (λ c. search needs)
     (leaf-emit-requires t)
-    (leaf-same-length t)
-    (leaf-same-length-2 t)
-    (leaf-same-length-3 t)
-    (leaf-same-length-4 t)
+    (λ c. search needs)
+    (λ c. search needs)
+    (λ c. search needs)
+    (λ c. search needs)
     (leaf-returns t)
-    (leaf-ended-requires t)
+    (λ c κs. c .before .before .before .before .before .before .before .before .before .before .before .before .pre .1 .0 .0 .fuel-small)
     (leaf-returns-2 t)
-    (leaf-slice-aggregate-down-call t)
+    (λ c. search needs)
     (leaf-down-call-requires t)
     (leaf-returns-3 t)
-    (leaf-slice-aggregate-walk t)
+    (λ c. search needs)
     (leaf-walk-requires t)
-    (leaf-same-length-5 t)
-    (leaf-same-length-6 t)
-    (leaf-same-length-7 t)
-    (leaf-same-length-8 t)
-    (leaf-same-length-9 t)
+    (λ c. search needs)
+    (λ c. search needs)
+    (λ c. search needs)
+    (λ c. search needs)
+    (λ c. search needs)
     (leaf-returns-4 t))
     (λ t. onward-lts.spec (onward-calls t)
     (onward-at t)
     onward.Post
-    (onward-choice-requires t)
+    (λ c κs. tt)
     (onward-step-requires t)
-    (onward-after-step-requires t)
-    (onward-same-length t)
-    (onward-same-length-2 t)
-    (onward-same-length-3 t)
-    (onward-same-length-4 t)
+    (λ c κs. c .before .before .before .before .before .before .before .before .before .before .before .before .before .before .before .before .before .before .before .before .before .before .before .before .before .before .pre .1 .0 .0 .fuel-small)
+    (λ c. search needs)
+    (λ c. search needs)
+    (λ c. search needs)
+    (λ c. search needs)
     (onward-returns t)
     (onward-first-side-requires t)
-    (onward-same-length-5 t)
-    (onward-same-length-6 t)
-    (onward-same-length-7 t)
-    (onward-same-length-8 t)
-    (onward-same-length-9 t)
-    (onward-same-length-10 t)
+    (λ c. search needs)
+    (λ c. search needs)
+    (λ c. search needs)
+    (λ c. search needs)
+    (λ c. search needs)
+    (λ c. search needs)
     (onward-returns-2 t)
-    (onward-second-side-requires t)
+    (λ c κs. c .before .before .before .before .before .before .before .before .before .before .before .before .before .before .before .before .before .before .before .before .before .before .before .before .before .before .before .before .before .before .before .before .before .before .pre .1 .0 .0 .c-small)
     (onward-down-side-requires t)
-    (onward-after-step-requires-2 t)
-    (onward-same-length-11 t)
-    (onward-same-length-12 t)
-    (onward-same-length-13 t)
-    (onward-same-length-14 t)
-    (onward-same-length-15 t)
-    (onward-same-length-16 t)
+    (λ c κs. c .before .before .before .before .before .before .before .before .before .before .before .before .before .before .before .before .before .before .before .before .before .before .before .before .before .before .before .before .before .before .before .before .before .before .before .before .before .before .before .before .pre .1 .0 .0 .fuel-small)
+    (λ c. c .before .before .before .before .before .before .before .before .before .before .before .before .before .before .before .before .before .before .before .before .before .first-side .kept .1 .1 .1 .1 .1 .0)
+    (λ c. c .before .before .before .before .before .before .before .before .before .before .before .before .before .before .before .before .before .before .before .before .before .first-side .kept .1 .1 .1 .1 .1 .1 .0)
+    (λ c. c .before .before .before .down-side .kept .1 .1 .1 .1 .1 .0 ∙ c .before .before .before .before .before .before .before .before .before .before .before .before .before .before .before .before .before .before .before .before .before .first-side .kept .1 .1 .1 .1 .1 .1 .1 .0)
+    (λ c. c .before .before .before .before .before .before .before .before .before .before .before .before .before .before .before .before .before .before .before .before .before .first-side .kept .1 .1 .1 .1 .1 .1 .1 .1 .0)
+    (λ c. c .before .before .before .before .before .before .before .before .before .before .before .before .before .before .before .before .before .before .before .before .before .first-side .kept .1 .1 .1 .1 .1 .1 .1 .1 .1 .0)
+    (λ c. c .before .before .before .before .before .before .before .before .before .before .before .before .before .before .before .before .before .before .before .before .before .first-side .kept .1 .1 .1 .1 .1 .1 .1 .1 .1 .1 .0)
     (onward-returns-3 t))
     λ t. walk-lts.spec (walk-calls t)
     (walk-at t)
@@ -627,29 +440,29 @@ pub +first-side+leaf+onward+walk-spec : {M : Type 1} → statement M
     walk-μ-loop
     (walk-loop-holds t)
     (walk-pass-headless-requires t)
-    (walk-is-leaf-requires t)
+    (λ c κs. tt)
     (walk-leaf-requires t)
-    (walk-same-length t)
-    (walk-same-length-2 t)
-    (walk-same-length-3 t)
-    (walk-same-length-4 t)
-    (walk-same-length-5 t)
-    (walk-same-length-6 t)
+    (λ c. c .before .before .before .before .before .before .before .before .before .before .before .before .before .before .before .before .before .before .before .before .before .before .loop .inv .0 .0)
+    (λ c. c .before .before .before .before .before .before .before .before .before .before .leaf .kept .1 .1 .1 .1 .1 .1 .0 ∙ c .before .before .before .before .before .before .before .before .before .before .before .before .before .before .before .before .before .before .before .before .before .before .loop .inv .0 .1)
+    (λ c. c .before .before .before .before .before .before .before .before .before .before .leaf .kept .1 .1 .1 .1 .1 .1 .1 .0 ∙ c .before .before .before .before .before .before .before .before .before .before .before .before .before .before .before .before .before .before .before .before .before .before .loop .inv .0 .2)
+    (λ c. c .before .before .before .before .before .before .before .before .before .before .leaf .kept .1 .1 .1 .1 .1 .1 .1 .1 .0 ∙ c .before .before .before .before .before .before .before .before .before .before .before .before .before .before .before .before .before .before .before .before .before .before .loop .inv .0 .3)
+    (λ c. c .before .before .before .before .before .before .before .before .before .before .leaf .kept .1 .1 .1 .1 .1 .1 .1 .1 .1 .0 ∙ c .before .before .before .before .before .before .before .before .before .before .before .before .before .before .before .before .before .before .before .before .before .before .loop .inv .0 .4)
+    (λ c. c .before .before .before .before .before .before .before .before .before .before .leaf .kept .1 .1 .1 .1 .1 .1 .1 .1 .1 .1 .0 ∙ c .before .before .before .before .before .before .before .before .before .before .before .before .before .before .before .before .before .before .before .before .before .before .loop .inv .0 .5)
     (walk-returns t)
     (walk-onward-requires t)
-    (walk-same-length-7 t)
-    (walk-same-length-8 t)
-    (walk-same-length-9 t)
-    (walk-same-length-10 t)
-    (walk-same-length-11 t)
-    (walk-same-length-12 t)
+    (λ c. c .before .before .before .before .before .before .before .before .before .before .before .before .before .before .onward .kept .1 .1 .1 .1 .1 .0 ∙ c .before .before .before .before .before .before .before .before .before .before .before .before .before .before .before .before .before .before .before .before .before .before .before .before .before .before .loop .inv .0 .0)
+    (λ c. c .before .before .before .before .before .before .before .before .before .before .before .before .before .before .onward .kept .1 .1 .1 .1 .1 .1 .0 ∙ c .before .before .before .before .before .before .before .before .before .before .before .before .before .before .before .before .before .before .before .before .before .before .before .before .before .before .loop .inv .0 .1)
+    (λ c. c .before .before .before .before .before .before .before .before .before .before .before .before .before .before .onward .kept .1 .1 .1 .1 .1 .1 .1 .0 ∙ c .before .before .before .before .before .before .before .before .before .before .before .before .before .before .before .before .before .before .before .before .before .before .before .before .before .before .loop .inv .0 .2)
+    (λ c. c .before .before .before .before .before .before .before .before .before .before .before .before .before .before .onward .kept .1 .1 .1 .1 .1 .1 .1 .1 .0 ∙ c .before .before .before .before .before .before .before .before .before .before .before .before .before .before .before .before .before .before .before .before .before .before .before .before .before .before .loop .inv .0 .3)
+    (λ c. c .before .before .before .before .before .before .before .before .before .before .before .before .before .before .onward .kept .1 .1 .1 .1 .1 .1 .1 .1 .1 .0 ∙ c .before .before .before .before .before .before .before .before .before .before .before .before .before .before .before .before .before .before .before .before .before .before .before .before .before .before .loop .inv .0 .4)
+    (λ c. c .before .before .before .before .before .before .before .before .before .before .before .before .before .before .onward .kept .1 .1 .1 .1 .1 .1 .1 .1 .1 .1 .0 ∙ c .before .before .before .before .before .before .before .before .before .before .before .before .before .before .before .before .before .before .before .before .before .before .before .before .before .before .loop .inv .0 .5)
     (walk-returns-2 t)
     (walk-loop-less t)
     (walk-loop-again t)
-    (walk-same-length-13 t)
-    (walk-same-length-14 t)
-    (walk-same-length-15 t)
-    (walk-same-length-16 t)
-    (walk-same-length-17 t)
-    (walk-same-length-18 t)
+    (λ c. c .before .before .loop .inv .0 .0)
+    (λ c. c .before .before .loop .inv .0 .1)
+    (λ c. c .before .before .loop .inv .0 .2)
+    (λ c. c .before .before .loop .inv .0 .3)
+    (λ c. c .before .before .loop .inv .0 .4)
+    (λ c. c .before .before .loop .inv .0 .5)
     (walk-returns-3 t)

@@ -12,8 +12,10 @@ count-heads-requires : tie.Need-count-heads-requires
 count-heads-requires c κs = search needs
 
 returns : tie.Need-returns
-returns c = let a = c .count-heads .result in
-    (refl, ends (c .before .before .before .args .cells .now) (c .before .before .before .args .counts .now) (c .before .before .before .args .fuel) (c .before .before .before .args .at) (c .count-heads .result) (c .count-heads .ensures) (record { ok = eqb (c .count-heads .result) 0; w = c .before .before .before .args .w }) (λ t. eqb-true a 0 t) (λ t. eqb-false a 0 t))
+returns c =
+    let args = c .before .before .before .args in
+    let a = c .count-heads .result in
+    (refl, ends (args .cells .now) (args .counts .now) (args .fuel) (args .at) a (c .count-heads .ensures) (record { ok = eqb a 0; w = args .w }) (λ t. eqb-true a 0 t) (λ t. eqb-false a 0 t))
 
 pub ended-spec : {M : Type 1} → statement M
 ended-spec = tie.close (tie.spec count-heads-requires returns)
