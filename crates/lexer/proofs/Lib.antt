@@ -1,5 +1,6 @@
 mod Match
 pub mod Runs
+mod ClassTable
 mod EachByte
 mod Signs
 pub mod Cells

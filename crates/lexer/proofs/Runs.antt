@@ -1,14 +1,13 @@
 -- Laws of `run` at a place of a list, and the tests of bytes as classes.
-use mathlib.Core.Path.{_≡_, refl, sym, ap, ap₂, subst}
+use mathlib.Core.Path.{_≡_, refl, sym, ap₂, subst}
 use mathlib.Core.Logic.{_⊎_, inl, inr, ⊎-elim}
 use mathlib.Core.Bool.{Bool, true, false}
 use mathlib.Core.List.{List, [], _∷_}
-use Prim.Native.Nat.{ℕ, zero, suc, _+_, _-_, _<_, _≤_, min}
-use native.Mathlib.Nat.{add-sub-cancel-left}
+use Prim.Native.Nat.{ℕ, suc, _+_, _-_, _<_, _≤_}
 use native.Mathlib.Numerals.{add-one}
 use native.Mathlib.Omega.{arith}
 use lib.Dec.{eqb}
-use lib.ListN.{length, take, drop, getD, drop-of-length-le, length-drop}
+use lib.ListN.{length, drop, getD, drop-of-length-le, length-drop}
 use lib.Seq.{drop-cons, length-take-le}
 use borrow.Author.Tests.{le-leb, lt-leb, eqb-true, ne-eqb}
 use Rattle.pcrl.specs.Text.{byte}
@@ -59,23 +58,6 @@ run-fits test s i = rw length-drop at (run-le test (drop i s))
 
 pub length-front : (test : ℕ → Bool) (l : List ℕ) → length (front test l) ≡ run test l
 length-front test l = length-take-le (run test l) l (run-le test l)
-
--- ---- the run in the first m bytes
-run-take-step : (t : Bool) (m k n : ℕ) → k ≡ min m n
-    → _≡_ {A = ℕ} (elim t as (λ _. ℕ) [ true ↦ suc k | false ↦ 0 ]) (min (suc m) (elim t as (λ _. ℕ) [ true ↦ suc n | false ↦ 0 ]))
-run-take-step true m k n e = omega arith
-run-take-step false m k n e = omega arith
-
-run-take : (test : ℕ → Bool) (m : ℕ) (l : List ℕ) → run test (take m l) ≡ min m (run test l)
-unfolding run
-run-take test zero l = omega arith
-run-take test (suc m) [] = omega arith
-run-take test (suc m) (b ∷ l) = run-take-step (test b) m (run test (take m l)) (run test l) (run-take test m l)
-
-pub run-part : (test : ℕ → Bool) (s : List ℕ) (at most m n : ℕ) → m ≡ min (length s - at) most → n ≡ run test (take (at + m - at) (drop at s))
-    → n ≡ min most (run test (drop at s))
-run-part test s at most m n e f =
-    omega (arith, ap (λ (k : ℕ). run test (take k (drop at s))) (add-sub-cancel-left at m), run-take test m (drop at s), run-fits test s at)
 
 -- two tests that agree have one run
 run-same-step : (t u : Bool) (k m : ℕ) → t ≡ u → k ≡ m

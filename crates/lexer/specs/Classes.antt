@@ -1,8 +1,10 @@
 -- Classes of bytes, and what the functions of this crate decide. The bytes of a name have classes one after another, 2 to 4.
+use mathlib.Core.Path.{_≡_}
 use mathlib.Core.List.{List, [], _∷_}
 use mathlib.Core.Bool.{Bool, true, false}
-use Prim.Native.Nat.{ℕ, suc}
+use Prim.Native.Nat.{ℕ, suc, _<_}
 use lib.Dec.{eqb, leb}
+use lib.ListN.{length, getD}
 use Rattle.pcrl.specs.Text.{byte}
 use Rattle.pcrl.specs.Limits.{max-numeral}
 use Rattle.pcrl.specs.Tests.{or, within, same?}
@@ -33,6 +35,11 @@ class-by false false false false false false = 0
 
 unfoldable pub class-of : ℕ → ℕ
 class-of b = class-by (separator b) (digit b) (letter b) (eqb b (byte "_")) (alone b) (leads b)
+
+-- a table that has the class of each byte at its place
+pub record Classed (t : List ℕ) : Type 0 where
+  pub size : length t ≡ 256
+  pub entry : (b : ℕ) → b < 256 → getD t b 0 ≡ class-of b
 
 -- Is the byte's class lo to hi?
 abbrev pub in-classes : ℕ → ℕ → ℕ → Bool

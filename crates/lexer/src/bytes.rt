@@ -8,7 +8,7 @@ ghost use Rattle.pcrl.specs.Tests.{and};
 ghost use Rattle.pcrl.specs.Bytes as B;
 ghost use Rattle.pcrl.specs.Tokens as T;
 ghost use Rattle.laws.specs.Says.{Says};
-ghost use Rattle.lexer.specs.Classes.{class-of, in-classes};
+ghost use Rattle.lexer.specs.Classes.{class-of, in-classes, Classed};
 
 // Classes: those of a name stand one after another.
 pub const SEPARATOR: u8 = 1;
@@ -69,13 +69,24 @@ fn least(a: usize, b: usize) -> usize
     if a < b { a } else { b }
 }
 
-// The same, but no more than `most` of them: what stands further on is not looked at.
-pub fn run_within(s: &[u8], at: usize, most: usize, lo: u8, hi: u8) -> usize
-    requires { ⌜ at ≤ length (now s) ⌝ }
+// The same by a table of the classes, and no more than `most` of them: what stands further on is not looked at.
+pub fn run_within(classes: &[u8], s: &[u8], at: usize, most: usize, lo: u8, hi: u8) -> usize
+    requires { ⌜ Classed (now classes) × (at ≤ length (now s)) ⌝ }
     ensures { λ r. ⌜ r ≡ min most (T.run (in-classes lo hi) (drop at (now (s .entry)))) ⌝ }
 {
     let end = at + least(s.len() - at, most);
-    run(&s[at..end], 0, lo, hi)
+    let mut i = at;
+    while i < end {
+        let k = classes[s[i] as usize];
+        if k < lo {
+            return i - at;
+        }
+        if hi < k {
+            return i - at;
+        }
+        i += 1;
+    }
+    i - at
 }
 
 // A place in the sheet.

@@ -6,12 +6,14 @@ ghost use Rattle.pcrl.specs.Answers.{tokens-read};
 ghost use Rattle.lexer.specs.Cells.{Lexes};
 
 pub mod bytes; // bytes and their classes
+pub mod classes; // their table
 pub mod token; // one token
 pub mod tokens; // the tokens
 pub mod brackets; // brackets that are open
 
 use brackets::shallow;
 use bytes::all_printable;
+use classes::CLASSES;
 use tokens::tokens;
 
 const MAX_BYTES: usize = 4096;
@@ -95,7 +97,8 @@ pub fn lex(sheet: &[u8], out: &mut [u16]) -> Lexed
             count: 0,
         };
     }
-    let r = tokens(sheet, out);
+    let classes = CLASSES;
+    let r = tokens(&classes, sheet, out);
     if r.refused != 0 {
         return r;
     }

@@ -6,7 +6,7 @@ ghost use lib.ListN.{length, drop, getD};
 ghost use Rattle.pcrl.specs.Limits.{max-bytes};
 ghost use Rattle.pcrl.specs.Bytes as B;
 ghost use Rattle.pcrl.specs.Tokens as T;
-ghost use Rattle.lexer.specs.Classes.{class-of, sign-cell, capped};
+ghost use Rattle.lexer.specs.Classes.{class-of, Classed, sign-cell, capped};
 ghost use Rattle.lexer.specs.Cells.{first-word, first-long-mark, long-marks, Reads, Fits};
 use crate::ACT;
 use crate::ARROW;
@@ -29,7 +29,6 @@ use crate::bytes::LETTER;
 use crate::bytes::MARK;
 use crate::bytes::UNDERSCORE;
 use crate::bytes::byte_at;
-use crate::bytes::class;
 use crate::bytes::run_within;
 use crate::bytes::same;
 use crate::bytes::wide;
@@ -64,12 +63,12 @@ fn word(t: &[u8]) -> u16
 }
 
 // The name or word at `at`, where a letter stands.
-fn name_at(s: &[u8], at: usize) -> Taken
-    requires { ⌜ (at < length (now s)) × (length (now s) ≤ max-bytes) × (class-of (getD (now s) at 0) ≡ 3) ⌝ }
+fn name_at(classes: &[u8], s: &[u8], at: usize) -> Taken
+    requires { ⌜ Classed (now classes) × (at < length (now s)) × (length (now s) ≤ max-bytes) × (class-of (getD (now s) at 0) ≡ 3) ⌝ }
     ensures { λ r. ⌜ Fits (length (now (s .entry))) at r ⌝ }
     ensures { λ r. ⌜ Reads (now (s .entry)) (T.name-of (T.front B.name-byte (drop at (now (s .entry))))) r ⌝ }
 {
-    let n = run_within(s, at, MAX_NAME + 1, DIGIT, UNDERSCORE);
+    let n = run_within(classes, s, at, MAX_NAME + 1, DIGIT, UNDERSCORE);
     if MAX_NAME < n {
         return Taken {
             cell: NO_TOKEN,
@@ -127,12 +126,12 @@ fn numeral(t: &[u8]) -> u16
 }
 
 // The numeral at `at`, where a digit stands.
-fn numeral_at(s: &[u8], at: usize) -> Taken
-    requires { ⌜ (at < length (now s)) × (class-of (getD (now s) at 0) ≡ 2) ⌝ }
+fn numeral_at(classes: &[u8], s: &[u8], at: usize) -> Taken
+    requires { ⌜ Classed (now classes) × (at < length (now s)) × (class-of (getD (now s) at 0) ≡ 2) ⌝ }
     ensures { λ r. ⌜ Fits (length (now (s .entry))) at r ⌝ }
     ensures { λ r. ⌜ Reads (now (s .entry)) (T.numeral-of (T.front B.digit (drop at (now (s .entry))))) r ⌝ }
 {
-    let n = run_within(s, at, MAX_DIGITS + 1, DIGIT, DIGIT);
+    let n = run_within(classes, s, at, MAX_DIGITS + 1, DIGIT, DIGIT);
     if MAX_DIGITS < n {
         return Taken {
             cell: NO_TOKEN,
@@ -174,17 +173,17 @@ fn long_mark_at(s: &[u8], at: usize) -> Taken
     }
 }
 
-// The token at `at`, by the class of its first byte.
-pub fn token_at(s: &[u8], at: usize) -> Taken
-    requires { ⌜ (at < length (now s)) × (length (now s) ≤ max-bytes) ⌝ }
+// The token at `at`, by the class of its first byte, which a table has.
+pub fn token_at(classes: &[u8], s: &[u8], at: usize) -> Taken
+    requires { ⌜ Classed (now classes) × (at < length (now s)) × (length (now s) ≤ max-bytes) ⌝ }
     ensures { λ r. ⌜ Fits (length (now (s .entry))) at r ⌝ }
     ensures { λ r. ⌜ Reads (now (s .entry)) (T.first-token (getD (now (s .entry)) at 0) (drop (at + 1) (now (s .entry)))) r ⌝ }
 {
     let b = s[at];
-    let k = class(b);
+    let k = classes[b as usize];
     match k {
-        LETTER => name_at(s, at),
-        DIGIT => numeral_at(s, at),
+        LETTER => name_at(classes, s, at),
+        DIGIT => numeral_at(classes, s, at),
         MARK => Taken {
             cell: wide(b),
             len: 1,

@@ -1,43 +1,91 @@
--- `lexer::bytes::run_within`: the run in the part that is looked at.
-use borrow.Author.Needs.{needs}
-use Rattle.lexer.specs.Classes.{in-classes}
-use Rattle.lexer.proofs.Runs.{run-part}
+-- `lexer::bytes::run_within`: what is counted and what is left to count is the whole run, or the bound is reached.
+use mathlib.Core.Path.{_≡_}
+use Prim.Native.Nat.{_+_, _-_, _≤_}
+use native.Mathlib.Omega.{arith}
+use lib.ListN.{drop, getD}
+use Rattle.pcrl.specs.Tokens.{run}
+use Rattle.lexer.specs.Classes.{class-of, in-classes}
+use Rattle.lexer.proofs.Runs.{run-fits, run-more, run-stop, within-low, within-high, within-both}
 use Rattle.lexer.proofs.bytes.run_within.Statement.{statement}
 use Rattle.lexer.proofs.bytes.run_within.Tie as tie
 
-sub-least : tie.Need-sub-least
-sub-least c = search needs
+abbrev Inv-loop : tie.InvT-loop
+Inv-loop classes s at most lo hi end i₀ i = (at ≤ i) × (i ≤ end) × (i - at + run (in-classes lo hi) (drop i s) ≡ run (in-classes lo hi) (drop at s))
 
-least-requires : tie.Need-least-requires
-least-requires c κs = search needs
+abbrev μ-loop : tie.MeasureT-loop
+μ-loop classes s at most lo hi end i₀ i = end - i
 
-add-end : tie.Need-add-end
-add-end c = search needs
+sub-least : tie.Need-sub-least Inv-loop μ-loop
+sub-least c = omega arith
 
-sub-run : tie.Need-sub-run
-sub-run c = search needs
+least-requires : tie.Need-least-requires Inv-loop μ-loop
+least-requires c κs = tt
 
-part-run-start : tie.Need-part-run-start
-part-run-start c = search needs
+add-end : tie.Need-add-end Inv-loop μ-loop
+add-end c = omega arith
 
-part-run-end : tie.Need-part-run-end
-part-run-end c = search needs
+loop-holds : tie.Need-loop-holds Inv-loop μ-loop
+loop-holds c = (omega arith, omega arith, omega arith)
 
-run-requires : tie.Need-run-requires
-run-requires c κs = search needs
+shared-slice-read-k : tie.Need-shared-slice-read-k Inv-loop μ-loop
+shared-slice-read-k c = omega arith
 
-returns : tie.Need-returns
-returns c = let a = c .before .before .before .before .args in run-part (in-classes (a .lo) (a .hi)) (a .s .now) (a .at) (a .most) (c .before .before .least .result) (c .run .result) (c .before .before .least .ensures) (c .run .ensures)
+cast-k : tie.Need-cast-k Inv-loop μ-loop
+cast-k c = omega (arith, c .shared-slice-known3 .given (c .before .before .loop .i))
+
+shared-slice-read-k-2 : tie.Need-shared-slice-read-k-2 Inv-loop μ-loop
+shared-slice-read-k-2 c = omega (arith, c .before .shared-slice-known3 .given (c .before .before .before .loop .i), c .before .before .before .before .before .before .before .pre .0 .size)
+
+sub-result : tie.Need-sub-result Inv-loop μ-loop
+sub-result c = omega arith
+
+returns : tie.Need-returns Inv-loop μ-loop
+returns c = let a = c .before .before .before .before .before .before .before .before .args in let i = c .before .before .before .before .loop .i in let e = c .before .before .before .before .before .before .before .before .pre .0 .entry (getD (a .s .now) i 0) (omega (arith, c .before .before .shared-slice-known3 .given i)) in
+    omega (arith, run-stop (in-classes (a .lo) (a .hi)) (a .s .now) i (omega arith) (within-low (a .lo) (a .hi) (class-of (getD (a .s .now) i 0)) (omega arith)))
+
+sub-result-2 : tie.Need-sub-result-2 Inv-loop μ-loop
+sub-result-2 c = omega arith
+
+returns-2 : tie.Need-returns-2 Inv-loop μ-loop
+returns-2 c = let a = c .before .before .before .before .before .before .before .before .before .args in let i = c .before .before .before .before .before .loop .i in let e = c .before .before .before .before .before .before .before .before .before .pre .0 .entry (getD (a .s .now) i 0) (omega (arith, c .before .before .before .shared-slice-known3 .given i)) in
+    omega (arith, run-stop (in-classes (a .lo) (a .hi)) (a .s .now) i (omega arith) (within-high (a .lo) (a .hi) (class-of (getD (a .s .now) i 0)) (omega arith) (omega arith)))
+
+add-i : tie.Need-add-i Inv-loop μ-loop
+add-i c = omega arith
+
+loop-less : tie.Need-loop-less Inv-loop μ-loop
+loop-less c = omega arith
+
+loop-again : tie.Need-loop-again Inv-loop μ-loop
+loop-again c = let a = c .before .before .before .before .before .before .before .before .before .args in let i = c .before .before .before .before .before .loop .i in let e = c .before .before .before .before .before .before .before .before .before .pre .0 .entry (getD (a .s .now) i 0) (omega (arith, c .before .before .before .shared-slice-known3 .given i)) in
+    let m = run-more (in-classes (a .lo) (a .hi)) (a .s .now) i (omega arith) (within-both (a .lo) (a .hi) (class-of (getD (a .s .now) i 0)) (omega arith) (omega arith)) in
+    (omega arith, omega arith, omega arith)
+
+sub-result-3 : tie.Need-sub-result-3 Inv-loop μ-loop
+sub-result-3 c = omega arith
+
+returns-3 : tie.Need-returns-3 Inv-loop μ-loop
+returns-3 c = let a = c .before .before .before .before .before .args in omega (arith, run-fits (in-classes (a .lo) (a .hi)) (a .s .now) (a .at))
 
 pub run-within-spec : {M : Type 1} → statement M
 run-within-spec =
     tie.close
     (tie.spec
+    Inv-loop
+    μ-loop
     sub-least
     least-requires
     add-end
-    sub-run
-    part-run-start
-    part-run-end
-    run-requires
-    returns)
+    loop-holds
+    shared-slice-read-k
+    cast-k
+    shared-slice-read-k-2
+    sub-result
+    returns
+    sub-result-2
+    returns-2
+    add-i
+    loop-less
+    loop-again
+    sub-result-3
+    returns-3)

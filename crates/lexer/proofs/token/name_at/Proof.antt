@@ -14,7 +14,7 @@ run-within-requires : tie.Need-run-within-requires
 run-within-requires c κs = search needs
 
 returns : tie.Need-returns
-returns c = let a = c .before .before .before .args in (
+returns c = let a = c .before .before .before .before .args in (
   run-fit 2 4 (a .s .now) (a .at) (c .before .run-within .result) 0 (omega arith) (λ k. omega arith) (omega arith) (omega arith) (omega arith),
   reads-long (a .s .now) (a .at) (c .before .run-within .result) (omega arith) (omega arith),
 )
@@ -29,25 +29,25 @@ part-word-start : tie.Need-part-word-start
 part-word-start c = search needs
 
 part-word-end : tie.Need-part-word-end
-part-word-end c = omega (arith, run-fits (in-classes 2 4) (c .before .before .before .args .s .now) (c .before .before .before .args .at))
+part-word-end c = omega (arith, run-fits (in-classes 2 4) (c .before .before .before .before .args .s .now) (c .before .before .before .before .args .at))
 
 word-requires : tie.Need-word-requires
 word-requires c κs = search needs
 
-cast-t12 : tie.Need-cast-t12
-cast-t12 c = search needs
+cast-t13 : tie.Need-cast-t13
+cast-t13 c = search needs
 
-add-t13 : tie.Need-add-t13
-add-t13 c = search needs
+add-t14 : tie.Need-add-t14
+add-t14 c = search needs
 
 returns-2 : tie.Need-returns-2
-returns-2 c = let a = c .before .before .before .before .before .before .args in (
+returns-2 c = let a = c .before .before .before .before .before .before .before .args in (
   run-fit 2 4 (a .s .now) (a .at) (c .before .before .before .before .run-within .result) _ (omega arith) (λ k. omega arith) (omega arith) (omega arith) (omega arith),
   reads-name (a .s .now) (a .at) (c .before .before .before .before .run-within .result) (omega arith) (omega arith) (c .before .word .result) (c .before .word .ensures) (c .if2 .taken),
 )
 
 returns-3 : tie.Need-returns-3
-returns-3 c = let a = c .before .before .before .before .before .before .args in (
+returns-3 c = let a = c .before .before .before .before .before .before .before .args in (
   run-fit 2 4 (a .s .now) (a .at) (c .before .before .before .before .run-within .result) (c .before .word .result) (omega arith) (λ k. omega arith) (omega arith) (omega arith) (omega arith),
   reads-word (a .s .now) (a .at) (c .before .before .before .before .run-within .result) (omega arith) (omega arith) (c .before .word .result) (c .before .word .ensures) (c .if2 .left),
 )
@@ -64,7 +64,7 @@ name-at-spec =
     part-word-start
     part-word-end
     word-requires
-    cast-t12
-    add-t13
+    cast-t13
+    add-t14
     returns-2
     returns-3)

@@ -14,7 +14,7 @@ run-within-requires : tie.Need-run-within-requires
 run-within-requires c κs = search needs
 
 returns : tie.Need-returns
-returns c = let a = c .before .before .before .args in (
+returns c = let a = c .before .before .before .before .args in (
   run-fit 2 2 (a .s .now) (a .at) (c .before .run-within .result) 0 (omega arith) (λ k. omega arith) (omega arith) (omega arith) (omega arith),
   reads-many (a .s .now) (a .at) (c .before .run-within .result) (omega arith) (omega arith),
 )
@@ -29,13 +29,13 @@ part-numeral-start : tie.Need-part-numeral-start
 part-numeral-start c = search needs
 
 part-numeral-end : tie.Need-part-numeral-end
-part-numeral-end c = omega (arith, run-fits (in-classes 2 2) (c .before .before .before .args .s .now) (c .before .before .before .args .at))
+part-numeral-end c = omega (arith, run-fits (in-classes 2 2) (c .before .before .before .before .args .s .now) (c .before .before .before .before .args .at))
 
 numeral-requires : tie.Need-numeral-requires
 numeral-requires c κs = search needs
 
 returns-2 : tie.Need-returns-2
-returns-2 c = let a = c .before .before .before .before .before .args in (
+returns-2 c = let a = c .before .before .before .before .before .before .args in (
   run-fit 2 2 (a .s .now) (a .at) (c .before .before .before .run-within .result) (c .numeral .result) (omega arith) (λ k. omega arith) (omega arith) (omega arith) (omega arith),
   reads-digits (a .s .now) (a .at) (c .before .before .before .run-within .result) (c .numeral .result) (omega arith) (c .numeral .ensures (a .s .now)),
 )
