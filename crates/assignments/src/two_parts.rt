@@ -26,7 +26,8 @@ fn term_low(s: &[u8], from: usize, end: usize, p: usize) -> usize
     if s.len() <= from {
         return 0;
     }
-    evaluation::lowest(s, from + 1, end, p)
+    let v = evaluation::variables(s, from + 1, end, p);
+    v.low
 }
 
 // The conditions in two parts: blocks of the early ones, which are of b assignments at least, and of the late ones; 0 for a condition that is not of the part.

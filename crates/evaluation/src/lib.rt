@@ -94,19 +94,6 @@ pub fn smaller(a: usize, b: usize) -> usize
     if a < b { a } else { b }
 }
 
-// One more than the highest variable that is named from at to end.
-pub fn highest(s: &[u8], at: usize, end: usize) -> usize
-    ensures { λ r. ⌜ (at ≤ end → end ≤ length (now (s .entry)) → r ≡ peak (take (end - at) (drop at (now (s .entry))))) ⌝ }
-{
-    let mut high: usize = 0;
-    let mut i = smaller(end, s.len());
-    while at < i {
-        i -= 1;
-        high = larger(variable(s[i]), high);
-    }
-    high
-}
-
 // The lower of m and the variable before n, if that is none of the first p.
 fn lower(p: usize, n: usize, m: usize) -> usize
     ensures { λ r. ⌜ r ≡ lowered p n m ⌝ }
@@ -117,17 +104,29 @@ fn lower(p: usize, n: usize, m: usize) -> usize
     m
 }
 
-// The lowest variable from p on that is named from at to end, 8 if none.
-pub fn lowest(s: &[u8], at: usize, end: usize, p: usize) -> usize
-    ensures { λ r. ⌜ (at ≤ end → end ≤ length (now (s .entry)) → r ≡ foot p (take (end - at) (drop at (now (s .entry))))) ⌝ }
+// What bytes name: one more than the highest variable, and the lowest from some number on, 8 if none.
+pub struct Span {
+    pub high: usize,
+    pub low: usize,
+}
+
+// The variables that are named from at to end, the lowest from p on.
+pub fn variables(s: &[u8], at: usize, end: usize, p: usize) -> Span
+    ensures { λ r. ⌜ (at ≤ end → end ≤ length (now (s .entry)) → (r .high ≡ peak (take (end - at) (drop at (now (s .entry))))) × (r .low ≡ foot p (take (end - at) (drop at (now (s .entry)))))) ⌝ }
 {
+    let mut high: usize = 0;
     let mut low: usize = 8;
     let mut i = smaller(end, s.len());
     while at < i {
         i -= 1;
-        low = lower(p, variable(s[i]), low);
+        let n = variable(s[i]);
+        high = larger(n, high);
+        low = lower(p, n, low);
     }
-    low
+    Span {
+        high: high,
+        low: low,
+    }
 }
 
 // Where the stack begins after its first value was put on it and k were taken.

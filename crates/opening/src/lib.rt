@@ -79,12 +79,12 @@ pub fn conditions(s: &[u8], funcs: &[u16], at: usize, p: usize, z: Four) -> Cond
     while i < n {
         let b = a + 1;
         let end = evaluation::skip(s, funcs, b, 1);
-        let h = evaluation::highest(s, b, end);
+        let v = evaluation::variables(s, b, end, p);
         froms[i] = a;
         ends[i] = end;
-        blocks[i] = narrow(assignments::grain(z, h, p));
-        reach = evaluation::larger(reach, h);
-        low = evaluation::smaller(low, evaluation::lowest(s, b, end, p));
+        blocks[i] = narrow(assignments::grain(z, v.high, p));
+        reach = evaluation::larger(reach, v.high);
+        low = evaluation::smaller(low, v.low);
         a = end;
         i += 1;
     }

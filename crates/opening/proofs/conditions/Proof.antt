@@ -36,8 +36,8 @@ add-b c = omega (arith, c .before .loop .inv .1 .0, c .before .before .smaller .
 skip-requires : tie.Need-skip-requires Inv-loop μ-loop
 skip-requires c κs = c .before .before .before .before .before .before .before .pre .0
 
-highest-requires : tie.Need-highest-requires Inv-loop μ-loop
-highest-requires c κs = search needs
+variables-requires : tie.Need-variables-requires Inv-loop μ-loop
+variables-requires c κs = search needs
 
 mul-froms : tie.Need-mul-froms Inv-loop μ-loop
 mul-froms c = search needs
@@ -66,9 +66,6 @@ array-write-blocks c = omega (arith, c .before .before .before .before .before .
 larger-requires : tie.Need-larger-requires Inv-loop μ-loop
 larger-requires c κs = search needs
 
-lowest-requires : tie.Need-lowest-requires Inv-loop μ-loop
-lowest-requires c κs = search needs
-
 smaller-requires-2 : tie.Need-smaller-requires-2 Inv-loop μ-loop
 smaller-requires-2 c κs = search needs
 
@@ -79,18 +76,18 @@ loop-less : tie.Need-loop-less Inv-loop μ-loop
 loop-less c = omega arith
 
 loop-again : tie.Need-loop-again Inv-loop μ-loop
-loop-again c = let a = c .before .before .before .before .before .before .before .before .before .before .before .before .before .before .args in let l = c .before .before .before .before .before .before .before .before .loop in let v = l .inv in (
+loop-again c = let a = c .before .before .before .before .before .before .before .before .before .before .before .before .before .args in let l = c .before .before .before .before .before .before .before .loop in let v = l .inv in (
   omega arith,
   (
-    omega (arith, c .before .before .before .before .before .before .skip .ensures .1 .1, c .before .before .before .before .before .before .before .before .before .before .before .before .before .before .pre .0),
+    omega (arith, c .before .before .before .before .before .skip .ensures .1 .1, c .before .before .before .before .before .before .before .before .before .before .before .before .before .pre .0),
     (
       simp length-set (v .1 .1 .0),
       (
         simp length-set (v .1 .1 .1 .0),
         (
           simp length-set (v .1 .1 .1 .1 .0),
-          gone-more (a .s .now) (a .funcs .now) (a .at) (a .p) (a .z .at) (c .before .before .before .before .before .before .before .before .before .smaller .result) (l .froms) (l .ends) (l .blocks) (l .reach) (l .low) (l .a) (l .i) (l .a + 1) (c .before .before .before .before .before .before .skip .result) (c .before .before .before .before .before .highest .result) (c .before .lowest .result) (c .before .before .before .narrow .result) (c .before .before .larger .result) (c .smaller2 .result)
-              (c .before .before .before .before .before .before .before .loop-test .taken) (v .1 .1 .0) (v .1 .1 .1 .0) (v .1 .1 .1 .1 .0) (omega (arith, c .before .before .before .before .before .before .before .before .before .smaller .ensures)) refl (c .before .before .before .before .before .before .skip .ensures .0) (c .before .before .before .before .before .highest .ensures) (c .before .lowest .ensures) (c .before .before .before .narrow .ensures ∙ c .before .before .before .before .grain .ensures .0) (c .before .before .larger .ensures) (c .smaller2 .ensures) (v .1 .1 .1 .1 .1),
+          gone-more (a .s .now) (a .funcs .now) (a .at) (a .p) (a .z .at) (c .before .before .before .before .before .before .before .before .smaller .result) (l .froms) (l .ends) (l .blocks) (l .reach) (l .low) (l .a) (l .i) (l .a + 1) (c .before .before .before .before .before .skip .result) (c .before .before .before .before .variables .result .high) (c .before .before .before .before .variables .result .low) (c .before .before .narrow .result) (c .before .larger .result) (c .smaller2 .result)
+              (c .before .before .before .before .before .before .loop-test .taken) (v .1 .1 .0) (v .1 .1 .1 .0) (v .1 .1 .1 .1 .0) (omega (arith, c .before .before .before .before .before .before .before .before .smaller .ensures)) refl (c .before .before .before .before .before .skip .ensures .0) (λ x y. c .before .before .before .before .variables .ensures x y .0) (λ x y. c .before .before .before .before .variables .ensures x y .1) (c .before .before .narrow .ensures ∙ c .before .before .before .grain .ensures .0) (c .before .larger .ensures) (c .smaller2 .ensures) (v .1 .1 .1 .1 .1),
         ),
       ),
     ),
@@ -120,7 +117,7 @@ conditions-spec =
     loop-holds
     add-b
     skip-requires
-    highest-requires
+    variables-requires
     mul-froms
     array-write-froms
     mul-ends
@@ -130,7 +127,6 @@ conditions-spec =
     mul-blocks
     array-write-blocks
     larger-requires
-    lowest-requires
     smaller-requires-2
     add-i
     loop-less
