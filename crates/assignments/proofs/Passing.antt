@@ -1,5 +1,5 @@
 -- The numbers that pass a test, from j on: a stretch of which none passes is gone over, one of which all pass is counted.
-use mathlib.Core.Path.{_≡_, refl, sym, _∙_, ap, ap₂}
+use mathlib.Core.Path.{_≡_, refl, sym, _∙_, ap, ap₂, subst}
 use mathlib.Core.List.{List, [], _∷_}
 use mathlib.Core.Bool.{Bool, true, false}
 use mathlib.Core.Option.{none, some}
@@ -10,6 +10,8 @@ use lib.Dec.{ltb}
 use lib.ListN.{length, getElem?}
 use borrow.Author.Tests.{ltb-true, ltb-false}
 use Rattle.assignments.specs.Places.{places}
+use Rattle.assignments.specs.Conditions.{Finds}
+use Rattle.assignments.specs.declared.Found.{Found}
 
 module _ (acc : ℕ → Bool) (total : ℕ) where
   hit : (j : ℕ) → j < total → acc j ≡ true → places acc (total - j) j ≡ j ∷ places acc (total - (j + 1)) (j + 1)
@@ -85,3 +87,11 @@ module _ (acc : ℕ → Bool) (total : ℕ) where
   pub going-end : (k j left : ℕ) → total ≤ j → Going k j left → k ≡ left + length (places acc total 0)
   unfolding Going
   going-end k j left h w = let z : length (places acc (total - j) j) ≡ 0 = ap length (passed-end j h) in omega (arith, w .1)
+
+-- what is answered, by the parts of the answer
+module _ (l : List ℕ) (k : ℕ) (r : Found) where
+  pub finds-at : (at : ℕ) → (r .found ≡ true) × ((r .at ≡ at) × (r .left ≡ 0)) → ((x : ℕ) → Finds l k true at x) → Finds l k (r .found) (r .at) (r .left)
+  finds-at at e h = subst (λ (b : Bool). Finds l k b (r .at) (r .left)) (sym (e .0)) (subst (λ (y : ℕ). Finds l k true y (r .left)) (sym (e .1 .0)) (h (r .left)))
+
+  pub finds-none : (left : ℕ) → (r .found ≡ false) × ((r .at ≡ 0) × (r .left ≡ left)) → ((x : ℕ) → Finds l k false x left) → Finds l k (r .found) (r .at) (r .left)
+  finds-none left e h = subst (λ (b : Bool). Finds l k b (r .at) (r .left)) (sym (e .0)) (subst (λ (y : ℕ). Finds l k false (r .at) y) (sym (e .1 .1)) (h (r .at)))

@@ -1,5 +1,6 @@
 // The search with one part of the conditions: blocks of assignments are passed or counted as wholes, and rounds of them.
 ghost use mathlib.Core.Path.{_≡_};
+ghost use mathlib.Core.Bool.{true, false};
 ghost use Prim.Native.Nat.{ℕ, _+_, _-_, _/_, _≤_, _<_};
 ghost use lib.ListN.{length, getD, drop};
 ghost use Rattle.pcrl.specs.Limits.{frame-width, max-conditions, max-nodes};
@@ -61,13 +62,35 @@ fn test(
     out
 }
 
+// The assignment that was looked for.
+pub fn found_at(at: usize) -> Found
+    ensures { λ r. ⌜ (r .found ≡ true) × ((r .at ≡ at) × (r .left ≡ 0)) ⌝ }
+{
+    Found {
+        found: true,
+        at: at,
+        left: 0,
+    }
+}
+
+// There are fewer: so much of k is left.
+pub fn none_found(left: u64) -> Found
+    ensures { λ r. ⌜ (r .found ≡ false) × ((r .at ≡ 0) × (r .left ≡ left)) ⌝ }
+{
+    Found {
+        found: false,
+        at: 0,
+        left: left,
+    }
+}
+
 // The k-th of the assignments below `total` that meet the conditions asked, or how much of k is left; what they say changes only between blocks of g.
 pub fn find_in(
     s: &[u8],
     funcs: &[u16],
     params: Eight,
     p: usize,
-    sizes: Four,
+    z: Four,
     froms: &[usize; 8],
     ends: &[usize; 8],
     blocks: &[u32; 8],
@@ -76,24 +99,20 @@ pub fn find_in(
     total: usize,
     k: u64,
 ) -> Found
-    requires { ⌜ (p ≤ frame-width) × (((i : ℕ) → p ≤ i → getD (params .at) i 0 ≡ 0) × ((n ≤ max-conditions) × (Sizes (sizes .at) × ((total ≤ 65536) × ((0 < g) × (g ≤ 65536)))))) ⌝ }
-    ensures { λ r. ⌜ (r .at ≤ 65536) × ((r .left ≤ k) × ((l : ℕ) → g ≡ product (drop l (sizes .at)) → ((i : ℕ) → i < n → Part (now (s .entry)) p (sizes .at) (now (froms .entry)) (now (ends .entry)) (now (blocks .entry)) g i) → Finds (places (λ j. part-met (now (s .entry)) (now (funcs .entry)) (now (froms .entry)) (now (ends .entry)) (now (blocks .entry)) n (env p (params .at) (valuesOf (sizes .at) j))) total 0) k (r .found) (r .at) (r .left))) ⌝ }
+    requires { ⌜ (p ≤ frame-width) × (((i : ℕ) → p ≤ i → getD (params .at) i 0 ≡ 0) × ((n ≤ max-conditions) × (Sizes (z .at) × ((total ≤ 65536) × ((0 < g) × (g ≤ 65536)))))) ⌝ }
+    ensures { λ r. ⌜ (r .at ≤ 65536) × ((r .left ≤ k) × ((l : ℕ) → g ≡ product (drop l (z .at)) → ((i : ℕ) → i < n → Part (now (s .entry)) p (z .at) (now (froms .entry)) (now (ends .entry)) (now (blocks .entry)) g i) → Finds (places (λ j. part-met (now (s .entry)) (now (funcs .entry)) (now (froms .entry)) (now (ends .entry)) (now (blocks .entry)) n (env p (params .at) (valuesOf (z .at) j))) total 0) k (r .found) (r .at) (r .left))) ⌝ }
 {
     let mut j: usize = 0;
     let mut left = k;
     while j < total {
-        let e = environment(params, p, values(sizes, j));
+        let e = environment(params, p, values(z, j));
         let a = e.at;
         let d = test(s, funcs, &a, froms, ends, blocks, n);
         if d == 0 {
             let r = evaluation::smaller(next(j, g), total);
             let m = (r - j) as u64;
             if left < m {
-                return Found {
-                    found: true,
-                    at: j + (left as usize),
-                    left: 0,
-                };
+                return found_at(j + (left as usize));
             }
             left -= m;
             j = r;
@@ -101,11 +120,7 @@ pub fn find_in(
             j = next(j, wide_block(d));
         }
     }
-    Found {
-        found: false,
-        at: 0,
-        left: left,
-    }
+    none_found(left)
 }
 
 // The k-th of all assignments that meet the conditions asked, or how much of k is left: they say the same again after each round.
@@ -114,7 +129,7 @@ pub fn find_rounds(
     funcs: &[u16],
     params: Eight,
     p: usize,
-    sizes: Four,
+    z: Four,
     froms: &[usize; 8],
     ends: &[usize; 8],
     blocks: &[u32; 8],
@@ -123,24 +138,11 @@ pub fn find_rounds(
     round: usize,
     k: u64,
 ) -> Found
-    requires { ⌜ (p ≤ frame-width) × (((i : ℕ) → p ≤ i → getD (params .at) i 0 ≡ 0) × ((n ≤ max-conditions) × (Sizes (sizes .at) × ((round ≤ 65536) × ((0 < round) × ((0 < g) × (g ≤ 65536))))))) ⌝ }
-    ensures { λ r. ⌜ (r .at ≤ 131072) × ((r .left ≤ k) × ((l low : ℕ) → g ≡ product (drop l (sizes .at)) → round ≡ product (drop (low - p) (sizes .at)) → ((i : ℕ) → i < n → Part (now (s .entry)) p (sizes .at) (now (froms .entry)) (now (ends .entry)) (now (blocks .entry)) g i) → Above (now (s .entry)) p (now (froms .entry)) (now (ends .entry)) (now (blocks .entry)) n low → Finds (places (λ j. part-met (now (s .entry)) (now (funcs .entry)) (now (froms .entry)) (now (ends .entry)) (now (blocks .entry)) n (env p (params .at) (valuesOf (sizes .at) j))) (product (sizes .at)) 0) k (r .found) (r .at) (r .left))) ⌝ }
+    requires { ⌜ (p ≤ frame-width) × (((i : ℕ) → p ≤ i → getD (params .at) i 0 ≡ 0) × ((n ≤ max-conditions) × (Sizes (z .at) × ((round ≤ 65536) × ((0 < round) × ((0 < g) × (g ≤ 65536))))))) ⌝ }
+    ensures { λ r. ⌜ (r .at ≤ 131072) × ((r .left ≤ k) × ((l low : ℕ) → g ≡ product (drop l (z .at)) → round ≡ product (drop (low - p) (z .at)) → ((i : ℕ) → i < n → Part (now (s .entry)) p (z .at) (now (froms .entry)) (now (ends .entry)) (now (blocks .entry)) g i) → Above (now (s .entry)) p (now (froms .entry)) (now (ends .entry)) (now (blocks .entry)) n low → Finds (places (λ j. part-met (now (s .entry)) (now (funcs .entry)) (now (froms .entry)) (now (ends .entry)) (now (blocks .entry)) n (env p (params .at) (valuesOf (z .at) j))) (product (z .at)) 0) k (r .found) (r .at) (r .left))) ⌝ }
 {
-    let total = block_size(sizes, 0);
-    let r = find_in(
-        s,
-        funcs,
-        params,
-        p,
-        sizes,
-        froms,
-        ends,
-        blocks,
-        n,
-        g,
-        round,
-        k,
-    );
+    let total = block_size(z, 0);
+    let r = find_in(s, funcs, params, p, z, froms, ends, blocks, n, g, round, k);
     if r.found {
         return r;
     }
@@ -154,29 +156,9 @@ pub fn find_rounds(
     let q = k / m;
     let rounds = (total / round) as u64;
     if rounds <= q {
-        return Found {
-            found: false,
-            at: 0,
-            left: k - m * rounds,
-        };
+        return none_found(k - m * rounds);
     }
-    let f = find_in(
-        s,
-        funcs,
-        params,
-        p,
-        sizes,
-        froms,
-        ends,
-        blocks,
-        n,
-        g,
-        round,
-        k % m,
-    );
-    Found {
-        found: true,
-        at: (q as usize) * round + f.at,
-        left: 0,
-    }
+    let i = k % m;
+    let f = find_in(s, funcs, params, p, z, froms, ends, blocks, n, g, round, i);
+    found_at((q as usize) * round + f.at)
 }

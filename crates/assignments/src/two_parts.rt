@@ -17,6 +17,8 @@ use crate::block_size;
 use crate::grain;
 use crate::one_part::find_in;
 use crate::one_part::find_rounds;
+use crate::one_part::found_at;
+use crate::one_part::none_found;
 use crate::wide_block;
 
 // The lowest sum variable that a condition names, 8 if none.
@@ -143,7 +145,7 @@ pub fn find_parted(
     funcs: &[u16],
     params: Eight,
     p: usize,
-    sizes: Four,
+    z: Four,
     froms: &[usize; 8],
     ends: &[usize; 8],
     n: usize,
@@ -152,74 +154,25 @@ pub fn find_parted(
     round: usize,
     k: u64,
 ) -> Found
-    requires { ⌜ (p ≤ frame-width) × (((i : ℕ) → p ≤ i → getD (params .at) i 0 ≡ 0) × ((n ≤ max-conditions) × (Sizes (sizes .at) × ((round ≤ 65536) × ((0 < round) × ((0 < g) × ((g ≤ 65536) × ((0 < t .grain) × (t .grain ≤ 65536))))))))) ⌝ }
-    ensures { λ r. ⌜ ((blocks : List ℕ) (reach low : ℕ) → g ≡ product (drop (reach - p) (sizes .at)) → round ≡ product (drop (low - p) (sizes .at)) → ((i : ℕ) → i < n → Ready (now (s .entry)) p (sizes .at) (now (froms .entry)) (now (ends .entry)) blocks reach low i) → Apart (now (s .entry)) p (sizes .at) (now (froms .entry)) (now (ends .entry)) blocks n t → Finds (places (λ j. met (now (s .entry)) (now (funcs .entry)) (now (froms .entry)) (now (ends .entry)) n (env p (params .at) (valuesOf (sizes .at) j))) (product (sizes .at)) 0) k (r .found) (r .at) (r .left)) ⌝ }
+    requires { ⌜ (p ≤ frame-width) × (((i : ℕ) → p ≤ i → getD (params .at) i 0 ≡ 0) × ((n ≤ max-conditions) × (Sizes (z .at) × ((round ≤ 65536) × ((0 < round) × ((0 < g) × ((g ≤ 65536) × ((0 < t .grain) × (t .grain ≤ 65536))))))))) ⌝ }
+    ensures { λ r. ⌜ ((blocks : List ℕ) (reach low : ℕ) → g ≡ product (drop (reach - p) (z .at)) → round ≡ product (drop (low - p) (z .at)) → ((i : ℕ) → i < n → Ready (now (s .entry)) p (z .at) (now (froms .entry)) (now (ends .entry)) blocks reach low i) → Apart (now (s .entry)) p (z .at) (now (froms .entry)) (now (ends .entry)) blocks n t → Finds (places (λ j. met (now (s .entry)) (now (funcs .entry)) (now (froms .entry)) (now (ends .entry)) n (env p (params .at) (valuesOf (z .at) j))) (product (z .at)) 0) k (r .found) (r .at) (r .left)) ⌝ }
 {
     let early = t.early;
     let late = t.late;
-    let b = grain(sizes, t.low, p);
-    let total = block_size(sizes, 0);
-    let r = find_in(
-        s,
-        funcs,
-        params,
-        p,
-        sizes,
-        froms,
-        ends,
-        &late,
-        n,
-        g,
-        b,
-        b as u64,
-    );
-    let m = (b as u64) - r.left;
+    let d = t.grain;
+    let b = grain(z, t.low, p);
+    let w = b as u64;
+    let total = block_size(z, 0);
+    let r = find_in(s, funcs, params, p, z, froms, ends, &late, n, g, b, w);
+    let m = w - r.left;
     if m == 0 {
-        return Found {
-            found: false,
-            at: 0,
-            left: k,
-        };
+        return none_found(k);
     }
-    let q = bounded(k / m, total) * (b as u64);
-    let e = find_rounds(
-        s,
-        funcs,
-        params,
-        p,
-        sizes,
-        froms,
-        ends,
-        &early,
-        n,
-        t.grain,
-        round,
-        q,
-    );
+    let q = bounded(k / m, total) * w;
+    let e = find_rounds(s, funcs, params, p, z, froms, ends, &early, n, d, round, q);
     if e.found {
-        let f = find_in(
-            s,
-            funcs,
-            params,
-            p,
-            sizes,
-            froms,
-            ends,
-            &late,
-            n,
-            g,
-            b,
-            k % m,
-        );
-        return Found {
-            found: true,
-            at: e.at + f.at,
-            left: 0,
-        };
+        let f = find_in(s, funcs, params, p, z, froms, ends, &late, n, g, b, k % m);
+        return found_at(e.at + f.at);
     }
-    Found {
-        found: false,
-        at: 0,
-        left: k - (q - e.left) / (b as u64) * m,
-    }
+    none_found(k - (q - e.left) / w * m)
 }

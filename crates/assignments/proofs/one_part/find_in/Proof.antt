@@ -7,11 +7,11 @@ use mathlib.Core.List.{List}
 use mathlib.Core.Bool.{Bool, true, false}
 use lib.ListN.{length, drop, getD}
 use Rattle.evaluation.specs.Known.{Alike}
-use Rattle.assignments.specs.Places.{product, valuesOf}
+use Rattle.assignments.specs.Places.{product, valuesOf, places}
 use Rattle.assignments.specs.Conditions.{env, Finds}
 use Rattle.assignments.specs.Parting.{part-met, Part}
 use Rattle.assignments.proofs.Counter.{four-length, eight-length}
-use Rattle.assignments.proofs.Passing.{Going, going-start, going-skip, going-on, going-found, going-end}
+use Rattle.assignments.proofs.Passing.{Going, going-start, going-skip, going-on, going-found, going-end, finds-at, finds-none}
 use Rattle.assignments.proofs.Blocks.{blocked, accepted}
 use Rattle.assignments.proofs.one_part.find_in.Statement.{statement}
 use Rattle.assignments.proofs.one_part.find_in.Tie as tie
@@ -46,26 +46,29 @@ smaller-requires c κs = search needs
 sub-m : tie.Need-sub-m Inv-loop μ-loop
 sub-m c = omega (arith, c .smaller .ensures, c .before .next .ensures .0)
 
-add-t27 : tie.Need-add-t27 Inv-loop μ-loop
-add-t27 c = omega (arith, c .before .smaller .ensures, c .before .before .before .before .before .before .before .before .before .before .before .before .before .pre .1 .1 .1 .1 .0)
+add-found-at : tie.Need-add-found-at Inv-loop μ-loop
+add-found-at c = omega (arith, c .before .smaller .ensures, c .before .before .before .before .before .before .before .before .before .before .before .before .before .pre .1 .1 .1 .1 .0)
+
+found-at-requires : tie.Need-found-at-requires Inv-loop μ-loop
+found-at-requires c κs = search needs
 
 returns : tie.Need-returns Inv-loop μ-loop
 unfolding Finds
 returns c = (
-  omega (arith, c .before .smaller .ensures, c .before .before .before .before .before .before .before .before .before .before .before .before .before .pre .1 .1 .1 .1 .0),
+  omega (arith, c .found-at .ensures .1 .0, c .before .before .smaller .ensures, c .before .before .before .before .before .before .before .before .before .before .before .before .before .before .pre .1 .1 .1 .1 .0),
   (
-    omega arith,
-    λ lv e part. let a = c .before .before .before .before .before .before .before .before .before .before .before .before .before .args in let l = c .before .before .before .before .before .before .before .before .before .before .loop in let s = a .s .now in let fs = a .funcs .now in
-        let acc : ℕ → Bool = λ i. part-met s fs (a .froms .now) (a .ends .now) (a .blocks .now) (a .n) (env (a .p) (a .params .at) (valuesOf (a .sizes .at) i)) in
-        let len = four-length (a .sizes) _ (c .before .before .before .before .before .before .before .before .before .before .before .before .before .good .1 .1 .1 .1 .0) in
-        let positive : (i : ℕ) → i < length (a .sizes .at) → 0 < getD (a .sizes .at) i 0 = λ i h. c .before .before .before .before .before .before .before .before .before .before .before .before .before .pre .1 .1 .1 .0 i (omega arith) .0 in
-        let few : a .p ≤ length (a .params .at) = let w = eight-length (a .params) _ (c .before .before .before .before .before .before .before .before .before .before .before .before .before .good .1 .1 .0) in omega (arith, c .before .before .before .before .before .before .before .before .before .before .before .before .before .pre .0) in
-        let alike : Alike (c .before .before .before .before .before .before .before .environment .result .at) (env (a .p) (a .params .at) (valuesOf (a .sizes .at) (l .j))) = λ v. c .before .before .before .before .before .before .before .environment .ensures v ∙ ap (λ (w : List ℕ). getD (env (a .p) (a .params .at) w) v 0) (c .before .before .before .before .before .before .before .before .values .ensures) in
-        let taken : (i : ℕ) → l .j ≤ i → i < c .before .smaller .result → acc i ≡ true = λ i u v.
-        let tested = c .before .before .before .before .test .ensures (λ i k. part i k .standing) in
-        let same : i / a .g ≡ l .j / a .g = c .before .before .next .ensures .1 i u (omega (arith, c .before .smaller .ensures)) in
-        accepted s fs (a .froms .now) (a .ends .now) (a .blocks .now) (a .n) (a .p) (a .g) (a .sizes .at) (a .params .at) few positive part lv e (c .before .before .before .before .before .before .before .environment .result .at) (l .j) alike (c .before .before .before .before .test .result) tested (c .before .before .before .if1 .taken) i same in
-        going-found acc (a .total) (a .k) (l .j) (l .left) (c .before .smaller .result) (l .j + l .left) (omega (arith, c .before .before .next .ensures .0, c .before .smaller .ensures)) (omega (arith, c .before .smaller .ensures)) taken (c .if2 .taken) refl (l .inv .1 lv e part),
+    omega (arith, c .found-at .ensures .1 .1),
+    λ lv e part. let a = c .before .before .before .before .before .before .before .before .before .before .before .before .before .before .args in let l = c .before .before .before .before .before .before .before .before .before .before .before .loop in let s = a .s .now in let fs = a .funcs .now in
+        let acc : ℕ → Bool = λ i. part-met s fs (a .froms .now) (a .ends .now) (a .blocks .now) (a .n) (env (a .p) (a .params .at) (valuesOf (a .z .at) i)) in
+        let len = four-length (a .z) _ (c .before .before .before .before .before .before .before .before .before .before .before .before .before .before .good .1 .1 .1 .1 .0) in
+        let positive : (i : ℕ) → i < length (a .z .at) → 0 < getD (a .z .at) i 0 = λ i h. c .before .before .before .before .before .before .before .before .before .before .before .before .before .before .pre .1 .1 .1 .0 i (omega arith) .0 in
+        let few : a .p ≤ length (a .params .at) = let w = eight-length (a .params) _ (c .before .before .before .before .before .before .before .before .before .before .before .before .before .before .good .1 .1 .0) in omega (arith, c .before .before .before .before .before .before .before .before .before .before .before .before .before .before .pre .0) in
+        let alike : Alike (c .before .before .before .before .before .before .before .before .environment .result .at) (env (a .p) (a .params .at) (valuesOf (a .z .at) (l .j))) = λ v. c .before .before .before .before .before .before .before .before .environment .ensures v ∙ ap (λ (w : List ℕ). getD (env (a .p) (a .params .at) w) v 0) (c .before .before .before .before .before .before .before .before .before .values .ensures) in
+        let taken : (i : ℕ) → l .j ≤ i → i < c .before .before .smaller .result → acc i ≡ true = λ i u v.
+        let tested = c .before .before .before .before .before .test .ensures (λ i k. part i k .standing) in
+        let same : i / a .g ≡ l .j / a .g = c .before .before .before .next .ensures .1 i u (omega (arith, c .before .before .smaller .ensures)) in
+        accepted s fs (a .froms .now) (a .ends .now) (a .blocks .now) (a .n) (a .p) (a .g) (a .z .at) (a .params .at) few positive part lv e (c .before .before .before .before .before .before .before .before .environment .result .at) (l .j) alike (c .before .before .before .before .before .test .result) tested (c .before .before .before .before .if1 .taken) i same in
+        finds-at (places acc (a .total) 0) (a .k) (c .found-at .result) (l .j + l .left) (c .found-at .ensures) (λ x. going-found acc (a .total) (a .k) (l .j) (l .left) (c .before .before .smaller .result) (l .j + l .left) (omega (arith, c .before .before .before .next .ensures .0, c .before .before .smaller .ensures)) (omega (arith, c .before .before .smaller .ensures)) taken (c .before .if2 .taken) refl (l .inv .1 lv e part)),
   ),
 )
 
@@ -76,15 +79,15 @@ loop-again : tie.Need-loop-again Inv-loop μ-loop
 loop-again c = (
   omega arith,
   λ lv e part. let a = c .before .before .before .before .before .before .before .before .before .before .before .before .before .args in let l = c .before .before .before .before .before .before .before .before .before .before .loop in let s = a .s .now in let fs = a .funcs .now in
-      let acc : ℕ → Bool = λ i. part-met s fs (a .froms .now) (a .ends .now) (a .blocks .now) (a .n) (env (a .p) (a .params .at) (valuesOf (a .sizes .at) i)) in
-      let len = four-length (a .sizes) _ (c .before .before .before .before .before .before .before .before .before .before .before .before .before .good .1 .1 .1 .1 .0) in
-      let positive : (i : ℕ) → i < length (a .sizes .at) → 0 < getD (a .sizes .at) i 0 = λ i h. c .before .before .before .before .before .before .before .before .before .before .before .before .before .pre .1 .1 .1 .0 i (omega arith) .0 in
+      let acc : ℕ → Bool = λ i. part-met s fs (a .froms .now) (a .ends .now) (a .blocks .now) (a .n) (env (a .p) (a .params .at) (valuesOf (a .z .at) i)) in
+      let len = four-length (a .z) _ (c .before .before .before .before .before .before .before .before .before .before .before .before .before .good .1 .1 .1 .1 .0) in
+      let positive : (i : ℕ) → i < length (a .z .at) → 0 < getD (a .z .at) i 0 = λ i h. c .before .before .before .before .before .before .before .before .before .before .before .before .before .pre .1 .1 .1 .0 i (omega arith) .0 in
       let few : a .p ≤ length (a .params .at) = let w = eight-length (a .params) _ (c .before .before .before .before .before .before .before .before .before .before .before .before .before .good .1 .1 .0) in omega (arith, c .before .before .before .before .before .before .before .before .before .before .before .before .before .pre .0) in
-      let alike : Alike (c .before .before .before .before .before .before .before .environment .result .at) (env (a .p) (a .params .at) (valuesOf (a .sizes .at) (l .j))) = λ v. c .before .before .before .before .before .before .before .environment .ensures v ∙ ap (λ (w : List ℕ). getD (env (a .p) (a .params .at) w) v 0) (c .before .before .before .before .before .before .before .before .values .ensures) in
+      let alike : Alike (c .before .before .before .before .before .before .before .environment .result .at) (env (a .p) (a .params .at) (valuesOf (a .z .at) (l .j))) = λ v. c .before .before .before .before .before .before .before .environment .ensures v ∙ ap (λ (w : List ℕ). getD (env (a .p) (a .params .at) w) v 0) (c .before .before .before .before .before .before .before .before .values .ensures) in
       let taken : (i : ℕ) → l .j ≤ i → i < c .before .smaller .result → acc i ≡ true = λ i u v.
       let tested = c .before .before .before .before .test .ensures (λ i k. part i k .standing) in
       let same : i / a .g ≡ l .j / a .g = c .before .before .next .ensures .1 i u (omega (arith, c .before .smaller .ensures)) in
-      accepted s fs (a .froms .now) (a .ends .now) (a .blocks .now) (a .n) (a .p) (a .g) (a .sizes .at) (a .params .at) few positive part lv e (c .before .before .before .before .before .before .before .environment .result .at) (l .j) alike (c .before .before .before .before .test .result) tested (c .before .before .before .if1 .taken) i same in
+      accepted s fs (a .froms .now) (a .ends .now) (a .blocks .now) (a .n) (a .p) (a .g) (a .z .at) (a .params .at) few positive part lv e (c .before .before .before .before .before .before .before .environment .result .at) (l .j) alike (c .before .before .before .before .test .result) tested (c .before .before .before .if1 .taken) i same in
       going-on acc (a .total) (a .k) (l .j) (l .left) (c .before .smaller .result) (l .left - (c .before .smaller .result - l .j)) (omega (arith, c .before .before .next .ensures .0, c .before .smaller .ensures)) (omega (arith, c .before .smaller .ensures)) taken (omega (arith, c .if2 .left)) refl (l .inv .1 lv e part),
 )
 
@@ -101,27 +104,30 @@ loop-again-2 : tie.Need-loop-again-2 Inv-loop μ-loop
 loop-again-2 c = (
   omega arith,
   λ lv e part. let a = c .before .before .before .before .before .before .before .before .before .before .before .before .args in let l = c .before .before .before .before .before .before .before .before .before .loop in let s = a .s .now in let fs = a .funcs .now in
-      let acc : ℕ → Bool = λ i. part-met s fs (a .froms .now) (a .ends .now) (a .blocks .now) (a .n) (env (a .p) (a .params .at) (valuesOf (a .sizes .at) i)) in
-      let len = four-length (a .sizes) _ (c .before .before .before .before .before .before .before .before .before .before .before .before .good .1 .1 .1 .1 .0) in
-      let positive : (i : ℕ) → i < length (a .sizes .at) → 0 < getD (a .sizes .at) i 0 = λ i h. c .before .before .before .before .before .before .before .before .before .before .before .before .pre .1 .1 .1 .0 i (omega arith) .0 in
+      let acc : ℕ → Bool = λ i. part-met s fs (a .froms .now) (a .ends .now) (a .blocks .now) (a .n) (env (a .p) (a .params .at) (valuesOf (a .z .at) i)) in
+      let len = four-length (a .z) _ (c .before .before .before .before .before .before .before .before .before .before .before .before .good .1 .1 .1 .1 .0) in
+      let positive : (i : ℕ) → i < length (a .z .at) → 0 < getD (a .z .at) i 0 = λ i h. c .before .before .before .before .before .before .before .before .before .before .before .before .pre .1 .1 .1 .0 i (omega arith) .0 in
       let few : a .p ≤ length (a .params .at) = let w = eight-length (a .params) _ (c .before .before .before .before .before .before .before .before .before .before .before .before .good .1 .1 .0) in omega (arith, c .before .before .before .before .before .before .before .before .before .before .before .before .pre .0) in
-      let alike : Alike (c .before .before .before .before .before .before .environment .result .at) (env (a .p) (a .params .at) (valuesOf (a .sizes .at) (l .j))) = λ v. c .before .before .before .before .before .before .environment .ensures v ∙ ap (λ (w : List ℕ). getD (env (a .p) (a .params .at) w) v 0) (c .before .before .before .before .before .before .before .values .ensures) in
+      let alike : Alike (c .before .before .before .before .before .before .environment .result .at) (env (a .p) (a .params .at) (valuesOf (a .z .at) (l .j))) = λ v. c .before .before .before .before .before .before .environment .ensures v ∙ ap (λ (w : List ℕ). getD (env (a .p) (a .params .at) w) v 0) (c .before .before .before .before .before .before .before .values .ensures) in
       let none : (i : ℕ) → l .j ≤ i → i < c .next2 .result → acc i ≡ false = λ i u v.
       let tested = c .before .before .before .test .ensures (λ i k. part i k .standing) in
       let same : i / c .before .before .before .test .result ≡ l .j / c .before .before .before .test .result = ap (λ (x : ℕ). i / x) (sym (c .before .wide-block .ensures .0)) ∙ c .next2 .ensures .1 i u v ∙ ap (λ (x : ℕ). l .j / x) (c .before .wide-block .ensures .0) in
-      blocked s fs (a .froms .now) (a .ends .now) (a .blocks .now) (a .n) (a .p) (a .g) (a .sizes .at) (a .params .at) few positive part (c .before .before .before .before .before .before .environment .result .at) (l .j) alike (c .before .before .before .test .result) tested (omega (arith, c .before .before .if1 .left)) i same in
+      blocked s fs (a .froms .now) (a .ends .now) (a .blocks .now) (a .n) (a .p) (a .g) (a .z .at) (a .params .at) few positive part (c .before .before .before .before .before .before .environment .result .at) (l .j) alike (c .before .before .before .test .result) tested (omega (arith, c .before .before .if1 .left)) i same in
       going-skip acc (a .total) (a .k) (l .j) (l .left) (c .next2 .result) (omega (arith, c .next2 .ensures .0)) none (l .inv .1 lv e part),
 )
+
+none-found-requires : tie.Need-none-found-requires Inv-loop μ-loop
+none-found-requires c κs = search needs
 
 returns-2 : tie.Need-returns-2 Inv-loop μ-loop
 unfolding Finds
 returns-2 c = (
-  omega arith,
+  omega (arith, c .none-found .ensures .1 .0),
   (
-    c .before .loop .inv .0,
-    λ lv e part. let a = c .before .before .before .before .args in let l = c .before .loop in let s = a .s .now in let fs = a .funcs .now in
-        let acc : ℕ → Bool = λ i. part-met s fs (a .froms .now) (a .ends .now) (a .blocks .now) (a .n) (env (a .p) (a .params .at) (valuesOf (a .sizes .at) i)) in
-        going-end acc (a .total) (a .k) (l .j) (l .left) (c .loop-test .left) (l .inv .1 lv e part),
+    omega (arith, c .none-found .ensures .1 .1, c .before .before .loop .inv .0),
+    λ lv e part. let a = c .before .before .before .before .before .args in let l = c .before .before .loop in let s = a .s .now in let fs = a .funcs .now in
+        let acc : ℕ → Bool = λ i. part-met s fs (a .froms .now) (a .ends .now) (a .blocks .now) (a .n) (env (a .p) (a .params .at) (valuesOf (a .z .at) i)) in
+        finds-none (places acc (a .total) 0) (a .k) (c .none-found .result) (l .left) (c .none-found .ensures) (λ x. going-end acc (a .total) (a .k) (l .j) (l .left) (c .before .loop-test .left) (l .inv .1 lv e part)),
   ),
 )
 
@@ -139,7 +145,8 @@ find-in-spec =
     next-requires
     smaller-requires
     sub-m
-    add-t27
+    add-found-at
+    found-at-requires
     returns
     loop-less
     loop-again
@@ -147,4 +154,5 @@ find-in-spec =
     next-requires-2
     loop-less-2
     loop-again-2
+    none-found-requires
     returns-2)

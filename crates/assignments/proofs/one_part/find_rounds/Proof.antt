@@ -6,6 +6,7 @@ use mathlib.Core.Path.{_≡_, refl, _∙_, ap}
 use lib.ListN.{length, getD}
 use Rattle.assignments.proofs.Counter.{four-length, eight-length}
 use native.Mathlib.Nat.{mul-le-mul-left, mul-le-mul-right, mul-div-le, div-mul-le-self}
+use Rattle.assignments.proofs.Passing.{finds-at, finds-none}
 use Rattle.assignments.proofs.Periods.{search-whole, search-first, search-none, search-past, search-later}
 use Rattle.assignments.proofs.one_part.find_rounds.Statement.{statement}
 use Rattle.assignments.proofs.one_part.find_rounds.Tie as tie
@@ -14,17 +15,17 @@ block-size-requires : tie.Need-block-size-requires
 block-size-requires c κs = search needs
 
 find-in-requires : tie.Need-find-in-requires
-find-in-requires c κs = (c .before .before .before .pre .0, (c .before .before .before .pre .1 .0, (c .before .before .before .pre .1 .1 .0, (c .before .before .before .pre .1 .1 .1 .0, (c .before .before .before .pre .1 .1 .1 .1 .0, (c .before .before .before .pre .1 .1 .1 .1 .1 .1 .0, c .before .before .before .pre .1 .1 .1 .1 .1 .1 .1))))))
+find-in-requires c κs = search needs
 
 returns : tie.Need-returns
 returns c = (
   omega (arith, c .before .find-in .ensures .0),
   (
     c .before .find-in .ensures .1 .0,
-    λ l low e z part above. let a = c .before .before .before .before .before .args in let len = four-length (a .sizes) _ (c .before .before .before .before .before .good .1 .1 .1 .1 .0) in
-        let positive : (i : ℕ) → i < length (a .sizes .at) → 0 < getD (a .sizes .at) i 0 = λ i h. c .before .before .before .before .before .pre .1 .1 .1 .0 i (omega arith) .0 in
+    λ l low e z part above. let a = c .before .before .before .before .before .args in let len = four-length (a .z) _ (c .before .before .before .before .before .good .1 .1 .1 .1 .0) in
+        let positive : (i : ℕ) → i < length (a .z .at) → 0 < getD (a .z .at) i 0 = λ i h. c .before .before .before .before .before .pre .1 .1 .1 .0 i (omega arith) .0 in
         let few : a .p ≤ length (a .params .at) = let w = eight-length (a .params) _ (c .before .before .before .before .before .good .1 .1 .0) in omega (arith, c .before .before .before .before .before .pre .0) in
-        search-first (a .s .now) (a .funcs .now) (a .froms .now) (a .ends .now) (a .blocks .now) (a .n) (a .p) low (a .sizes .at) (a .params .at) few positive above (a .round) z (a .k) (c .before .find-in .result .found) (c .before .find-in .result .at) (c .before .find-in .result .left) (c .before .find-in .ensures .1 .1 l e part) (c .if1 .taken),
+        search-first (a .s .now) (a .funcs .now) (a .froms .now) (a .ends .now) (a .blocks .now) (a .n) (a .p) low (a .z .at) (a .params .at) few positive above (a .round) z (a .k) (c .before .find-in .result .found) (c .before .find-in .result .at) (c .before .find-in .result .left) (c .before .find-in .ensures .1 .1 l e part) (c .if1 .taken),
   ),
 )
 
@@ -36,10 +37,10 @@ returns-2 c = (
   omega (arith, c .before .before .before .find-in .ensures .0),
   (
     c .before .before .before .find-in .ensures .1 .0,
-    λ l low e z part above. let a = c .before .before .before .before .before .before .before .args in let len = four-length (a .sizes) _ (c .before .before .before .before .before .before .before .good .1 .1 .1 .1 .0) in
-        let positive : (i : ℕ) → i < length (a .sizes .at) → 0 < getD (a .sizes .at) i 0 = λ i h. c .before .before .before .before .before .before .before .pre .1 .1 .1 .0 i (omega arith) .0 in
+    λ l low e z part above. let a = c .before .before .before .before .before .before .before .args in let len = four-length (a .z) _ (c .before .before .before .before .before .before .before .good .1 .1 .1 .1 .0) in
+        let positive : (i : ℕ) → i < length (a .z .at) → 0 < getD (a .z .at) i 0 = λ i h. c .before .before .before .before .before .before .before .pre .1 .1 .1 .0 i (omega arith) .0 in
         let few : a .p ≤ length (a .params .at) = let w = eight-length (a .params) _ (c .before .before .before .before .before .before .before .good .1 .1 .0) in omega (arith, c .before .before .before .before .before .before .before .pre .0) in
-        search-none (a .s .now) (a .funcs .now) (a .froms .now) (a .ends .now) (a .blocks .now) (a .n) (a .p) low (a .sizes .at) (a .params .at) few positive above (a .round) z (a .k) (c .before .before .before .find-in .result .found) (c .before .before .before .find-in .result .at) (c .before .before .before .find-in .result .left) (c .before .before .before .find-in .ensures .1 .1 l e part) (c .before .before .if1 .left) (c .before .before .before .before .before .before .before .args .k - c .before .before .before .find-in .result .left) refl (omega arith),
+        search-none (a .s .now) (a .funcs .now) (a .froms .now) (a .ends .now) (a .blocks .now) (a .n) (a .p) low (a .z .at) (a .params .at) few positive above (a .round) z (a .k) (c .before .before .before .find-in .result .found) (c .before .before .before .find-in .result .at) (c .before .before .before .find-in .result .left) (c .before .before .before .find-in .ensures .1 .1 l e part) (c .before .before .if1 .left) (c .before .before .before .before .before .before .before .args .k - c .before .before .before .find-in .result .left) refl (omega arith),
   ),
 )
 
@@ -48,10 +49,10 @@ returns-3 c = (
   omega (arith, c .before .before .before .before .find-in .ensures .0),
   (
     c .before .before .before .before .find-in .ensures .1 .0,
-    λ l low e z part above. let a = c .before .before .before .before .before .before .before .before .args in let len = four-length (a .sizes) _ (c .before .before .before .before .before .before .before .before .good .1 .1 .1 .1 .0) in
-        let positive : (i : ℕ) → i < length (a .sizes .at) → 0 < getD (a .sizes .at) i 0 = λ i h. c .before .before .before .before .before .before .before .before .pre .1 .1 .1 .0 i (omega arith) .0 in
+    λ l low e z part above. let a = c .before .before .before .before .before .before .before .before .args in let len = four-length (a .z) _ (c .before .before .before .before .before .before .before .before .good .1 .1 .1 .1 .0) in
+        let positive : (i : ℕ) → i < length (a .z .at) → 0 < getD (a .z .at) i 0 = λ i h. c .before .before .before .before .before .before .before .before .pre .1 .1 .1 .0 i (omega arith) .0 in
         let few : a .p ≤ length (a .params .at) = let w = eight-length (a .params) _ (c .before .before .before .before .before .before .before .before .good .1 .1 .0) in omega (arith, c .before .before .before .before .before .before .before .before .pre .0) in
-        search-whole (a .s .now) (a .funcs .now) (a .froms .now) (a .ends .now) (a .blocks .now) (a .n) (a .p) low (a .sizes .at) (a .params .at) few positive above (a .round) z (a .k) (c .before .before .before .before .find-in .result .found) (c .before .before .before .before .find-in .result .at) (c .before .before .before .before .find-in .result .left) (c .before .before .before .before .find-in .ensures .1 .1 l e part) (omega (arith, c .before .before .before .before .before .block-size .ensures .0)),
+        search-whole (a .s .now) (a .funcs .now) (a .froms .now) (a .ends .now) (a .blocks .now) (a .n) (a .p) low (a .z .at) (a .params .at) few positive above (a .round) z (a .k) (c .before .before .before .before .find-in .result .found) (c .before .before .before .before .find-in .result .at) (c .before .before .before .before .find-in .result .left) (c .before .before .before .before .find-in .ensures .1 .1 l e part) (omega (arith, c .before .before .before .before .before .block-size .ensures .0)),
   ),
 )
 
@@ -59,47 +60,53 @@ div-q : tie.Need-div-q
 div-q c = search needs
 
 div-rounds : tie.Need-div-rounds
-div-rounds c = omega (arith, c .before .before .before .before .before .before .before .before .pre .1 .1 .1 .1 .1 .0)
+div-rounds c = search needs
 
-mul-t21 : tie.Need-mul-t21
-mul-t21 c = omega (arith, mul-le-mul-left (c .before .before .before .before .before .before .before .before .before .args .k - c .before .before .before .before .before .find-in .result .left) (let h : (c .before .before .before .before .before .before .block-size .result / c .before .before .before .before .before .before .before .before .before .args .round) ≤ (c .before .before .before .before .before .before .before .before .before .args .k) / (c .before .before .before .before .before .before .before .before .before .args .k - c .before .before .before .before .before .find-in .result .left) = omega arith in h), mul-div-le (c .before .before .before .before .before .before .before .before .before .args .k) (c .before .before .before .before .before .before .before .before .before .args .k - c .before .before .before .before .before .find-in .result .left))
+mul-none-found : tie.Need-mul-none-found
+mul-none-found c = omega (arith, mul-le-mul-left (c .before .before .before .before .before .before .before .before .before .args .k - c .before .before .before .before .before .find-in .result .left) (let h : (c .before .before .before .before .before .before .block-size .result / c .before .before .before .before .before .before .before .before .before .args .round) ≤ (c .before .before .before .before .before .before .before .before .before .args .k) / (c .before .before .before .before .before .before .before .before .before .args .k - c .before .before .before .before .before .find-in .result .left) = omega arith in h), mul-div-le (c .before .before .before .before .before .before .before .before .before .args .k) (c .before .before .before .before .before .before .before .before .before .args .k - c .before .before .before .before .before .find-in .result .left))
 
-sub-t22 : tie.Need-sub-t22
-sub-t22 c = omega (arith, mul-le-mul-left (c .before .before .before .before .before .before .before .before .before .args .k - c .before .before .before .before .before .find-in .result .left) (let h : (c .before .before .before .before .before .before .block-size .result / c .before .before .before .before .before .before .before .before .before .args .round) ≤ (c .before .before .before .before .before .before .before .before .before .args .k) / (c .before .before .before .before .before .before .before .before .before .args .k - c .before .before .before .before .before .find-in .result .left) = omega arith in h), mul-div-le (c .before .before .before .before .before .before .before .before .before .args .k) (c .before .before .before .before .before .before .before .before .before .args .k - c .before .before .before .before .before .find-in .result .left))
+sub-none-found : tie.Need-sub-none-found
+sub-none-found c = omega (arith, mul-le-mul-left (c .before .before .before .before .before .before .before .before .before .args .k - c .before .before .before .before .before .find-in .result .left) (let h : (c .before .before .before .before .before .before .block-size .result / c .before .before .before .before .before .before .before .before .before .args .round) ≤ (c .before .before .before .before .before .before .before .before .before .args .k) / (c .before .before .before .before .before .before .before .before .before .args .k - c .before .before .before .before .before .find-in .result .left) = omega arith in h), mul-div-le (c .before .before .before .before .before .before .before .before .before .args .k) (c .before .before .before .before .before .before .before .before .before .args .k - c .before .before .before .before .before .find-in .result .left))
+
+none-found-requires : tie.Need-none-found-requires
+none-found-requires c κs = search needs
 
 returns-4 : tie.Need-returns-4
 returns-4 c = (
-  omega arith,
+  omega (arith, c .none-found .ensures .1 .0),
   (
-    omega arith,
-    λ l low e z part above. let a = c .before .before .before .before .before .before .before .before .before .args in let len = four-length (a .sizes) _ (c .before .before .before .before .before .before .before .before .before .good .1 .1 .1 .1 .0) in
-        let positive : (i : ℕ) → i < length (a .sizes .at) → 0 < getD (a .sizes .at) i 0 = λ i h. c .before .before .before .before .before .before .before .before .before .pre .1 .1 .1 .0 i (omega arith) .0 in
-        let few : a .p ≤ length (a .params .at) = let w = eight-length (a .params) _ (c .before .before .before .before .before .before .before .before .before .good .1 .1 .0) in omega (arith, c .before .before .before .before .before .before .before .before .before .pre .0) in
-        search-past (a .s .now) (a .funcs .now) (a .froms .now) (a .ends .now) (a .blocks .now) (a .n) (a .p) low (a .sizes .at) (a .params .at) few positive above (a .round) z (a .k) (c .before .before .before .before .before .find-in .result .found) (c .before .before .before .before .before .find-in .result .at) (c .before .before .before .before .before .find-in .result .left) (c .before .before .before .before .before .find-in .ensures .1 .1 l e part) (c .before .before .before .before .if1 .left) (c .before .before .before .before .before .before .before .before .before .args .k - c .before .before .before .before .before .find-in .result .left) refl (omega arith) (c .before .before .before .before .before .before .block-size .result / c .before .before .before .before .before .before .before .before .before .args .round) (ap (λ (x : ℕ). x / c .before .before .before .before .before .before .before .before .before .args .round) (c .before .before .before .before .before .before .block-size .ensures .0)) (omega arith) 0,
+    omega (arith, c .none-found .ensures .1 .1),
+    λ l low e z part above. let a = c .before .before .before .before .before .before .before .before .before .before .args in let len = four-length (a .z) _ (c .before .before .before .before .before .before .before .before .before .before .good .1 .1 .1 .1 .0) in
+        let positive : (i : ℕ) → i < length (a .z .at) → 0 < getD (a .z .at) i 0 = λ i h. c .before .before .before .before .before .before .before .before .before .before .pre .1 .1 .1 .0 i (omega arith) .0 in
+        let few : a .p ≤ length (a .params .at) = let w = eight-length (a .params) _ (c .before .before .before .before .before .before .before .before .before .before .good .1 .1 .0) in omega (arith, c .before .before .before .before .before .before .before .before .before .before .pre .0) in
+        finds-none _ (a .k) (c .none-found .result) _ (c .none-found .ensures) (search-past (a .s .now) (a .funcs .now) (a .froms .now) (a .ends .now) (a .blocks .now) (a .n) (a .p) low (a .z .at) (a .params .at) few positive above (a .round) z (a .k) (c .before .before .before .before .before .before .find-in .result .found) (c .before .before .before .before .before .before .find-in .result .at) (c .before .before .before .before .before .before .find-in .result .left) (c .before .before .before .before .before .before .find-in .ensures .1 .1 l e part) (c .before .before .before .before .before .if1 .left) (c .before .before .before .before .before .before .before .before .before .before .args .k - c .before .before .before .before .before .before .find-in .result .left) refl (omega arith) (c .before .before .before .before .before .before .before .block-size .result / c .before .before .before .before .before .before .before .before .before .before .args .round) (ap (λ (x : ℕ). x / c .before .before .before .before .before .before .before .before .before .before .args .round) (c .before .before .before .before .before .before .before .block-size .ensures .0)) (omega arith)),
   ),
 )
 
-rem-find-in : tie.Need-rem-find-in
-rem-find-in c = search needs
+rem-i : tie.Need-rem-i
+rem-i c = search needs
 
 find-in-requires-2 : tie.Need-find-in-requires-2
-find-in-requires-2 c κs = (c .before .before .before .before .before .before .before .before .before .pre .0, (c .before .before .before .before .before .before .before .before .before .pre .1 .0, (c .before .before .before .before .before .before .before .before .before .pre .1 .1 .0, (c .before .before .before .before .before .before .before .before .before .pre .1 .1 .1 .0, (c .before .before .before .before .before .before .before .before .before .pre .1 .1 .1 .1 .0, (c .before .before .before .before .before .before .before .before .before .pre .1 .1 .1 .1 .1 .1 .0, c .before .before .before .before .before .before .before .before .before .pre .1 .1 .1 .1 .1 .1 .1))))))
+find-in-requires-2 c κs = search needs
 
-mul-t24 : tie.Need-mul-t24
-mul-t24 c = let h : (c .before .before .before .before .before .before .before .before .before .before .args .k) / (c .before .before .before .before .before .before .before .before .before .before .args .k - c .before .before .before .before .before .before .find-in .result .left) ≤ (c .before .before .before .before .before .before .before .block-size .result / c .before .before .before .before .before .before .before .before .before .before .args .round) = omega arith in let q : (c .before .before .before .before .before .before .before .before .before .before .args .k) / (c .before .before .before .before .before .before .before .before .before .before .args .k - c .before .before .before .before .before .before .find-in .result .left) * c .before .before .before .before .before .before .before .before .before .before .args .round ≤ 65536 = omega (arith, mul-le-mul-right (c .before .before .before .before .before .before .before .before .before .before .args .round) h, div-mul-le-self (c .before .before .before .before .before .before .before .block-size .result) (c .before .before .before .before .before .before .before .before .before .before .args .round), c .before .before .before .before .before .before .before .block-size .ensures .1) in omega arith
+mul-found-at : tie.Need-mul-found-at
+mul-found-at c = let h : (c .before .before .before .before .before .before .before .before .before .before .args .k) / (c .before .before .before .before .before .before .before .before .before .before .args .k - c .before .before .before .before .before .before .find-in .result .left) ≤ (c .before .before .before .before .before .before .before .block-size .result / c .before .before .before .before .before .before .before .before .before .before .args .round) = omega arith in let q : (c .before .before .before .before .before .before .before .before .before .before .args .k) / (c .before .before .before .before .before .before .before .before .before .before .args .k - c .before .before .before .before .before .before .find-in .result .left) * c .before .before .before .before .before .before .before .before .before .before .args .round ≤ 65536 = omega (arith, mul-le-mul-right (c .before .before .before .before .before .before .before .before .before .before .args .round) h, div-mul-le-self (c .before .before .before .before .before .before .before .block-size .result) (c .before .before .before .before .before .before .before .before .before .before .args .round), c .before .before .before .before .before .before .before .block-size .ensures .1) in omega arith
 
-add-t25 : tie.Need-add-t25
-add-t25 c = let h : (c .before .before .before .before .before .before .before .before .before .before .before .args .k) / (c .before .before .before .before .before .before .before .before .before .before .before .args .k - c .before .before .before .before .before .before .before .find-in .result .left) ≤ (c .before .before .before .before .before .before .before .before .block-size .result / c .before .before .before .before .before .before .before .before .before .before .before .args .round) = omega arith in let q : (c .before .before .before .before .before .before .before .before .before .before .before .args .k) / (c .before .before .before .before .before .before .before .before .before .before .before .args .k - c .before .before .before .before .before .before .before .find-in .result .left) * c .before .before .before .before .before .before .before .before .before .before .before .args .round ≤ 65536 = omega (arith, mul-le-mul-right (c .before .before .before .before .before .before .before .before .before .before .before .args .round) h, div-mul-le-self (c .before .before .before .before .before .before .before .before .block-size .result) (c .before .before .before .before .before .before .before .before .before .before .before .args .round), c .before .before .before .before .before .before .before .before .block-size .ensures .1) in omega (arith, c .before .find-in2 .ensures .0)
+add-found-at : tie.Need-add-found-at
+add-found-at c = let h : (c .before .before .before .before .before .before .before .before .before .before .before .args .k) / (c .before .before .before .before .before .before .before .before .before .before .before .args .k - c .before .before .before .before .before .before .before .find-in .result .left) ≤ (c .before .before .before .before .before .before .before .before .block-size .result / c .before .before .before .before .before .before .before .before .before .before .before .args .round) = omega arith in let q : (c .before .before .before .before .before .before .before .before .before .before .before .args .k) / (c .before .before .before .before .before .before .before .before .before .before .before .args .k - c .before .before .before .before .before .before .before .find-in .result .left) * c .before .before .before .before .before .before .before .before .before .before .before .args .round ≤ 65536 = omega (arith, mul-le-mul-right (c .before .before .before .before .before .before .before .before .before .before .before .args .round) h, div-mul-le-self (c .before .before .before .before .before .before .before .before .block-size .result) (c .before .before .before .before .before .before .before .before .before .before .before .args .round), c .before .before .before .before .before .before .before .before .block-size .ensures .1) in omega (arith, c .before .find-in2 .ensures .0)
+
+found-at-requires : tie.Need-found-at-requires
+found-at-requires c κs = search needs
 
 returns-5 : tie.Need-returns-5
-returns-5 c = let h : (c .before .before .before .before .before .before .before .before .before .before .before .args .k) / (c .before .before .before .before .before .before .before .before .before .before .before .args .k - c .before .before .before .before .before .before .before .find-in .result .left) ≤ (c .before .before .before .before .before .before .before .before .block-size .result / c .before .before .before .before .before .before .before .before .before .before .before .args .round) = omega arith in let q : (c .before .before .before .before .before .before .before .before .before .before .before .args .k) / (c .before .before .before .before .before .before .before .before .before .before .before .args .k - c .before .before .before .before .before .before .before .find-in .result .left) * c .before .before .before .before .before .before .before .before .before .before .before .args .round ≤ 65536 = omega (arith, mul-le-mul-right (c .before .before .before .before .before .before .before .before .before .before .before .args .round) h, div-mul-le-self (c .before .before .before .before .before .before .before .before .block-size .result) (c .before .before .before .before .before .before .before .before .before .before .before .args .round), c .before .before .before .before .before .before .before .before .block-size .ensures .1) in (
-  omega (arith, c .before .find-in2 .ensures .0),
+returns-5 c = let h : (c .before .before .before .before .before .before .before .before .before .before .before .before .args .k) / (c .before .before .before .before .before .before .before .before .before .before .before .before .args .k - c .before .before .before .before .before .before .before .before .find-in .result .left) ≤ (c .before .before .before .before .before .before .before .before .before .block-size .result / c .before .before .before .before .before .before .before .before .before .before .before .before .args .round) = omega arith in let q : (c .before .before .before .before .before .before .before .before .before .before .before .before .args .k) / (c .before .before .before .before .before .before .before .before .before .before .before .before .args .k - c .before .before .before .before .before .before .before .before .find-in .result .left) * c .before .before .before .before .before .before .before .before .before .before .before .before .args .round ≤ 65536 = omega (arith, mul-le-mul-right (c .before .before .before .before .before .before .before .before .before .before .before .before .args .round) h, div-mul-le-self (c .before .before .before .before .before .before .before .before .before .block-size .result) (c .before .before .before .before .before .before .before .before .before .before .before .before .args .round), c .before .before .before .before .before .before .before .before .before .block-size .ensures .1) in (
+  omega (arith, c .found-at .ensures .1 .0, c .before .before .find-in2 .ensures .0),
   (
-    omega arith,
-    λ l low e z part above. let a = c .before .before .before .before .before .before .before .before .before .before .before .args in let len = four-length (a .sizes) _ (c .before .before .before .before .before .before .before .before .before .before .before .good .1 .1 .1 .1 .0) in
-        let positive : (i : ℕ) → i < length (a .sizes .at) → 0 < getD (a .sizes .at) i 0 = λ i h. c .before .before .before .before .before .before .before .before .before .before .before .pre .1 .1 .1 .0 i (omega arith) .0 in
-        let few : a .p ≤ length (a .params .at) = let w = eight-length (a .params) _ (c .before .before .before .before .before .before .before .before .before .before .before .good .1 .1 .0) in omega (arith, c .before .before .before .before .before .before .before .before .before .before .before .pre .0) in
-        search-later (a .s .now) (a .funcs .now) (a .froms .now) (a .ends .now) (a .blocks .now) (a .n) (a .p) low (a .sizes .at) (a .params .at) few positive above (a .round) z (a .k) (c .before .before .before .before .before .before .before .find-in .result .found) (c .before .before .before .before .before .before .before .find-in .result .at) (c .before .before .before .before .before .before .before .find-in .result .left) (c .before .before .before .before .before .before .before .find-in .ensures .1 .1 l e part) (c .before .before .before .before .before .before .if1 .left) (c .before .before .before .before .before .before .before .before .before .before .before .args .k - c .before .before .before .before .before .before .before .find-in .result .left) refl (omega arith) (c .before .before .before .before .before .before .before .before .block-size .result / c .before .before .before .before .before .before .before .before .before .before .before .args .round) (ap (λ (x : ℕ). x / c .before .before .before .before .before .before .before .before .before .before .before .args .round) (c .before .before .before .before .before .before .before .before .block-size .ensures .0)) (omega arith) (c .before .find-in2 .result .found) (c .before .find-in2 .result .at) (c .before .find-in2 .result .left) (c .before .find-in2 .ensures .1 .1 l e part) 0,
+    omega (arith, c .found-at .ensures .1 .1),
+    λ l low e z part above. let a = c .before .before .before .before .before .before .before .before .before .before .before .before .args in let len = four-length (a .z) _ (c .before .before .before .before .before .before .before .before .before .before .before .before .good .1 .1 .1 .1 .0) in
+        let positive : (i : ℕ) → i < length (a .z .at) → 0 < getD (a .z .at) i 0 = λ i h. c .before .before .before .before .before .before .before .before .before .before .before .before .pre .1 .1 .1 .0 i (omega arith) .0 in
+        let few : a .p ≤ length (a .params .at) = let w = eight-length (a .params) _ (c .before .before .before .before .before .before .before .before .before .before .before .before .good .1 .1 .0) in omega (arith, c .before .before .before .before .before .before .before .before .before .before .before .before .pre .0) in
+        finds-at _ (a .k) (c .found-at .result) _ (c .found-at .ensures) (search-later (a .s .now) (a .funcs .now) (a .froms .now) (a .ends .now) (a .blocks .now) (a .n) (a .p) low (a .z .at) (a .params .at) few positive above (a .round) z (a .k) (c .before .before .before .before .before .before .before .before .find-in .result .found) (c .before .before .before .before .before .before .before .before .find-in .result .at) (c .before .before .before .before .before .before .before .before .find-in .result .left) (c .before .before .before .before .before .before .before .before .find-in .ensures .1 .1 l e part) (c .before .before .before .before .before .before .before .if1 .left) (c .before .before .before .before .before .before .before .before .before .before .before .before .args .k - c .before .before .before .before .before .before .before .before .find-in .result .left) refl (omega arith) (c .before .before .before .before .before .before .before .before .before .block-size .result / c .before .before .before .before .before .before .before .before .before .before .before .before .args .round) (ap (λ (x : ℕ). x / c .before .before .before .before .before .before .before .before .before .before .before .before .args .round) (c .before .before .before .before .before .before .before .before .before .block-size .ensures .0)) (omega arith) (c .before .before .find-in2 .result .found) (c .before .before .find-in2 .result .at) (c .before .before .find-in2 .result .left) (c .before .before .find-in2 .ensures .1 .1 l e part)),
   ),
 )
 
@@ -115,11 +122,13 @@ find-rounds-spec =
     returns-3
     div-q
     div-rounds
-    mul-t21
-    sub-t22
+    mul-none-found
+    sub-none-found
+    none-found-requires
     returns-4
-    rem-find-in
+    rem-i
     find-in-requires-2
-    mul-t24
-    add-t25
+    mul-found-at
+    add-found-at
+    found-at-requires
     returns-5)
