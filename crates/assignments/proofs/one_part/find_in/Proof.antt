@@ -68,7 +68,7 @@ returns c = (
         let tested = c .before .before .before .before .before .test .ensures (λ i k. part i k .standing) in
         let same : i / a .g ≡ l .j / a .g = c .before .before .before .next .ensures .1 i u (omega (arith, c .before .before .smaller .ensures)) in
         accepted s fs (a .froms .now) (a .ends .now) (a .blocks .now) (a .n) (a .p) (a .g) (a .z .at) (a .params .at) few positive part lv e (c .before .before .before .before .before .before .before .before .environment .result .at) (l .j) alike (c .before .before .before .before .before .test .result) tested (c .before .before .before .before .if1 .taken) i same in
-        finds-at (places acc (a .total) 0) (a .k) (c .found-at .result) (l .j + l .left) (c .found-at .ensures) (λ x. going-found acc (a .total) (a .k) (l .j) (l .left) (c .before .before .smaller .result) (l .j + l .left) (omega (arith, c .before .before .before .next .ensures .0, c .before .before .smaller .ensures)) (omega (arith, c .before .before .smaller .ensures)) taken (c .before .if2 .taken) refl (l .inv .1 lv e part)),
+        finds-at (places acc (a .total) 0) (a .k) (c .found-at .result) (l .j + l .left) (c .found-at .ensures) (λ x. going-found acc (a .total) (a .k) (l .j) (l .left) (c .before .before .smaller .result) (l .j + l .left) (omega (arith, c .before .before .before .next .ensures .0, c .before .before .smaller .ensures)) (omega (arith, c .before .before .smaller .ensures)) taken (omega arith) refl (l .inv .1 lv e part)),
   ),
 )
 
