@@ -1,9 +1,20 @@
 -- A name among others, and names that are distinct, found by going through the list.
-use mathlib.Core.Path.{_≡_, refl, sym, _∙_}
-use mathlib.Core.List.{List, _∷_}
+use mathlib.Core.Path.{_≡_, refl, sym, _∙_, ap}
+use mathlib.Core.List.{List, [], _∷_}
 use mathlib.Core.Bool.{Bool, true, false}
+use mathlib.Core.Option.{Option, none, some}
+use Prim.Native.Nat.{ℕ, suc, _≤_, _<_}
+use native.Mathlib.Omega.{arith}
+use native.Mathlib.Decide.{decLt}
+use borrow.Author.Tests.{eq-eqb, ne-eqb}
+use lib.Dec.{eqb}
+use lib.ListN.{length}
 use Rattle.pcrl.specs.Tests.{and, negated, same?, among, distinct}
 use Rattle.pcrl.specs.Tree.{Name}
+use Rattle.pcrl.specs.Names.{number-of}
+use Rattle.pcrl.specs.Maybe.{_>>=_}
+use Rattle.names.specs.NameCells.{or-count}
+use Rattle.names.proofs.Numbers.{found-some, found-none}
 
 pub among-first : (x y : Name) (l : List Name) → x ≡ y → among x (y ∷ l) ≡ true
 unfolding among
@@ -21,13 +32,31 @@ among-later x y l n = go (same? x y)
     go (yes e) = absurd (n e)
     go (no h) = refl
 
--- the next name is x
-pub among-found : (x y : Name) (l m : List Name) → l ≡ y ∷ m → x ≡ y → true ≡ among x l
-among-found x y l m e k = rw e (sym (among-first x y m k))
+abbrev is-some : Option ℕ → Bool
+is-some none = false
+is-some (some i) = true
 
--- it is another
-pub among-passed : (b : Bool) (x y : Name) (l m : List Name) → b ≡ among x l → l ≡ y ∷ m → (x ≡ y → ⊥) → b ≡ among x m
-among-passed b x y l m h e n = h ∙ (rw e (among-later x y m n))
+some-suc : (o : Option ℕ) → is-some (_>>=_ o (λ i. some (suc i))) ≡ is-some o
+some-suc none = refl
+some-suc (some i) = refl
+
+-- a name is among others if it has a number
+among-number : (x : Name) (l : List Name) → among x l ≡ is-some (number-of x l)
+unfolding among number-of
+among-number x [] = refl
+among-number x (y ∷ l) = by (same? x y) (among-number x l)
+  where
+    by : (d : Dec (x ≡ y)) → among x l ≡ is-some (number-of x l)
+        → elim d as (λ (z : Dec (x ≡ y)). Bool) [ yes e ↦ true | no h ↦ among x l ] ≡ is-some (elim d [ yes e ↦ some 0 | no h ↦ _>>=_ (number-of x l) (λ n. some (suc n)) ])
+    by (yes e) h = refl
+    by (no q) h = h ∙ sym (some-suc (number-of x l))
+
+-- a search that finds the name, and one that does not
+pub number-among : (x : Name) (l : List Name) (i n : ℕ) → i ≡ or-count n (number-of x l) → i < n → among x l ≡ true
+number-among x l i n e h = among-number x l ∙ ap is-some (found-some n (number-of x l) i e h)
+
+pub number-not : (x : Name) (l : List Name) (i n : ℕ) → length l ≤ n → i ≡ or-count n (number-of x l) → n ≤ i → among x l ≡ false
+number-not x l i n m e h = among-number x l ∙ ap is-some (found-none n x l i m e h)
 
 and-false : (a : Bool) → and a false ≡ false
 and-false true = refl
@@ -55,5 +84,14 @@ new-none n x l t e = rw (among-first x n l e)
 pub new-taken : (n x : Name) (l : List Name) (t : Bool) → (x ≡ n → ⊥) → among x l ≡ true → false ≡ and (negated (among x (n ∷ l))) t
 new-taken n x l t e a = rw (among-later x n l e, a)
 
-pub new-scope : (n x : Name) (l m : List Name) → (x ≡ n → ⊥) → among x l ≡ false → (b : Bool) → among x m ≡ b → negated b ≡ and (negated (among x (n ∷ l))) (negated (among x m))
+new-scope : (n x : Name) (l m : List Name) → (x ≡ n → ⊥) → among x l ≡ false → (b : Bool) → among x m ≡ b → negated b ≡ and (negated (among x (n ∷ l))) (negated (among x m))
 new-scope n x l m e a b h = rw (among-later x n l e, a, h)
+
+-- the scope is searched last
+pub new-last : (n x : Name) (l m : List Name) → (x ≡ n → ⊥) → among x l ≡ false → (i k : ℕ) → i ≤ k → length m ≤ k → i ≡ or-count k (number-of x m)
+    → eqb i k ≡ and (negated (among x (n ∷ l))) (negated (among x m))
+new-last n x l m e a i k h many found = by (decLt i k)
+  where
+    by : Dec (i < k) → eqb i k ≡ and (negated (among x (n ∷ l))) (negated (among x m))
+    by (yes q) = ne-eqb i k (λ z. omega arith) ∙ new-scope n x l m e a true (number-among x m i k found q)
+    by (no q) = eq-eqb i k (omega arith) ∙ new-scope n x l m e a false (number-not x m i k many found (omega arith))

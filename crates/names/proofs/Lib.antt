@@ -2,6 +2,8 @@ pub mod Runs
 pub mod Lists
 pub mod Numbers
 pub mod Among
+pub mod KeyLaws
+pub mod KindLaws
 pub mod Symbols
 pub mod Items
 pub mod Rooms

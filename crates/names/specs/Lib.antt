@@ -1,4 +1,6 @@
 pub mod NameCells
+pub mod NameKeys
+pub mod NameKinds
 pub mod Standing
 pub mod Items
 pub mod Rows

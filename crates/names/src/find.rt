@@ -27,7 +27,7 @@ pub fn place(c: u16) -> usize
 }
 
 // Where a name's first byte stands in the sheet.
-fn first_byte(c: u16) -> usize
+pub fn first_byte(c: u16) -> usize
     ensures { λ r. ⌜ (r ≡ c - first-name) × (r < cell-limit) ⌝ }
 {
     if c < FIRST_NAME {
@@ -38,7 +38,7 @@ fn first_byte(c: u16) -> usize
 }
 
 // The byte, if names have it, else 0.
-fn letter(b: u8) -> u8
+pub fn letter(b: u8) -> u8
     ensures { λ r. ⌜ r ≡ shown b ⌝ }
 {
     if b < b'0' {

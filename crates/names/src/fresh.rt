@@ -1,30 +1,17 @@
 // "Every declared name new (Bool is taken), each variable unlike all declared names and all variables in scope."
 ghost use mathlib.Core.Path.{_≡_};
 ghost use mathlib.Core.List.{List, _∷_, _++_, map};
-ghost use Prim.Native.Nat.{ℕ, _+_, _≤_, _<_};
-ghost use lib.ListN.{length, take, drop};
+ghost use Prim.Native.Nat.{ℕ, _+_, _≤_};
+ghost use lib.ListN.{length, take};
 ghost use Rattle.pcrl.specs.Text.{bytes};
 ghost use Rattle.pcrl.specs.Tests.{and, negated, among, distinct};
 ghost use Rattle.names.specs.NameCells.{name-at, name-cell, names-at, scope-at};
+ghost use Rattle.names.specs.NameKeys.{Keyed};
 use crate::find::cell;
 use crate::find::is_bool;
 use crate::find::place;
-use crate::find::same_name;
-
-// Is the name of cell c among those of n cells, from a place on?
-pub fn among_from(s: &[u8], names: &[u16], from: usize, n: usize, c: u16) -> bool
-    requires { ⌜ n ≤ length (now names) ⌝ }
-    ensures { λ r. ⌜ r ≡ among (name-at (now (s .entry)) c) (drop from (scope-at (now (s .entry)) (now (names .entry)) n)) ⌝ }
-{
-    let mut i = from;
-    while i < n {
-        if same_name(s, c, names[i]) {
-            return true;
-        }
-        i += 1;
-    }
-    false
-}
+use crate::find::scope_number;
+use crate::keys::number_in;
 
 // The cells of the names that lines declare, behind n cells.
 fn gather(cells: &[u16], places: &[u16], names: &mut [u16], n: usize) -> usize
@@ -64,8 +51,8 @@ pub fn declared_names(
 }
 
 // "Every declared name new (Bool is taken)", n names.
-pub fn all_new(s: &[u8], names: &[u16], n: usize) -> bool
-    requires { ⌜ n ≤ length (now names) ⌝ }
+pub fn all_new(s: &[u8], names: &[u16], keys: &[u8], n: usize) -> bool
+    requires { ⌜ Keyed (now s) (now names) (now keys) n ⌝ }
     ensures { λ r. ⌜ r ≡ distinct (bytes "Bool" ∷ scope-at (now (s .entry)) (now (names .entry)) n) ⌝ }
 {
     let mut i: usize = 0;
@@ -74,7 +61,8 @@ pub fn all_new(s: &[u8], names: &[u16], n: usize) -> bool
         if is_bool(s, c) {
             return false;
         }
-        if among_from(s, names, i + 1, n, c) {
+        let left = n - i - 1;
+        if number_in(s, names, keys, i + 1, left, c) < left {
             return false;
         }
         i += 1;
@@ -83,19 +71,24 @@ pub fn all_new(s: &[u8], names: &[u16], n: usize) -> bool
 }
 
 // A variable unlike Bool, the other n declared names and the k variables in scope.
-pub fn new_variable(s: &[u8], names: &[u16], n: usize, scope: &[u16], k: usize, c: u16) -> bool
-    requires { ⌜ (n ≤ length (now names)) × (k ≤ length (now scope)) ⌝ }
+pub fn new_variable(
+    s: &[u8],
+    names: &[u16],
+    keys: &[u8],
+    n: usize,
+    scope: &[u16],
+    k: usize,
+    c: u16,
+) -> bool
+    requires { ⌜ Keyed (now s) (now names) (now keys) n × (k ≤ length (now scope)) ⌝ }
     ensures { λ r. ⌜ r ≡ and (negated (among (name-at (now (s .entry)) c) (bytes "Bool" ∷ scope-at (now (s .entry)) (now (names .entry)) n)))
         (negated (among (name-at (now (s .entry)) c) (scope-at (now (s .entry)) (now (scope .entry)) k))) ⌝ }
 {
     if is_bool(s, c) {
         return false;
     }
-    if among_from(s, names, 0, n, c) {
+    if number_in(s, names, keys, 0, n, c) < n {
         return false;
     }
-    if among_from(s, scope, 0, k, c) {
-        return false;
-    }
-    true
+    scope_number(s, scope, k, c) == k
 }

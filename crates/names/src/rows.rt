@@ -8,6 +8,7 @@ ghost use Rattle.pcrl.specs.Limits.{max-sorts, max-arity, frame-width};
 ghost use Rattle.nodes.specs.Layout.{cell-limit};
 ghost use Rattle.nodes.specs.Held.{func-width, act-width, SortsAt};
 ghost use Rattle.names.specs.NameCells.{byte-of};
+ghost use Rattle.names.specs.NameKeys.{Keyed};
 ghost use Rattle.names.specs.Items.{far, name-step, item-count, item-names, numeral-at, item-values};
 ghost use Rattle.names.specs.Rows.{Kept, Answers, ActRows, FuncRead, FuncRows, ParamsRead, sorts-at, numbered};
 use crate::Params;
@@ -190,13 +191,14 @@ pub fn param_row(
     cells: &[u16],
     sorts: &[u16],
     names: &[u16],
+    keys: &[u8],
     n: usize,
     at: usize,
     rows: &mut [u8],
     p: usize,
     scope: &mut [u16],
 ) -> Params
-    requires { ⌜ (length (now sorts) < max-sorts) × (n ≤ length (now names)) × (at < far) × (p + frame-width < length (now rows)) × (frame-width ≤ length (now scope)) ⌝ }
+    requires { ⌜ (length (now sorts) < max-sorts) × Keyed (now s) (now names) (now keys) n × (at < far) × (p + frame-width < length (now rows)) × (frame-width ≤ length (now scope)) ⌝ }
     ensures kept { λ r. ⌜ Kept p (now (rows .entry)) (now (rows .exit)) ⌝ }
     ensures few { λ r. ⌜ r .count ≤ frame-width ⌝ }
     ensures params { λ r. ⌜ ParamsRead (now (s .entry)) (now (cells .entry)) (now (sorts .entry)) (now (names .entry)) n at (now (rows .exit)) p (now (scope .exit)) r ⌝ }
@@ -205,7 +207,7 @@ pub fn param_row(
     let mut k: usize = 0;
     while k < m {
         let v = cell(cells, at + PARAM_STEP * k + 1);
-        if !new_variable(s, names, n, scope, k, v) {
+        if !new_variable(s, names, keys, n, scope, k, v) {
             return Params {
                 ok: false,
                 count: k,

@@ -12,7 +12,10 @@ use Rattle.parser.specs.Cells.{Symbol, tag}
 use Rattle.parser.specs.Cells.{enc-data as raw-data, enc-datas as raw-datas}
 use Rattle.parser.specs.Reading.{Put}
 use Rattle.nodes.specs.Layout.{cell-limit, enc-data}
-use Rattle.names.specs.NameCells.{or-count, name-at, names-at, scope-at}
+use Rattle.names.specs.NameCells.{or-count, name-at, scope-at}
+use Rattle.names.specs.NameKinds.{funcs-in}
+use Rattle.names.specs.declared.Kinds.{Kinds}
+use Rattle.names.proofs.KeyLaws.{scope-most}
 use Rattle.names.specs.Standing.{symbols}
 use Rattle.names.proofs.Symbols.{name-of-cell}
 use Rattle.resolver.specs.declared.Step.{Step}
@@ -21,23 +24,23 @@ use Rattle.resolver.specs.Writing.{Writes}
 use Rattle.resolver.specs.Resolving.{Outcome, lost, took, data-cells, datas-cells, count-of, _⊕_, ResolvesData, ResolvesDatas}
 use Rattle.resolver.proofs.Writing.{writes-nothing, writes-then, writes-cell, writes-instead}
 use Rattle.resolver.proofs.Symbols.{pair, first-tag, next, live, NumeralCell, numeral-is}
-use Rattle.resolver.proofs.Lookup.{known, unknown, names-many, scope-many}
+use Rattle.resolver.proofs.Lookup.{known, unknown, funcs-most}
 use Rattle.resolver.proofs.DataCells.{then-nothing, then-assoc, then-none, then-last, none-last, variable-unknown, variable-known, apply-unknown, apply-known, datas-one, datas-more}
 
 -- two places behind, and cells as they must be
 pub became : {raw : List ℕ} {ys rest : List Symbol} {w : ℕ} {o : List ℕ} {p w′ : ℕ} {o′ : List ℕ} {a b : Option (List ℕ)} → a ≡ b → Outcome raw ys rest w o p w′ o′ a → Outcome raw ys rest w o p w′ o′ b
 became {raw} {ys} {rest} {w} {o} {p} {w′} {o′} e h = subst (λ x. Outcome raw ys rest w o p w′ o′ x) e h
 
-module _ (s raw funcs scope : List ℕ) (n at w : ℕ) (o : List ℕ) where
+module _ (s raw names : List ℕ) (kinds : Kinds) (scope : List ℕ) (n at w : ℕ) (o : List ℕ) where
   -- ---- a numeral
   module _ (k : getD raw at 0 ≡ 1) where
-    pub value-lost : (r : Step) (o′ : List ℕ) → ((v : ℕ) → NumeralCell (getD raw (at + 1) 0) v → ⊥) → ResolvesData s raw funcs scope n at w o r o′
+    pub value-lost : (r : Step) (o′ : List ℕ) → ((v : ℕ) → NumeralCell (getD raw (at + 1) 0) v → ⊥) → ResolvesData s raw names kinds scope n at w o r o′
     unfolding raw-data
     value-lost r o′ h N (RawData.value v) rest f e = let p = pair s raw at 1 (numeral v) rest e in absurd (h v (numeral-is s (getD raw (at + 1) 0) v (p .token-cell)))
     value-lost r o′ h N (RawData.variable x) rest f e = let q = first-tag s raw at 2 _ e in absurd (omega arith)
     value-lost r o′ h N (RawData.apply x ds) rest f e = let q = first-tag s raw at 3 _ e in absurd (omega arith)
 
-    pub value-took : (c a w′ : ℕ) (o′ : List ℕ) → c ≡ getD raw (at + 1) 0 → a ≡ (c - 256) * 4 → Put o w a w′ o′ → ResolvesData s raw funcs scope n at w o (record { at = at + 2; w = w′ }) o′
+    pub value-took : (c a w′ : ℕ) (o′ : List ℕ) → c ≡ getD raw (at + 1) 0 → a ≡ (c - 256) * 4 → Put o w a w′ o′ → ResolvesData s raw names kinds scope n at w o (record { at = at + 2; w = w′ }) o′
     unfolding raw-data data-cells resolve-data enc-data
     value-took c a w′ o′ ec ea put N (RawData.value v) rest f e =
         let p = pair s raw at 1 (numeral v) rest e in
@@ -50,48 +53,48 @@ module _ (s raw funcs scope : List ℕ) (n at w : ℕ) (o : List ℕ) where
 
   -- ---- a variable
   module _ (k : getD raw at 0 ≡ 2) (few : n ≤ length scope) (c i : ℕ) (ec : c ≡ getD raw (at + 1) 0) (found : i ≡ or-count n (number-of (name-at s c) (scope-at s scope n))) where
-    pub variable-lost : (r : Step) (o′ : List ℕ) → length raw < r .at → n ≤ i → ResolvesData s raw funcs scope n at w o r o′
+    pub variable-lost : (r : Step) (o′ : List ℕ) → length raw < r .at → n ≤ i → ResolvesData s raw names kinds scope n at w o r o′
     unfolding raw-data
     variable-lost r o′ l h N (RawData.value v) rest f e = let q = first-tag s raw at 1 _ e in absurd (omega arith)
     variable-lost r o′ l h N (RawData.variable x) rest f e =
         let p = pair s raw at 2 (name x) rest e in
         let y : name-at s c ≡ x = ap (name-at s) ec ∙ name-of-cell s (getD raw (at + 1) 0) x (p .token-cell) in
-        let u = subst (λ (z : Name). number-of z (scope-at s scope n) ≡ none) y (unknown (name-at s c) (scope-at s scope n) i n (scope-many s scope n few) found h) in
+        let u = subst (λ (z : Name). number-of z (scope-at s scope n) ≡ none) y (unknown (name-at s c) (scope-at s scope n) i n (scope-most s scope n) found h) in
         became (sym (variable-unknown N (scope-at s scope n) x u)) (lost l)
     variable-lost r o′ l h N (RawData.apply x ds) rest f e = let q = first-tag s raw at 3 _ e in absurd (omega arith)
 
-    pub variable-took : (a w′ : ℕ) (o′ : List ℕ) → i < n → a ≡ 4 * i + 1 → Put o w a w′ o′ → ResolvesData s raw funcs scope n at w o (record { at = at + 2; w = w′ }) o′
+    pub variable-took : (a w′ : ℕ) (o′ : List ℕ) → i < n → a ≡ 4 * i + 1 → Put o w a w′ o′ → ResolvesData s raw names kinds scope n at w o (record { at = at + 2; w = w′ }) o′
     unfolding raw-data
     variable-took a w′ o′ h ea put N (RawData.value v) rest f e = let q = first-tag s raw at 1 _ e in absurd (omega arith)
     variable-took a w′ o′ h ea put N (RawData.variable x) rest f e =
         let p = pair s raw at 2 (name x) rest e in
         let y : name-at s c ≡ x = ap (name-at s) ec ∙ name-of-cell s (getD raw (at + 1) 0) x (p .token-cell) in
-        let u = subst (λ (z : Name). number-of z (scope-at s scope n) ≡ some i) y (known (name-at s c) (scope-at s scope n) i n (scope-many s scope n few) found h) in
+        let u = subst (λ (z : Name). number-of z (scope-at s scope n) ≡ some i) y (known (name-at s c) (scope-at s scope n) i n (scope-most s scope n) found h) in
         became (ap (λ (j : ℕ). some (j ∷ [])) ea ∙ sym (variable-known N (scope-at s scope n) x i u)) (took (p .inside) (p .behind) (writes-cell put))
     variable-took a w′ o′ h ea put N (RawData.apply x ds) rest f e = let q = first-tag s raw at 3 _ e in absurd (omega arith)
 
   -- ---- a function
-  module _ (k : getD raw at 0 ≡ 3) (c i : ℕ) (ec : c ≡ getD raw (at + 1) 0) (found : i ≡ or-count (length funcs) (number-of (name-at s c) (names-at s raw funcs (length funcs)))) where
-    pub apply-lost : (r : Step) (o′ : List ℕ) → length raw < r .at → length funcs ≤ i → ResolvesData s raw funcs scope n at w o r o′
+  module _ (k : getD raw at 0 ≡ 3) (c i : ℕ) (ec : c ≡ getD raw (at + 1) 0) (found : i ≡ or-count (kinds .funcs) (number-of (name-at s c) (funcs-in s names kinds))) where
+    pub apply-lost : (r : Step) (o′ : List ℕ) → length raw < r .at → kinds .funcs ≤ i → ResolvesData s raw names kinds scope n at w o r o′
     unfolding raw-data
     apply-lost r o′ l h N (RawData.value v) rest f e = let q = first-tag s raw at 1 _ e in absurd (omega arith)
     apply-lost r o′ l h N (RawData.variable x) rest f e = let q = first-tag s raw at 2 _ e in absurd (omega arith)
     apply-lost r o′ l h N (RawData.apply x ds) rest f e =
         let p = pair s raw at 3 (name x) _ e in
         let y : name-at s c ≡ x = ap (name-at s) ec ∙ name-of-cell s (getD raw (at + 1) 0) x (p .token-cell) in
-        let u = unknown (name-at s c) (names-at s raw funcs (length funcs)) i (length funcs) (names-many s raw funcs) found h in
+        let u = unknown (name-at s c) (funcs-in s names kinds) i (kinds .funcs) (funcs-most s names kinds) found h in
         became (sym (apply-unknown N (scope-at s scope n) x ds (cc))) (lost l)
 
-    pub apply-took : (a w₁ w₂ w₃ b : ℕ) (l : Run) (o₁ o₂ o₃ o′ : List ℕ) → i < length funcs → a ≡ 4 * i + 2 → Put o w a w₁ o₁ → Put o₁ w₁ 0 w₂ o₂
-        → ResolvesDatas s raw funcs scope n (at + 2) w₂ o₂ l o₃ → (l .count < cell-limit → b ≡ l .count) → Put o₃ w₁ b w₃ o′
-        → ResolvesData s raw funcs scope n at w o (record { at = l .at; w = l .w }) o′
+    pub apply-took : (a w₁ w₂ w₃ b : ℕ) (l : Run) (o₁ o₂ o₃ o′ : List ℕ) → i < kinds .funcs → a ≡ 4 * i + 2 → Put o w a w₁ o₁ → Put o₁ w₁ 0 w₂ o₂
+        → ResolvesDatas s raw names kinds scope n (at + 2) w₂ o₂ l o₃ → (l .count < cell-limit → b ≡ l .count) → Put o₃ w₁ b w₃ o′
+        → ResolvesData s raw names kinds scope n at w o (record { at = l .at; w = l .w }) o′
     unfolding raw-data
     apply-took a w₁ w₂ w₃ b l o₁ o₂ o₃ o′ h ea put₁ put₂ list short put₃ N (RawData.value v) rest f e = let q = first-tag s raw at 1 _ e in absurd (omega arith)
     apply-took a w₁ w₂ w₃ b l o₁ o₂ o₃ o′ h ea put₁ put₂ list short put₃ N (RawData.variable x) rest f e = let q = first-tag s raw at 2 _ e in absurd (omega arith)
     apply-took a w₁ w₂ w₃ b l o₁ o₂ o₃ o′ h ea put₁ put₂ list short put₃ N (RawData.apply x ds) rest f e =
         let p = pair s raw at 3 (name x) (raw-datas ds ++ rest) e in
         let y : name-at s c ≡ x = ap (name-at s) ec ∙ name-of-cell s (getD raw (at + 1) 0) x (p .token-cell) in
-        let u = known (name-at s c) (names-at s raw funcs (length funcs)) i (length funcs) (names-many s raw funcs) found h in
+        let u = known (name-at s c) (funcs-in s names kinds) i (kinds .funcs) (funcs-most s names kinds) found h in
         let d = list N ds rest f (p .behind) in
         became (sym (apply-known N (scope-at s scope n) x ds i (cc))) (filled ds (datas-cells N (scope-at s scope n) ds) rest (d .0) (λ z. short (d .1 z .1) ∙ d .1 z .0))
       where
@@ -103,7 +106,7 @@ module _ (s raw funcs scope : List ℕ) (n at w : ℕ) (o : List ℕ) where
             (took z d (writes-then (writes-cell put₁) (writes-instead (writes-then (writes-cell put₂) ws) put₃)))
 
   -- ---- no data
-  pub other-lost : (r : Step) (o′ : List ℕ) → (getD raw at 0 ≡ 1 → ⊥) → (getD raw at 0 ≡ 2 → ⊥) → (getD raw at 0 ≡ 3 → ⊥) → ResolvesData s raw funcs scope n at w o r o′
+  pub other-lost : (r : Step) (o′ : List ℕ) → (getD raw at 0 ≡ 1 → ⊥) → (getD raw at 0 ≡ 2 → ⊥) → (getD raw at 0 ≡ 3 → ⊥) → ResolvesData s raw names kinds scope n at w o r o′
   unfolding raw-data
   other-lost r o′ a b c N (RawData.value v) rest f e = absurd (a (first-tag s raw at 1 _ e))
   other-lost r o′ a b c N (RawData.variable x) rest f e = absurd (b (first-tag s raw at 2 _ e))
@@ -115,16 +118,16 @@ pub data Left (raw : List ℕ) (ys rest : List Symbol) (N : Names) (σ : List Na
   going : (es : RawDatas) (e : List ℕ) → drop p ys ≡ raw-datas es ++ rest → datas-cells N σ ds ≡ some e ⊕ datas-cells N σ es → count-of ds ≡ count + count-of es → Writes e w o v o′
       → Left raw ys rest N σ ds w o p v count o′
 
-module _ (s raw funcs scope : List ℕ) (n at w : ℕ) (o : List ℕ) where
+module _ (s raw names : List ℕ) (kinds : Kinds) (scope : List ℕ) (n at w : ℕ) (o : List ℕ) where
   abbrev pub DatasLeft : (p v count : ℕ) → List ℕ → Type 0
-  DatasLeft p v count o′ = (N : Names) (ds : RawDatas) (rest : List Symbol) → N .funcs ≡ names-at s raw funcs (length funcs) → drop at (symbols s raw) ≡ raw-datas ds ++ rest
+  DatasLeft p v count o′ = (N : Names) (ds : RawDatas) (rest : List Symbol) → N .funcs ≡ funcs-in s names kinds → drop at (symbols s raw) ≡ raw-datas ds ++ rest
       → Left raw (symbols s raw) rest N (scope-at s scope n) ds w o p v count o′
 
   pub list-start : DatasLeft at w 0 o
   list-start N ds rest f e = going ds [] e (sym (then-nothing (datas-cells N (scope-at s scope n) ds))) (omega arith) writes-nothing
 
   module _ (p v count : ℕ) (o₁ : List ℕ) (left : DatasLeft p v count o₁) where
-    pub list-step : getD raw p 0 ≡ 5 → (r : Step) (o₂ : List ℕ) → ResolvesData s raw funcs scope n (p + 1) v o₁ r o₂ → DatasLeft (r .at) (r .w) (count + 1) o₂
+    pub list-step : getD raw p 0 ≡ 5 → (r : Step) (o₂ : List ℕ) → ResolvesData s raw names kinds scope n (p + 1) v o₁ r o₂ → DatasLeft (r .at) (r .w) (count + 1) o₂
     unfolding raw-data count-of
     list-step k r o₂ term N ds rest f e = by (left N ds rest f e)
       where
@@ -142,7 +145,7 @@ module _ (s raw funcs scope : List ℕ) (n at w : ℕ) (o : List ℕ) where
         by (going (RawDatas.more d es) g dr q m ws) =
             on es g (data-cells N σ d) (q ∙ ap (λ x. some g ⊕ x) (datas-more N σ d es)) m ws (term N d (raw-datas es ++ rest) f (next s raw p (tag 5) _ dr .behind ∙ append-assoc (raw-data d) (raw-datas es) rest))
 
-    pub list-lost : (getD raw p 0 ≡ 5 → ⊥) → (getD raw p 0 ≡ 4 → ⊥) → (r : Run) → length raw < r .at → ResolvesDatas s raw funcs scope n at w o r o₁
+    pub list-lost : (getD raw p 0 ≡ 5 → ⊥) → (getD raw p 0 ≡ 4 → ⊥) → (r : Run) → length raw < r .at → ResolvesDatas s raw names kinds scope n at w o r o₁
     unfolding raw-data
     list-lost k₁ k₂ r z N ds rest f e = (by (left N ds rest f e), λ y. absurd (omega arith))
       where
@@ -154,8 +157,8 @@ module _ (s raw funcs scope : List ℕ) (n at w : ℕ) (o : List ℕ) where
         by (going (RawDatas.one d) g dr q m ws) = absurd (k₂ (first-tag s raw p 4 _ dr))
         by (going (RawDatas.more d es) g dr q m ws) = absurd (k₁ (first-tag s raw p 5 _ dr))
 
-    pub list-took : getD raw p 0 ≡ 4 → count + 1 < cell-limit → (r : Step) (o₂ : List ℕ) → ResolvesData s raw funcs scope n (p + 1) v o₁ r o₂
-        → ResolvesDatas s raw funcs scope n at w o (record { at = r .at; w = r .w; count = count + 1 }) o₂
+    pub list-took : getD raw p 0 ≡ 4 → count + 1 < cell-limit → (r : Step) (o₂ : List ℕ) → ResolvesData s raw names kinds scope n (p + 1) v o₁ r o₂
+        → ResolvesDatas s raw names kinds scope n at w o (record { at = r .at; w = r .w; count = count + 1 }) o₂
     unfolding raw-data count-of
     list-took k few r o₂ term N ds rest f e = by (left N ds rest f e)
       where

@@ -15,7 +15,9 @@ use Rattle.pcrl.specs.Sheet.{Data, Proc}
 use Rattle.pcrl.specs.Names.{Names, number-of, resolve-given, resolve-init}
 use Rattle.parser.specs.Cells.{Symbol, tag, init-tag, enc-call, enc-init}
 use Rattle.nodes.specs.Layout.{enc-datas, enc}
-use Rattle.names.specs.NameCells.{or-count, name-at, names-at, scope-at}
+use Rattle.names.specs.NameCells.{or-count, name-at, scope-at}
+use Rattle.names.specs.NameKinds.{procs-in}
+use Rattle.names.specs.declared.Kinds.{Kinds}
 use Rattle.names.specs.Standing.{symbols}
 use Rattle.names.proofs.Symbols.{name-of-cell}
 use Rattle.resolver.specs.declared.Step.{Step}
@@ -24,7 +26,7 @@ use Rattle.resolver.specs.Raw.{choice, enc-term, resolve-term, term-dept
 use Rattle.resolver.specs.Writing.{Writes}
 use Rattle.resolver.specs.Resolving.{Outcome, lost, took, given-cells, term-cells, ResolvesGiven, ResolvesTerm, Answers, ResolvesRight, called, ResolvesInit}
 use Rattle.resolver.proofs.Symbols.{next, pair}
-use Rattle.resolver.proofs.Lookup.{known, unknown, names-many}
+use Rattle.resolver.proofs.Lookup.{known, unknown, procs-most}
 
 -- the answer by the place
 answered : (raw : List ℕ) (ys rest : List Symbol) (w : ℕ) (o : List ℕ) (a : Step) (o′ : List ℕ) (p : Option Proc) → Outcome raw ys rest w o (a .at) (a .w) o′ (_>>=_ p (λ q. some (enc false q)))
@@ -42,13 +44,13 @@ answered raw ys rest w o a o′ (some p) h = by h refl
     by (lost z) q = let l : _≡_ {A = ℕ} 0 1 = cc in absurd (omega arith)
     by (took {e} z d ws) q = (le-leb (a .at) (length raw) z, d, subst (λ (l : List ℕ). Writes l w o (a .w) o′) (Option·some-injective e (enc false p) q) ws)
 
-pub right-answered : (s raw sorts funcs acts procs scope : List ℕ) (n at w : ℕ) (o : List ℕ) (a : Step) (o′ : List ℕ) → ResolvesTerm s raw sorts funcs acts procs scope n at false w o a o′
-    → ResolvesRight s raw sorts funcs acts procs scope n at w o (record { ok = leb (a .at) (length raw); next = a .at; w = a .w }) o′
+pub right-answered : (s raw names : List ℕ) (kinds : Kinds) (scope : List ℕ) (n at w : ℕ) (o : List ℕ) (a : Step) (o′ : List ℕ) → ResolvesTerm s raw names kinds scope n at false w o a o′
+    → ResolvesRight s raw names kinds scope n at w o (record { ok = leb (a .at) (length raw); next = a .at; w = a .w }) o′
 unfolding enc-term term-depth term-cells resolve-term
-right-answered s raw sorts funcs acts procs scope n at w o a o′ f N t rest dec e d = answered raw (symbols s raw) rest w o a o′ _ (f N (choice t) rest dec e d)
+right-answered s raw names kinds scope n at w o a o′ f N t rest dec e d = answered raw (symbols s raw) rest w o a o′ _ (f N (choice t) rest dec e d)
 
-module _ (s raw funcs procs : List ℕ) (at w : ℕ) (o : List ℕ) (c k : ℕ) (ec : c ≡ getD raw (at + 2) 0)
-    (found : k ≡ or-count (length procs) (number-of (name-at s c) (names-at s raw procs (length procs)))) where
+module _ (s raw names : List ℕ) (kinds : Kinds) (at w : ℕ) (o : List ℕ) (c k : ℕ) (ec : c ≡ getD raw (at + 2) 0)
+    (found : k ≡ or-count (kinds .procs) (number-of (name-at s c) (procs-in s names kinds))) where
   -- the name behind init's tag
   init-name : (N : Names) (l : InitLine) (rest : List Symbol) → drop at (symbols s raw) ≡ enc-init l ++ rest → name-at s c ≡ l .name
   unfolding enc-init enc-call
@@ -62,21 +64,21 @@ module _ (s raw funcs procs : List ℕ) (at w : ℕ) (o : List ℕ) (c k : ℕ) 
           let q : at + 2 ≡ at + 1 + 1 = omega arith in
           ap (λ i. name-at s (getD raw i 0)) q ∙ name-of-cell s (getD raw (at + 1 + 1) 0) (l .name) (pair s raw (at + 1) 15 (name (l .name)) _ d .token-cell)
 
-  pub init-unknown : length procs ≤ k → (r : Resolved) (o′ : List ℕ) → r .ok ≡ false → ResolvesInit s raw funcs procs at w o r o′
+  pub init-unknown : kinds .procs ≤ k → (r : Resolved) (o′ : List ℕ) → r .ok ≡ false → ResolvesInit s raw names kinds at w o r o′
   unfolding resolve-init Answers
   init-unknown h r o′ z N l rest f p e =
-      let u = unknown (name-at s c) (names-at s raw procs (length procs)) k (length procs) (names-many s raw procs) found h in
+      let u = unknown (name-at s c) (procs-in s names kinds) k (kinds .procs) (procs-most s names kinds) found h in
       let y = init-name N l rest e in
-      let v : number-of (l .name) (N .procs) ≡ none = ap (number-of (l .name)) p ∙ ap (λ (x : Name). number-of x (names-at s raw procs (length procs))) (sym y) ∙ u in
+      let v : number-of (l .name) (N .procs) ≡ none = ap (number-of (l .name)) p ∙ ap (λ (x : Name). number-of x (procs-in s names kinds)) (sym y) ∙ u in
       rw v z
 
-  pub init-answered : k < length procs → (number : ℕ) → number ≡ k → (scope : List ℕ) (a : Step) (o′ : List ℕ) → ResolvesGiven s raw funcs scope 0 (at + 1) 8 number w o a o′
-      → ResolvesInit s raw funcs procs at w o (record { ok = leb (a .at) (length raw); next = a .at; w = a .w }) o′
+  pub init-answered : k < kinds .procs → (number : ℕ) → number ≡ k → (scope : List ℕ) (a : Step) (o′ : List ℕ) → ResolvesGiven s raw names kinds scope 0 (at + 1) 8 number w o a o′
+      → ResolvesInit s raw names kinds at w o (record { ok = leb (a .at) (length raw); next = a .at; w = a .w }) o′
   unfolding resolve-init enc-init given-cells scope-at enc
   init-answered h number en scope a o′ g N l rest f p e =
-      let u = known (name-at s c) (names-at s raw procs (length procs)) k (length procs) (names-many s raw procs) found h in
+      let u = known (name-at s c) (procs-in s names kinds) k (kinds .procs) (procs-most s names kinds) found h in
       let y = init-name N l rest e in
-      let v : number-of (l .name) (N .procs) ≡ some k = ap (number-of (l .name)) p ∙ ap (λ (x : Name). number-of x (names-at s raw procs (length procs))) (sym y) ∙ u in
+      let v : number-of (l .name) (N .procs) ≡ some k = ap (number-of (l .name)) p ∙ ap (λ (x : Name). number-of x (procs-in s names kinds)) (sym y) ∙ u in
       rw v (by (resolve-given N [] (l .data-given)) (g N (l .name) (l .data-given) rest f (next s raw at (tag init-tag) (enc-call (l .name) (l .data-given) ++ rest) e .behind)))
     where
       same : (q : Option (List Data)) → (_>>=_ q (λ es. some (8 ∷ number ∷ length es ∷ enc-datas es))) ≡ (_>>=_ (called (_>>=_ q (λ ds. some (k, ds)))) (λ t. some (enc false t)))

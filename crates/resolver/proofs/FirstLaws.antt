@@ -8,6 +8,7 @@ use native.Mathlib.Omega.{arith}
 use lib.ListN.{length, drop}
 use Rattle.parser.specs.Cells.{Symbol}
 use Rattle.names.specs.NameCells.{scope-at}
+use Rattle.names.specs.declared.Kinds.{Kinds}
 use Rattle.names.specs.Standing.{symbols}
 use Rattle.resolver.specs.declared.Step.{Step}
 use Rattle.resolver.specs.declared.Fork.{Fork}
@@ -18,8 +19,8 @@ use Rattle.resolver.proofs.Writing.{writes-then}
 use Rattle.resolver.proofs.DataCells.{then-last, none-before, none-behind, three-assoc}
 use Rattle.resolver.proofs.DataLaws.{became}
 
-module _ (s raw sorts funcs acts procs scope : List ℕ) (n at : ℕ) (after : Bool) (w : ℕ) (o : List ℕ) (f : Fork) (o₁ : List ℕ) (forks : Forks s raw funcs scope n at after w o f o₁)
-    (a : Step) (o₂ : List ℕ) (resolves : ResolvesTerm s raw sorts funcs acts procs scope n (at + 1) (f .left) (f .w) o₁ a o₂) (ahead : at < a .at)
+module _ (s raw names : List ℕ) (kinds : Kinds) (scope : List ℕ) (n at : ℕ) (after : Bool) (w : ℕ) (o : List ℕ) (f : Fork) (o₁ : List ℕ) (forks : Forks s raw names kinds scope n at after w o f o₁)
+    (a : Step) (o₂ : List ℕ) (resolves : ResolvesTerm s raw names kinds scope n (at + 1) (f .left) (f .w) o₁ a o₂) (ahead : at < a .at)
     (r : Step) (further : r .at ≡ max (a .at) (f .at)) (same : a .w ≡ r .w) where
   -- the head's cells and then the first part's
   joined : (between l : List Symbol) (H F : Option (List ℕ)) → Outcome raw (symbols s raw) between (f .w) o₁ (a .at) (a .w) o₂ F
@@ -32,7 +33,7 @@ module _ (s raw sorts funcs acts procs scope : List ℕ) (n at : ℕ) (after : B
       on H (lost z) = became (sym (none-before (some j))) (lost z)
       on H (took {e = i} z d ws₁) = became (sym (then-last i j)) (took z d (subst (λ (x : ℕ). Writes (i ++ j) w o x o₂) same (writes-then ws₁ ws)))
 
-  pub first-read : ResolvesFirst s raw sorts funcs acts procs scope n at after w o r o₂
+  pub first-read : ResolvesFirst s raw names kinds scope n at after w o r o₂
   first-read N t rest dec e d k =
       let x = forks N t rest (dec .funcs-are) e k in
       let y = x .first-depth in

@@ -13,6 +13,7 @@ use Rattle.parser.specs.Cells.{Symbol, tag, symbol-of, plus-tag, cond-tag, then
 use Rattle.parser.specs.Cells.{enc-data as raw-data}
 use Rattle.nodes.specs.Layout.{enc-datas, after-mark, one-if, delta-kind, atom-kind, alt-kind, cond-kind, seq-kind, act-number, enc}
 use Rattle.names.specs.NameCells.{scope-at}
+use Rattle.names.specs.declared.Kinds.{Kinds}
 use Rattle.names.specs.Standing.{symbols}
 use Rattle.resolver.specs.declared.Step.{Step}
 use Rattle.resolver.specs.Raw.{Term, choice, conditional, sequence, part, enc-term, resolve-term, sum-depth, term-depth, tokens-of, kids-of, Skips}
@@ -113,7 +114,7 @@ unfolding symbols
 further s raw p p₁ l l₁ h h₁ e e₁ =
     omega (arith, length-map raw (symbol-of s), length-drop p (symbols s raw), length-drop p₁ (symbols s raw), ap length e, ap length e₁, length-append l l₁)
 
-module _ (s raw funcs scope : List ℕ) (n at : ℕ) (after : Bool) (w : ℕ) (o : List ℕ) where
+module _ (s raw names : List ℕ) (kinds : Kinds) (scope : List ℕ) (n at : ℕ) (after : Bool) (w : ℕ) (o : List ℕ) where
   -- the second part stands behind the first
   together : (N : Names) (t first second : Term) (rest : List Symbol) (k : ℕ) (e : List ℕ) (w′ : ℕ) (o′ : List ℕ) (left right : Bool)
       → drop at (symbols s raw) ≡ tag k ∷ ((enc-term first ++ enc-term second) ++ rest) → term-depth first ≤ term-depth t → term-depth second ≤ term-depth t → eqb (getD raw at 0) then-tag ≡ right
@@ -133,7 +134,7 @@ module _ (s raw funcs scope : List ℕ) (n at : ℕ) (after : Bool) (w : ℕ) (o
       }
 
   module _ (w′ : ℕ) (o′ : List ℕ) where
-    pub fork-then : getD raw at 0 ≡ then-tag → Writes (seq-kind ∷ 0 ∷ 0 ∷ []) w o w′ o′ → Forks s raw funcs scope n at after w o (record { at = at; w = w′; left = after }) o′
+    pub fork-then : getD raw at 0 ≡ then-tag → Writes (seq-kind ∷ 0 ∷ 0 ∷ []) w o w′ o′ → Forks s raw names kinds scope n at after w o (record { at = at; w = w′; left = after }) o′
     unfolding enc-term enc-choice term-depth sum-depth
     fork-then k ws N t rest f e hk = let v = seen s raw at t rest e in by t (v .tag-of) (two-parts raw at hk t (v .tag-of) (v .view) (v .cell)) (v .cell) e
       where
@@ -144,7 +145,7 @@ module _ (s raw funcs scope : List ℕ) (n at : ℕ) (after : Bool) (w : ℕ) (o
         by t m (by-cond a c b) q e = absurd (omega arith)
 
     pub fork-plus : getD raw at 0 ≡ plus-tag → (first : ℕ) → first ≡ after-mark * one-if after + alt-kind → Writes (first ∷ 0 ∷ 0 ∷ []) w o w′ o′
-        → Forks s raw funcs scope n at after w o (record { at = at; w = w′; left = false }) o′
+        → Forks s raw names kinds scope n at after w o (record { at = at; w = w′; left = false }) o′
     unfolding enc-term enc-choice term-depth sum-depth
     fork-plus k first ef ws N t rest f e hk = let v = seen s raw at t rest e in by t (v .tag-of) (two-parts raw at hk t (v .tag-of) (v .view) (v .cell)) (v .cell) e
       where
@@ -158,7 +159,7 @@ module _ (s raw funcs scope : List ℕ) (n at : ℕ) (after : Bool) (w : ℕ) (o
 
   pub fork-cond : (getD raw at 0 ≡ then-tag → ⊥) → (getD raw at 0 ≡ plus-tag → ⊥) → (p : ℕ) → Skips raw (at + 1) p
       → (first w₁ : ℕ) (o₁ : List ℕ) → first ≡ after-mark * one-if after + cond-kind → Writes (first ∷ 0 ∷ 1 ∷ []) w o w₁ o₁
-      → (r : Step) (o′ : List ℕ) → ResolvesData s raw funcs scope n p w₁ o₁ r o′ → Forks s raw funcs scope n at after w o (record { at = r .at; w = r .w; left = false }) o′
+      → (r : Step) (o′ : List ℕ) → ResolvesData s raw names kinds scope n p w₁ o₁ r o′ → Forks s raw names kinds scope n at after w o (record { at = r .at; w = r .w; left = false }) o′
   unfolding enc-term enc-choice term-depth sum-depth
   fork-cond n₁ n₂ p skips first w₁ o₁ ef ws r o′ condition N t rest f e hk = let v = seen s raw at t rest e in by t (v .tag-of) (two-parts raw at hk t (v .tag-of) (v .view) (v .cell)) (v .cell) e
     where

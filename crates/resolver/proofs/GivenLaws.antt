@@ -12,6 +12,7 @@ use Rattle.parser.specs.Cells.{enc-datas as raw-datas}
 use Rattle.parser.specs.Reading.{Put}
 use Rattle.nodes.specs.Layout.{cell-limit, enc-datas}
 use Rattle.names.specs.NameCells.{scope-at}
+use Rattle.names.specs.declared.Kinds.{Kinds}
 use Rattle.names.specs.Standing.{symbols}
 use Rattle.resolver.specs.declared.Step.{Step}
 use Rattle.resolver.specs.declared.Run.{Run}
@@ -21,15 +22,15 @@ use Rattle.resolver.proofs.Symbols.{pair, first-tag}
 use Rattle.resolver.proofs.DataCells.{then-last, none-last, given-some}
 use Rattle.resolver.proofs.DataLaws.{became}
 
-module _ (s raw funcs scope : List ℕ) (n at first number w : ℕ) (o : List ℕ) where
-  pub given-lost : (r : Step) (o′ : List ℕ) → (getD raw at 0 ≡ 14 → ⊥) → (getD raw at 0 ≡ 15 → ⊥) → ResolvesGiven s raw funcs scope n at first number w o r o′
+module _ (s raw names : List ℕ) (kinds : Kinds) (scope : List ℕ) (n at first number w : ℕ) (o : List ℕ) where
+  pub given-lost : (r : Step) (o′ : List ℕ) → (getD raw at 0 ≡ 14 → ⊥) → (getD raw at 0 ≡ 15 → ⊥) → ResolvesGiven s raw names kinds scope n at first number w o r o′
   unfolding enc-call
   given-lost r o′ a b N x none rest f e = absurd (a (first-tag s raw at 14 _ e))
   given-lost r o′ a b N x (some ds) rest f e = absurd (b (first-tag s raw at 15 _ e))
 
   module _ (w₁ w₂ w₃ : ℕ) (o₁ o₂ o₃ : List ℕ) (put₁ : Put o w first w₁ o₁) (put₂ : Put o₁ w₁ number w₂ o₂) (put₃ : Put o₂ w₂ 0 w₃ o₃) where
     -- no data
-    pub given-bare : getD raw at 0 ≡ 14 → ResolvesGiven s raw funcs scope n at first number w o (record { at = at + 2; w = w₃ }) o₃
+    pub given-bare : getD raw at 0 ≡ 14 → ResolvesGiven s raw names kinds scope n at first number w o (record { at = at + 2; w = w₃ }) o₃
     unfolding enc-call given-cells resolve-given enc-datas
     given-bare k N x none rest f e =
         let p = pair s raw at 14 (name x) rest e in
@@ -37,8 +38,8 @@ module _ (s raw funcs scope : List ℕ) (n at first number w : ℕ) (o : List �
     given-bare k N x (some ds) rest f e = let q = first-tag s raw at 15 _ e in absurd (omega arith)
 
     -- bracketed data, and their count put where it belongs
-    pub given-took : getD raw at 0 ≡ 15 → (l : Run) (o₄ : List ℕ) (b w₄ : ℕ) (o′ : List ℕ) → ResolvesDatas s raw funcs scope n (at + 2) w₃ o₃ l o₄ → (l .count < cell-limit → b ≡ l .count) → Put o₄ w₂ b w₄ o′
-        → ResolvesGiven s raw funcs scope n at first number w o (record { at = l .at; w = l .w }) o′
+    pub given-took : getD raw at 0 ≡ 15 → (l : Run) (o₄ : List ℕ) (b w₄ : ℕ) (o′ : List ℕ) → ResolvesDatas s raw names kinds scope n (at + 2) w₃ o₃ l o₄ → (l .count < cell-limit → b ≡ l .count) → Put o₄ w₂ b w₄ o′
+        → ResolvesGiven s raw names kinds scope n at first number w o (record { at = l .at; w = l .w }) o′
     unfolding enc-call
     given-took k l o₄ b w₄ o′ list short put₄ N x none rest f e = let q = first-tag s raw at 14 _ e in absurd (omega arith)
     given-took k l o₄ b w₄ o′ list short put₄ N x (some ds) rest f e =

@@ -2,16 +2,19 @@
 use mathlib.Core.Path.{_≡_, refl, sym, ap, _∙_}
 use mathlib.Core.List.{List}
 use mathlib.Core.Option.{Option, none, some}
-use Prim.Native.Nat.{ℕ, _≤_, _<_}
+use Prim.Native.Nat.{ℕ, suc, _≤_, _<_}
 use native.Mathlib.Omega.{arith}
 use lib.ListN.{length, take, length-map}
 use lib.Seq.{length-take-le}
 use Rattle.pcrl.specs.Tree.{Name}
 use Rattle.pcrl.specs.Names.{number-of}
 use Rattle.laws.specs.Numbers.{number-below}
-use Rattle.names.specs.NameCells.{or-count, name-at, names-at, scope-at}
+use Rattle.names.specs.NameCells.{or-count, name-at, scope-at}
+use Rattle.names.specs.NameKinds.{sorts-in, funcs-in, acts-in, procs-in}
+use Rattle.names.specs.declared.Kinds.{Kinds}
+use Rattle.names.proofs.KeyLaws.{scope-most}
 
-module _ (x : Name) (l : List Name) (r m : ℕ) (many : length l ≡ m) (found : r ≡ or-count m (number-of x l)) where
+module _ (x : Name) (l : List Name) (r m : ℕ) (many : length l ≤ m) (found : r ≡ or-count m (number-of x l)) where
   pub known : r < m → number-of x l ≡ some r
   known h = by (number-of x l) found
     where
@@ -26,9 +29,22 @@ module _ (x : Name) (l : List Name) (r m : ℕ) (many : length l ≡ m) (found :
       by none q e = refl
       by (some i) q e = let b = number-below x l i q in absurd (omega arith)
 
-pub names-many : (s raw places : List ℕ) → length (names-at s raw places (length places)) ≡ length places
-unfolding names-at
-names-many s raw places = length-map (take (length places) places) _ ∙ length-take-le (length places) places (omega arith)
+module _ (s names : List ℕ) (kinds : Kinds) where
+  pub sorts-most : length (sorts-in s names kinds) ≤ suc (kinds .sorts)
+  unfolding sorts-in
+  sorts-most = let h = scope-most s names (kinds .sorts) in omega arith
+
+  pub funcs-most : length (funcs-in s names kinds) ≤ kinds .funcs
+  unfolding funcs-in
+  funcs-most = scope-most s _ (kinds .funcs)
+
+  pub acts-most : length (acts-in s names kinds) ≤ kinds .acts
+  unfolding acts-in
+  acts-most = scope-most s _ (kinds .acts)
+
+  pub procs-most : length (procs-in s names kinds) ≤ kinds .procs
+  unfolding procs-in
+  procs-most = scope-most s _ (kinds .procs)
 
 pub scope-many : (s scope : List ℕ) (n : ℕ) → n ≤ length scope → length (scope-at s scope n) ≡ n
 unfolding scope-at

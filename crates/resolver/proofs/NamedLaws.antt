@@ -11,7 +11,9 @@ use Rattle.pcrl.specs.Tree.{Name, RawDatas, Part}
 use Rattle.pcrl.specs.Names.{number-of}
 use Rattle.parser.specs.Cells.{Symbol, enc-call, enc-choice}
 use Rattle.nodes.specs.Layout.{after-mark, one-if, atom-kind, call-kind}
-use Rattle.names.specs.NameCells.{name-at, names-at, scope-at}
+use Rattle.names.specs.NameCells.{name-at, scope-at}
+use Rattle.names.specs.NameKinds.{acts-in, procs-in}
+use Rattle.names.specs.declared.Kinds.{Kinds}
 use Rattle.names.specs.Standing.{symbols}
 use Rattle.names.proofs.Symbols.{name-of-cell}
 use Rattle.resolver.specs.declared.Step.{Step}
@@ -36,7 +38,7 @@ module _ (after : Bool) (o k : Option ℕ) (r : Found) where
   unfolding Naming
   naming-none e f a = subst (λ (x : Option ℕ). Naming after x k r) (sym e) (subst (λ (x : Option ℕ). Naming after none x r) (sym f) a)
 
-module _ (s raw funcs acts procs scope : List ℕ) (n at : ℕ) (after : Bool) (w : ℕ) (o : List ℕ) where
+module _ (s raw names : List ℕ) (kinds : Kinds) (scope : List ℕ) (n at : ℕ) (after : Bool) (w : ℕ) (o : List ℕ) where
   -- the tag is that of a name: the name's cell and what is given to it
   by-name : (P : Term → Type 0) (t : Term) (k : ℕ) (rest : List Symbol) → View t k → getD raw at 0 ≡ k → 0 < tokens-of (getD raw at 0) → (getD raw at 0 ≡ 16 → ⊥)
       → drop at (symbols s raw) ≡ enc-term t ++ rest
@@ -59,28 +61,28 @@ module _ (s raw funcs acts procs scope : List ℕ) (n at : ℕ) (after : Bool) (
   by-name P t k rest (sum v D p) q h h′ e f = absurd (h′ q)
 
   module _ (c : ℕ) (ec : c ≡ getD raw (at + 1) 0) (f : Found)
-      (naming : Naming after (number-of (name-at s c) (names-at s raw acts (length acts))) (number-of (name-at s c) (names-at s raw procs (length procs))) f) where
-    pub part-lost : f .known ≡ false → (r : Step) (o′ : List ℕ) → length raw < r .at → ResolvesNamed s raw funcs acts procs scope n at after w o r o′
+      (naming : Naming after (number-of (name-at s c) (acts-in s names kinds)) (number-of (name-at s c) (procs-in s names kinds)) f) where
+    pub part-lost : f .known ≡ false → (r : Step) (o′ : List ℕ) → length raw < r .at → ResolvesNamed s raw names kinds scope n at after w o r o′
     unfolding Naming
     part-lost unknown r o′ z N t rest fs as′ ps e h h′ =
         let v = seen s raw at t rest e in
         by-name (λ t. Outcome raw (symbols s raw) rest w o (r .at) (r .w) o′ (term-cells N (scope-at s scope n) after t)) t (v .tag-of) rest (v .view) (v .cell) h h′ e
-        (λ x ds q d. go (number-of (name-at s c) (names-at s raw acts (length acts))) (number-of (name-at s c) (names-at s raw procs (length procs))) refl refl naming x ds (ap (name-at s) ec ∙ q))
+        (λ x ds q d. go (number-of (name-at s c) (acts-in s names kinds)) (number-of (name-at s c) (procs-in s names kinds)) refl refl naming x ds (ap (name-at s) ec ∙ q))
       where
-        go : (i k : Option ℕ) → number-of (name-at s c) (names-at s raw acts (length acts)) ≡ i → number-of (name-at s c) (names-at s raw procs (length procs)) ≡ k → Naming after i k f
+        go : (i k : Option ℕ) → number-of (name-at s c) (acts-in s names kinds) ≡ i → number-of (name-at s c) (procs-in s names kinds) ≡ k → Naming after i k f
             → (x : Name) (ds : Option RawDatas) → name-at s c ≡ x → Outcome raw (symbols s raw) rest w o (r .at) (r .w) o′ (term-cells N (scope-at s scope n) after (part (Part.named x ds)))
         go (some i) k p q m x ds y = let b : true ≡ false = sym (m .0) ∙ unknown in let l : _≡_ {A = ℕ} 0 1 = cc in absurd (omega arith)
         go none (some k) p q m x ds y = let b : true ≡ false = sym (m .0) ∙ unknown in let l : _≡_ {A = ℕ} 0 1 = cc in absurd (omega arith)
         go none none p q m x ds y = became (sym (unnamed-cells N (scope-at s scope n) after x ds (cc) (cc))) (lost z)
 
-    pub part-took : f .known ≡ true → (r : Step) (o′ : List ℕ) → ResolvesGiven s raw funcs scope n at (f .first) (f .number) w o r o′ → ResolvesNamed s raw funcs acts procs scope n at after w o r o′
+    pub part-took : f .known ≡ true → (r : Step) (o′ : List ℕ) → ResolvesGiven s raw names kinds scope n at (f .first) (f .number) w o r o′ → ResolvesNamed s raw names kinds scope n at after w o r o′
     unfolding Naming
     part-took is-known r o′ resolves N t rest fs as′ ps e h h′ =
         let v = seen s raw at t rest e in
         by-name (λ t. Outcome raw (symbols s raw) rest w o (r .at) (r .w) o′ (term-cells N (scope-at s scope n) after t)) t (v .tag-of) rest (v .view) (v .cell) h h′ e
-        (λ x ds q d. go (number-of (name-at s c) (names-at s raw acts (length acts))) (number-of (name-at s c) (names-at s raw procs (length procs))) refl refl naming x ds (ap (name-at s) ec ∙ q) (resolves N x ds rest fs d))
+        (λ x ds q d. go (number-of (name-at s c) (acts-in s names kinds)) (number-of (name-at s c) (procs-in s names kinds)) refl refl naming x ds (ap (name-at s) ec ∙ q) (resolves N x ds rest fs d))
       where
-        go : (i k : Option ℕ) → number-of (name-at s c) (names-at s raw acts (length acts)) ≡ i → number-of (name-at s c) (names-at s raw procs (length procs)) ≡ k → Naming after i k f
+        go : (i k : Option ℕ) → number-of (name-at s c) (acts-in s names kinds) ≡ i → number-of (name-at s c) (procs-in s names kinds) ≡ k → Naming after i k f
             → (x : Name) (ds : Option RawDatas) → name-at s c ≡ x
             → Outcome raw (symbols s raw) rest w o (r .at) (r .w) o′ (given-cells N (scope-at s scope n) (f .first) (f .number) ds)
             → Outcome raw (symbols s raw) rest w o (r .at) (r .w) o′ (term-cells N (scope-at s scope n) after (part (Part.named x ds)))

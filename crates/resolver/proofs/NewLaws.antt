@@ -1,149 +1,45 @@
--- A new variable: no search finds its name. The sum that binds it: its node, and the variable in scope.
-use mathlib.Core.Path.{_≡_, refl, sym, ap, _∙_, subst}
+-- A new variable is unlike all declared names. The sum that binds it: its node, and the variable in scope.
+use mathlib.Core.Path.{_≡_, refl, sym, ap, _∙_}
 use mathlib.Core.Bool.{Bool, true, false}
 use mathlib.Core.List.{List, [], _∷_, _++_, map}
-use mathlib.Core.Option.{Option, none, some}
+use mathlib.Core.Option.{none, some}
 use Prim.Native.Nat.{ℕ, suc, _+_, _*_, _≤_, _<_}
 use native.Mathlib.Omega.{arith}
 use native.Mathlib.Numerals.{add-one}
-use native.Mathlib.Decide.{decLt}
-use borrow.Author.Tests.{eq-eqb, ne-eqb}
-use lib.Dec.{eqb}
 use lib.ListN.{length, take, drop, getD, set}
 use lib.Seq.{take-suc-set}
 use Rattle.pcrl.specs.Text.{bytes}
-use Rattle.pcrl.specs.Maybe.{_>>=_}
-use Rattle.pcrl.specs.Tests.{and, or, negated, same?, among}
+use Rattle.pcrl.specs.Tests.{and, negated, among}
 use Rattle.pcrl.specs.Tokens.{name}
 use Rattle.pcrl.specs.Tree.{Name}
 use Rattle.pcrl.specs.Names.{Names, number-of, declared, new-variable}
 use Rattle.parser.specs.Cells.{Symbol, tag, token, sum-tag}
 use Rattle.parser.specs.Reading.{Put}
 use Rattle.nodes.specs.Layout.{after-mark, one-if, sum-kind, variable-tag}
-use Rattle.names.specs.NameCells.{or-count, name-at, names-at, scope-at}
+use Rattle.names.specs.NameCells.{or-count, name-at, scope-at}
+use Rattle.names.specs.NameKinds.{total-of, sorts-in}
+use Rattle.names.specs.declared.Kinds.{Kinds}
 use Rattle.names.specs.Standing.{symbols}
+use Rattle.names.proofs.KindLaws.{kinds-joined}
 use Rattle.names.proofs.Symbols.{name-of-cell}
 use Rattle.resolver.specs.declared.Step.{Step}
 use Rattle.resolver.specs.Writing.{Writes}
-use Rattle.resolver.specs.Resolving.{lost, took, Declared, binder-cells, SaysNew, Binds}
+use Rattle.resolver.specs.Resolving.{lost, took, Declared, binder-cells, Binds}
 use Rattle.resolver.proofs.Writing.{writes-then, writes-cell}
 use Rattle.resolver.proofs.Symbols.{next, pair}
-use Rattle.resolver.proofs.Lookup.{known, unknown, names-many, scope-many}
+use Rattle.resolver.proofs.Lookup.{known, unknown, sorts-most, scope-many}
 use Rattle.resolver.proofs.DataLaws.{became}
 
-abbrev is-some : Option ℕ → Bool
-is-some none = false
-is-some (some i) = true
+-- a variable that may come into scope
+abbrev pub SaysNew : (s names : List ℕ) → Kinds → (scope : List ℕ) (n x : ℕ) → Bool → Type 0
+SaysNew s names kinds scope n x r = (N : Names) → Declared s names kinds N → r ≡ new-variable N (scope-at s scope n) (name-at s x)
 
-some-suc : (o : Option ℕ) → is-some (_>>=_ o (λ i. some (suc i))) ≡ is-some o
-some-suc none = refl
-some-suc (some i) = refl
-
--- a name is among others if it has a number
-among-number : (x : Name) (l : List Name) → among x l ≡ is-some (number-of x l)
-unfolding among number-of
-among-number x [] = refl
-among-number x (y ∷ l) = by (same? x y) (among-number x l)
-  where
-    by : (d : Dec (x ≡ y)) → among x l ≡ is-some (number-of x l)
-        → elim d as (λ (z : Dec (x ≡ y)). Bool) [ yes e ↦ true | no h ↦ among x l ] ≡ is-some (elim d [ yes e ↦ some 0 | no h ↦ _>>=_ (number-of x l) (λ n. some (suc n)) ])
-    by (yes e) h = refl
-    by (no q) h = h ∙ sym (some-suc (number-of x l))
-
-among-append : (x : Name) (l m : List Name) → among x (l ++ m) ≡ or (among x l) (among x m)
-unfolding among
-among-append x [] m = refl
-among-append x (y ∷ l) m = by (same? x y) (among-append x l m)
-  where
-    by : (d : Dec (x ≡ y)) → among x (l ++ m) ≡ or (among x l) (among x m)
-        → elim d as (λ (z : Dec (x ≡ y)). Bool) [ yes e ↦ true | no h ↦ among x (l ++ m) ] ≡ or (elim d as (λ (z : Dec (x ≡ y)). Bool) [ yes e ↦ true | no h ↦ among x l ]) (among x m)
-    by (yes e) h = refl
-    by (no q) h = h
-
--- whether a variable is new, by the five searches
-new-by : (N : Names) (σ : List Name) (v : Name) (a b c d e : Option ℕ) → number-of v (N .sorts) ≡ a → number-of v (N .funcs) ≡ b → number-of v (N .acts) ≡ c → number-of v (N .procs) ≡ d → number-of v σ ≡ e
-    → new-variable N σ v ≡ and (negated (or (is-some a) (or (is-some b) (or (is-some c) (is-some d))))) (negated (is-some e))
+pub says-new : (s names : List ℕ) (kinds : Kinds) (scope : List ℕ) (n x m : ℕ) (r : Bool) → m ≡ total-of kinds
+    → r ≡ and (negated (among (name-at s x) (bytes "Bool" ∷ scope-at s names m))) (negated (among (name-at s x) (scope-at s scope n))) → SaysNew s names kinds scope n x r
 unfolding new-variable declared
-new-by N σ v a b c d e p q r s t =
-    rw (
-      among-append v (N .sorts) (N .funcs ++ (N .acts ++ N .procs)),
-      among-append v (N .funcs) (N .acts ++ N .procs),
-      among-append v (N .acts) (N .procs),
-      among-number v (N .sorts),
-      among-number v (N .funcs),
-      among-number v (N .acts),
-      among-number v (N .procs),
-      among-number v σ,
-      p,
-      q,
-      r,
-      s,
-      t,
-    ) refl
-
-or-true : (b : Bool) → or b true ≡ true
-or-true true = refl
-or-true false = refl
-
-module _ (s raw sorts funcs acts procs scope : List ℕ) (n x : ℕ) where
-  module _ (i : ℕ) (si : i ≡ or-count (suc (length sorts)) (number-of (name-at s x) (bytes "Bool" ∷ names-at s raw sorts (length sorts)))) where
-    pub new-no-sort : i ≤ length sorts → SaysNew s raw sorts funcs acts procs scope n x false
-    new-no-sort h N D =
-        let v = name-at s x in
-        let e = known v (bytes "Bool" ∷ names-at s raw sorts (length sorts)) i (suc (length sorts)) (ap suc (names-many s raw sorts)) si (omega arith) in
-        sym (new-by N (scope-at s scope n) v (some i) _ _ _ _ (ap (number-of v) (D .sorts-are) ∙ e) refl refl refl refl)
-
-    module _ (ni : suc (length sorts) ≤ i) (j : ℕ) (sj : j ≡ or-count (length funcs) (number-of (name-at s x) (names-at s raw funcs (length funcs)))) where
-      no-sort : (N : Names) → Declared s raw sorts funcs acts procs N → number-of (name-at s x) (N .sorts) ≡ none
-      no-sort N D =
-          ap (number-of (name-at s x)) (D .sorts-are) ∙ unknown (name-at s x) (bytes "Bool" ∷ names-at s raw sorts (length sorts)) i (suc (length sorts)) (ap suc (names-many s raw sorts)) si ni
-
-      pub new-no-func : j < length funcs → SaysNew s raw sorts funcs acts procs scope n x false
-      new-no-func h N D =
-          let v = name-at s x in
-          let e = known v (names-at s raw funcs (length funcs)) j (length funcs) (names-many s raw funcs) sj h in
-          sym (new-by N (scope-at s scope n) v none (some j) _ _ _ (no-sort N D) (ap (number-of v) (D .funcs-are) ∙ e) refl refl refl)
-
-      module _ (nj : length funcs ≤ j) (k : ℕ) (sk : k ≡ or-count (length acts) (number-of (name-at s x) (names-at s raw acts (length acts)))) where
-        no-func : (N : Names) → Declared s raw sorts funcs acts procs N → number-of (name-at s x) (N .funcs) ≡ none
-        no-func N D = ap (number-of (name-at s x)) (D .funcs-are) ∙ unknown (name-at s x) (names-at s raw funcs (length funcs)) j (length funcs) (names-many s raw funcs) sj nj
-
-        pub new-no-act : k < length acts → SaysNew s raw sorts funcs acts procs scope n x false
-        new-no-act h N D =
-            let v = name-at s x in
-            let e = known v (names-at s raw acts (length acts)) k (length acts) (names-many s raw acts) sk h in
-            sym (new-by N (scope-at s scope n) v none none (some k) _ _ (no-sort N D) (no-func N D) (ap (number-of v) (D .acts-are) ∙ e) refl refl)
-
-        module _ (nk : length acts ≤ k) (l : ℕ) (sl : l ≡ or-count (length procs) (number-of (name-at s x) (names-at s raw procs (length procs)))) where
-          no-act : (N : Names) → Declared s raw sorts funcs acts procs N → number-of (name-at s x) (N .acts) ≡ none
-          no-act N D = ap (number-of (name-at s x)) (D .acts-are) ∙ unknown (name-at s x) (names-at s raw acts (length acts)) k (length acts) (names-many s raw acts) sk nk
-
-          pub new-no-proc : l < length procs → SaysNew s raw sorts funcs acts procs scope n x false
-          new-no-proc h N D =
-              let v = name-at s x in
-              let e = known v (names-at s raw procs (length procs)) l (length procs) (names-many s raw procs) sl h in
-              sym (new-by N (scope-at s scope n) v none none none (some l) _ (no-sort N D) (no-func N D) (no-act N D) (ap (number-of v) (D .procs-are) ∙ e) refl)
-
-          module _ (nl : length procs ≤ l) (few : n ≤ length scope) (m : ℕ) (sm : m ≡ or-count n (number-of (name-at s x) (scope-at s scope n))) where
-            no-proc : (N : Names) → Declared s raw sorts funcs acts procs N → number-of (name-at s x) (N .procs) ≡ none
-            no-proc N D = ap (number-of (name-at s x)) (D .procs-are) ∙ unknown (name-at s x) (names-at s raw procs (length procs)) l (length procs) (names-many s raw procs) sl nl
-
-            pub new-no-variable : m < n → SaysNew s raw sorts funcs acts procs scope n x false
-            new-no-variable h N D =
-                sym (new-by N (scope-at s scope n) (name-at s x) none none none none (some m) (no-sort N D) (no-func N D) (no-act N D) (no-proc N D)
-                (known (name-at s x) (scope-at s scope n) m n (scope-many s scope n few) sm h))
-
-            pub new-all : n ≤ m → SaysNew s raw sorts funcs acts procs scope n x true
-            new-all h N D =
-                sym (new-by N (scope-at s scope n) (name-at s x) none none none none none (no-sort N D) (no-func N D) (no-act N D) (no-proc N D)
-                (unknown (name-at s x) (scope-at s scope n) m n (scope-many s scope n few) sm h))
-
-            pub new-last : m ≤ n → SaysNew s raw sorts funcs acts procs scope n x (eqb m n)
-            new-last h = by (decLt m n)
-              where
-                by : Dec (m < n) → SaysNew s raw sorts funcs acts procs scope n x (eqb m n)
-                by (yes l) = subst (λ (b : Bool). SaysNew s raw sorts funcs acts procs scope n x b) (sym (ne-eqb m n (λ e. omega arith))) (new-no-variable l)
-                by (no l) = subst (λ (b : Bool). SaysNew s raw sorts funcs acts procs scope n x b) (sym (eq-eqb m n (omega arith))) (new-all (omega arith))
+says-new s names kinds scope n x m r em e N D =
+    let all : N .sorts ++ (N .funcs ++ (N .acts ++ N .procs)) ≡ bytes "Bool" ∷ scope-at s names m = rw (D .sorts-are, D .funcs-are, D .acts-are, D .procs-are, em) (kinds-joined s names kinds) in
+    e ∙ ap (λ (l : List Name). and (negated (among (name-at s x) l)) (negated (among (name-at s x) (scope-at s scope n)))) (sym all)
 
 -- ---- the sum that binds the variable
 pub pushed : (s scope : List ℕ) (n c : ℕ) → n < length scope → scope-at s (set scope n c) (n + 1) ≡ scope-at s scope n ++ (name-at s c ∷ [])
@@ -174,36 +70,36 @@ two-names s raw at x D rest e =
       behind = ap (λ i. drop i (symbols s raw)) q ∙ n .behind;
     }
 
-module _ (s raw sorts funcs acts procs scope : List ℕ) (n at : ℕ) (after : Bool) (w : ℕ) (o : List ℕ) (few : n ≤ length scope) where
-  pub binder-full : (r : Step) (o′ : List ℕ) → length scope ≤ n → Binds s raw sorts funcs acts procs scope n at after w o r o′
+module _ (s raw names : List ℕ) (kinds : Kinds) (scope : List ℕ) (n at : ℕ) (after : Bool) (w : ℕ) (o : List ℕ) (few : n ≤ length scope) where
+  pub binder-full : (r : Step) (o′ : List ℕ) → length scope ≤ n → Binds s raw names kinds scope n at after w o r o′
   binder-full r o′ h N x D rest dec e l = absurd (omega arith)
 
-  module _ (c : ℕ) (ec : c ≡ getD raw (at + 1) 0) (new : Bool) (says : SaysNew s raw sorts funcs acts procs scope n c new) where
-    pub binder-old : new ≡ false → (r : Step) (o′ : List ℕ) → length raw < r .at → Binds s raw sorts funcs acts procs scope n at after w o r o′
+  module _ (c : ℕ) (ec : c ≡ getD raw (at + 1) 0) (new : Bool) (says : SaysNew s names kinds scope n c new) where
+    pub binder-old : new ≡ false → (r : Step) (o′ : List ℕ) → length raw < r .at → Binds s raw names kinds scope n at after w o r o′
     unfolding binder-cells
     binder-old b r o′ z N x D rest dec e l =
         let t = two-names s raw at x D rest e in
         let q : new-variable N (scope-at s scope n) x ≡ false = ap (new-variable N (scope-at s scope n)) (sym (ap (name-at s) ec ∙ t .variable)) ∙ sym (says N dec) ∙ b in
         became (sym (rw q refl)) (lost z)
 
-    module _ (b : new ≡ true) (c₂ : ℕ) (ec₂ : c₂ ≡ getD raw (at + 2) 0) (i : ℕ) (si : i ≡ or-count (suc (length sorts)) (number-of (name-at s c₂) (bytes "Bool" ∷ names-at s raw sorts (length sorts)))) where
-      pub binder-no-sort : length sorts < i → (r : Step) (o′ : List ℕ) → length raw < r .at → Binds s raw sorts funcs acts procs scope n at after w o r o′
+    module _ (b : new ≡ true) (c₂ : ℕ) (ec₂ : c₂ ≡ getD raw (at + 2) 0) (i : ℕ) (si : i ≡ or-count (suc (kinds .sorts)) (number-of (name-at s c₂) (sorts-in s names kinds))) where
+      pub binder-no-sort : kinds .sorts < i → (r : Step) (o′ : List ℕ) → length raw < r .at → Binds s raw names kinds scope n at after w o r o′
       unfolding binder-cells
       binder-no-sort h r o′ z N x D rest dec e l =
           let t = two-names s raw at x D rest e in
           let q : new-variable N (scope-at s scope n) x ≡ true = ap (new-variable N (scope-at s scope n)) (sym (ap (name-at s) ec ∙ t .variable)) ∙ sym (says N dec) ∙ b in
-          let u = unknown (name-at s c₂) (bytes "Bool" ∷ names-at s raw sorts (length sorts)) i (suc (length sorts)) (ap suc (names-many s raw sorts)) si (omega arith) in
-          let f : number-of D (N .sorts) ≡ none = ap (number-of D) (dec .sorts-are) ∙ ap (λ (y : Name). number-of y (bytes "Bool" ∷ names-at s raw sorts (length sorts))) (sym (ap (name-at s) ec₂ ∙ t .sort)) ∙ u in
+          let u = unknown (name-at s c₂) (sorts-in s names kinds) i (suc (kinds .sorts)) (sorts-most s names kinds) si (omega arith) in
+          let f : number-of D (N .sorts) ≡ none = ap (number-of D) (dec .sorts-are) ∙ ap (λ (y : Name). number-of y (sorts-in s names kinds)) (sym (ap (name-at s) ec₂ ∙ t .sort)) ∙ u in
           became (sym (rw (q, f) refl)) (lost z)
 
-      pub binder-took : i ≤ length sorts → (first d v v₁ w′ : ℕ) (o₁ o′ : List ℕ) → first ≡ after-mark * one-if after + sum-kind → d ≡ i → v ≡ 4 * n + 1 → Writes (first ∷ d ∷ 1 ∷ []) w o v₁ o₁ → Put o₁ v₁ v w′ o′
-          → Binds s raw sorts funcs acts procs scope n at after w o (record { at = at + 3; w = w′ }) o′
+      pub binder-took : i ≤ kinds .sorts → (first d v v₁ w′ : ℕ) (o₁ o′ : List ℕ) → first ≡ after-mark * one-if after + sum-kind → d ≡ i → v ≡ 4 * n + 1 → Writes (first ∷ d ∷ 1 ∷ []) w o v₁ o₁ → Put o₁ v₁ v w′ o′
+          → Binds s raw names kinds scope n at after w o (record { at = at + 3; w = w′ }) o′
       unfolding binder-cells
       binder-took h first d v v₁ w′ o₁ o′ ef ed ev ws put N x D rest dec e l =
           let t = two-names s raw at x D rest e in
           let q : new-variable N (scope-at s scope n) x ≡ true = ap (new-variable N (scope-at s scope n)) (sym (ap (name-at s) ec ∙ t .variable)) ∙ sym (says N dec) ∙ b in
-          let u = known (name-at s c₂) (bytes "Bool" ∷ names-at s raw sorts (length sorts)) i (suc (length sorts)) (ap suc (names-many s raw sorts)) si (omega arith) in
-          let f : number-of D (N .sorts) ≡ some i = ap (number-of D) (dec .sorts-are) ∙ ap (λ (y : Name). number-of y (bytes "Bool" ∷ names-at s raw sorts (length sorts))) (sym (ap (name-at s) ec₂ ∙ t .sort)) ∙ u in
+          let u = known (name-at s c₂) (sorts-in s names kinds) i (suc (kinds .sorts)) (sorts-most s names kinds) si (omega arith) in
+          let f : number-of D (N .sorts) ≡ some i = ap (number-of D) (dec .sorts-are) ∙ ap (λ (y : Name). number-of y (sorts-in s names kinds)) (sym (ap (name-at s) ec₂ ∙ t .sort)) ∙ u in
           let g : v ≡ 4 * length (scope-at s scope n) + variable-tag = let y = scope-many s scope n few in omega arith in
           became (ap (λ (y : ℕ). some (y ∷ d ∷ 1 ∷ v ∷ [])) ef ∙ ap (λ (y : ℕ). some ((after-mark * one-if after + sum-kind) ∷ y ∷ 1 ∷ v ∷ [])) ed
           ∙ ap (λ (y : ℕ). some ((after-mark * one-if after + sum-kind) ∷ i ∷ 1 ∷ y ∷ [])) g ∙ sym (rw (q, f) refl))

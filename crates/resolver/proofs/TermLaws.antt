@@ -12,6 +12,7 @@ use Rattle.pcrl.specs.Tree.{Name, Choice, Part}
 use Rattle.pcrl.specs.Names.{Names}
 use Rattle.parser.specs.Cells.{Symbol, tag, then-tag, sum-tag, enc-choice}
 use Rattle.names.specs.NameCells.{name-at, scope-at}
+use Rattle.names.specs.declared.Kinds.{Kinds}
 use Rattle.names.specs.Standing.{symbols}
 use Rattle.resolver.specs.declared.Step.{Step}
 use Rattle.resolver.specs.Raw.{Term, choice, part, enc-term, sum-depth, term-depth, tokens-of, kids-of}
@@ -35,14 +36,14 @@ same-scope : (s scope scope′ : List ℕ) (m : ℕ) → take m scope′ ≡ tak
 unfolding scope-at
 same-scope s scope scope′ m e = ap (map (name-at s)) e
 
-module _ (s raw sorts funcs acts procs scope : List ℕ) (n at : ℕ) (after : Bool) (w : ℕ) (o : List ℕ) where
+module _ (s raw names : List ℕ) (kinds : Kinds) (scope : List ℕ) (n at : ℕ) (after : Bool) (w : ℕ) (o : List ℕ) where
   abbrev pub TermLeft : (p m : ℕ) → Bool → ℕ → List ℕ → List ℕ → Type 0
-  TermLeft p m r v scope′ o′ = (N : Names) (t : Term) (rest : List Symbol) → Declared s raw sorts funcs acts procs N
+  TermLeft p m r v scope′ o′ = (N : Names) (t : Term) (rest : List Symbol) → Declared s names kinds N
       → drop at (symbols s raw) ≡ enc-term t ++ rest → n + term-depth t ≤ length scope
       → Going s raw N (length scope) (term-cells N (scope-at s scope n) after t) rest w o p m r v scope′ o′
 
   abbrev Resolves : Step → List ℕ → Type 0
-  Resolves r o′ = ResolvesTerm s raw sorts funcs acts procs scope n at after w o r o′
+  Resolves r o′ = ResolvesTerm s raw names kinds scope n at after w o r o′
 
   pub term-start : TermLeft at n after w scope o
   term-start N t rest dec e d = going t [] e d (sym (then-nothing (term-cells N (scope-at s scope n) after t))) writes-nothing
@@ -58,7 +59,7 @@ module _ (s raw sorts funcs acts procs scope : List ℕ) (n at : ℕ) (after : B
 
     -- the last of the term was read
     finished : p < length raw → (a : Step) (o₂ : List ℕ)
-        → ((N : Names) (u : Term) (rest : List Symbol) → Declared s raw sorts funcs acts procs N → drop p (symbols s raw) ≡ enc-term u ++ rest → Outcome raw (symbols s raw) rest v o₁ (a .at) (a .w) o₂ (term-cells N (scope-at s scope₁ m) r u))
+        → ((N : Names) (u : Term) (rest : List Symbol) → Declared s names kinds N → drop p (symbols s raw) ≡ enc-term u ++ rest → Outcome raw (symbols s raw) rest v o₁ (a .at) (a .w) o₂ (term-cells N (scope-at s scope₁ m) r u))
         → Resolves a o₂
     finished h a o₂ f N t rest dec e d = by (left N t rest dec e d)
       where
@@ -73,7 +74,7 @@ module _ (s raw sorts funcs acts procs scope : List ℕ) (n at : ℕ) (after : B
         by (gone y q) = absurd (omega arith)
         by (going u g dr de q ws) = last g (term-cells N (scope-at s scope₁ m) r u) q ws (f N u rest dec dr)
 
-    pub term-named : p < length raw → 0 < tokens-of (getD raw p 0) → (getD raw p 0 ≡ 16 → ⊥) → (a : Step) (o₂ : List ℕ) → ResolvesNamed s raw funcs acts procs scope₁ m p r v o₁ a o₂ → Resolves a o₂
+    pub term-named : p < length raw → 0 < tokens-of (getD raw p 0) → (getD raw p 0 ≡ 16 → ⊥) → (a : Step) (o₂ : List ℕ) → ResolvesNamed s raw names kinds scope₁ m p r v o₁ a o₂ → Resolves a o₂
     term-named h k₁ k₂ a o₂ f = finished h a o₂ (λ N u rest dec dr. f N u rest (dec .funcs-are) (dec .acts-are) (dec .procs-are) dr k₁ k₂)
 
     pub term-constant : p < length raw → tokens-of (getD raw p 0) ≡ 0 → kids-of (getD raw p 0) ≡ 0 → (a : Step) (o₂ : List ℕ) → ResolvesConstant raw p r v o₁ a o₂ → Resolves a o₂
@@ -106,7 +107,7 @@ module _ (s raw sorts funcs acts procs scope : List ℕ) (n at : ℕ) (after : B
         by (going u g dr de q ws) = let z = seen s raw p u rest dr in on u (z .tag-of) (z .view) (z .cell) g dr de q ws
 
     -- a sum, whose variable came into scope
-    pub term-binder : getD raw p 0 ≡ sum-tag → p < length raw → length scope₁ ≡ length scope → (b : Step) (o₂ : List ℕ) → Binds s raw sorts funcs acts procs scope₁ m p r v o₁ b o₂
+    pub term-binder : getD raw p 0 ≡ sum-tag → p < length raw → length scope₁ ≡ length scope → (b : Step) (o₂ : List ℕ) → Binds s raw names kinds scope₁ m p r v o₁ b o₂
         → (scope₂ : List ℕ) → InScope raw scope₁ m p b scope₂ → TermLeft (b .at) (m + 1) false (b .w) scope₂ o₂
     unfolding enc-term enc-choice term-depth sum-depth tokens-of
     term-binder k h same b o₂ binds scope₂ pushes N t rest dec e d = by (left N t rest dec e d)
@@ -147,7 +148,7 @@ module _ (s raw sorts funcs acts procs scope : List ℕ) (n at : ℕ) (after : B
         by (going u g dr de q ws) = let z = seen s raw p u rest dr in on u (z .tag-of) (z .view) (z .cell) g dr de q ws
 
     -- two subterms, of which the first was read
-    pub term-second : 1 < kids-of (getD raw p 0) → p < length raw → length scope₁ ≡ length scope → (f : Step) (o₂ : List ℕ) → ResolvesFirst s raw sorts funcs acts procs scope₁ m p r v o₁ f o₂
+    pub term-second : 1 < kids-of (getD raw p 0) → p < length raw → length scope₁ ≡ length scope → (f : Step) (o₂ : List ℕ) → ResolvesFirst s raw names kinds scope₁ m p r v o₁ f o₂
         → (scope₂ : List ℕ) → take m scope₂ ≡ take m scope₁ → (c : ℕ) → c ≡ getD raw p 0 → TermLeft (f .at) m (eqb c then-tag) (f .w) scope₂ o₂
     term-second k h same f o₂ first scope₂ kept c here N t rest dec e d = by (left N t rest dec e d)
       where

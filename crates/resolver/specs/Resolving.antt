@@ -1,5 +1,5 @@
 -- What the resolver answers: for every raw term that stands at a place of the cells, and every list of names that the scope
--- and the places of the declared names stand for, the cells of the resolved term, or a place past the end.
+-- and the cells of the declared names stand for, the cells of the resolved term, or a place past the end.
 use mathlib.Core.Path.{_≡_}
 use mathlib.Core.List.{List, [], _∷_, _++_}
 use mathlib.Core.Bool.{Bool, true, false}
@@ -7,7 +7,6 @@ use mathlib.Core.Option.{Option, none, some}
 use Prim.Native.Nat.{ℕ, suc, _+_, _*_, _≤_, _<_, min, max}
 use lib.Dec.{eqb}
 use lib.ListN.{length, drop, getD, set}
-use Rattle.pcrl.specs.Text.{bytes}
 use Rattle.pcrl.specs.Limits.{max-sorts, max-functions, max-actions, max-processes}
 use Rattle.pcrl.specs.Maybe.{_>>=_, _>>_, provided}
 use Rattle.pcrl.specs.Tree.{Name, RawData, RawDatas, Choice, InitLine}
@@ -18,7 +17,9 @@ use Rattle.parser.specs.Cells.{Symbol, tag, token, then-tag, sum-tag, enc-call,
 use Rattle.parser.specs.Cells.{enc-data as raw-data, enc-datas as raw-datas}
 use Rattle.nodes.specs.Scoped.{max-scope}
 use Rattle.nodes.specs.Layout.{cell-limit, enc-data, enc-arguments, enc-datas, after-mark, one-if, atom-kind, sum-kind, call-kind, variable-tag, enc}
-use Rattle.names.specs.NameCells.{name-at, names-at, scope-at}
+use Rattle.names.specs.NameCells.{scope-at}
+use Rattle.names.specs.NameKinds.{sorts-in, funcs-in, acts-in, procs-in}
+use Rattle.names.specs.declared.Kinds.{Kinds}
 use Rattle.names.specs.Standing.{symbols}
 use Rattle.resolver.specs.declared.Step.{Step}
 use Rattle.resolver.specs.declared.Run.{Run}
@@ -37,26 +38,23 @@ pub data Outcome (raw : List ℕ) (symbols rest : List Symbol) (w : ℕ) (o : Li
   lost : length raw < next → Outcome raw symbols rest w o next w′ o′ none
   took : {e : List ℕ} → next ≤ length raw → drop next symbols ≡ rest → Writes e w o w′ o′ → Outcome raw symbols rest w o next w′ o′ (some e)
 
--- the lines at these places declare the names
-pub record Declared (s raw sorts funcs acts procs : List ℕ) (N : Names) : Type 0 where
-  pub sorts-are : N .sorts ≡ bytes "Bool" ∷ names-at s raw sorts (length sorts)
-  pub funcs-are : N .funcs ≡ names-at s raw funcs (length funcs)
-  pub acts-are : N .acts ≡ names-at s raw acts (length acts)
-  pub procs-are : N .procs ≡ names-at s raw procs (length procs)
+-- the cells of these names, so many of each kind, stand for the declared names
+pub record Declared (s names : List ℕ) (kinds : Kinds) (N : Names) : Type 0 where
+  pub sorts-are : N .sorts ≡ sorts-in s names kinds
+  pub funcs-are : N .funcs ≡ funcs-in s names kinds
+  pub acts-are : N .acts ≡ acts-in s names kinds
+  pub procs-are : N .procs ≡ procs-in s names kinds
 
 -- so few that numbers fit their cells
-pub record Few (raw funcs scope : List ℕ) (n : ℕ) : Type 0 where
-  pub raw-few : length raw < cell-limit
-  pub funcs-few : length funcs ≤ max-functions
-  pub scope-few : length scope ≤ max-scope
-  pub in-scope : n ≤ length scope
+pub record FewKinds (kinds : Kinds) : Type 0 where
+  pub sorts-few : kinds .sorts ≤ max-sorts
+  pub funcs-few : kinds .funcs ≤ max-functions
+  pub acts-few : kinds .acts ≤ max-actions
+  pub procs-few : kinds .procs ≤ max-processes
 
-pub record AllFew (raw sorts funcs acts procs scope : List ℕ) (n : ℕ) : Type 0 where
+pub record Few (raw : List ℕ) (kinds : Kinds) (scope : List ℕ) (n : ℕ) : Type 0 where
   pub raw-few : length raw < cell-limit
-  pub sorts-few : length sorts ≤ max-sorts
-  pub funcs-few : length funcs ≤ max-functions
-  pub acts-few : length acts ≤ max-actions
-  pub procs-few : length procs ≤ max-processes
+  pub kinds-few : FewKinds kinds
   pub scope-few : length scope ≤ max-scope
   pub in-scope : n ≤ length scope
 
@@ -102,18 +100,18 @@ a ⊕ b = do
   some (e ++ g)
 
 infixr 60 _⊕_
-abbrev pub ResolvesData : (s raw funcs scope : List ℕ) (n at w : ℕ) (o : List ℕ) → Step → List ℕ → Type 0
-ResolvesData s raw funcs scope n at w o r o′ = (N : Names) (d : RawData) (rest : List Symbol) → N .funcs ≡ names-at s raw funcs (length funcs)
+abbrev pub ResolvesData : (s raw names : List ℕ) (kinds : Kinds) (scope : List ℕ) (n at w : ℕ) (o : List ℕ) → Step → List ℕ → Type 0
+ResolvesData s raw names kinds scope n at w o r o′ = (N : Names) (d : RawData) (rest : List Symbol) → N .funcs ≡ funcs-in s names kinds
     → drop at (symbols s raw) ≡ raw-data d ++ rest → Outcome raw (symbols s raw) rest w o (r .at) (r .w) o′ (data-cells N (scope-at s scope n) d)
 
-abbrev pub ResolvesDatas : (s raw funcs scope : List ℕ) (n at w : ℕ) (o : List ℕ) → Run → List ℕ → Type 0
-ResolvesDatas s raw funcs scope n at w o r o′ = (N : Names) (ds : RawDatas) (rest : List Symbol) → N .funcs ≡ names-at s raw funcs (length funcs)
+abbrev pub ResolvesDatas : (s raw names : List ℕ) (kinds : Kinds) (scope : List ℕ) (n at w : ℕ) (o : List ℕ) → Run → List ℕ → Type 0
+ResolvesDatas s raw names kinds scope n at w o r o′ = (N : Names) (ds : RawDatas) (rest : List Symbol) → N .funcs ≡ funcs-in s names kinds
     → drop at (symbols s raw) ≡ raw-datas ds ++ rest
     → Outcome raw (symbols s raw) rest w o (r .at) (r .w) o′ (datas-cells N (scope-at s scope n) ds) × (r .at ≤ length raw → (r .count ≡ count-of ds) × (r .count < cell-limit))
 
-abbrev pub ResolvesGiven : (s raw funcs scope : List ℕ) (n at first number w : ℕ) (o : List ℕ) → Step → List ℕ → Type 0
-ResolvesGiven s raw funcs scope n at first number w o r o′ = (N : Names) (x : Name) (ds : Option RawDatas) (rest : List Symbol)
-    → N .funcs ≡ names-at s raw funcs (length funcs)
+abbrev pub ResolvesGiven : (s raw names : List ℕ) (kinds : Kinds) (scope : List ℕ) (n at first number w : ℕ) (o : List ℕ) → Step → List ℕ → Type 0
+ResolvesGiven s raw names kinds scope n at first number w o r o′ = (N : Names) (x : Name) (ds : Option RawDatas) (rest : List Symbol)
+    → N .funcs ≡ funcs-in s names kinds
     → drop at (symbols s raw) ≡ enc-call x ds ++ rest → Outcome raw (symbols s raw) rest w o (r .at) (r .w) o′ (given-cells N (scope-at s scope n) first number ds)
 
 -- an action's number, or else a process's
@@ -122,13 +120,9 @@ Naming after (some a) k r = (r .known ≡ true) × (r .first ≡ after-mark * on
 Naming after none (some k) r = (r .known ≡ true) × (r .first ≡ call-kind) × (r .number ≡ k)
 Naming after none none r = r .known ≡ false
 
--- a variable that may come into scope
-abbrev pub SaysNew : (s raw sorts funcs acts procs scope : List ℕ) (n x : ℕ) → Bool → Type 0
-SaysNew s raw sorts funcs acts procs scope n x r = (N : Names) → Declared s raw sorts funcs acts procs N → r ≡ new-variable N (scope-at s scope n) (name-at s x)
-
 -- the node of a sum, up to its term; if it is written, the variable is in scope
-abbrev pub Binds : (s raw sorts funcs acts procs scope : List ℕ) (n at : ℕ) → Bool → (w : ℕ) (o : List ℕ) → Step → List ℕ → Type 0
-Binds s raw sorts funcs acts procs scope n at after w o r o′ = (N : Names) (x D : Name) (rest : List Symbol) → Declared s raw sorts funcs acts procs N
+abbrev pub Binds : (s raw names : List ℕ) (kinds : Kinds) (scope : List ℕ) (n at : ℕ) → Bool → (w : ℕ) (o : List ℕ) → Step → List ℕ → Type 0
+Binds s raw names kinds scope n at after w o r o′ = (N : Names) (x D : Name) (rest : List Symbol) → Declared s names kinds N
     → drop at (symbols s raw) ≡ tag sum-tag ∷ token (name x) ∷ token (name D) ∷ rest → n < length scope
     → Outcome raw (symbols s raw) rest w o (r .at) (r .w) o′ (binder-cells N (scope-at s scope n) after x D)
 
@@ -141,9 +135,9 @@ ResolvesConstant raw at after w o r o′ = (s : List ℕ) (N : Names) (scope : L
     → tokens-of (getD raw at 0) ≡ 0 → kids-of (getD raw at 0) ≡ 0 → Outcome raw (symbols s raw) rest w o (r .at) (r .w) o′ (term-cells N scope after t)
 
 -- a name, with or without data
-abbrev pub ResolvesNamed : (s raw funcs acts procs scope : List ℕ) (n at : ℕ) → Bool → (w : ℕ) (o : List ℕ) → Step → List ℕ → Type 0
-ResolvesNamed s raw funcs acts procs scope n at after w o r o′ = (N : Names) (t : Term) (rest : List Symbol)
-    → N .funcs ≡ names-at s raw funcs (length funcs) → N .acts ≡ names-at s raw acts (length acts) → N .procs ≡ names-at s raw procs (length procs)
+abbrev pub ResolvesNamed : (s raw names : List ℕ) (kinds : Kinds) (scope : List ℕ) (n at : ℕ) → Bool → (w : ℕ) (o : List ℕ) → Step → List ℕ → Type 0
+ResolvesNamed s raw names kinds scope n at after w o r o′ = (N : Names) (t : Term) (rest : List Symbol)
+    → N .funcs ≡ funcs-in s names kinds → N .acts ≡ acts-in s names kinds → N .procs ≡ procs-in s names kinds
     → drop at (symbols s raw) ≡ enc-term t ++ rest → 0 < tokens-of (getD raw at 0) → (getD raw at 0 ≡ sum-tag → ⊥)
     → Outcome raw (symbols s raw) rest w o (r .at) (r .w) o′ (term-cells N (scope-at s scope n) after t)
 
@@ -161,8 +155,8 @@ pub record Forked (s raw : List ℕ) (N : Names) (scope : List Name) (at : ℕ) 
   pub outcome : (p next : ℕ) → at < p → p ≤ length raw → drop p (symbols s raw) ≡ between → next ≡ max p (r .at)
       → Outcome raw (symbols s raw) (enc-term second ++ rest) w o next (r .w) o′ head
 
-abbrev pub Forks : (s raw funcs scope : List ℕ) (n at : ℕ) → Bool → (w : ℕ) (o : List ℕ) → Fork → List ℕ → Type 0
-Forks s raw funcs scope n at after w o r o′ = (N : Names) (t : Term) (rest : List Symbol) → N .funcs ≡ names-at s raw funcs (length funcs)
+abbrev pub Forks : (s raw names : List ℕ) (kinds : Kinds) (scope : List ℕ) (n at : ℕ) → Bool → (w : ℕ) (o : List ℕ) → Fork → List ℕ → Type 0
+Forks s raw names kinds scope n at after w o r o′ = (N : Names) (t : Term) (rest : List Symbol) → N .funcs ≡ funcs-in s names kinds
     → drop at (symbols s raw) ≡ enc-term t ++ rest → 1 < kids-of (getD raw at 0) → Forked s raw N (scope-at s scope n) at after t rest w o r o′
 
 -- A term of two parts, up to its second: its cells are those of the head, now with the first part, and of the second.
@@ -173,14 +167,14 @@ pub record Halved (s raw : List ℕ) (N : Names) (scope : List Name) (at : ℕ) 
   pub cells : term-cells N scope after t ≡ head ⊕ term-cells N scope (eqb (getD raw at 0) then-tag) second
   pub outcome : Outcome raw (symbols s raw) (enc-term second ++ rest) w o (r .at) (r .w) o′ head
 
-module _ (s raw sorts funcs acts procs scope : List ℕ) (n : ℕ) where
+module _ (s raw names : List ℕ) (kinds : Kinds) (scope : List ℕ) (n : ℕ) where
   abbrev pub ResolvesTerm : (at : ℕ) → Bool → ℕ → List ℕ → Step → List ℕ → Type 0
-  ResolvesTerm at after w o r o′ = (N : Names) (t : Term) (rest : List Symbol) → Declared s raw sorts funcs acts procs N
+  ResolvesTerm at after w o r o′ = (N : Names) (t : Term) (rest : List Symbol) → Declared s names kinds N
       → drop at (symbols s raw) ≡ enc-term t ++ rest → n + term-depth t ≤ length scope
       → Outcome raw (symbols s raw) rest w o (r .at) (r .w) o′ (term-cells N (scope-at s scope n) after t)
 
   abbrev pub ResolvesFirst : (at : ℕ) → Bool → ℕ → List ℕ → Step → List ℕ → Type 0
-  ResolvesFirst at after w o r o′ = (N : Names) (t : Term) (rest : List Symbol) → Declared s raw sorts funcs acts procs N
+  ResolvesFirst at after w o r o′ = (N : Names) (t : Term) (rest : List Symbol) → Declared s names kinds N
       → drop at (symbols s raw) ≡ enc-term t ++ rest → n + term-depth t ≤ length scope → 1 < kids-of (getD raw at 0) → Halved s raw N (scope-at s scope n) at after t rest w o r o′
 
 -- ---- what the layers above are told
@@ -190,8 +184,8 @@ Answers symbols rest w o none r o′ = r .ok ≡ false
 Answers symbols rest w o (some p) r o′ = (r .ok ≡ true) × (drop (r .next) symbols ≡ rest) × Writes (enc false p) w o (r .w) o′
 
 -- for every choice that stands at `at`
-abbrev pub ResolvesRight : (s raw sorts funcs acts procs scope : List ℕ) (n at w : ℕ) (o : List ℕ) → Resolved → List ℕ → Type 0
-ResolvesRight s raw sorts funcs acts procs scope n at w o r o′ = (N : Names) (t : Choice) (rest : List Symbol) → Declared s raw sorts funcs acts procs N
+abbrev pub ResolvesRight : (s raw names : List ℕ) (kinds : Kinds) (scope : List ℕ) (n at w : ℕ) (o : List ℕ) → Resolved → List ℕ → Type 0
+ResolvesRight s raw names kinds scope n at w o r o′ = (N : Names) (t : Choice) (rest : List Symbol) → Declared s names kinds N
     → drop at (symbols s raw) ≡ enc-choice t ++ rest → n + sum-depth t ≤ length scope → Answers (symbols s raw) rest w o (resolve-choice N (scope-at s scope n) t) r o′
 
 abbrev pub called : Option (ℕ × List Data) → Option Proc
@@ -199,6 +193,6 @@ called none = none
 called (some s) = some (call (s .0) (s .1))
 
 -- for every line of init that stands at `at`
-abbrev pub ResolvesInit : (s raw funcs procs : List ℕ) (at w : ℕ) (o : List ℕ) → Resolved → List ℕ → Type 0
-ResolvesInit s raw funcs procs at w o r o′ = (N : Names) (l : InitLine) (rest : List Symbol) → N .funcs ≡ names-at s raw funcs (length funcs) → N .procs ≡ names-at s raw procs (length procs)
+abbrev pub ResolvesInit : (s raw names : List ℕ) (kinds : Kinds) (at w : ℕ) (o : List ℕ) → Resolved → List ℕ → Type 0
+ResolvesInit s raw names kinds at w o r o′ = (N : Names) (l : InitLine) (rest : List Symbol) → N .funcs ≡ funcs-in s names kinds → N .procs ≡ procs-in s names kinds
     → drop at (symbols s raw) ≡ enc-init l ++ rest → Answers (symbols s raw) rest w o (called (resolve-init N l)) r o′

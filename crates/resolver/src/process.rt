@@ -5,8 +5,10 @@ ghost use Prim.Native.Nat.{_+_, _≤_, _<_};
 ghost use lib.ListN.{length, take};
 ghost use Rattle.pcrl.specs.Limits.{max-actions, max-processes};
 ghost use Rattle.pcrl.specs.Names.{number-of};
-ghost use Rattle.names.specs.NameCells.{name-at, names-at};
-ghost use Rattle.resolver.specs.Resolving.{Ahead, Few, AllFew, Naming, SaysNew, InScope, Binds, ResolvesConstant, ResolvesNamed, Forks, ResolvesFirst, ResolvesTerm};
+ghost use Rattle.names.specs.NameCells.{name-at};
+ghost use Rattle.names.specs.NameKeys.{Keyed};
+ghost use Rattle.names.specs.NameKinds.{total-of, acts-in, procs-in};
+ghost use Rattle.resolver.specs.Resolving.{Ahead, Few, Naming, InScope, Binds, ResolvesConstant, ResolvesNamed, Forks, ResolvesFirst, ResolvesTerm};
 use crate::Fork;
 use crate::Found;
 use crate::Step;
@@ -18,10 +20,13 @@ use crate::cells::skip;
 use crate::cells::tokens;
 use crate::data::data_term;
 use crate::data::given;
+use names::Kinds;
 use names::find::cell;
-use names::find::number_of;
-use names::find::scope_number;
-use names::find::sort_number;
+use names::fresh::new_variable;
+use names::keys::act_in;
+use names::keys::proc_in;
+use names::keys::sort_in;
+use names::keys::total;
 use parser::cells::put;
 use parser::cells::short;
 use parser::codes::DELTA_TAG;
@@ -45,20 +50,20 @@ const CALL: u16 = nodes::CALL as u16;
 const SEQ: u16 = nodes::SEQ as u16;
 
 // "As a part a name is an action or a process."
-fn named(s: &[u8], raw: &[u16], acts: &[u16], procs: &[u16], x: u16, after: bool) -> Found
-    requires { ⌜ (length (now acts) ≤ max-actions) × (length (now procs) ≤ max-processes) ⌝ }
-    ensures { λ r. ⌜ Naming after (number-of (name-at (now (s .entry)) x) (names-at (now (s .entry)) (now (raw .entry)) (now (acts .entry)) (length (now (acts .entry))))) (number-of (name-at (now (s .entry)) x) (names-at (now (s .entry)) (now (raw .entry)) (now (procs .entry)) (length (now (procs .entry))))) r ⌝ }
+fn named(s: &[u8], names: &[u16], keys: &[u8], kinds: Kinds, x: u16, after: bool) -> Found
+    requires { ⌜ (kinds .acts ≤ max-actions) × (kinds .procs ≤ max-processes) × Keyed (now s) (now names) (now keys) (total-of kinds) ⌝ }
+    ensures { λ r. ⌜ Naming after (number-of (name-at (now (s .entry)) x) (acts-in (now (s .entry)) (now (names .entry)) kinds)) (number-of (name-at (now (s .entry)) x) (procs-in (now (s .entry)) (now (names .entry)) kinds)) r ⌝ }
 {
-    let a = number_of(s, raw, acts, acts.len(), x);
-    if a < acts.len() {
+    let a = act_in(s, names, keys, kinds, x);
+    if a < kinds.acts {
         return Found {
             known: true,
             first: marked(after, ATOM),
             number: short(a + 1),
         };
     }
-    let k = number_of(s, raw, procs, procs.len(), x);
-    if k < procs.len() {
+    let k = proc_in(s, names, keys, kinds, x);
+    if k < kinds.procs {
         return Found {
             known: true,
             first: CALL,
@@ -72,44 +77,13 @@ fn named(s: &[u8], raw: &[u16], acts: &[u16], procs: &[u16], x: u16, after: bool
     }
 }
 
-// "each variable unlike all declared names and all variables in scope"
-fn new_variable(
-    s: &[u8],
-    raw: &[u16],
-    sorts: &[u16],
-    funcs: &[u16],
-    acts: &[u16],
-    procs: &[u16],
-    scope: &[u16],
-    n: usize,
-    x: u16,
-) -> bool
-    requires { ⌜ n ≤ length (now scope) ⌝ }
-    ensures { λ r. ⌜ SaysNew (now (s .entry)) (now (raw .entry)) (now (sorts .entry)) (now (funcs .entry)) (now (acts .entry)) (now (procs .entry)) (now (scope .entry)) n x r ⌝ }
-{
-    if sort_number(s, raw, sorts, sorts.len(), x) <= sorts.len() {
-        return false;
-    }
-    if number_of(s, raw, funcs, funcs.len(), x) < funcs.len() {
-        return false;
-    }
-    if number_of(s, raw, acts, acts.len(), x) < acts.len() {
-        return false;
-    }
-    if number_of(s, raw, procs, procs.len(), x) < procs.len() {
-        return false;
-    }
-    scope_number(s, scope, n, x) == n
-}
-
 // `sum(v:sort,`: the variable comes into scope with the next number.
 fn binder(
     s: &[u8],
     raw: &[u16],
-    sorts: &[u16],
-    funcs: &[u16],
-    acts: &[u16],
-    procs: &[u16],
+    names: &[u16],
+    keys: &[u8],
+    kinds: Kinds,
     scope: &mut [u16],
     n: usize,
     at: usize,
@@ -117,18 +91,18 @@ fn binder(
     out: &mut [u16],
     w: usize,
 ) -> Step
-    requires { ⌜ AllFew (now raw) (now sorts) (now funcs) (now acts) (now procs) (now scope) n × (at < length (now raw)) ⌝ }
+    requires { ⌜ Few (now raw) kinds (now scope) n × (at < length (now raw)) × Keyed (now s) (now names) (now keys) (total-of kinds) ⌝ }
     ensures ahead { λ r. ⌜ Ahead (length (now (raw .entry))) (at + 1) (r .at) ⌝ }
     ensures kept { λ r. ⌜ take n (now (scope .exit)) ≡ take n (now (scope .entry)) ⌝ }
     ensures bound { λ r. ⌜ InScope (now (raw .entry)) (now (scope .entry)) n at r (now (scope .exit)) ⌝ }
-    ensures binds { λ r. ⌜ Binds (now (s .entry)) (now (raw .entry)) (now (sorts .entry)) (now (funcs .entry)) (now (acts .entry)) (now (procs .entry)) (now (scope .entry)) n at after w (now (out .entry)) r (now (out .exit)) ⌝ }
+    ensures binds { λ r. ⌜ Binds (now (s .entry)) (now (raw .entry)) (now (names .entry)) kinds (now (scope .entry)) n at after w (now (out .entry)) r (now (out .exit)) ⌝ }
 {
     let x = cell(raw, at + 1);
-    if !new_variable(s, raw, sorts, funcs, acts, procs, scope, n, x) {
+    if !new_variable(s, names, keys, total(kinds), scope, n, x) {
         return lost(raw, w);
     }
-    let d = sort_number(s, raw, sorts, sorts.len(), cell(raw, at + 2));
-    if d > sorts.len() {
+    let d = sort_in(s, names, keys, kinds, cell(raw, at + 2));
+    if d > kinds.sorts {
         return lost(raw, w);
     }
     if n >= scope.len() {
@@ -168,7 +142,9 @@ fn constant(raw: &[u16], at: usize, after: bool, out: &mut [u16], w: usize) -> S
 fn fork(
     s: &[u8],
     raw: &[u16],
-    funcs: &[u16],
+    names: &[u16],
+    keys: &[u8],
+    kinds: Kinds,
     scope: &[u16],
     n: usize,
     at: usize,
@@ -176,8 +152,8 @@ fn fork(
     out: &mut [u16],
     w: usize,
 ) -> Fork
-    requires { ⌜ Few (now raw) (now funcs) (now scope) n × (at < length (now raw)) ⌝ }
-    ensures { λ r. ⌜ Forks (now (s .entry)) (now (raw .entry)) (now (funcs .entry)) (now (scope .entry)) n at after w (now (out .entry)) r (now (out .exit)) ⌝ }
+    requires { ⌜ Few (now raw) kinds (now scope) n × (at < length (now raw)) × Keyed (now s) (now names) (now keys) (total-of kinds) ⌝ }
+    ensures { λ r. ⌜ Forks (now (s .entry)) (now (raw .entry)) (now (names .entry)) kinds (now (scope .entry)) n at after w (now (out .entry)) r (now (out .exit)) ⌝ }
 {
     let k = cell(raw, at);
     if k == THEN_TAG {
@@ -195,7 +171,18 @@ fn fork(
         };
     }
     let v = node(out, w, marked(after, COND), 0, 1);
-    let d = data_term(s, raw, funcs, scope, n, skip(raw, at + 1), out, v);
+    let d = data_term(
+        s,
+        raw,
+        names,
+        keys,
+        kinds,
+        scope,
+        n,
+        skip(raw, at + 1),
+        out,
+        v,
+    );
     Fork {
         at: d.at,
         w: d.w,
@@ -207,9 +194,9 @@ fn fork(
 fn named_part(
     s: &[u8],
     raw: &[u16],
-    funcs: &[u16],
-    acts: &[u16],
-    procs: &[u16],
+    names: &[u16],
+    keys: &[u8],
+    kinds: Kinds,
     scope: &[u16],
     n: usize,
     at: usize,
@@ -217,25 +204,37 @@ fn named_part(
     out: &mut [u16],
     w: usize,
 ) -> Step
-    requires { ⌜ Few (now raw) (now funcs) (now scope) n × (length (now acts) ≤ max-actions) × (length (now procs) ≤ max-processes) × (at < length (now raw)) ⌝ }
+    requires { ⌜ Few (now raw) kinds (now scope) n × (at < length (now raw)) × Keyed (now s) (now names) (now keys) (total-of kinds) ⌝ }
     ensures ahead { λ r. ⌜ Ahead (length (now (raw .entry))) at (r .at) ⌝ }
-    ensures resolves { λ r. ⌜ ResolvesNamed (now (s .entry)) (now (raw .entry)) (now (funcs .entry)) (now (acts .entry)) (now (procs .entry)) (now (scope .entry)) n at after w (now (out .entry)) r (now (out .exit)) ⌝ }
+    ensures resolves { λ r. ⌜ ResolvesNamed (now (s .entry)) (now (raw .entry)) (now (names .entry)) kinds (now (scope .entry)) n at after w (now (out .entry)) r (now (out .exit)) ⌝ }
 {
-    let f = named(s, raw, acts, procs, cell(raw, at + 1), after);
+    let f = named(s, names, keys, kinds, cell(raw, at + 1), after);
     if !f.known {
         return lost(raw, w);
     }
-    given(s, raw, funcs, scope, n, at, f.first, f.number, out, w)
+    given(
+        s,
+        raw,
+        names,
+        keys,
+        kinds,
+        scope,
+        n,
+        at,
+        f.first,
+        f.number,
+        out,
+        w,
+    )
 }
 
 // A `+`, a `.` or a conditional, up to its second part.
 fn first_part(
     s: &[u8],
     raw: &[u16],
-    sorts: &[u16],
-    funcs: &[u16],
-    acts: &[u16],
-    procs: &[u16],
+    names: &[u16],
+    keys: &[u8],
+    kinds: Kinds,
     scope: &mut [u16],
     n: usize,
     at: usize,
@@ -243,19 +242,18 @@ fn first_part(
     out: &mut [u16],
     w: usize,
 ) -> Step
-    requires { ⌜ AllFew (now raw) (now sorts) (now funcs) (now acts) (now procs) (now scope) n × (at < length (now raw)) ⌝ }
+    requires { ⌜ Few (now raw) kinds (now scope) n × (at < length (now raw)) × Keyed (now s) (now names) (now keys) (total-of kinds) ⌝ }
     ensures ahead { λ r. ⌜ at + 1 ≤ r .at ⌝ }
     ensures kept { λ r. ⌜ take n (now (scope .exit)) ≡ take n (now (scope .entry)) ⌝ }
-    ensures resolves { λ r. ⌜ ResolvesFirst (now (s .entry)) (now (raw .entry)) (now (sorts .entry)) (now (funcs .entry)) (now (acts .entry)) (now (procs .entry)) (now (scope .entry)) n at after w (now (out .entry)) r (now (out .exit)) ⌝ }
+    ensures resolves { λ r. ⌜ ResolvesFirst (now (s .entry)) (now (raw .entry)) (now (names .entry)) kinds (now (scope .entry)) n at after w (now (out .entry)) r (now (out .exit)) ⌝ }
 {
-    let h = fork(s, raw, funcs, scope, n, at, after, out, w);
+    let h = fork(s, raw, names, keys, kinds, scope, n, at, after, out, w);
     let a = term(
         s,
         raw,
-        sorts,
-        funcs,
-        acts,
-        procs,
+        names,
+        keys,
+        kinds,
         scope,
         n,
         at + 1,
@@ -274,10 +272,9 @@ fn first_part(
 pub fn term(
     s: &[u8],
     raw: &[u16],
-    sorts: &[u16],
-    funcs: &[u16],
-    acts: &[u16],
-    procs: &[u16],
+    names: &[u16],
+    keys: &[u8],
+    kinds: Kinds,
     scope: &mut [u16],
     n: usize,
     at: usize,
@@ -285,10 +282,10 @@ pub fn term(
     out: &mut [u16],
     w: usize,
 ) -> Step
-    requires { ⌜ AllFew (now raw) (now sorts) (now funcs) (now acts) (now procs) (now scope) n ⌝ }
+    requires { ⌜ Few (now raw) kinds (now scope) n × Keyed (now s) (now names) (now keys) (total-of kinds) ⌝ }
     ensures ahead { λ r. ⌜ Ahead (length (now (raw .entry))) at (r .at) ⌝ }
     ensures kept { λ r. ⌜ take n (now (scope .exit)) ≡ take n (now (scope .entry)) ⌝ }
-    ensures resolves { λ r. ⌜ ResolvesTerm (now (s .entry)) (now (raw .entry)) (now (sorts .entry)) (now (funcs .entry)) (now (acts .entry)) (now (procs .entry)) (now (scope .entry)) n at after w (now (out .entry)) r (now (out .exit)) ⌝ }
+    ensures resolves { λ r. ⌜ ResolvesTerm (now (s .entry)) (now (raw .entry)) (now (names .entry)) kinds (now (scope .entry)) n at after w (now (out .entry)) r (now (out .exit)) ⌝ }
 {
     let mut p = at;
     let mut m = n;
@@ -297,7 +294,7 @@ pub fn term(
     while p < raw.len() {
         let k = cell(raw, p);
         if k == SUM_TAG {
-            let b = binder(s, raw, sorts, funcs, acts, procs, scope, m, p, r, out, v);
+            let b = binder(s, raw, names, keys, kinds, scope, m, p, r, out, v);
             p = b.at;
             m += 1;
             r = false;
@@ -305,7 +302,7 @@ pub fn term(
             continue;
         }
         if tokens(k) > 0 {
-            return named_part(s, raw, funcs, acts, procs, scope, m, p, r, out, v);
+            return named_part(s, raw, names, keys, kinds, scope, m, p, r, out, v);
         }
         let f = kids(k);
         // delta or tau; one subterm, a bracket's or the last of a chain; two parts
@@ -316,7 +313,7 @@ pub fn term(
             p += 1;
             continue;
         }
-        let h = first_part(s, raw, sorts, funcs, acts, procs, scope, m, p, r, out, v);
+        let h = first_part(s, raw, names, keys, kinds, scope, m, p, r, out, v);
         p = h.at;
         r = k == THEN_TAG;
         v = h.w;

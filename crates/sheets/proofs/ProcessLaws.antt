@@ -1,5 +1,5 @@
 -- One process: its parameters stand behind its name and its right side behind them, which is resolved with the parameters in scope.
-use mathlib.Core.Path.{_≡_, refl, _∙_, ap, subst}
+use mathlib.Core.Path.{_≡_, refl, sym, _∙_, ap, subst}
 use mathlib.Core.List.{List, [], _∷_, _++_, append-assoc}
 use mathlib.Core.Bool.{Bool, true, false}
 use mathlib.Core.Option.{Option, none, some}
@@ -18,8 +18,11 @@ use Rattle.parser.specs.Cells.{Symbol, tag, token, proc-tag, enc-items, enc-par
 use Rattle.nodes.specs.Scoped.{max-scope}
 use Rattle.names.specs.declared.Params.{Params}
 use Rattle.names.specs.NameCells.{scope-at}
+use Rattle.names.specs.NameKinds.{total-of}
+use Rattle.names.specs.declared.Kinds.{Kinds}
 use Rattle.names.specs.Standing.{symbols}
 use Rattle.names.specs.Rows.{Answers, sorts-at, ParamRow, ParamsRead}
+use Rattle.names.proofs.KindLaws.{kinds-joined}
 use Rattle.names.proofs.Items.{behind}
 use Rattle.names.proofs.Kept.{answered-no, answered-yes}
 use Rattle.resolver.specs.declared.Resolved.{Resolved as Side}
@@ -41,7 +44,12 @@ params-there : (N : Names) (l : ProcLine) (x : List Name × List ℕ) → resolv
 unfolding resolve-proc
 params-there N l x e = rw e
 
-module _ (s raw sorts funcs acts procs names : List ℕ) (n at : ℕ) (rows : List ℕ) (p : ℕ) (scope : List ℕ) (a : Params) (read : ParamsRead s raw sorts names n (at + 2) rows p scope a) where
+module _ (s raw sorts names : List ℕ) (kinds : Kinds) (n : ℕ) (total : n ≡ total-of kinds) (at : ℕ) (rows : List ℕ) (p : ℕ) (scope : List ℕ) (a : Params) (read : ParamsRead s raw sorts names n (at + 2) rows p scope a) where
+  -- all declared names, kind after kind
+  all-declared : (N : Names) → Declared s names kinds N → declared N ≡ bytes "Bool" ∷ scope-at s names (total-of kinds)
+  unfolding declared
+  all-declared N d = rw (d .sorts-are, d .funcs-are, d .acts-are, d .procs-are) (kinds-joined s names kinds)
+
   -- the parameters behind the tag and the name
   params-at : (l : ProcLine) (rest : List Symbol) → drop at (symbols s raw) ≡ enc-proc l ++ rest
       → drop (at + 2) (symbols s raw) ≡ enc-items enc-param (l .params) ++ (enc-choice (l .right) ++ rest)
@@ -55,14 +63,14 @@ module _ (s raw sorts funcs acts procs names : List ℕ) (n at : ℕ) (rows : Li
   abbrev Row : List Symbol → List Name × List ℕ → Type 0
   Row rest x = ParamRow s x (symbols s raw) rest rows p scope a
 
-  row-of : (N : Names) (l : ProcLine) (rest : List Symbol) → Declared s raw sorts funcs acts procs N → declared N ≡ bytes "Bool" ∷ scope-at s names n
+  row-of : (N : Names) (l : ProcLine) (rest : List Symbol) → Declared s names kinds N → N .sorts ≡ sorts-at s raw sorts
       → drop at (symbols s raw) ≡ enc-proc l ++ rest → length (l .params) ≤ frame-width
       → Answers (Row (enc-choice (l .right) ++ rest)) (resolve-params N [] (l .params)) (a .ok)
   unfolding sorts-at
-  row-of N l rest d ns e few = read N (l .params) (enc-choice (l .right) ++ rest) (d .sorts-are) ns (params-at l rest e) few
+  row-of N l rest d ns e few = read N (l .params) (enc-choice (l .right) ++ rest) ns (all-declared N d ∙ ap (λ (m : ℕ). bytes "Bool" ∷ scope-at s names m) (sym total)) (params-at l rest e) few
 
   -- a parameter is not as it must be
-  pub params-lost : (w : ℕ) (o : List ℕ) (r : Side) (o′ : List ℕ) → a .ok ≡ false → r .ok ≡ false → ProcessRead s raw sorts funcs acts procs names n at rows p w o r o′
+  pub params-lost : (w : ℕ) (o : List ℕ) (r : Side) (o′ : List ℕ) → a .ok ≡ false → r .ok ≡ false → ProcessRead s raw sorts names kinds at rows p w o r o′
   params-lost w o r o′ lost z N l rest d ns e few deep =
       rw (params-missing N l (answered-no (Row (enc-choice (l .right) ++ rest)) (resolve-params N [] (l .params)) (a .ok) (row-of N l rest d ns e few) lost)) z
 
@@ -83,8 +91,8 @@ module _ (s raw sorts funcs acts procs names : List ℕ) (n at : ℕ) (rows : Li
             rw there (h .0, record { few = few; params = row .sorts; scoped = scoped; right = h .2; size = right-room N (x .0) l t f })
 
     -- THE PARAMETERS, AND THE RIGHT SIDE WITH THEM IN SCOPE.
-    pub process-read : a .ok ≡ true → a .count ≤ frame-width → length scope ≡ max-scope → ResolvesRight s raw sorts funcs acts procs scope (a .count) (a .at) w o r o′
-        → ProcessRead s raw sorts funcs acts procs names n at rows p w o r o′
+    pub process-read : a .ok ≡ true → a .count ≤ frame-width → length scope ≡ max-scope → ResolvesRight s raw names kinds scope (a .count) (a .at) w o r o′
+        → ProcessRead s raw sorts names kinds at rows p w o r o′
     unfolding symbols
     process-read known few wide right N l rest d ns e many deep =
         let (x, q, row) = answered-yes (Row (enc-choice (l .right) ++ rest)) (resolve-params N [] (l .params)) (a .ok) (row-of N l rest d ns e many) known in

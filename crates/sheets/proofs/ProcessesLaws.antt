@@ -1,27 +1,26 @@
 -- The processes one after another: those done keep their rows and their cells, and each new one stands behind them.
 use mathlib.Core.Path.{_≡_, _∙_, ap}
-use mathlib.Core.List.{List, _∷_, _++_}
+use mathlib.Core.List.{List, _++_}
 use mathlib.Core.Bool.{Bool, true, false}
 use Prim.Native.Nat.{ℕ, _+_, _*_, _≤_, _<_}
 use native.Mathlib.Omega.{arith}
 use lib.ListN.{length, take, drop, getD, set, length-append, length-set}
 use lib.Seq.{getD-set-same, getD-set-other}
-use Rattle.pcrl.specs.Text.{bytes}
 use Rattle.pcrl.specs.Limits.{max-open, frame-width}
 use Rattle.pcrl.specs.Tests.{Every}
 use Rattle.pcrl.specs.Reader.{all}
 use Rattle.pcrl.specs.Tokens.{Token}
 use Rattle.pcrl.specs.Tree.{ProcLine}
 use Rattle.pcrl.specs.Sheet.{Process, no-process}
-use Rattle.pcrl.specs.Names.{Names, declared, resolve-proc}
+use Rattle.pcrl.specs.Names.{Names, resolve-proc}
 use Rattle.laws.specs.Each.{each-length}
 use Rattle.grammar.specs.Print.{line, print-lines, print-proc}
 use Rattle.parser.specs.Cells.{enc-proc}
 use Rattle.nodes.specs.Layout.{cell-limit, enc}
 use Rattle.nodes.specs.Held.{proc-width, ProcAt}
-use Rattle.names.specs.NameCells.{scope-at}
+use Rattle.names.specs.declared.Kinds.{Kinds}
 use Rattle.names.specs.Standing.{At, LinesAt}
-use Rattle.names.specs.Rows.{Kept}
+use Rattle.names.specs.Rows.{Kept, sorts-at}
 use Rattle.names.proofs.Kept.{sorts-kept, answered-no, answered-yes, each-next, every-at}
 use Rattle.names.proofs.Filled.{Gone, gone-none, gone-stops, gone-goes, gone-ends}
 use Rattle.resolver.specs.declared.Resolved.{Resolved as Side}
@@ -51,7 +50,7 @@ stays-on out₀ rows rows′ out out′ starts k v ok h e g = record {
   well = h .well;
 }
 
-module _ (s raw sorts funcs acts procs names : List ℕ) (n : ℕ) where
+module _ (s raw sorts procs names : List ℕ) (kinds : Kinds) where
   -- the first k lines have their rows and their cells before w, and there is room for the rest
   pub record ProcsOf (N : Names) (ls : List ProcLine) (rows out starts : List ℕ) (w k : ℕ) : Type 0 where
     pub gone : Gone (resolve-proc N) no-process (λ q j. ProcAt (length (N .procs)) q rows (take w out) starts j) ls k
@@ -59,7 +58,7 @@ module _ (s raw sorts funcs acts procs names : List ℕ) (n : ℕ) where
 
   abbrev pub ProcsGone : (rows out starts : List ℕ) (w k : ℕ) → Type 0
   ProcsGone rows out starts w k =
-      (N : Names) (ls : List ProcLine) → Declared s raw sorts funcs acts procs N → declared N ≡ bytes "Bool" ∷ scope-at s names n → LinesAt enc-proc s raw procs ls
+      (N : Names) (ls : List ProcLine) → Declared s names kinds N → N .sorts ≡ sorts-at s raw sorts → LinesAt enc-proc s raw procs ls
       → Every (λ (l : ProcLine). length (l .params) ≤ frame-width) ls → Every (λ (l : ProcLine). sum-depth (l .right) ≤ max-open) ls → room ls ≤ length out
       → ProcsOf N ls rows out starts w k
 
@@ -69,7 +68,7 @@ module _ (s raw sorts funcs acts procs names : List ℕ) (n : ℕ) where
 
   -- all lines are done
   pub procs-end : (rows out starts : List ℕ) (w k : ℕ) (ok : Bool) → length procs ≤ k → ProcsGone rows out starts w k → ok ≡ true
-      → ProcessesRead s raw sorts funcs acts procs names n (record { ok = ok; procs = rows; starts = starts; w = w }) out
+      → ProcessesRead s raw sorts procs names kinds (record { ok = ok; procs = rows; starts = starts; w = w }) out
   procs-end rows out starts w k ok h g o N ls d ns l f t b =
       let G = g N ls d ns l f t b in
       let left = G .left in
@@ -80,8 +79,8 @@ module _ (s raw sorts funcs acts procs names : List ℕ) (n : ℕ) where
 
   -- the line at k, of which a process was read or not
   module _ (rows rows′ out out′ starts : List ℕ) (w k at : ℕ) (r : Side) (h : k < length procs) (same : length out′ ≡ length out) (place : at ≡ getD procs k 0) (g : ProcsGone rows out starts w k)
-      (a : ProcessRead s raw sorts funcs acts procs names n at rows′ (5 * k) w out r out′) where
-    pub procs-stop : (R : ProcRows) → r .ok ≡ false → R .ok ≡ false → ProcessesRead s raw sorts funcs acts procs names n R out′
+      (a : ProcessRead s raw sorts names kinds at rows′ (5 * k) w out r out′) where
+    pub procs-stop : (R : ProcRows) → r .ok ≡ false → R .ok ≡ false → ProcessesRead s raw sorts procs names kinds R out′
     procs-stop R lost z N ls d ns l f t b =
         let (x, e, here) = each-next (λ p l. At s raw (enc-proc l) p) procs ls k l h in
         let few = every-at _ ls k x (drop (k + 1) ls) f e in

@@ -1,6 +1,6 @@
 -- Question 7 on the whole sheet: names new, signature, processes and init, each answered by its part.
 use mathlib.Core.Path.{_≡_, refl, sym, _∙_, ap, subst, subst⁻¹}
-use mathlib.Core.List.{List, [], _∷_, _++_, map}
+use mathlib.Core.List.{List, [], _∷_, _++_, map, append-assoc, append-nil}
 use mathlib.Core.Bool.{Bool, false}
 use mathlib.Core.Option.{Option, none, some}
 use Prim.Native.Nat.{ℕ, _+_, _-_, _*_, _≤_, _<_}
@@ -24,11 +24,15 @@ use Rattle.nodes.specs.Layout.{enc}
 use Rattle.nodes.specs.Scoped.{Scoped}
 use Rattle.nodes.specs.Held.{ProcAt, HeldProcs, Held}
 use Rattle.names.specs.NameCells.{name-at, declared-at, names-at, scope-at}
+use Rattle.names.specs.NameKeys.{Keyed}
+use Rattle.names.specs.NameKinds.{total-of, sorts-in, funcs-in, acts-in, procs-in}
+use Rattle.names.specs.declared.Kinds.{Kinds}
 use Rattle.names.specs.Standing.{At, symbols}
 use Rattle.names.specs.Rows.{Answers, sorts-at}
+use Rattle.names.proofs.KindLaws.{part-is}
 use Rattle.names.proofs.NamesOf.{sorts-are, funcs-are, acts-are, procs-are, declared-are}
 use Rattle.resolver.specs.Writing.{Writes}
-use Rattle.resolver.specs.Resolving.{Declared, ResolvesInit, called, Answers as Resolves-to}
+use Rattle.resolver.specs.Resolving.{Declared, FewKinds, ResolvesInit, called, Answers as Resolves-to}
 use Rattle.resolver.specs.InScope.{init-scoped}
 use Rattle.resolver.specs.declared.Resolved.{Resolved as Side}
 use Rattle.sheets.specs.declared.SigRows.{SigRows}
@@ -84,6 +88,10 @@ signature-names R S se =
     (R .acts) as′ (each-given (resolve-act (names-of R)) (R .acts) as′ e₃)
     ∙ ap (λ (T : Sig). map (λ (a : Action). a .name) (T .acts)) whole))
 
+-- how many lines of each kind
+abbrev pub kinds-of : (sorts funcs acts procs : List ℕ) → Kinds
+kinds-of sorts funcs acts procs = record { sorts = length sorts; funcs = length funcs; acts = length acts; procs = length procs }
+
 -- as many names as lines
 names-many-at : (s raw places : List ℕ) → length (names-at s raw places (length places)) ≡ length places
 unfolding names-at
@@ -91,14 +99,36 @@ names-many-at s raw places = length-map (take (length places) places) (declared-
 
 module _ (s raw sorts funcs acts procs : List ℕ) (R : RawSheet) (stand : LinesStand s raw sorts funcs acts procs R) where
   -- the names that the lines declare
-  lines-declare : Declared s raw sorts funcs acts procs (names-of R)
-  unfolding sorts-at
-  lines-declare = record {
-    sorts-are = sorts-are s raw R sorts funcs acts procs (stand .sorts-at) (stand .funcs-at) (stand .acts-at) (stand .procs-at);
-    funcs-are = funcs-are s raw R sorts funcs acts procs (stand .sorts-at) (stand .funcs-at) (stand .acts-at) (stand .procs-at);
-    acts-are = acts-are s raw R sorts funcs acts procs (stand .sorts-at) (stand .funcs-at) (stand .acts-at) (stand .procs-at);
-    procs-are = procs-are s raw R sorts funcs acts procs (stand .sorts-at) (stand .funcs-at) (stand .acts-at) (stand .procs-at);
-  }
+  sort-names : names-of R .sorts ≡ sorts-at s raw sorts
+  sort-names = sorts-are s raw R sorts funcs acts procs (stand .sorts-at) (stand .funcs-at) (stand .acts-at) (stand .procs-at)
+
+  act-names : names-of R .acts ≡ names-at s raw acts (length acts)
+  act-names = acts-are s raw R sorts funcs acts procs (stand .sorts-at) (stand .funcs-at) (stand .acts-at) (stand .procs-at)
+
+  -- in one list
+  lines-declare : (names : List ℕ) (n : ℕ) → n ≡ total-of (kinds-of sorts funcs acts procs)
+      → scope-at s names n ≡ names-at s raw sorts (length sorts) ++ (names-at s raw funcs (length funcs) ++ (names-at s raw acts (length acts) ++ names-at s raw procs (length procs)))
+      → Declared s names (kinds-of sorts funcs acts procs) (names-of R)
+  unfolding sorts-at sorts-in funcs-in acts-in procs-in
+  lines-declare names n total e =
+      let A : List Name = names-at s raw sorts (length sorts) in
+      let B : List Name = names-at s raw funcs (length funcs) in
+      let C : List Name = names-at s raw acts (length acts) in
+      let D : List Name = names-at s raw procs (length procs) in
+      let a = names-many-at s raw sorts in
+      let b = names-many-at s raw funcs in
+      let c = names-many-at s raw acts in
+      let d = names-many-at s raw procs in
+      let e₂ : scope-at s names n ≡ (A ++ B) ++ (C ++ D) = e ∙ sym (append-assoc A B (C ++ D)) in
+      let e₃ : scope-at s names n ≡ (A ++ (B ++ C)) ++ (D ++ []) = e ∙ simp (append-assoc, append-nil) in
+      let l₂ : length (A ++ B) ≡ length sorts + length funcs = omega (arith, length-append A B) in
+      let l₃ : length (A ++ (B ++ C)) ≡ length sorts + length funcs + length acts = omega (arith, length-append A (B ++ C), length-append B C) in
+      record {
+        sorts-are = sort-names ∙ ap (_∷_ (bytes "Bool")) (sym (part-is s names n 0 (length sorts) [] A (B ++ (C ++ D)) e refl a (omega arith)));
+        funcs-are = funcs-are s raw R sorts funcs acts procs (stand .sorts-at) (stand .funcs-at) (stand .acts-at) (stand .procs-at) ∙ sym (part-is s names n (length sorts) (length funcs) A B (C ++ D) e a b (omega arith));
+        acts-are = act-names ∙ sym (part-is s names n (length sorts + length funcs) (length acts) (A ++ B) C D e₂ l₂ c (omega arith));
+        procs-are = procs-are s raw R sorts funcs acts procs (stand .sorts-at) (stand .funcs-at) (stand .acts-at) (stand .procs-at) ∙ sym (part-is s names n (length sorts + length funcs + length acts) (length procs) (A ++ (B ++ C)) D [] e₃ l₃ d (omega arith));
+      }
 
   -- as many processes as there are lines
   lines-many : length (R .procs) ≡ length procs
@@ -138,7 +168,7 @@ module _ (s raw sorts funcs acts procs : List ℕ) (R : RawSheet) (stand : Lines
       → (S : Sig) → resolve-signature R ≡ some S → (i : ℕ) → i < length (S .acts) → name-at s (getD names (length sorts + 1 - 1 + length funcs + i) 0) ≡ getD (S .acts) i no-action .name
   unfolding scope-at
   actions-named names n e S se i h =
-      let named : names-at s raw acts (length acts) ≡ map (λ (a : Action). a .name) (S .acts) = sym (lines-declare .acts-are) ∙ signature-names R S se in
+      let named : names-at s raw acts (length acts) ≡ map (λ (a : Action). a .name) (S .acts) = sym act-names ∙ signature-names R S se in
       let k : ℕ = length sorts + 1 - 1 + length funcs + i in
       let a = names-many-at s raw sorts in
       let b = names-many-at s raw funcs in
@@ -157,25 +187,47 @@ module _ (s raw sorts funcs acts procs : List ℕ) (R : RawSheet) (stand : Lines
       ∙ ap (λ (l : List Name). getD l i []) named
       ∙ getD-map (λ (a : Action). a .name) (S .acts) i no-action [] h
 
+-- so many names are declared
+pub declared-many : (s raw sorts funcs acts procs names : List ℕ) (n : ℕ) → n ≤ length names
+    → scope-at s names n ≡ names-at s raw sorts (length sorts) ++ (names-at s raw funcs (length funcs) ++ (names-at s raw acts (length acts) ++ names-at s raw procs (length procs)))
+    → n ≡ total-of (kinds-of sorts funcs acts procs)
+unfolding scope-at
+declared-many s raw sorts funcs acts procs names n h e =
+    let A : List Name = names-at s raw sorts (length sorts) in
+    let B : List Name = names-at s raw funcs (length funcs) in
+    let C : List Name = names-at s raw acts (length acts) in
+    let D : List Name = names-at s raw procs (length procs) in
+    let size : length (map (name-at s) (take n names)) ≡ length A + (length B + (length C + length D)) = ap length e ∙ simp length-append in
+    omega (arith, names-many-at s raw sorts, names-many-at s raw funcs, names-many-at s raw acts, names-many-at s raw procs, length-map (take n names) (name-at s), length-take n names)
+
+-- their keys are those of all kinds
+pub names-keyed : (s raw sorts funcs acts procs names keys : List ℕ) (n : ℕ) → n ≤ length names
+    → scope-at s names n ≡ names-at s raw sorts (length sorts) ++ (names-at s raw funcs (length funcs) ++ (names-at s raw acts (length acts) ++ names-at s raw procs (length procs)))
+    → Keyed s names keys n → Keyed s names keys (total-of (kinds-of sorts funcs acts procs))
+names-keyed s raw sorts funcs acts procs names keys n h e k = subst (λ (m : ℕ). Keyed s names keys m) (declared-many s raw sorts funcs acts procs names n h e) k
+
+pub kinds-few : (raw sorts funcs acts procs : List ℕ) → FewLines raw sorts funcs acts procs → FewKinds (kinds-of sorts funcs acts procs)
+kinds-few raw sorts funcs acts procs few = record { sorts-few = omega (arith, few .sorts-few); funcs-few = few .funcs-few; acts-few = few .acts-few; procs-few = few .procs-few }
+
 -- they hold a sheet
 abbrev Holds : List ℕ → Rows → (values cells : List ℕ) → Sheet → Type 0
 Holds s rows values cells H = Held H (arrays rows values cells) (rows .outline) × Named s rows H
 
 -- THE WHOLE SHEET
 pub lines-resolve : (s raw sorts funcs acts procs : List ℕ) (at : ℕ) (values o o′ names : List ℕ) (n : ℕ) (fresh : Bool) (a : SigRows) (b : ProcRows) (c : Side) (ok : Bool)
-    → FewLines raw sorts funcs acts procs → length o′ ≡ length o
+    → FewLines raw sorts funcs acts procs → length o′ ≡ length o → n ≡ total-of (kinds-of sorts funcs acts procs)
     → scope-at s names n ≡ names-at s raw sorts (length sorts) ++ (names-at s raw funcs (length funcs) ++ (names-at s raw acts (length acts) ++ names-at s raw procs (length procs)))
-    → fresh ≡ distinct (bytes "Bool" ∷ scope-at s names n) → SignatureRead s raw sorts funcs acts values a → ProcessesRead s raw sorts funcs acts procs names n b o
-    → ResolvesInit s raw funcs procs at (b .w) o c o′ → ok ≡ and fresh (and (a .ok) (and (b .ok) (c .ok)))
+    → fresh ≡ distinct (bytes "Bool" ∷ scope-at s names n) → SignatureRead s raw sorts funcs acts values a → ProcessesRead s raw sorts procs names (kinds-of sorts funcs acts procs) b o
+    → ResolvesInit s raw names (kinds-of sorts funcs acts procs) at (b .w) o c o′ → ok ≡ and fresh (and (a .ok) (and (b .ok) (c .ok)))
     → LinesResolve s raw sorts funcs acts procs at values o′ (record { ok = ok; rows = rows-of sorts funcs acts procs names a b })
 unfolding resolve symbols Counted arrays
-lines-resolve s raw sorts funcs acts procs at values o o′ names n fresh a b c ok few same scoped new sig procs-read init-read e R stand init-at m counted bounded values-room cells-room =
+lines-resolve s raw sorts funcs acts procs at values o o′ names n fresh a b c ok few same total scoped new sig procs-read init-read e R stand init-at m counted bounded values-room cells-room =
     let rows : Rows = rows-of sorts funcs acts procs names a b in
-    let D = lines-declare s raw sorts funcs acts procs R stand in
+    let D = lines-declare s raw sorts funcs acts procs R stand names n total scoped in
     let known : declared (names-of R) ≡ bytes "Bool" ∷ scope-at s names n = declared-are s raw R sorts funcs acts procs (stand .sorts-at) (stand .funcs-at) (stand .acts-at) (stand .procs-at) names n scoped in
     let both = bounded .processes-few in
     let f = sig R m (stand .sorts-at) (stand .funcs-at) (stand .acts-at) counted bounded values-room in
-    let g = procs-read (names-of R) (R .procs) D known (stand .procs-at) (counted .1 .1 .1 .1 .1) (bounded .sums-shallow) (omega arith) in
+    let g = procs-read (names-of R) (R .procs) D (sort-names s raw sorts funcs acts procs R stand) (stand .procs-at) (counted .1 .1 .1 .1 .1) (bounded .sums-shallow) (omega arith) in
     let h = init-answers (symbols s raw) (init-at .0) (b .w) o (resolve-init (names-of R) (R .start)) c o′ (init-read (names-of R) (R .start) (init-at .0) (D .funcs-are) (D .procs-are) (init-at .1)) in
     subst⁻¹ (λ (t : Bool). Answers (Holds s rows values o′) (resolve R) t) e
     (answers-test (Holds s rows values o′) (distinct (declared (names-of R))) _ fresh _ (new ∙ ap distinct (sym known))

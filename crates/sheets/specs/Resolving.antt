@@ -1,18 +1,17 @@
 -- What the parts of question 7 answer, for every raw sheet whose lines stand in the cells.
 use mathlib.Core.Path.{_≡_}
-use mathlib.Core.List.{List, [], _∷_, _++_}
+use mathlib.Core.List.{List, _++_}
 use mathlib.Core.Bool.{Bool, true, false}
 use mathlib.Core.Option.{Option, none, some}
 use Prim.Native.Nat.{ℕ, _+_, _-_, _*_, _≤_, _<_}
 use lib.ListN.{length, take, drop, getD}
-use Rattle.pcrl.specs.Text.{bytes}
 use Rattle.pcrl.specs.Limits.{max-open, max-sorts, max-functions, max-actions, max-processes, frame-width}
 use Rattle.pcrl.specs.Tests.{Every}
 use Rattle.pcrl.specs.Maybe.{_>>=_, for-each}
 use Rattle.pcrl.specs.Tree.{ProcLine, RawSheet}
 use Rattle.pcrl.specs.Sheet.{Process, Sig, Sheet, no-action, no-process}
 use Rattle.pcrl.specs.Counts.{Counted}
-use Rattle.pcrl.specs.Names.{Names, names-of, declared, sizes-of, resolve-func, resolve-act, resolve-proc, resolve}
+use Rattle.pcrl.specs.Names.{Names, names-of, sizes-of, resolve-func, resolve-act, resolve-proc, resolve}
 use Rattle.grammar.specs.Print.{line, print-lines, print-proc}
 use Rattle.parser.specs.Cells.{Symbol, enc-sort, enc-func, enc-act, enc-proc, enc-init}
 use Rattle.parser.specs.declared.Lines.{Lines}
@@ -20,12 +19,15 @@ use Rattle.nodes.specs.declared.Outline.{Outline}
 use Rattle.nodes.specs.Layout.{cell-limit, enc}
 use Rattle.nodes.specs.Scoped.{Scoped}
 use Rattle.nodes.specs.Held.{SortsAt, ProcAt, HeldSig, Arrays, Held}
-use Rattle.names.specs.NameCells.{name-at, scope-at}
+use Rattle.names.specs.NameCells.{name-at}
+use Rattle.names.specs.NameKeys.{Keyed}
+use Rattle.names.specs.NameKinds.{total-of}
+use Rattle.names.specs.declared.Kinds.{Kinds}
 use Rattle.names.specs.Standing.{symbols, At, LinesAt, Standing}
-use Rattle.names.specs.Rows.{Answers, InRows}
+use Rattle.names.specs.Rows.{Answers, InRows, sorts-at}
 use Rattle.resolver.specs.Raw.{sum-depth}
 use Rattle.resolver.specs.Writing.{Writes}
-use Rattle.resolver.specs.Resolving.{Declared}
+use Rattle.resolver.specs.Resolving.{Declared, FewKinds}
 use Rattle.resolver.specs.declared.Resolved.{Resolved as Side}
 use Rattle.sheets.specs.declared.SigRows.{SigRows}
 use Rattle.sheets.specs.declared.ProcRows.{ProcRows}
@@ -40,6 +42,13 @@ pub record FewLines (raw sorts funcs acts procs : List ℕ) : Type 0 where
   pub funcs-few : length funcs ≤ max-functions
   pub acts-few : length acts ≤ max-actions
   pub procs-few : length procs ≤ max-processes
+
+-- the same of declared names that are given in one list, with their keys
+pub record FewNames (s raw sorts names keys : List ℕ) (kinds : Kinds) : Type 0 where
+  pub raw-few : length raw < cell-limit
+  pub sorts-few : length sorts < max-sorts
+  pub kinds-few : FewKinds kinds
+  pub keyed : Keyed s names keys (total-of kinds)
 
 -- the lines of each kind stand at their places
 pub record LinesStand (s raw sorts funcs acts procs : List ℕ) (R : RawSheet) : Type 0 where
@@ -76,9 +85,9 @@ pub record ProcessRow (m : ℕ) (q : Process) (rows : List ℕ) (p : ℕ) (w : �
   pub size : length (enc false (q .right)) ≤ most
 
 -- for every process line that stands at `at`
-abbrev pub ProcessRead : (s raw sorts funcs acts procs names : List ℕ) (n at : ℕ) (rows : List ℕ) (p w : ℕ) (o : List ℕ) → Side → List ℕ → Type 0
-ProcessRead s raw sorts funcs acts procs names n at rows p w o r o′ =
-    (N : Names) (l : ProcLine) (rest : List Symbol) → Declared s raw sorts funcs acts procs N → declared N ≡ bytes "Bool" ∷ scope-at s names n
+abbrev pub ProcessRead : (s raw sorts names : List ℕ) (kinds : Kinds) (at : ℕ) (rows : List ℕ) (p w : ℕ) (o : List ℕ) → Side → List ℕ → Type 0
+ProcessRead s raw sorts names kinds at rows p w o r o′ =
+    (N : Names) (l : ProcLine) (rest : List Symbol) → Declared s names kinds N → N .sorts ≡ sorts-at s raw sorts
     → drop at (symbols s raw) ≡ enc-proc l ++ rest → length (l .params) ≤ frame-width → sum-depth (l .right) ≤ max-open
     → Answers (λ q. ProcessRow (length (N .procs)) q rows p w o (r .w) o′ (3 * length (line "proc" (print-proc l)))) (resolve-proc N l) (r .ok)
 
@@ -87,9 +96,9 @@ pub record ProcessesHeld (m : ℕ) (r : ProcRows) (cells : List ℕ) (most : ℕ
   pub each : InRows no-process (λ q k. ProcAt m q (r .procs) (take (r .w) cells) (r .starts) k) ps
   pub size : r .w ≤ most
 
-abbrev pub ProcessesRead : (s raw sorts funcs acts procs names : List ℕ) (n : ℕ) → ProcRows → List ℕ → Type 0
-ProcessesRead s raw sorts funcs acts procs names n r o′ =
-    (N : Names) (ls : List ProcLine) → Declared s raw sorts funcs acts procs N → declared N ≡ bytes "Bool" ∷ scope-at s names n → LinesAt enc-proc s raw procs ls
+abbrev pub ProcessesRead : (s raw sorts procs names : List ℕ) (kinds : Kinds) → ProcRows → List ℕ → Type 0
+ProcessesRead s raw sorts procs names kinds r o′ =
+    (N : Names) (ls : List ProcLine) → Declared s names kinds N → N .sorts ≡ sorts-at s raw sorts → LinesAt enc-proc s raw procs ls
     → Every (λ (l : ProcLine). length (l .params) ≤ frame-width) ls → Every (λ (l : ProcLine). sum-depth (l .right) ≤ max-open) ls → 3 * length (print-lines "proc" print-proc ls) ≤ length o′
     → Answers (ProcessesHeld (length (N .procs)) r o′ (3 * length (print-lines "proc" print-proc ls))) (for-each (resolve-proc N) ls) (r .ok)
 

@@ -1,12 +1,14 @@
 // Question 7 on the lines of processes.
 ghost use Prim.Native.Nat.{_+_, _≤_, _<_};
 ghost use lib.ListN.{length};
-ghost use Rattle.pcrl.specs.Limits.{frame-width};
+ghost use Rattle.pcrl.specs.Limits.{frame-width, max-processes};
 ghost use Rattle.nodes.specs.Layout.{cell-limit};
 ghost use Rattle.names.specs.Rows.{Kept};
-ghost use Rattle.sheets.specs.Resolving.{FewLines, ProcessRead, ProcessesRead};
+ghost use Rattle.sheets.specs.Resolving.{FewNames, ProcessRead, ProcessesRead};
 use crate::ProcRows;
+use names::Kinds;
 use names::find::place;
+use names::keys::total;
 use names::rows::param_row;
 use nodes::PROC_ROW;
 use parser::cells::short;
@@ -18,23 +20,32 @@ fn process(
     s: &[u8],
     raw: &[u16],
     sorts: &[u16],
-    funcs: &[u16],
-    acts: &[u16],
-    procs: &[u16],
     names: &[u16],
-    n: usize,
+    keys: &[u8],
+    kinds: Kinds,
     at: usize,
     rows: &mut [u8],
     p: usize,
     out: &mut [u16],
     w: usize,
 ) -> Resolved
-    requires { ⌜ FewLines (now raw) (now sorts) (now funcs) (now acts) (now procs) × (n ≤ length (now names)) × (at < cell-limit) × (p + frame-width < length (now rows)) ⌝ }
+    requires { ⌜ FewNames (now s) (now raw) (now sorts) (now names) (now keys) kinds × (at < cell-limit) × (p + frame-width < length (now rows)) ⌝ }
     ensures kept { λ r. ⌜ Kept p (now (rows .entry)) (now (rows .exit)) ⌝ }
-    ensures process { λ r. ⌜ ProcessRead (now (s .entry)) (now (raw .entry)) (now (sorts .entry)) (now (funcs .entry)) (now (acts .entry)) (now (procs .entry)) (now (names .entry)) n at (now (rows .exit)) p w (now (out .entry)) r (now (out .exit)) ⌝ }
+    ensures process { λ r. ⌜ ProcessRead (now (s .entry)) (now (raw .entry)) (now (sorts .entry)) (now (names .entry)) kinds at (now (rows .exit)) p w (now (out .entry)) r (now (out .exit)) ⌝ }
 {
     let mut scope = [0u16; 32];
-    let a = param_row(s, raw, sorts, names, n, at + 2, rows, p, &mut scope);
+    let a = param_row(
+        s,
+        raw,
+        sorts,
+        names,
+        keys,
+        total(kinds),
+        at + 2,
+        rows,
+        p,
+        &mut scope,
+    );
     if !a.ok {
         return Resolved {
             ok: false,
@@ -45,10 +56,9 @@ fn process(
     right_side(
         s,
         raw,
-        sorts,
-        funcs,
-        acts,
-        procs,
+        names,
+        keys,
+        kinds,
         &mut scope,
         a.count,
         a.at,
@@ -62,15 +72,14 @@ pub fn processes(
     s: &[u8],
     raw: &[u16],
     sorts: &[u16],
-    funcs: &[u16],
-    acts: &[u16],
     procs: &[u16],
     names: &[u16],
-    n: usize,
+    keys: &[u8],
+    kinds: Kinds,
     out: &mut [u16],
 ) -> ProcRows
-    requires { ⌜ FewLines (now raw) (now sorts) (now funcs) (now acts) (now procs) × (n ≤ length (now names)) × (length (now out) < cell-limit) ⌝ }
-    ensures { λ r. ⌜ ProcessesRead (now (s .entry)) (now (raw .entry)) (now (sorts .entry)) (now (funcs .entry)) (now (acts .entry)) (now (procs .entry)) (now (names .entry)) n r (now (out .exit)) ⌝ }
+    requires { ⌜ FewNames (now s) (now raw) (now sorts) (now names) (now keys) kinds × (length (now procs) ≤ max-processes) × (length (now out) < cell-limit) ⌝ }
+    ensures { λ r. ⌜ ProcessesRead (now (s .entry)) (now (raw .entry)) (now (sorts .entry)) (now (procs .entry)) (now (names .entry)) kinds r (now (out .exit)) ⌝ }
 {
     let mut rows = [0u8; 80];
     let mut starts = [0u16; 16];
@@ -83,11 +92,9 @@ pub fn processes(
             s,
             raw,
             sorts,
-            funcs,
-            acts,
-            procs,
             names,
-            n,
+            keys,
+            kinds,
             place(procs[k]),
             &mut rows,
             PROC_ROW * k,

@@ -9,9 +9,11 @@ use crate::Rows;
 use crate::both;
 use crate::processes::processes;
 use crate::signature::signature;
+use names::Kinds;
 use names::find::place;
 use names::fresh::all_new;
 use names::fresh::declared_names;
+use names::keys::put_keys;
 use nodes::Outline;
 use parser::Lines;
 use resolver::entry::init;
@@ -33,10 +35,18 @@ fn resolve_lines(
 {
     let mut names = [0u16; 72];
     let n = declared_names(raw, sorts, funcs, acts, procs, &mut names);
-    let fresh = all_new(s, &names, n);
+    let mut keys = [0u8; 72];
+    put_keys(s, &names, n, &mut keys);
+    let fresh = all_new(s, &names, &keys, n);
+    let kinds = Kinds {
+        sorts: sorts.len(),
+        funcs: funcs.len(),
+        acts: acts.len(),
+        procs: procs.len(),
+    };
     let a = signature(s, raw, sorts, funcs, acts, values);
-    let b = processes(s, raw, sorts, funcs, acts, procs, &names, n, out);
-    let c = init(s, raw, funcs, procs, at, out, b.w);
+    let b = processes(s, raw, sorts, procs, &names, &keys, kinds, out);
+    let c = init(s, raw, &names, &keys, kinds, at, out, b.w);
     let sizes = a.sizes;
     let func_bytes = a.funcs;
     let places = a.places;

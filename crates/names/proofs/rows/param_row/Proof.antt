@@ -13,31 +13,31 @@ use Rattle.names.proofs.rows.param_row.Statement.{statement}
 use Rattle.names.proofs.rows.param_row.Tie as tie
 
 abbrev Inv-loop : tie.InvT-loop
-Inv-loop s cells sorts names n at rows₀ p scope₀ m k₀ rows scope k = (k ≤ m) × Kept p rows₀ rows × (length scope ≡ length scope₀) × ParamsGone s cells sorts names n at p rows scope k
+Inv-loop s cells sorts names keys n at rows₀ p scope₀ m k₀ rows scope k = (k ≤ m) × Kept p rows₀ rows × (length scope ≡ length scope₀) × ParamsGone s cells sorts names n at p rows scope k
 
 abbrev μ-loop : tie.MeasureT-loop
-μ-loop s cells sorts names n at rows₀ p scope₀ m k₀ rows scope k = m - k
+μ-loop s cells sorts names keys n at rows₀ p scope₀ m k₀ rows scope k = m - k
 
 items-requires : tie.Need-items-requires Inv-loop μ-loop
-items-requires c κs = (omega arith, omega (arith, c .before .before .before .before .before .before .pre), omega arith)
+items-requires c κs = (omega arith, omega (arith, c .before .before .before .before .before .before .before .pre), omega arith)
 
 loop-holds : tie.Need-loop-holds Inv-loop μ-loop
-loop-holds c = (omega arith, kept-all (c .before .before .before .before .before .before .before .args .p) (c .before .before .before .before .before .before .before .args .rows .now), refl, params-start (c .before .before .before .before .before .before .before .args .s .now) (c .before .before .before .before .before .before .before .args .cells .now) (c .before .before .before .before .before .before .before .args .sorts .now) (c .before .before .before .before .before .before .before .args .names .now) (c .before .before .before .before .before .before .before .args .n) (c .before .before .before .before .before .before .before .args .at) (c .before .before .before .before .before .before .before .args .p) (c .before .before .before .before .before .before .before .args .rows .now) (c .before .before .before .before .before .before .before .args .scope .now))
+loop-holds c = (omega arith, kept-all (c .before .before .before .before .before .before .before .before .args .p) (c .before .before .before .before .before .before .before .before .args .rows .now), refl, params-start (c .before .before .before .before .before .before .before .before .args .s .now) (c .before .before .before .before .before .before .before .before .args .cells .now) (c .before .before .before .before .before .before .before .before .args .sorts .now) (c .before .before .before .before .before .before .before .before .args .names .now) (c .before .before .before .before .before .before .before .before .args .n) (c .before .before .before .before .before .before .before .before .args .at) (c .before .before .before .before .before .before .before .before .args .p) (c .before .before .before .before .before .before .before .before .args .rows .now) (c .before .before .before .before .before .before .before .before .args .scope .now))
 
 mul-cell : tie.Need-mul-cell Inv-loop μ-loop
-mul-cell c = omega (arith, c .before .before .before .before .before .before .before .before .before .pre, c .before .before .items .ensures .0)
+mul-cell c = omega (arith, c .before .before .before .before .before .before .before .before .before .before .pre, c .before .before .items .ensures .0)
 
 add-cell : tie.Need-add-cell Inv-loop μ-loop
-add-cell c = omega (arith, c .before .before .before .before .before .before .before .before .before .pre, c .before .before .items .ensures .0)
+add-cell c = omega (arith, c .before .before .before .before .before .before .before .before .before .before .pre, c .before .before .items .ensures .0)
 
 add-cell-2 : tie.Need-add-cell-2 Inv-loop μ-loop
-add-cell-2 c = omega (arith, c .before .before .before .before .before .before .before .before .before .pre, c .before .before .items .ensures .0)
+add-cell-2 c = omega (arith, c .before .before .before .before .before .before .before .before .before .before .pre, c .before .before .items .ensures .0)
 
 cell-requires : tie.Need-cell-requires Inv-loop μ-loop
 cell-requires c κs = tt
 
 new-variable-requires : tie.Need-new-variable-requires Inv-loop μ-loop
-new-variable-requires c κs = (omega (arith, c .before .before .before .before .before .before .before .before .before .before .before .pre), omega (arith, c .before .before .before .before .before .before .before .before .before .before .before .pre, c .before .before .before .before .items .ensures .0, c .before .before .before .loop .inv .2))
+new-variable-requires c κs = (c .before .before .before .before .before .before .before .before .before .before .before .before .pre .1, omega (arith, c .before .before .before .before .before .before .before .before .before .before .before .before .pre, c .before .before .before .before .items .ensures .0, c .before .before .before .loop .inv .2))
 
 same-length : tie.Need-same-length Inv-loop μ-loop
 same-length c = c .before .before .before .before .before .loop .inv .1 .same
@@ -46,16 +46,16 @@ same-length-2 : tie.Need-same-length-2 Inv-loop μ-loop
 same-length-2 c = c .before .before .before .before .before .loop .inv .2
 
 returns : tie.Need-returns Inv-loop μ-loop
-returns c = (c .before .before .before .before .before .loop .inv .1, (omega (arith, c .before .before .before .before .before .loop .inv .0, c .before .before .before .before .before .before .items .ensures .0), params-old (c .before .before .before .before .before .before .before .before .before .before .before .before .before .args .s .now) (c .before .before .before .before .before .before .before .before .before .before .before .before .before .args .cells .now) (c .before .before .before .before .before .before .before .before .before .before .before .before .before .args .sorts .now) (c .before .before .before .before .before .before .before .before .before .before .before .before .before .args .names .now) (c .before .before .before .before .before .before .before .before .before .before .before .before .before .args .n) (c .before .before .before .before .before .before .before .before .before .before .before .before .before .args .at) (c .before .before .before .before .before .before .before .before .before .before .before .before .before .args .p) (c .before .before .before .before .before .loop .rows) (c .before .before .before .before .before .loop .scope) (c .before .before .before .before .before .before .items .result) (c .before .before .before .before .before .loop .k) (c .before .before .before .cell .result) (c .before .new-variable .result) (c .before .before .before .before .before .loop .inv .3) (c .before .before .before .before .before .before .items .ensures .1) (c .before .before .before .before .loop-test .taken) (c .before .before .before .cell .ensures) (c .before .new-variable .ensures) (c .before .before .before .before .before .loop .rows) (c .before .before .before .before .before .loop .scope) _ (not-true _ (c .if1 .taken)) refl))
+returns c = (c .before .before .before .before .before .loop .inv .1, (omega (arith, c .before .before .before .before .before .loop .inv .0, c .before .before .before .before .before .before .items .ensures .0), params-old (c .before .before .before .before .before .before .before .before .before .before .before .before .before .before .args .s .now) (c .before .before .before .before .before .before .before .before .before .before .before .before .before .before .args .cells .now) (c .before .before .before .before .before .before .before .before .before .before .before .before .before .before .args .sorts .now) (c .before .before .before .before .before .before .before .before .before .before .before .before .before .before .args .names .now) (c .before .before .before .before .before .before .before .before .before .before .before .before .before .before .args .n) (c .before .before .before .before .before .before .before .before .before .before .before .before .before .before .args .at) (c .before .before .before .before .before .before .before .before .before .before .before .before .before .before .args .p) (c .before .before .before .before .before .loop .rows) (c .before .before .before .before .before .loop .scope) (c .before .before .before .before .before .before .items .result) (c .before .before .before .before .before .loop .k) (c .before .before .before .cell .result) (c .before .new-variable .result) (c .before .before .before .before .before .loop .inv .3) (c .before .before .before .before .before .before .items .ensures .1) (c .before .before .before .before .loop-test .taken) (c .before .before .before .cell .ensures) (c .before .new-variable .ensures) (c .before .before .before .before .before .loop .rows) (c .before .before .before .before .before .loop .scope) _ (not-true _ (c .if1 .taken)) refl))
 
 mul-cell-2 : tie.Need-mul-cell-2 Inv-loop μ-loop
-mul-cell-2 c = omega (arith, c .before .before .before .before .before .before .before .before .before .before .before .before .before .pre, c .before .before .before .before .before .before .items .ensures .0)
+mul-cell-2 c = omega (arith, c .before .before .before .before .before .before .before .before .before .before .before .before .before .before .pre, c .before .before .before .before .before .before .items .ensures .0)
 
 add-cell-3 : tie.Need-add-cell-3 Inv-loop μ-loop
-add-cell-3 c = omega (arith, c .before .before .before .before .before .before .before .before .before .before .before .before .before .pre, c .before .before .before .before .before .before .items .ensures .0)
+add-cell-3 c = omega (arith, c .before .before .before .before .before .before .before .before .before .before .before .before .before .before .pre, c .before .before .before .before .before .before .items .ensures .0)
 
 add-cell-4 : tie.Need-add-cell-4 Inv-loop μ-loop
-add-cell-4 c = omega (arith, c .before .before .before .before .before .before .before .before .before .before .before .before .before .pre, c .before .before .before .before .before .before .items .ensures .0)
+add-cell-4 c = omega (arith, c .before .before .before .before .before .before .before .before .before .before .before .before .before .before .pre, c .before .before .before .before .before .before .items .ensures .0)
 
 cell-requires-2 : tie.Need-cell-requires-2 Inv-loop μ-loop
 cell-requires-2 c κs = tt
@@ -71,25 +71,25 @@ same-length-4 c = c .before .before .before .before .before .before .before .bef
 
 returns-2 : tie.Need-returns-2 Inv-loop μ-loop
 unfolding sorts-at
-returns-2 c = (c .before .before .before .before .before .before .before .before .loop .inv .1, (omega (arith, c .before .before .before .before .before .before .before .before .loop .inv .0, c .before .before .before .before .before .before .before .before .before .items .ensures .0), params-no-sort (c .before .before .before .before .before .before .before .before .before .before .before .before .before .before .before .before .args .s .now) (c .before .before .before .before .before .before .before .before .before .before .before .before .before .before .before .before .args .cells .now) (c .before .before .before .before .before .before .before .before .before .before .before .before .before .before .before .before .args .sorts .now) (c .before .before .before .before .before .before .before .before .before .before .before .before .before .before .before .before .args .names .now) (c .before .before .before .before .before .before .before .before .before .before .before .before .before .before .before .before .args .n) (c .before .before .before .before .before .before .before .before .before .before .before .before .before .before .before .before .args .at) (c .before .before .before .before .before .before .before .before .before .before .before .before .before .before .before .before .args .p) (c .before .before .before .before .before .before .before .before .loop .rows) (c .before .before .before .before .before .before .before .before .loop .scope) (c .before .before .before .before .before .before .before .before .before .items .result) (c .before .before .before .before .before .before .before .before .loop .k) (c .before .before .before .before .before .before .cell .result) (c .before .before .before .before .new-variable .result) (c .before .before .before .before .before .before .before .before .loop .inv .3) (c .before .before .before .before .before .before .before .before .before .items .ensures .1) (c .before .before .before .before .before .before .before .loop-test .taken) (c .before .before .before .before .before .before .cell .ensures) (c .before .before .before .before .new-variable .ensures) (suc (length (c .before .before .before .before .before .before .before .before .before .before .before .before .before .before .before .before .args .sorts .now))) (c .before .sort-number .result) (omega (arith, sorts-length (c .before .before .before .before .before .before .before .before .before .before .before .before .before .before .before .before .args .s .now) (c .before .before .before .before .before .before .before .before .before .before .before .before .before .before .before .before .args .cells .now) (c .before .before .before .before .before .before .before .before .before .before .before .before .before .before .before .before .args .sorts .now))) (not-false _ (c .before .before .before .if1 .left)) (c .before .sort-number .ensures .1 ∙ ap (λ (v : ℕ). or-count (suc (length (c .before .before .before .before .before .before .before .before .before .before .before .before .before .before .before .before .args .sorts .now))) (number-of (name-at (c .before .before .before .before .before .before .before .before .before .before .before .before .before .before .before .before .args .s .now) v) (sorts-at (c .before .before .before .before .before .before .before .before .before .before .before .before .before .before .before .before .args .s .now) (c .before .before .before .before .before .before .before .before .before .before .before .before .before .before .before .before .args .cells .now) (c .before .before .before .before .before .before .before .before .before .before .before .before .before .before .before .before .args .sorts .now)))) (c .before .before .cell2 .ensures)) (c .before .before .before .before .before .before .before .before .loop .rows) (c .before .before .before .before .before .before .before .before .loop .scope) _ (c .if2 .taken) refl))
+returns-2 c = (c .before .before .before .before .before .before .before .before .loop .inv .1, (omega (arith, c .before .before .before .before .before .before .before .before .loop .inv .0, c .before .before .before .before .before .before .before .before .before .items .ensures .0), params-no-sort (c .before .before .before .before .before .before .before .before .before .before .before .before .before .before .before .before .before .args .s .now) (c .before .before .before .before .before .before .before .before .before .before .before .before .before .before .before .before .before .args .cells .now) (c .before .before .before .before .before .before .before .before .before .before .before .before .before .before .before .before .before .args .sorts .now) (c .before .before .before .before .before .before .before .before .before .before .before .before .before .before .before .before .before .args .names .now) (c .before .before .before .before .before .before .before .before .before .before .before .before .before .before .before .before .before .args .n) (c .before .before .before .before .before .before .before .before .before .before .before .before .before .before .before .before .before .args .at) (c .before .before .before .before .before .before .before .before .before .before .before .before .before .before .before .before .before .args .p) (c .before .before .before .before .before .before .before .before .loop .rows) (c .before .before .before .before .before .before .before .before .loop .scope) (c .before .before .before .before .before .before .before .before .before .items .result) (c .before .before .before .before .before .before .before .before .loop .k) (c .before .before .before .before .before .before .cell .result) (c .before .before .before .before .new-variable .result) (c .before .before .before .before .before .before .before .before .loop .inv .3) (c .before .before .before .before .before .before .before .before .before .items .ensures .1) (c .before .before .before .before .before .before .before .loop-test .taken) (c .before .before .before .before .before .before .cell .ensures) (c .before .before .before .before .new-variable .ensures) (suc (length (c .before .before .before .before .before .before .before .before .before .before .before .before .before .before .before .before .before .args .sorts .now))) (c .before .sort-number .result) (omega (arith, sorts-length (c .before .before .before .before .before .before .before .before .before .before .before .before .before .before .before .before .before .args .s .now) (c .before .before .before .before .before .before .before .before .before .before .before .before .before .before .before .before .before .args .cells .now) (c .before .before .before .before .before .before .before .before .before .before .before .before .before .before .before .before .before .args .sorts .now))) (not-false _ (c .before .before .before .if1 .left)) (c .before .sort-number .ensures .1 ∙ ap (λ (v : ℕ). or-count (suc (length (c .before .before .before .before .before .before .before .before .before .before .before .before .before .before .before .before .before .args .sorts .now))) (number-of (name-at (c .before .before .before .before .before .before .before .before .before .before .before .before .before .before .before .before .before .args .s .now) v) (sorts-at (c .before .before .before .before .before .before .before .before .before .before .before .before .before .before .before .before .before .args .s .now) (c .before .before .before .before .before .before .before .before .before .before .before .before .before .before .before .before .before .args .cells .now) (c .before .before .before .before .before .before .before .before .before .before .before .before .before .before .before .before .before .args .sorts .now)))) (c .before .before .cell2 .ensures)) (c .before .before .before .before .before .before .before .before .loop .rows) (c .before .before .before .before .before .before .before .before .loop .scope) _ (c .if2 .taken) refl))
 
 mul-scope : tie.Need-mul-scope Inv-loop μ-loop
-mul-scope c = omega (arith, c .before .before .before .before .before .before .before .before .before .before .before .before .before .before .before .before .pre, c .before .before .before .before .before .before .before .before .before .items .ensures .0, c .before .before .before .before .before .before .before .before .loop .inv .2)
+mul-scope c = omega (arith, c .before .before .before .before .before .before .before .before .before .before .before .before .before .before .before .before .before .pre, c .before .before .before .before .before .before .before .before .before .items .ensures .0, c .before .before .before .before .before .before .before .before .loop .inv .2)
 
 slice-write-scope : tie.Need-slice-write-scope Inv-loop μ-loop
-slice-write-scope c = omega (arith, c .before .before .before .before .before .before .before .before .before .before .before .before .before .before .before .before .pre, c .before .before .before .before .before .before .before .before .before .items .ensures .0, c .before .before .before .before .before .before .before .before .loop .inv .2)
+slice-write-scope c = omega (arith, c .before .before .before .before .before .before .before .before .before .before .before .before .before .before .before .before .before .pre, c .before .before .before .before .before .before .before .before .before .items .ensures .0, c .before .before .before .before .before .before .before .before .loop .inv .2)
 
 cast-rows : tie.Need-cast-rows Inv-loop μ-loop
-cast-rows c = omega (arith, c .before .before .before .before .before .before .before .before .before .before .before .before .before .before .before .before .pre, c .if2 .left)
+cast-rows c = omega (arith, c .before .before .before .before .before .before .before .before .before .before .before .before .before .before .before .before .before .pre, c .if2 .left)
 
 add-rows : tie.Need-add-rows Inv-loop μ-loop
-add-rows c = omega (arith, c .before .before .before .before .before .before .before .before .before .before .before .before .before .before .before .before .pre, c .before .before .before .before .before .before .before .before .before .items .ensures .0)
+add-rows c = omega (arith, c .before .before .before .before .before .before .before .before .before .before .before .before .before .before .before .before .before .good .1 .1 .1 .1 .1 .1 .1 .0, c .before .before .before .before .before .before .before .before .before .before .before .before .before .before .before .before .before .pre .3, c .before .before .before .before .before .before .before .before .before .items .ensures .0)
 
 add-rows-2 : tie.Need-add-rows-2 Inv-loop μ-loop
-add-rows-2 c = omega (arith, c .before .before .before .before .before .before .before .before .before .before .before .before .before .before .before .before .pre, c .before .before .before .before .before .before .before .before .before .items .ensures .0)
+add-rows-2 c = omega (arith, c .before .before .before .before .before .before .before .before .before .before .before .before .before .before .before .before .before .good .1 .1 .1 .1 .1 .1 .1 .0, c .before .before .before .before .before .before .before .before .before .before .before .before .before .before .before .before .before .pre .3, c .before .before .before .before .before .before .before .before .before .items .ensures .0)
 
 slice-write-rows : tie.Need-slice-write-rows Inv-loop μ-loop
-slice-write-rows c = omega (arith, c .before .before .before .before .before .before .before .before .before .before .before .before .before .before .before .before .pre, c .before .before .before .before .before .before .before .before .before .items .ensures .0, c .before .before .before .before .before .before .before .before .loop .inv .1 .same)
+slice-write-rows c = omega (arith, c .before .before .before .before .before .before .before .before .before .before .before .before .before .before .before .before .before .pre, c .before .before .before .before .before .before .before .before .before .items .ensures .0, c .before .before .before .before .before .before .before .before .loop .inv .1 .same)
 
 add-k : tie.Need-add-k Inv-loop μ-loop
 add-k c = omega arith
@@ -101,28 +101,28 @@ loop-again : tie.Need-loop-again Inv-loop μ-loop
 unfolding sorts-at
 loop-again c = (
   omega arith,
-  kept-set (c .before .before .before .before .before .before .before .before .before .before .before .before .before .before .before .before .args .p) (c .before .before .before .before .before .before .before .before .before .before .before .before .before .before .before .before .args .rows .now) (c .before .before .before .before .before .before .before .before .loop .rows) (c .before .before .before .before .before .before .before .before .before .before .before .before .before .before .before .before .args .p + 1 + c .before .before .before .before .before .before .before .before .loop .k) (c .before .sort-number .result) (c .before .before .before .before .before .before .before .before .loop .inv .1) (omega arith),
+  kept-set (c .before .before .before .before .before .before .before .before .before .before .before .before .before .before .before .before .before .args .p) (c .before .before .before .before .before .before .before .before .before .before .before .before .before .before .before .before .before .args .rows .now) (c .before .before .before .before .before .before .before .before .loop .rows) (c .before .before .before .before .before .before .before .before .before .before .before .before .before .before .before .before .before .args .p + 1 + c .before .before .before .before .before .before .before .before .loop .k) (c .before .sort-number .result) (c .before .before .before .before .before .before .before .before .loop .inv .1) (omega arith),
   length-set (c .before .before .before .before .before .before .before .before .loop .scope) (c .before .before .before .before .before .before .before .before .loop .k) (c .before .before .before .before .before .before .cell .result) ∙ c .before .before .before .before .before .before .before .before .loop .inv .2,
-  params-go (c .before .before .before .before .before .before .before .before .before .before .before .before .before .before .before .before .args .s .now) (c .before .before .before .before .before .before .before .before .before .before .before .before .before .before .before .before .args .cells .now) (c .before .before .before .before .before .before .before .before .before .before .before .before .before .before .before .before .args .sorts .now) (c .before .before .before .before .before .before .before .before .before .before .before .before .before .before .before .before .args .names .now) (c .before .before .before .before .before .before .before .before .before .before .before .before .before .before .before .before .args .n) (c .before .before .before .before .before .before .before .before .before .before .before .before .before .before .before .before .args .at) (c .before .before .before .before .before .before .before .before .before .before .before .before .before .before .before .before .args .p) (c .before .before .before .before .before .before .before .before .loop .rows) (c .before .before .before .before .before .before .before .before .loop .scope) (c .before .before .before .before .before .before .before .before .before .items .result) (c .before .before .before .before .before .before .before .before .loop .k) (c .before .before .before .before .before .before .cell .result) (c .before .before .before .before .new-variable .result) (c .before .before .before .before .before .before .before .before .loop .inv .3) (c .before .before .before .before .before .before .before .before .before .items .ensures .1) (c .before .before .before .before .before .before .before .loop-test .taken) (c .before .before .before .before .before .before .cell .ensures) (c .before .before .before .before .new-variable .ensures) (suc (length (c .before .before .before .before .before .before .before .before .before .before .before .before .before .before .before .before .args .sorts .now))) (c .before .sort-number .result) (omega (arith, sorts-length (c .before .before .before .before .before .before .before .before .before .before .before .before .before .before .before .before .args .s .now) (c .before .before .before .before .before .before .before .before .before .before .before .before .before .before .before .before .args .cells .now) (c .before .before .before .before .before .before .before .before .before .before .before .before .before .before .before .before .args .sorts .now))) (not-false _ (c .before .before .before .if1 .left)) (c .before .sort-number .ensures .1 ∙ ap (λ (v : ℕ). or-count (suc (length (c .before .before .before .before .before .before .before .before .before .before .before .before .before .before .before .before .args .sorts .now))) (number-of (name-at (c .before .before .before .before .before .before .before .before .before .before .before .before .before .before .before .before .args .s .now) v) (sorts-at (c .before .before .before .before .before .before .before .before .before .before .before .before .before .before .before .before .args .s .now) (c .before .before .before .before .before .before .before .before .before .before .before .before .before .before .before .before .args .cells .now) (c .before .before .before .before .before .before .before .before .before .before .before .before .before .before .before .before .args .sorts .now)))) (c .before .before .cell2 .ensures)) (c .before .before .before .before .before .before .before .before .before .before .before .before .before .before .before .before .args .p + 1 + c .before .before .before .before .before .before .before .before .loop .k) (omega (arith, c .if2 .left)) (omega (arith, c .before .before .before .before .before .before .before .before .before .before .before .before .before .before .before .before .pre, c .before .before .before .before .before .before .before .before .before .items .ensures .0, c .before .before .before .before .before .before .before .before .loop .inv .2)) refl (omega (arith, c .before .before .before .before .before .before .before .before .before .before .before .before .before .before .before .before .pre, c .before .before .before .before .before .before .before .before .before .items .ensures .0, c .before .before .before .before .before .before .before .before .loop .inv .1 .same)),
+  params-go (c .before .before .before .before .before .before .before .before .before .before .before .before .before .before .before .before .before .args .s .now) (c .before .before .before .before .before .before .before .before .before .before .before .before .before .before .before .before .before .args .cells .now) (c .before .before .before .before .before .before .before .before .before .before .before .before .before .before .before .before .before .args .sorts .now) (c .before .before .before .before .before .before .before .before .before .before .before .before .before .before .before .before .before .args .names .now) (c .before .before .before .before .before .before .before .before .before .before .before .before .before .before .before .before .before .args .n) (c .before .before .before .before .before .before .before .before .before .before .before .before .before .before .before .before .before .args .at) (c .before .before .before .before .before .before .before .before .before .before .before .before .before .before .before .before .before .args .p) (c .before .before .before .before .before .before .before .before .loop .rows) (c .before .before .before .before .before .before .before .before .loop .scope) (c .before .before .before .before .before .before .before .before .before .items .result) (c .before .before .before .before .before .before .before .before .loop .k) (c .before .before .before .before .before .before .cell .result) (c .before .before .before .before .new-variable .result) (c .before .before .before .before .before .before .before .before .loop .inv .3) (c .before .before .before .before .before .before .before .before .before .items .ensures .1) (c .before .before .before .before .before .before .before .loop-test .taken) (c .before .before .before .before .before .before .cell .ensures) (c .before .before .before .before .new-variable .ensures) (suc (length (c .before .before .before .before .before .before .before .before .before .before .before .before .before .before .before .before .before .args .sorts .now))) (c .before .sort-number .result) (omega (arith, sorts-length (c .before .before .before .before .before .before .before .before .before .before .before .before .before .before .before .before .before .args .s .now) (c .before .before .before .before .before .before .before .before .before .before .before .before .before .before .before .before .before .args .cells .now) (c .before .before .before .before .before .before .before .before .before .before .before .before .before .before .before .before .before .args .sorts .now))) (not-false _ (c .before .before .before .if1 .left)) (c .before .sort-number .ensures .1 ∙ ap (λ (v : ℕ). or-count (suc (length (c .before .before .before .before .before .before .before .before .before .before .before .before .before .before .before .before .before .args .sorts .now))) (number-of (name-at (c .before .before .before .before .before .before .before .before .before .before .before .before .before .before .before .before .before .args .s .now) v) (sorts-at (c .before .before .before .before .before .before .before .before .before .before .before .before .before .before .before .before .before .args .s .now) (c .before .before .before .before .before .before .before .before .before .before .before .before .before .before .before .before .before .args .cells .now) (c .before .before .before .before .before .before .before .before .before .before .before .before .before .before .before .before .before .args .sorts .now)))) (c .before .before .cell2 .ensures)) (c .before .before .before .before .before .before .before .before .before .before .before .before .before .before .before .before .before .args .p + 1 + c .before .before .before .before .before .before .before .before .loop .k) (omega (arith, c .if2 .left)) (omega (arith, c .before .before .before .before .before .before .before .before .before .before .before .before .before .before .before .before .before .pre, c .before .before .before .before .before .before .before .before .before .items .ensures .0, c .before .before .before .before .before .before .before .before .loop .inv .2)) refl (omega (arith, c .before .before .before .before .before .before .before .before .before .before .before .before .before .before .before .before .before .pre, c .before .before .before .before .before .before .before .before .before .items .ensures .0, c .before .before .before .before .before .before .before .before .loop .inv .1 .same)),
 )
 
 cast-rows-2 : tie.Need-cast-rows-2 Inv-loop μ-loop
 cast-rows-2 c = omega (arith, c .before .before .items .ensures .0)
 
 slice-write-rows-2 : tie.Need-slice-write-rows-2 Inv-loop μ-loop
-slice-write-rows-2 c = omega (arith, c .before .before .before .before .before .before .before .before .before .pre, c .before .loop .inv .1 .same)
+slice-write-rows-2 c = omega (arith, c .before .before .before .before .before .before .before .before .before .before .pre, c .before .loop .inv .1 .same)
 
-mul-t28 : tie.Need-mul-t28 Inv-loop μ-loop
-mul-t28 c = omega (arith, c .before .before .before .before .before .before .before .before .before .pre, c .before .before .items .ensures .0)
-
-add-t29 : tie.Need-add-t29 Inv-loop μ-loop
-add-t29 c = omega (arith, c .before .before .before .before .before .before .before .before .before .pre, c .before .before .items .ensures .0)
+mul-t29 : tie.Need-mul-t29 Inv-loop μ-loop
+mul-t29 c = omega (arith, c .before .before .before .before .before .before .before .before .before .before .pre, c .before .before .items .ensures .0)
 
 add-t30 : tie.Need-add-t30 Inv-loop μ-loop
-add-t30 c = omega (arith, c .before .before .before .before .before .before .before .before .before .pre, c .before .before .items .ensures .0)
+add-t30 c = omega (arith, c .before .before .before .before .before .before .before .before .before .before .pre, c .before .before .items .ensures .0)
+
+add-t31 : tie.Need-add-t31 Inv-loop μ-loop
+add-t31 c = omega (arith, c .before .before .before .before .before .before .before .before .before .before .pre, c .before .before .items .ensures .0)
 
 same-length-5 : tie.Need-same-length-5 Inv-loop μ-loop
-same-length-5 c = length-set (c .before .loop .rows) (c .before .before .before .before .before .before .before .before .before .args .p) (c .before .before .items .result) ∙ c .before .loop .inv .1 .same
+same-length-5 c = length-set (c .before .loop .rows) (c .before .before .before .before .before .before .before .before .before .before .args .p) (c .before .before .items .result) ∙ c .before .loop .inv .1 .same
 
 same-length-6 : tie.Need-same-length-6 Inv-loop μ-loop
 same-length-6 c = c .before .loop .inv .2
@@ -130,10 +130,10 @@ same-length-6 c = c .before .loop .inv .2
 returns-3 : tie.Need-returns-3 Inv-loop μ-loop
 returns-3 c =
     let z : c .before .loop .k ≡ c .before .before .items .result = omega arith in (
-      kept-set (c .before .before .before .before .before .before .before .before .before .args .p) (c .before .before .before .before .before .before .before .before .before .args .rows .now) (c .before .loop .rows) (c .before .before .before .before .before .before .before .before .before .args .p) (c .before .before .items .result) (c .before .loop .inv .1) (omega arith),
+      kept-set (c .before .before .before .before .before .before .before .before .before .before .args .p) (c .before .before .before .before .before .before .before .before .before .before .args .rows .now) (c .before .loop .rows) (c .before .before .before .before .before .before .before .before .before .before .args .p) (c .before .before .items .result) (c .before .loop .inv .1) (omega arith),
       (
         c .before .before .items .ensures .0,
-        params-end (c .before .before .before .before .before .before .before .before .before .args .s .now) (c .before .before .before .before .before .before .before .before .before .args .cells .now) (c .before .before .before .before .before .before .before .before .before .args .sorts .now) (c .before .before .before .before .before .before .before .before .before .args .names .now) (c .before .before .before .before .before .before .before .before .before .args .n) (c .before .before .before .before .before .before .before .before .before .args .at) (c .before .before .before .before .before .before .before .before .before .args .p) (c .before .loop .rows) (c .before .loop .scope) (c .before .loop .k) (c .before .before .items .result) _ (c .before .before .items .ensures .1) z (omega (arith, c .before .before .before .before .before .before .before .before .before .pre, c .before .loop .inv .1 .same)) (c .before .loop .inv .3) refl refl refl,
+        params-end (c .before .before .before .before .before .before .before .before .before .before .args .s .now) (c .before .before .before .before .before .before .before .before .before .before .args .cells .now) (c .before .before .before .before .before .before .before .before .before .before .args .sorts .now) (c .before .before .before .before .before .before .before .before .before .before .args .names .now) (c .before .before .before .before .before .before .before .before .before .before .args .n) (c .before .before .before .before .before .before .before .before .before .before .args .at) (c .before .before .before .before .before .before .before .before .before .before .args .p) (c .before .loop .rows) (c .before .loop .scope) (c .before .loop .k) (c .before .before .items .result) _ (c .before .before .items .ensures .1) z (omega (arith, c .before .before .before .before .before .before .before .before .before .before .pre, c .before .loop .inv .1 .same)) (c .before .loop .inv .3) refl refl refl,
       ),
     )
 
@@ -172,9 +172,9 @@ param-row-spec =
     loop-again
     cast-rows-2
     slice-write-rows-2
-    mul-t28
-    add-t29
+    mul-t29
     add-t30
+    add-t31
     same-length-5
     same-length-6
     returns-3)

@@ -4,18 +4,23 @@ use native.Mathlib.Omega.{arith}
 use borrow.Author.Tests.{not-true, not-false}
 use lib.ListN.{set, length-set}
 use lib.Seq.{take-set-le}
-use Rattle.resolver.proofs.NewLaws.{binder-full, binder-old, binder-no-sort, binder-took}
+use Rattle.names.specs.NameKinds.{total-of}
+use Rattle.names.proofs.KeyLaws.{keyed-fewer}
+use Rattle.resolver.proofs.NewLaws.{says-new, binder-full, binder-old, binder-no-sort, binder-took}
 use Rattle.resolver.proofs.process.binder.Statement.{statement}
 use Rattle.resolver.proofs.process.binder.Tie as tie
 
 add-cell : tie.Need-add-cell
-add-cell c = let q = c .before .before .before .before .before .before .before .before .pre in omega arith
+add-cell c = let q = c .before .before .before .before .before .before .pre in omega arith
 
 cell-requires : tie.Need-cell-requires
 cell-requires c κs = tt
 
+total-requires : tie.Need-total-requires
+total-requires c κs = let q = c .before .before .before .before .before .before .before .pre .0 .kinds-few in omega arith
+
 new-variable-requires : tie.Need-new-variable-requires
-new-variable-requires c κs = c .before .before .before .before .before .before .before .before .before .before .pre .0 .in-scope
+new-variable-requires c κs = (keyed-fewer (c .before .before .before .before .before .before .before .before .before .args .s .now) (c .before .before .before .before .before .before .before .before .before .args .names .now) (c .before .before .before .before .before .before .before .before .before .args .keys .now) _ (total-of (c .before .before .before .before .before .before .before .before .before .args .kinds)) (omega arith) (c .before .before .before .before .before .before .before .before .before .pre .2), c .before .before .before .before .before .before .before .before .before .pre .0 .in-scope)
 
 lost-requires : tie.Need-lost-requires
 lost-requires c κs = tt
@@ -25,18 +30,18 @@ same-length c = refl
 
 returns : tie.Need-returns
 returns c =
-    let q = c .before .before .before .before .before .before .before .before .before .before .before .before .before .pre .1 in
+    let q = c .before .before .before .before .before .before .before .before .before .before .before .before .pre .1 in
     let z = c .lost .ensures in
-    (omega arith, (refl, (λ h. absurd (omega arith), binder-old (c .before .before .before .before .before .before .before .before .before .before .before .before .before .args .s .now) (c .before .before .before .before .before .before .before .before .before .before .before .before .before .args .raw .now) (c .before .before .before .before .before .before .before .before .before .before .before .before .before .args .sorts .now) (c .before .before .before .before .before .before .before .before .before .before .before .before .before .args .funcs .now) (c .before .before .before .before .before .before .before .before .before .before .before .before .before .args .acts .now) (c .before .before .before .before .before .before .before .before .before .before .before .before .before .args .procs .now) (c .before .before .before .before .before .before .before .before .before .before .before .before .before .args .scope .now) (c .before .before .before .before .before .before .before .before .before .before .before .before .before .args .n) (c .before .before .before .before .before .before .before .before .before .before .before .before .before .args .at) (c .before .before .before .before .before .before .before .before .before .before .before .before .before .args .after) (c .before .before .before .before .before .before .before .before .before .before .before .before .before .args .w) (c .before .before .before .before .before .before .before .before .before .before .before .before .before .args .out .now) (c .before .before .before .before .before .before .before .before .before .before .before .before .before .pre .0 .in-scope) (c .before .before .before .before .cell .result) (c .before .before .before .before .cell .ensures) (c .before .before .new-variable .result) (c .before .before .new-variable .ensures) (not-true _ (c .before .if1 .taken)) (c .lost .result) (c .before .before .before .before .before .before .before .before .before .before .before .before .before .args .out .now) (c .lost .ensures))))
+    (omega arith, (refl, (λ h. absurd (omega arith), binder-old (c .before .before .before .before .before .before .before .before .before .before .before .before .args .s .now) (c .before .before .before .before .before .before .before .before .before .before .before .before .args .raw .now) (c .before .before .before .before .before .before .before .before .before .before .before .before .args .names .now) (c .before .before .before .before .before .before .before .before .before .before .before .before .args .kinds) (c .before .before .before .before .before .before .before .before .before .before .before .before .args .scope .now) (c .before .before .before .before .before .before .before .before .before .before .before .before .args .n) (c .before .before .before .before .before .before .before .before .before .before .before .before .args .at) (c .before .before .before .before .before .before .before .before .before .before .before .before .args .after) (c .before .before .before .before .before .before .before .before .before .before .before .before .args .w) (c .before .before .before .before .before .before .before .before .before .before .before .before .args .out .now) (c .before .before .before .before .before .before .before .before .before .before .before .before .pre .0 .in-scope) (c .before .before .before .before .before .cell .result) (c .before .before .before .before .before .cell .ensures) (c .before .before .new-variable .result) (says-new (c .before .before .before .before .before .before .before .before .before .before .before .before .args .s .now) (c .before .before .before .before .before .before .before .before .before .before .before .before .args .names .now) (c .before .before .before .before .before .before .before .before .before .before .before .before .args .kinds) (c .before .before .before .before .before .before .before .before .before .before .before .before .args .scope .now) (c .before .before .before .before .before .before .before .before .before .before .before .before .args .n) (c .before .before .before .before .before .cell .result) (c .before .before .before .before .total .result) (c .before .before .new-variable .result) (c .before .before .before .before .total .ensures) (c .before .before .new-variable .ensures)) (not-true _ (c .before .if1 .taken)) (c .lost .result) (c .before .before .before .before .before .before .before .before .before .before .before .before .args .out .now) (c .lost .ensures))))
 
 add-cell-2 : tie.Need-add-cell-2
-add-cell-2 c = let q = c .before .before .before .before .before .before .before .before .before .before .before .before .pre in omega arith
+add-cell-2 c = let q = c .before .before .before .before .before .before .before .before .before .before .before .pre in omega arith
 
 cell-requires-2 : tie.Need-cell-requires-2
 cell-requires-2 c κs = tt
 
-sort-number-requires : tie.Need-sort-number-requires
-sort-number-requires c κs = omega arith
+sort-in-requires : tie.Need-sort-in-requires
+sort-in-requires c κs = c .before .before .before .before .before .before .before .before .before .before .before .before .pre .2
 
 lost-requires-2 : tie.Need-lost-requires-2
 lost-requires-2 c κs = tt
@@ -48,7 +53,7 @@ returns-2 : tie.Need-returns-2
 returns-2 c =
     let q = c .before .before .before .before .before .before .before .before .before .before .before .before .before .before .before .before .pre .1 in
     let z = c .lost2 .ensures in
-    (omega arith, (refl, (λ h. absurd (omega arith), binder-no-sort (c .before .before .before .before .before .before .before .before .before .before .before .before .before .before .before .before .args .s .now) (c .before .before .before .before .before .before .before .before .before .before .before .before .before .before .before .before .args .raw .now) (c .before .before .before .before .before .before .before .before .before .before .before .before .before .before .before .before .args .sorts .now) (c .before .before .before .before .before .before .before .before .before .before .before .before .before .before .before .before .args .funcs .now) (c .before .before .before .before .before .before .before .before .before .before .before .before .before .before .before .before .args .acts .now) (c .before .before .before .before .before .before .before .before .before .before .before .before .before .before .before .before .args .procs .now) (c .before .before .before .before .before .before .before .before .before .before .before .before .before .before .before .before .args .scope .now) (c .before .before .before .before .before .before .before .before .before .before .before .before .before .before .before .before .args .n) (c .before .before .before .before .before .before .before .before .before .before .before .before .before .before .before .before .args .at) (c .before .before .before .before .before .before .before .before .before .before .before .before .before .before .before .before .args .after) (c .before .before .before .before .before .before .before .before .before .before .before .before .before .before .before .before .args .w) (c .before .before .before .before .before .before .before .before .before .before .before .before .before .before .before .before .args .out .now) (c .before .before .before .before .before .before .before .before .before .before .before .before .before .before .before .before .pre .0 .in-scope) (c .before .before .before .before .before .before .before .cell .result) (c .before .before .before .before .before .before .before .cell .ensures) (c .before .before .before .before .before .new-variable .result) (c .before .before .before .before .before .new-variable .ensures) (not-false _ (c .before .before .before .before .if1 .left)) (c .before .before .before .cell2 .result) (c .before .before .before .cell2 .ensures) (c .before .before .sort-number .result) (c .before .before .sort-number .ensures .1) (c .before .if2 .taken) (c .lost2 .result) (c .before .before .before .before .before .before .before .before .before .before .before .before .before .before .before .before .args .out .now) (c .lost2 .ensures))))
+    (omega arith, (refl, (λ h. absurd (omega arith), binder-no-sort (c .before .before .before .before .before .before .before .before .before .before .before .before .before .before .before .before .args .s .now) (c .before .before .before .before .before .before .before .before .before .before .before .before .before .before .before .before .args .raw .now) (c .before .before .before .before .before .before .before .before .before .before .before .before .before .before .before .before .args .names .now) (c .before .before .before .before .before .before .before .before .before .before .before .before .before .before .before .before .args .kinds) (c .before .before .before .before .before .before .before .before .before .before .before .before .before .before .before .before .args .scope .now) (c .before .before .before .before .before .before .before .before .before .before .before .before .before .before .before .before .args .n) (c .before .before .before .before .before .before .before .before .before .before .before .before .before .before .before .before .args .at) (c .before .before .before .before .before .before .before .before .before .before .before .before .before .before .before .before .args .after) (c .before .before .before .before .before .before .before .before .before .before .before .before .before .before .before .before .args .w) (c .before .before .before .before .before .before .before .before .before .before .before .before .before .before .before .before .args .out .now) (c .before .before .before .before .before .before .before .before .before .before .before .before .before .before .before .before .pre .0 .in-scope) (c .before .before .before .before .before .before .before .before .before .cell .result) (c .before .before .before .before .before .before .before .before .before .cell .ensures) (c .before .before .before .before .before .before .new-variable .result) (says-new (c .before .before .before .before .before .before .before .before .before .before .before .before .before .before .before .before .args .s .now) (c .before .before .before .before .before .before .before .before .before .before .before .before .before .before .before .before .args .names .now) (c .before .before .before .before .before .before .before .before .before .before .before .before .before .before .before .before .args .kinds) (c .before .before .before .before .before .before .before .before .before .before .before .before .before .before .before .before .args .scope .now) (c .before .before .before .before .before .before .before .before .before .before .before .before .before .before .before .before .args .n) (c .before .before .before .before .before .before .before .before .before .cell .result) (c .before .before .before .before .before .before .before .before .total .result) (c .before .before .before .before .before .before .new-variable .result) (c .before .before .before .before .before .before .before .before .total .ensures) (c .before .before .before .before .before .before .new-variable .ensures)) (not-false _ (c .before .before .before .before .before .if1 .left)) (c .before .before .before .before .cell2 .result) (c .before .before .before .before .cell2 .ensures) (c .before .before .before .sort-in .result) (c .before .before .before .sort-in .ensures .1) (c .before .if2 .taken) (c .lost2 .result) (c .before .before .before .before .before .before .before .before .before .before .before .before .before .before .before .before .args .out .now) (c .lost2 .ensures))))
 
 lost-requires-3 : tie.Need-lost-requires-3
 lost-requires-3 c κs = tt
@@ -60,7 +65,7 @@ returns-3 : tie.Need-returns-3
 returns-3 c =
     let q = c .before .before .before .before .before .before .before .before .before .before .before .before .before .before .before .before .before .pre .1 in
     let z = c .lost3 .ensures in
-    (omega arith, (refl, (λ h. absurd (omega arith), binder-full (c .before .before .before .before .before .before .before .before .before .before .before .before .before .before .before .before .before .args .s .now) (c .before .before .before .before .before .before .before .before .before .before .before .before .before .before .before .before .before .args .raw .now) (c .before .before .before .before .before .before .before .before .before .before .before .before .before .before .before .before .before .args .sorts .now) (c .before .before .before .before .before .before .before .before .before .before .before .before .before .before .before .before .before .args .funcs .now) (c .before .before .before .before .before .before .before .before .before .before .before .before .before .before .before .before .before .args .acts .now) (c .before .before .before .before .before .before .before .before .before .before .before .before .before .before .before .before .before .args .procs .now) (c .before .before .before .before .before .before .before .before .before .before .before .before .before .before .before .before .before .args .scope .now) (c .before .before .before .before .before .before .before .before .before .before .before .before .before .before .before .before .before .args .n) (c .before .before .before .before .before .before .before .before .before .before .before .before .before .before .before .before .before .args .at) (c .before .before .before .before .before .before .before .before .before .before .before .before .before .before .before .before .before .args .after) (c .before .before .before .before .before .before .before .before .before .before .before .before .before .before .before .before .before .args .w) (c .before .before .before .before .before .before .before .before .before .before .before .before .before .before .before .before .before .args .out .now) (c .before .before .before .before .before .before .before .before .before .before .before .before .before .before .before .before .before .pre .0 .in-scope) (c .lost3 .result) (c .before .before .before .before .before .before .before .before .before .before .before .before .before .before .before .before .before .args .out .now) (c .before .if3 .taken))))
+    (omega arith, (refl, (λ h. absurd (omega arith), binder-full (c .before .before .before .before .before .before .before .before .before .before .before .before .before .before .before .before .before .args .s .now) (c .before .before .before .before .before .before .before .before .before .before .before .before .before .before .before .before .before .args .raw .now) (c .before .before .before .before .before .before .before .before .before .before .before .before .before .before .before .before .before .args .names .now) (c .before .before .before .before .before .before .before .before .before .before .before .before .before .before .before .before .before .args .kinds) (c .before .before .before .before .before .before .before .before .before .before .before .before .before .before .before .before .before .args .scope .now) (c .before .before .before .before .before .before .before .before .before .before .before .before .before .before .before .before .before .args .n) (c .before .before .before .before .before .before .before .before .before .before .before .before .before .before .before .before .before .args .at) (c .before .before .before .before .before .before .before .before .before .before .before .before .before .before .before .before .before .args .after) (c .before .before .before .before .before .before .before .before .before .before .before .before .before .before .before .before .before .args .w) (c .before .before .before .before .before .before .before .before .before .before .before .before .before .before .before .before .before .args .out .now) (c .before .before .before .before .before .before .before .before .before .before .before .before .before .before .before .before .before .pre .0 .in-scope) (c .lost3 .result) (c .before .before .before .before .before .before .before .before .before .before .before .before .before .before .before .before .before .args .out .now) (c .before .if3 .taken))))
 
 mul-scope : tie.Need-mul-scope
 mul-scope c = let q = c .before .before .before .before .before .before .before .before .before .before .before .before .before .before .before .before .pre in omega arith
@@ -77,8 +82,8 @@ short-requires c κs = tt
 node-requires : tie.Need-node-requires
 node-requires c κs = tt
 
-add-t16 : tie.Need-add-t16
-add-t16 c = let q = c .before .before .before .before .before .before .before .before .before .before .before .before .before .before .before .before .before .before .before .before .before .before .pre in omega arith
+add-t15 : tie.Need-add-t15
+add-t15 c = let q = c .before .before .before .before .before .before .before .before .before .before .before .before .before .before .before .before .before .before .before .before .before .before .pre in omega arith
 
 mul-short : tie.Need-mul-short
 mul-short c = let q = c .before .before .before .before .before .before .before .before .before .before .before .before .before .before .before .before .before .before .before .before .before .before .before .pre in omega arith
@@ -93,7 +98,7 @@ put-requires : tie.Need-put-requires
 put-requires c κs = tt
 
 same-length-4 : tie.Need-same-length-4
-same-length-4 c = length-set (c .before .before .before .before .before .before .before .before .before .before .before .before .before .before .before .before .before .before .before .before .before .before .before .before .before .before .before .args .scope .now) (c .before .before .before .before .before .before .before .before .before .before .before .before .before .before .before .before .before .before .before .before .before .before .before .before .before .before .before .args .n) (c .before .before .before .before .before .before .before .before .before .before .before .before .before .before .before .before .before .before .cell .result)
+same-length-4 c = length-set (c .before .before .before .before .before .before .before .before .before .before .before .before .before .before .before .before .before .before .before .before .before .before .before .before .before .before .before .args .scope .now) (c .before .before .before .before .before .before .before .before .before .before .before .before .before .before .before .before .before .before .before .before .before .before .before .before .before .before .before .args .n) (c .before .before .before .before .before .before .before .before .before .before .before .before .before .before .before .before .before .before .before .before .cell .result)
 
 same-length-5 : tie.Need-same-length-5
 same-length-5 c = c .before .before .put .kept .0 ∙ c .before .before .before .before .before .before .before .node .kept .0
@@ -103,10 +108,10 @@ returns-4 c =
     let q = c .before .before .before .before .before .before .before .before .before .before .before .before .before .before .before .before .before .before .before .before .before .before .before .before .before .before .before .pre .0 in (
       omega arith,
       (
-        take-set-le (c .before .before .before .before .before .before .before .before .before .before .before .before .before .before .before .before .before .before .before .before .before .before .before .before .before .before .before .args .n) (c .before .before .before .before .before .before .before .before .before .before .before .before .before .before .before .before .before .before .before .before .before .before .before .before .before .before .before .args .scope .now) (c .before .before .before .before .before .before .before .before .before .before .before .before .before .before .before .before .before .before .before .before .before .before .before .before .before .before .before .args .n) (c .before .before .before .before .before .before .before .before .before .before .before .before .before .before .before .before .before .before .cell .result) (omega arith),
+        take-set-le (c .before .before .before .before .before .before .before .before .before .before .before .before .before .before .before .before .before .before .before .before .before .before .before .before .before .before .before .args .n) (c .before .before .before .before .before .before .before .before .before .before .before .before .before .before .before .before .before .before .before .before .before .before .before .before .before .before .before .args .scope .now) (c .before .before .before .before .before .before .before .before .before .before .before .before .before .before .before .before .before .before .before .before .before .before .before .before .before .before .before .args .n) (c .before .before .before .before .before .before .before .before .before .before .before .before .before .before .before .before .before .before .before .before .cell .result) (omega arith),
         (
-          λ h. (c .before .before .before .before .before .before .before .before .before .before .before .if3 .left, ap (set (c .before .before .before .before .before .before .before .before .before .before .before .before .before .before .before .before .before .before .before .before .before .before .before .before .before .before .before .args .scope .now) (c .before .before .before .before .before .before .before .before .before .before .before .before .before .before .before .before .before .before .before .before .before .before .before .before .before .before .before .args .n)) (c .before .before .before .before .before .before .before .before .before .before .before .before .before .before .before .before .before .before .cell .ensures)),
-          binder-took (c .before .before .before .before .before .before .before .before .before .before .before .before .before .before .before .before .before .before .before .before .before .before .before .before .before .before .before .args .s .now) (c .before .before .before .before .before .before .before .before .before .before .before .before .before .before .before .before .before .before .before .before .before .before .before .before .before .before .before .args .raw .now) (c .before .before .before .before .before .before .before .before .before .before .before .before .before .before .before .before .before .before .before .before .before .before .before .before .before .before .before .args .sorts .now) (c .before .before .before .before .before .before .before .before .before .before .before .before .before .before .before .before .before .before .before .before .before .before .before .before .before .before .before .args .funcs .now) (c .before .before .before .before .before .before .before .before .before .before .before .before .before .before .before .before .before .before .before .before .before .before .before .before .before .before .before .args .acts .now) (c .before .before .before .before .before .before .before .before .before .before .before .before .before .before .before .before .before .before .before .before .before .before .before .before .before .before .before .args .procs .now) (c .before .before .before .before .before .before .before .before .before .before .before .before .before .before .before .before .before .before .before .before .before .before .before .before .before .before .before .args .scope .now) (c .before .before .before .before .before .before .before .before .before .before .before .before .before .before .before .before .before .before .before .before .before .before .before .before .before .before .before .args .n) (c .before .before .before .before .before .before .before .before .before .before .before .before .before .before .before .before .before .before .before .before .before .before .before .before .before .before .before .args .at) (c .before .before .before .before .before .before .before .before .before .before .before .before .before .before .before .before .before .before .before .before .before .before .before .before .before .before .before .args .after) (c .before .before .before .before .before .before .before .before .before .before .before .before .before .before .before .before .before .before .before .before .before .before .before .before .before .before .before .args .w) (c .before .before .before .before .before .before .before .before .before .before .before .before .before .before .before .before .before .before .before .before .before .before .before .before .before .before .before .args .out .now) (c .before .before .before .before .before .before .before .before .before .before .before .before .before .before .before .before .before .before .before .before .before .before .before .before .before .before .before .pre .0 .in-scope) (c .before .before .before .before .before .before .before .before .before .before .before .before .before .before .before .before .before .before .cell .result) (c .before .before .before .before .before .before .before .before .before .before .before .before .before .before .before .before .before .before .cell .ensures) (c .before .before .before .before .before .before .before .before .before .before .before .before .before .before .before .before .new-variable .result) (c .before .before .before .before .before .before .before .before .before .before .before .before .before .before .before .before .new-variable .ensures) (not-false _ (c .before .before .before .before .before .before .before .before .before .before .before .before .before .before .before .if1 .left)) (c .before .before .before .before .before .before .before .before .before .before .before .before .before .before .cell2 .result) (c .before .before .before .before .before .before .before .before .before .before .before .before .before .before .cell2 .ensures) (c .before .before .before .before .before .before .before .before .before .before .before .before .before .sort-number .result) (c .before .before .before .before .before .before .before .before .before .before .before .before .before .sort-number .ensures .1) (c .before .before .before .before .before .before .before .before .before .before .before .before .if2 .left) (c .before .before .before .before .before .before .before .before .before .marked .result) (c .before .before .before .before .before .before .before .before .short .result) (c .before .before .before .short2 .result) (c .before .before .before .before .before .before .before .node .result) (c .before .before .put .result) (c .before .before .before .before .before .before .before .node .last .0) (c .before .before .put .last .0) (c .before .before .before .before .before .before .before .before .before .marked .ensures) (c .before .before .before .before .before .before .before .before .short .ensures (let a = c .before .before .before .before .before .before .before .before .before .before .before .before .if2 .left in omega arith)) (c .before .before .before .short2 .ensures (omega arith)) (c .before .before .before .before .before .before .before .node .ensures) (c .before .before .put .ensures),
+          λ h. (c .before .before .before .before .before .before .before .before .before .before .before .if3 .left, ap (set (c .before .before .before .before .before .before .before .before .before .before .before .before .before .before .before .before .before .before .before .before .before .before .before .before .before .before .before .args .scope .now) (c .before .before .before .before .before .before .before .before .before .before .before .before .before .before .before .before .before .before .before .before .before .before .before .before .before .before .before .args .n)) (c .before .before .before .before .before .before .before .before .before .before .before .before .before .before .before .before .before .before .before .before .cell .ensures)),
+          binder-took (c .before .before .before .before .before .before .before .before .before .before .before .before .before .before .before .before .before .before .before .before .before .before .before .before .before .before .before .args .s .now) (c .before .before .before .before .before .before .before .before .before .before .before .before .before .before .before .before .before .before .before .before .before .before .before .before .before .before .before .args .raw .now) (c .before .before .before .before .before .before .before .before .before .before .before .before .before .before .before .before .before .before .before .before .before .before .before .before .before .before .before .args .names .now) (c .before .before .before .before .before .before .before .before .before .before .before .before .before .before .before .before .before .before .before .before .before .before .before .before .before .before .before .args .kinds) (c .before .before .before .before .before .before .before .before .before .before .before .before .before .before .before .before .before .before .before .before .before .before .before .before .before .before .before .args .scope .now) (c .before .before .before .before .before .before .before .before .before .before .before .before .before .before .before .before .before .before .before .before .before .before .before .before .before .before .before .args .n) (c .before .before .before .before .before .before .before .before .before .before .before .before .before .before .before .before .before .before .before .before .before .before .before .before .before .before .before .args .at) (c .before .before .before .before .before .before .before .before .before .before .before .before .before .before .before .before .before .before .before .before .before .before .before .before .before .before .before .args .after) (c .before .before .before .before .before .before .before .before .before .before .before .before .before .before .before .before .before .before .before .before .before .before .before .before .before .before .before .args .w) (c .before .before .before .before .before .before .before .before .before .before .before .before .before .before .before .before .before .before .before .before .before .before .before .before .before .before .before .args .out .now) (c .before .before .before .before .before .before .before .before .before .before .before .before .before .before .before .before .before .before .before .before .before .before .before .before .before .before .before .pre .0 .in-scope) (c .before .before .before .before .before .before .before .before .before .before .before .before .before .before .before .before .before .before .before .before .cell .result) (c .before .before .before .before .before .before .before .before .before .before .before .before .before .before .before .before .before .before .before .before .cell .ensures) (c .before .before .before .before .before .before .before .before .before .before .before .before .before .before .before .before .before .new-variable .result) (says-new (c .before .before .before .before .before .before .before .before .before .before .before .before .before .before .before .before .before .before .before .before .before .before .before .before .before .before .before .args .s .now) (c .before .before .before .before .before .before .before .before .before .before .before .before .before .before .before .before .before .before .before .before .before .before .before .before .before .before .before .args .names .now) (c .before .before .before .before .before .before .before .before .before .before .before .before .before .before .before .before .before .before .before .before .before .before .before .before .before .before .before .args .kinds) (c .before .before .before .before .before .before .before .before .before .before .before .before .before .before .before .before .before .before .before .before .before .before .before .before .before .before .before .args .scope .now) (c .before .before .before .before .before .before .before .before .before .before .before .before .before .before .before .before .before .before .before .before .before .before .before .before .before .before .before .args .n) (c .before .before .before .before .before .before .before .before .before .before .before .before .before .before .before .before .before .before .before .before .cell .result) (c .before .before .before .before .before .before .before .before .before .before .before .before .before .before .before .before .before .before .before .total .result) (c .before .before .before .before .before .before .before .before .before .before .before .before .before .before .before .before .before .new-variable .result) (c .before .before .before .before .before .before .before .before .before .before .before .before .before .before .before .before .before .before .before .total .ensures) (c .before .before .before .before .before .before .before .before .before .before .before .before .before .before .before .before .before .new-variable .ensures)) (not-false _ (c .before .before .before .before .before .before .before .before .before .before .before .before .before .before .before .before .if1 .left)) (c .before .before .before .before .before .before .before .before .before .before .before .before .before .before .before .cell2 .result) (c .before .before .before .before .before .before .before .before .before .before .before .before .before .before .before .cell2 .ensures) (c .before .before .before .before .before .before .before .before .before .before .before .before .before .before .sort-in .result) (c .before .before .before .before .before .before .before .before .before .before .before .before .before .before .sort-in .ensures .1) (c .before .before .before .before .before .before .before .before .before .before .before .before .if2 .left) (c .before .before .before .before .before .before .before .before .before .marked .result) (c .before .before .before .before .before .before .before .before .short .result) (c .before .before .before .short2 .result) (c .before .before .before .before .before .before .before .node .result) (c .before .before .put .result) (c .before .before .before .before .before .before .before .node .last .0) (c .before .before .put .last .0) (c .before .before .before .before .before .before .before .before .before .marked .ensures) (c .before .before .before .before .before .before .before .before .short .ensures (let a = c .before .before .before .before .before .before .before .before .before .before .before .before .if2 .left in omega arith)) (c .before .before .before .short2 .ensures (omega arith)) (c .before .before .before .before .before .before .before .node .ensures) (c .before .before .put .ensures),
         ),
       ),
     )
@@ -117,13 +122,14 @@ binder-spec =
     (tie.spec
     add-cell
     cell-requires
+    total-requires
     new-variable-requires
     lost-requires
     same-length
     returns
     add-cell-2
     cell-requires-2
-    sort-number-requires
+    sort-in-requires
     lost-requires-2
     same-length-2
     returns-2
@@ -135,7 +141,7 @@ binder-spec =
     marked-requires
     short-requires
     node-requires
-    add-t16
+    add-t15
     mul-short
     add-short
     short-requires-2

@@ -1,9 +1,9 @@
 -- Names new, signature, processes and init: each part's answer, and the answer of all.
 use borrow.Author.Needs.{needs}
 use native.Mathlib.Omega.{arith}
-use mathlib.Core.Path.{_∙_, ap}
+use mathlib.Core.Path.{sym, _∙_, ap}
 use Rattle.pcrl.specs.Tests.{and}
-use Rattle.sheets.proofs.SheetLaws.{lines-resolve}
+use Rattle.sheets.proofs.SheetLaws.{declared-many, kinds-few, names-keyed, lines-resolve}
 use Rattle.sheets.proofs.resolve.resolve_lines.Statement.{statement}
 use Rattle.sheets.proofs.resolve.resolve_lines.Tie as tie
 
@@ -13,11 +13,23 @@ slice-aggregate-declared-names c = search needs
 declared-names-requires : tie.Need-declared-names-requires
 declared-names-requires c κs = search needs
 
+slice-aggregate-put-keys : tie.Need-slice-aggregate-put-keys
+slice-aggregate-put-keys c = search needs
+
+slice-aggregate-put-keys-2 : tie.Need-slice-aggregate-put-keys-2
+slice-aggregate-put-keys-2 c = search needs
+
+put-keys-requires : tie.Need-put-keys-requires
+put-keys-requires c κs = (c .before .before .before .declared-names .ensures .0, omega (arith, c .before .before .before .declared-names .ensures .0, c .before .before .before .declared-names .kept .1 .1 .1 .1 .1 .0))
+
 slice-aggregate-all-new : tie.Need-slice-aggregate-all-new
 slice-aggregate-all-new c = search needs
 
+slice-aggregate-all-new-2 : tie.Need-slice-aggregate-all-new-2
+slice-aggregate-all-new-2 c = search needs
+
 all-new-requires : tie.Need-all-new-requires
-all-new-requires c κs = search needs
+all-new-requires c κs = c .before .before .before .put-keys .ensures
 
 signature-requires : tie.Need-signature-requires
 signature-requires c κs = search needs
@@ -25,17 +37,40 @@ signature-requires c κs = search needs
 slice-aggregate-processes : tie.Need-slice-aggregate-processes
 slice-aggregate-processes c = search needs
 
+slice-aggregate-processes-2 : tie.Need-slice-aggregate-processes-2
+slice-aggregate-processes-2 c = search needs
+
 processes-requires : tie.Need-processes-requires
-processes-requires c κs = search needs
+processes-requires c κs =
+    let start = c .before .before .before .before .before .before .before .before .before .before .before .before .before .before .before .before .before .before .before .before .before .before .before .before .before in
+    let few = start .pre .0 in
+    let names = c .before .before .before .before .before .before .before .before .before .before .before .before .before .before .before .declared-names in (
+      record {
+        raw-few = few .raw-few;
+        sorts-few = few .sorts-few;
+        kinds-few = kinds-few (start .args .raw .now) (start .args .sorts .now) (start .args .funcs .now) (start .args .acts .now) (start .args .procs .now) few;
+        keyed = names-keyed (start .args .s .now) (start .args .raw .now) (start .args .sorts .now) (start .args .funcs .now) (start .args .acts .now) (start .args .procs .now) (names .last .1 .1 .1 .1 .1 .0) _ (names .result) (names .ensures .0) (names .ensures .1 (start .args .s .now)) (c .before .before .before .before .before .before .before .before .before .before .before .put-keys .ensures);
+      },
+      few .procs-few,
+      start .pre .3,
+    )
+
+slice-aggregate-init : tie.Need-slice-aggregate-init
+slice-aggregate-init c = sym (c .before .before .before .before .before .before .before .before .before .before .before .before .before .before .before .before .before .before .before .declared-names .kept .1 .1 .1 .1 .1 .0)
+
+slice-aggregate-init-2 : tie.Need-slice-aggregate-init-2
+slice-aggregate-init-2 c = search needs
 
 init-requires : tie.Need-init-requires
 init-requires c κs =
-    let processes = c .before .before .before in
-    let signature = processes .before .before .before .before .before in
-    let declared = signature .before .before .before .before .before in
-    let start = declared .before .before .before .before .before .before .before .before .before .before in
+    let start = c .before .before .before .before .before .before .before .before .before .before .before .before .before .before .before .before .before .before .before .before .before .before .before .before .before .before .before .before .before .before .before in
     let few = start .pre .0 in
-    (few .raw-few, few .funcs-few, few .procs-few, start .pre .1)
+    let names = c .before .before .before .before .before .before .before .before .before .before .before .before .before .before .before .before .before .before .before .before .before .declared-names in (
+      few .raw-few,
+      kinds-few (start .args .raw .now) (start .args .sorts .now) (start .args .funcs .now) (start .args .acts .now) (start .args .procs .now) few,
+      start .pre .1,
+      names-keyed (start .args .s .now) (start .args .raw .now) (start .args .sorts .now) (start .args .funcs .now) (start .args .acts .now) (start .args .procs .now) (names .last .1 .1 .1 .1 .1 .0) _ (names .result) (names .ensures .0) (names .ensures .1 (start .args .s .now)) (c .before .before .before .before .before .before .before .before .before .before .before .before .before .before .before .before .before .put-keys .ensures),
+    )
 
 both-requires : tie.Need-both-requires
 both-requires c κs = search needs
@@ -46,34 +81,31 @@ both-requires-2 c κs = search needs
 both-requires-3 : tie.Need-both-requires-3
 both-requires-3 c κs = search needs
 
-add-t39 : tie.Need-add-t39
-add-t39 c =
-    let init = c .before .before .before .before .before .before .before .before .before .before .before in
-    let processes = init .before .before .before .before in
-    let signature = processes .before .before .before .before .before in
-    let declared = signature .before .before .before .before .before in
-    let start = declared .before .before .before .before .before .before .before .before .before .before in
-    omega (arith, start .pre .0 .sorts-few)
+add-t38 : tie.Need-add-t38
+add-t38 c = let few = c .before .before .before .before .before .before .before .before .before .before .before .before .before .before .before .before .before .before .before .before .before .before .before .before .before .before .before .before .before .before .before .before .before .before .before .before .before .before .before .before .before .before .before .pre .0 in omega (arith, few .sorts-few)
 
 same-length : tie.Need-same-length
-same-length c = search needs
+same-length c = c .before .before .before .before .before .before .before .before .before .before .before .before .before .before .before .before .before .before .before .before .before .before .before .signature .kept .1 .1 .1 .1 .1 .0
 
 same-length-2 : tie.Need-same-length-2
-same-length-2 c = search needs
+same-length-2 c = c .before .before .before .before .before .before .before .before .before .before .before .init .kept .1 .1 .1 .1 .1 .1 .0 ∙ c .before .before .before .before .before .before .before .before .before .before .before .before .before .before .before .before .before .processes .kept .1 .1 .1 .1 .1 .1 .1 .0
 
 returns : tie.Need-returns
 returns c =
-    let init = c .before .before .before .before .before .before .before .before .before .before .before in
-    let processes = init .before .before .before .before in
-    let signature = processes .before .before .before .before .before in
-    let declared = signature .before .before .before .before .before in
-    let start = declared .before .before .before .before .before .before .before .before .before .before in
+    let start = c .before .before .before .before .before .before .before .before .before .before .before .before .before .before .before .before .before .before .before .before .before .before .before .before .before .before .before .before .before .before .before .before .before .before .before .before .before .before .before .before .before .before .before in
+    let names = c .before .before .before .before .before .before .before .before .before .before .before .before .before .before .before .before .before .before .before .before .before .before .before .before .before .before .before .before .before .before .before .before .before .declared-names in
+    let new = c .before .before .before .before .before .before .before .before .before .before .before .before .before .before .before .before .before .before .before .before .before .before .before .before .before .all-new in
+    let signature = c .before .before .before .before .before .before .before .before .before .before .before .before .before .before .before .before .before .before .before .before .before .before .before .signature in
+    let processes = c .before .before .before .before .before .before .before .before .before .before .before .before .before .before .before .before .before .processes in
+    let init = c .before .before .before .before .before .before .before .before .before .before .before .init in
     lines-resolve (start .args .s .now) (start .args .raw .now) (start .args .sorts .now) (start .args .funcs .now) (start .args .acts .now) (start .args .procs .now) (start .args .at)
-    (signature .signature .last .1 .1 .1 .1 .1 .0) (processes .processes .last .1 .1 .1 .1 .1 .1 .1 .1 .0) (init .init .last .1 .1 .1 .1 .1 .0) (declared .declared-names .last .1 .1 .1 .1 .1 .0)
-    (declared .declared-names .result) (signature .before .before .all-new .result) (signature .signature .result) (processes .processes .result) (init .init .result) (c .both3 .result)
-    (start .pre .0) (init .init .kept .1 .1 .1 .1 .1 .0) (declared .declared-names .ensures .1 (start .args .s .now)) (signature .before .before .all-new .ensures)
-    (signature .signature .ensures) (processes .processes .ensures) (init .init .ensures)
-    (c .both3 .ensures ∙ ap (and (signature .before .before .all-new .result)) (c .before .both2 .ensures ∙ ap (and (signature .signature .result .ok)) (c .before .before .both .ensures)))
+    (signature .last .1 .1 .1 .1 .1 .0) (processes .last .1 .1 .1 .1 .1 .1 .1 .0) (init .last .1 .1 .1 .1 .1 .1 .0) (names .last .1 .1 .1 .1 .1 .0)
+    (names .result) (new .result) (signature .result) (processes .result) (init .result) (c .both3 .result)
+    (start .pre .0) (init .kept .1 .1 .1 .1 .1 .1 .0)
+    (declared-many (start .args .s .now) (start .args .raw .now) (start .args .sorts .now) (start .args .funcs .now) (start .args .acts .now) (start .args .procs .now) (names .last .1 .1 .1 .1 .1 .0) (names .result) (names .ensures .0) (names .ensures .1 (start .args .s .now)))
+    (names .ensures .1 (start .args .s .now)) (new .ensures)
+    (signature .ensures) (processes .ensures) (init .ensures)
+    (c .both3 .ensures ∙ ap (and (new .result)) (c .before .both2 .ensures ∙ ap (and (signature .result .ok)) (c .before .before .both .ensures)))
 
 pub resolve-lines-spec : {M : Type 1} → statement M
 resolve-lines-spec =
@@ -81,16 +113,23 @@ resolve-lines-spec =
     (tie.spec
     slice-aggregate-declared-names
     declared-names-requires
+    slice-aggregate-put-keys
+    slice-aggregate-put-keys-2
+    put-keys-requires
     slice-aggregate-all-new
+    slice-aggregate-all-new-2
     all-new-requires
     signature-requires
     slice-aggregate-processes
+    slice-aggregate-processes-2
     processes-requires
+    slice-aggregate-init
+    slice-aggregate-init-2
     init-requires
     both-requires
     both-requires-2
     both-requires-3
-    add-t39
+    add-t38
     same-length
     same-length-2
     returns)
