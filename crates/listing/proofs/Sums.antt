@@ -37,7 +37,7 @@ use Rattle.listing.specs.Listing.{summands-at, bytes-at, count-cut, Sour
 
 -- ---- COUNTS
 -- how many there are in the first n lists
-unfoldable summed : ℕ → (ℕ → List Summand) → ℕ
+unfoldable pub summed : ℕ → (ℕ → List Summand) → ℕ
 summed zero f = 0
 summed (suc n) f = summed n f + length (f n)
 
