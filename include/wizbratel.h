@@ -90,7 +90,7 @@ typedef struct {
  * Answers  0 if its table can be made, else 1 to 10. No bytes at all: 5.
  * Leaves   Nothing is written.
  * Time     Not more than make_table.
- * Stack    At most 576 KB; usual sheets 27 to 205 KB. */
+ * Stack    At most 512 KB; usual sheets 26 to 146 KB. */
 uint8_t wizbratel_check_sheet(const uint8_t *sheet, size_t length);
 
 /* Make the table file of a sheet.
@@ -99,15 +99,15 @@ uint8_t wizbratel_check_sheet(const uint8_t *sheet, size_t length);
  *          no output (`out` NULL, `room` 0) gets 11.
  * Leaves   After 0 the file over the front of `out` and its length in `*written`; what is behind it in
  *          `out` is untouched. One sheet gives the same bytes every time.
- * Time     1.6 us for 25 bytes, 12 us for 500, 0.14 ms for 4,096; the dearest sheets found 34 ms.
- * Stack    At most 576 KB; usual sheets 27 to 205 KB. */
+ * Time     1.6 us for 25 bytes, 10 us for 500, 0.10 ms for 4,096; the dearest sheets found 2 ms.
+ * Stack    At most 512 KB; usual sheets 26 to 146 KB. */
 uint8_t wizbratel_make_table(const uint8_t *sheet, size_t length, uint8_t *out, size_t room, size_t *written);
 
 /* Check a table file.
  *
  * Answers  0 if it is exactly a file that could have been made of a right table, else 12 to 14. No bytes: 12.
  * Leaves   Nothing is written.
- * Time     1.3 us for 512 bytes, 0.8 ms for 65,536.
+ * Time     0.9 us for 512 bytes, 0.8 ms for 65,536.
  * Stack    At most 72 KB. */
 uint8_t wizbratel_check_table(const uint8_t *file, size_t length);
 
@@ -128,8 +128,8 @@ uint8_t wizbratel_start(const uint8_t *file, size_t length, wizbratel_frame *fra
  *          behind it, and `*depth` is its depth; after ENDED and NONE they are as they were.
  * Time     The file is checked at each call: 1.4 us with 512 bytes, 0.7 ms with 65,536. Then the steps before
  *          k are counted: 0.05 to 0.2 us for usual tables. The dearest table found, 230 summands with four
- *          sums of 16 values and eight long conditions each, takes 9 s if k is too large. So look at a table
- *          of unknown origin in a thread that may wait.
+ *          sums of 16 values and eight long conditions, each on the first and the last of them, takes 8 s if k
+ *          is too large. So look at a table of unknown origin in a thread that may wait.
  * Stack    At most 72 KB. */
 uint8_t wizbratel_ask(const uint8_t *file, size_t length, wizbratel_frame *frames, size_t count, size_t *depth, uint64_t k,
                       wizbratel_answer *answer);

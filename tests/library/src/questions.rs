@@ -41,13 +41,28 @@ fn tree(nodes: usize, variable: &str) -> String {
 
 /// A process with four sums around a call of one with eight conditions of 31 nodes: a test of f's of one of its variables.
 fn four_sums(test: &str, variable: &str) -> String {
-    let data = format!("{test}(g({}))", tree(29, variable));
-    let tests = format!("<|{data}|>delta)").repeat(8);
+    four_sums_with(test, |_| tree(29, variable))
+}
+
+/// The same, where the data of each condition are given by its number.
+fn four_sums_with(test: &str, data: impl Fn(usize) -> String) -> String {
+    let condition = |number| format!("<|{test}(g({}))|>delta)", data(number));
+    let tests: String = (0..8).map(condition).collect();
     let eight = format!("{}a(p,s){tests}", "(".repeat(8));
     format!(
         "proc Y=sum(u:D,sum(v:D,sum(w:D,sum(x:D,Z(u,v,w,x)))));\
          proc Z(p:D,q:D,r:D,s:D)={eight};"
     )
+}
+
+/// Conditions that name the first variable and the last in turn.
+fn in_turn() -> String {
+    four_sums_with("t", |number| tree(29, ["p", "s"][number % 2]))
+}
+
+/// Conditions that name both the first variable and the last.
+fn across() -> String {
+    four_sums_with("t", |_| tree(29, "p").replacen('p', "s", 1))
 }
 
 fn file(body: &str, more: &str) -> Vec<u8> {
@@ -110,17 +125,27 @@ pub fn usual() -> Vec<Question> {
             file("Y", &four_sums("even", "s")),
             none,
         ),
+        question(
+            "conditions on the first and on the last variable in turn",
+            file("Y", &in_turn()),
+            none,
+        ),
+        question(
+            "eight conditions on both the first and the last variable",
+            file("Y", &across()),
+            none,
+        ),
         question("step 0 of 128 blocks", largest(), 0),
         question("k too large for 128 blocks", largest(), none),
     ]
 }
 
-/// As many summands with dear conditions on the last variable as a table holds.
+/// As many summands with conditions on the first variable and on the last in turn as a table holds.
 pub fn dearest() -> Question {
     let calls = vec!["Y"; 230].join("+");
     question(
-        "a whole table of dear conditions, k too large",
-        file(&calls, &four_sums("t", "s")),
+        "a whole table of such conditions in turn, k too large",
+        file(&calls, &in_turn()),
         u64::MAX,
     )
 }

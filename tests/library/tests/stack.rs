@@ -10,7 +10,7 @@ use library::stepping::{ask, ask_all, start, Answer, ANSWER};
 use library::{check_sheet, check_table, large, make_table, sheets};
 
 /// Bytes of stack that `make_table` and `check_sheet` may use, for any input.
-const MOST: usize = 576 << 10;
+const MOST: usize = 512 << 10;
 
 /// Bytes of stack that the check of a table file and the stepping functions may use, for any input.
 const MOST_STEPPING: usize = 72 << 10;
