@@ -1,10 +1,10 @@
 /* Wizbratel: linear tables from pCRL process sheets, and steps through them.
  *
- *     sheet   a text that says what a process may do            wizbratel_check_sheet, wizbratel_make_table
+ *     sheet   a text that says what a process may do            wizbratel_check_sheet, wizbratel_make_table, wizbratel_walk
  *     table   the file that is made of it, 512 to 65,536 bytes  wizbratel_check_table
  *     stack   64 frames and a depth: where the process stands   wizbratel_start, wizbratel_ask, wizbratel_ask_all
  *
- * Answer      0, or the number of the first question that fails: see WIZBRATEL_Q_* below.
+ * Answer      0, or the number of the first question that fails: see WIZBRATEL_Q_* below; of wizbratel_walk a length.
  * Refusal     After an answer other than 0 every byte, frame and count that was lent is as it was.
  * Input       Any bytes whatever, of any length. Every call returns; none allocates, reads a file or prints.
  * Pointers    A pointer leads to as many elements as the length beside it says. With length 0 it may be
@@ -31,6 +31,9 @@ extern "C" {
 /* The longest sheet, and the longest table file: an output of WIZBRATEL_MAX_FILE bytes is never too short. */
 #define WIZBRATEL_MAX_SHEET 4096
 #define WIZBRATEL_MAX_FILE 65536
+
+/* The longest text of a walk. */
+#define WIZBRATEL_MAX_WALK 238
 
 /* Frames of a stack. */
 #define WIZBRATEL_FRAMES 64
@@ -102,6 +105,16 @@ uint8_t wizbratel_check_sheet(const uint8_t *sheet, size_t length);
  * Time     1.6 us for 25 bytes, 10 us for 500, 0.10 ms for 4,096; the dearest sheets found 2 ms.
  * Stack    At most 512 KB; usual sheets 26 to 146 KB. */
 uint8_t wizbratel_make_table(const uint8_t *sheet, size_t length, uint8_t *out, size_t room, size_t *written);
+
+/* Walk: step 0 up to 8 times, as text: a line for each step (its number, the label, the depth after it), then
+ * "ended", "more" or "stuck"; or "refused" and the number of the question that the sheet fails.
+ *
+ * Answers  How many bytes were written: all of the text if `room` is WIZBRATEL_MAX_WALK or more.
+ * Leaves   The text over the front of `out`, as far as there is room, not ended by a zero; what is behind it is
+ *          untouched.
+ * Time     As make_table, check_table and 8 questions of a list.
+ * Stack    64 KB more than make_table. */
+size_t wizbratel_walk(const uint8_t *sheet, size_t length, uint8_t *out, size_t room);
 
 /* Check a table file.
  *

@@ -79,8 +79,20 @@ static void many_blocks(void) {
     expect("room for exactly its blocks", make(sheet, length), 0);
 }
 
+/* The walk is document 01's text, cut where there is no room. */
+static void walked(void) {
+    static const char sheet[] = "act a;act b;proc X=a.b;init X;", text[] = "1 a 1\n2 b 0\nended\n";
+    uint8_t walk[WIZBRATEL_MAX_WALK];
+    size_t length = wizbratel_walk((const uint8_t *)sheet, strlen(sheet), walk, sizeof walk);
+    expect("a walk", (long)length, (long)strlen(text));
+    expect("its text", memcmp(walk, text, length), 0);
+    expect("a walk cut", (long)wizbratel_walk((const uint8_t *)sheet, strlen(sheet), walk, 3), 3);
+    expect("a walk with no room", (long)wizbratel_walk((const uint8_t *)sheet, strlen(sheet), NULL, 0), 0);
+}
+
 int main(void) {
     worked_sheet();
+    walked();
     refused();
     many_blocks();
     return failed;

@@ -47,7 +47,7 @@ pub use refused::Refused;
 pub use stack::{Asked, Stack, Taken};
 pub use steps::{Step, Steps};
 pub use sys::{Frame, FRAMES, MAX_FILE, MAX_SHEET};
-pub use table::{check, make_into, Table};
+pub use table::{check, make_into, walk, Table};
 
 /// The README's example, run as those of the documentation are.
 #[cfg(doctest)]

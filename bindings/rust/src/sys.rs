@@ -14,6 +14,9 @@ pub const MAX_SHEET: usize = 4096;
 /// The longest table file, in bytes: an output of this length is never too short.
 pub const MAX_FILE: usize = 65_536;
 
+/// The longest text of a walk, in bytes.
+pub(crate) const MAX_WALK: usize = 238;
+
 /// The frames that a stack has room for.
 pub const FRAMES: usize = 64;
 
@@ -58,6 +61,7 @@ extern "C" {
         room: usize,
         written: *mut usize,
     ) -> u8;
+    fn wizbratel_walk(sheet: *const u8, length: usize, out: *mut u8, room: usize) -> usize;
     fn wizbratel_check_table(file: *const u8, length: usize) -> u8;
     fn wizbratel_start(
         file: *const u8,
@@ -99,6 +103,13 @@ pub(crate) fn make_table(sheet: &[u8], out: &mut [u8], written: &mut usize) -> u
     let (room, out) = (out.len(), out.as_mut_ptr());
     // SAFETY: pointers and lengths are the slices'; `out` and `written` are lent mutably, so apart from all else.
     unsafe { wizbratel_make_table(sheet.as_ptr(), sheet.len(), out, room, written) }
+}
+
+/// The walk of a sheet over the front of the output, as far as there is room, and its length there.
+pub(crate) fn walk(sheet: &[u8], out: &mut [u8]) -> usize {
+    let (room, out) = (out.len(), out.as_mut_ptr());
+    // SAFETY: pointers and lengths are the slices'; `out` is lent mutably, so apart from the sheet.
+    unsafe { wizbratel_walk(sheet.as_ptr(), sheet.len(), out, room) }
 }
 
 /// Questions 12 to 14 of a table file.

@@ -16,6 +16,19 @@ pub fn check(sheet: &[u8]) -> Result<(), Refused> {
     Refused::unless_zero(sys::check_sheet(sheet))
 }
 
+/// The walk of a sheet, step 0 up to 8 times: a line for each step with its number, the label and the depth after it,
+/// then `ended`, `more` or `stuck`; or `refused` and the number of the question that the sheet fails.
+///
+/// ```
+/// assert_eq!(wizbratel::walk(b"act a; proc X = a; init X;"), "1 a 0\nended\n");
+/// assert_eq!(wizbratel::walk(b""), "refused 5\n");
+/// ```
+pub fn walk(sheet: &[u8]) -> String {
+    let mut text = [0; sys::MAX_WALK];
+    let length = sys::walk(sheet, &mut text);
+    String::from_utf8_lossy(&text[..length]).into_owned()
+}
+
 /// Makes a sheet's table file over the front of an output, questions 1 to 11, and says how long it is. What is behind
 /// it in the output stays, and a refusal leaves all of it. An output of [`MAX_FILE`] bytes is never too short.
 ///

@@ -4,8 +4,10 @@ ghost use mathlib.Core.List.{List};
 ghost use lib.ListN.{length};
 ghost use Rattle.pcrl.specs.Result.{refusal};
 ghost use Rattle.pcrl.specs.Answers.{table-made, table-checked, started, asked, asked-all};
+ghost use Rattle.pcrl.specs.Walk.{walk-text};
 ghost use Rattle.asking.specs.Encoding.{answer-after, answers-after};
 ghost use Rattle.stepping.specs.Promises.{Replied, put-questions};
+ghost use Rattle.texts.specs.Wrote.{Wrote};
 ghost use Rattle.frames.specs.declared.Frame.{Frame};
 ghost use Rattle.frames.specs.Lists.{over, taken, frames-of};
 ghost use Rattle.wizbratel.specs.Tables.{MakePromise};
@@ -97,6 +99,15 @@ pub extern "C" fn wizbratel_ask_all(
     let r = ask_all_stack(depth, answers, file, n, questions, old);
     frames::exchange(&mut *frames, r.count, r.stack);
     r.refused
+}
+
+// The walk of a sheet: its text over the front of the lent output, as far as there is room, and how many bytes that are; what is behind
+// them is as it was. No text is longer than 238 bytes (walker, Short).
+#[no_mangle]
+pub extern "C" fn wizbratel_walk(sheet: &[u8], out: &mut [u8]) -> usize
+    ensures { λ r. ⌜ Wrote (now (out .entry)) 0 (walk-text (now (sheet .entry))) (now (out .exit)) r ⌝ }
+{
+    walker::walk_sheet(sheet, out)
 }
 
 // A start on frames by value, of a slice of n.

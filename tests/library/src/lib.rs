@@ -28,6 +28,7 @@ extern "C" {
         room: usize,
         written: *mut usize,
     ) -> u8;
+    fn wizbratel_walk(sheet: *const u8, length: usize, out: *mut u8, room: usize) -> usize;
     fn wizbratel_check_table(file: *const u8, length: usize) -> u8;
     fn measures_crc(bytes: *const u8, length: usize) -> u16;
 }
@@ -44,6 +45,13 @@ pub fn make_table(sheet: &[u8], out: &mut [u8], written: &mut usize) -> u8 {
     let (room, out) = (out.len(), out.as_mut_ptr());
     // SAFETY: as above; what is written is lent mutably, each apart from the rest.
     unsafe { wizbratel_make_table(sheet.as_ptr(), sheet.len(), out, room, written) }
+}
+
+/// The walk of a sheet over the front of the output, as far as there is room, and its length there.
+pub fn walk(sheet: &[u8], out: &mut [u8]) -> usize {
+    let (room, out) = (out.len(), out.as_mut_ptr());
+    // SAFETY: as above.
+    unsafe { wizbratel_walk(sheet.as_ptr(), sheet.len(), out, room) }
 }
 
 /// Questions 12 to 14 of a table file: the number of the first that fails, or 0.

@@ -1,9 +1,16 @@
-//! The program `walk`: its text for every sheet of the vectors, for generated ones, and for document 01's own.
+//! The walk, by the program `walk` and by the library: its text for every sheet of the vectors, for generated ones, and for
+//! document 01's own.
 
 use library::common::{generate, vectors};
 
+/// The program's text, which is the library's; the library leaves what is behind its text.
 fn written(sheet: &[u8]) -> String {
-    library::program::written("walk", sheet)
+    let text = library::program::written("walk", sheet);
+    let mut out = [0xA5; 300];
+    let length = library::walk(sheet, &mut out);
+    assert_eq!(out[..length], *text.as_bytes());
+    assert!(out[length..].iter().all(|&byte| byte == 0xA5));
+    text
 }
 
 #[test]
@@ -48,6 +55,18 @@ fn generated_sheets() {
     }
     let words: Vec<&String> = closed.keys().collect();
     assert_eq!(words, ["ended", "more", "refused 10", "stuck"]);
+}
+
+#[test]
+fn every_room() {
+    let sheet = b"act a;act b;proc X=a.b;init X;";
+    let text = written(sheet);
+    for room in 0..text.len() + 3 {
+        let mut out = vec![0xA5; room];
+        let length = library::walk(sheet, &mut out);
+        assert_eq!(length, room.min(text.len()));
+        assert_eq!(out[..length], text.as_bytes()[..length]);
+    }
 }
 
 #[test]
