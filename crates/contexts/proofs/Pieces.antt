@@ -8,6 +8,7 @@ use lib.ListN.{length, drop, take, length-append, length-drop}
 use lib.Seq.{length-take-le}
 use Rattle.pcrl.specs.Limits.{max-variables, max-conditions, max-calls, max-arity}
 use Rattle.pcrl.specs.Tests.{Every}
+use Rattle.laws.specs.Every.{every-weaken}
 use Rattle.pcrl.specs.Reader.{all}
 use Rattle.pcrl.specs.Sheet.{Data, Act, tau, action, atom, Sheet}
 use Rattle.pcrl.specs.Values.{put-data}
@@ -27,7 +28,7 @@ use Rattle.putting.proofs.PutLaws.{never}
 use Rattle.following.specs.Fine.{Fine}
 use Rattle.following.specs.Follows.{CallSmall}
 use Rattle.contexts.specs.declared.Spot.{Spot}
-use Rattle.contexts.specs.Spots.{Ready, CondSmall, around, arrays, SpottedAt, Spotted}
+use Rattle.contexts.specs.Spots.{Ready, SummandFits, CondSmall, around, arrays, SpottedAt, Spotted}
 use Rattle.contexts.specs.Steps.{act-code, SummandsOut, Written}
 use Rattle.contexts.proofs.Unfold.{heads-atom, small-terms}
 use Rattle.contexts.proofs.Spotting.{case-atom, kept-same, opened, kind}
@@ -43,8 +44,8 @@ act-right (action a) h =
 -- one summand written
 abbrev SummandWritten : Summand → ℕ → List ℕ → Done → List ℕ → Type 0
 SummandWritten h w o r o′ =
-    (r .ok ≡ true → SummandWithin h × Adds (encode-summand h) w o (r .w) o′)
-    × (r .ok ≡ false → SummandWithin h → length o < w + length (encode-summand h))
+    (r .ok ≡ true → SummandFits h × Adds (encode-summand h) w o (r .w) o′)
+    × (r .ok ≡ false → SummandFits h → length o < w + length (encode-summand h))
 
 one-out : (h : Summand) (hs : List Summand) → hs ≡ h ∷ [] → (w : ℕ) (o : List ℕ) (r : Done) (o′ : List ℕ) → SummandWritten h w o r o′ → SummandsOut hs w o r o′
 unfolding Every all
@@ -67,10 +68,14 @@ encode-plain vs cs ks a ds =
     ap₂ (λ (v : List ℕ) (c : List (ℕ × Data)). whole (length v) v (length c) (all encode-cond c) (encode-act a) (all encode-data ds) (length ks) (all encode-call ks)) (append-nil vs) (append-nil cs)
 
 plain-within : (vs : List ℕ) (cs : List (ℕ × Data)) (ks : List (ℕ × List Data)) (a : Act) (ds : List Data)
-    → length vs ≤ max-variables → length cs ≤ max-conditions → length ks ≤ max-calls → Every CondSmall cs → Every Small ds → Every CallSmall ks → SummandWithin (around vs cs ks (plain a ds))
+    → length vs ≤ max-variables → length cs ≤ max-conditions → length ks ≤ max-calls → Every CondSmall cs → Every Small ds → Every CallSmall ks → SummandFits (around vs cs ks (plain a ds))
 unfolding SummandWithin around Every
 plain-within vs cs ks a ds v c k x y z =
-    (subst (λ (l : List ℕ). length l ≤ max-variables) (sym (append-nil vs)) v, (subst (λ (l : List (ℕ × Data)). length l ≤ max-conditions) (sym (append-nil cs)) c, (k, (subst (λ (l : List (ℕ × Data)). Every CondSmall l) (sym (append-nil cs)) x, (y, z)))))
+    record {
+      within =
+          (subst (λ (l : List ℕ). length l ≤ max-variables) (sym (append-nil vs)) v, (subst (λ (l : List (ℕ × Data)). length l ≤ max-conditions) (sym (append-nil cs)) c, (k, (subst (λ (l : List (ℕ × Data)). Every CondSmall l) (sym (append-nil cs)) x, (y, every-weaken CallSmall _ (λ c h. h .0) ks z)))));
+      narrow = every-weaken CallSmall _ (λ c h. h .1) ks z;
+    }
 
 module _ (cells starts counts firsts : List ℕ) (s : Spot) (slots vars conds calls : List ℕ) (d : Node) (vw : Views cells (s .at) d) (is : d .kind ≡ atom-kind) where
   pub atom-wide : max-arity < d .datas → (H : Sheet) (F : ℕ) (hs : List Summand) → Ready H F cells starts counts firsts → Spotted H F cells s (arrays slots vars conds calls) hs → ⊥
@@ -83,8 +88,8 @@ module _ (cells starts counts firsts : List ℕ) (s : Spot) (slots vars conds ca
     pub record Emitted (hs : List Summand) : Type 0 where
       pub h : Summand
       pub one : hs ≡ h ∷ []
-      pub long : r .ok ≡ false → ¬ (SummandWithin h)
-      pub within : r .ok ≡ true → s .nv ≤ max-variables → s .nc ≤ max-conditions → s .nk ≤ max-calls → SummandWithin h
+      pub long : r .ok ≡ false → ¬ (SummandFits h)
+      pub within : r .ok ≡ true → s .nv ≤ max-variables → s .nc ≤ max-conditions → s .nk ≤ max-calls → SummandFits h
       pub bytes : r .ok ≡ true → encode-summand h ≡ (s .nv ∷ take (s .nv) vars) ++ ((s .nc ∷ take (s .lc) conds) ++ ((act-code (d .number) ∷ take (r .w) t) ++ (s .nk ∷ drop (s .top) calls)))
 
     pub emitted : (H : Sheet) (F : ℕ) (hs : List Summand) → Ready H F cells starts counts firsts → Spotted H F cells s (arrays slots vars conds calls) hs → Emitted hs

@@ -10,7 +10,6 @@ use lib.Seq.{drop-drop, paste, take-paste}
 use Rattle.pcrl.specs.Tests.{Every}
 use Rattle.pcrl.specs.Sheet.{Data, Proc, delta, atom, alt, cond, sum, seq, call, Act, Sheet}
 use Rattle.pcrl.specs.Table.{Summand}
-use Rattle.pcrl.specs.Right.{SummandWithin}
 use Rattle.pcrl.specs.Heads.{look}
 use Rattle.nodes.specs.declared.Node.{Node}
 use Rattle.nodes.specs.Layout.{atom-kind, sum-kind, alt-kind, cond-kind, call-kind, seq-kind}
@@ -22,7 +21,7 @@ use Rattle.putting.proofs.Bytes.{cell-more, kept-front}
 use Rattle.putting.proofs.Several.{slot-kept}
 use Rattle.contexts.specs.declared.Spot.{Spot}
 use Rattle.contexts.specs.declared.Side.{Side}
-use Rattle.contexts.specs.Spots.{Bound, Arrays, Context, SpottedAt, Spotted, Deeper, Kept, Beyond, OnSide, weight}
+use Rattle.contexts.specs.Spots.{SummandFits, Bound, Arrays, Context, SpottedAt, Spotted, Deeper, Kept, Beyond, OnSide, weight}
 use Rattle.contexts.specs.Steps.{failed}
 
 -- WEIGHTS
@@ -104,10 +103,10 @@ module _ (P : Proc → Type 0) (G : Type 0) where
 -- HEADS BEYOND THE LIMITS
 
 -- if no head in this context has the limits
-pub no-head : (f : Summand → Summand) (xs hs : List Summand) → map f xs ≡ hs → ((x : Summand) → ¬ (SummandWithin (f x))) → Beyond hs
+pub no-head : (f : Summand → Summand) (xs hs : List Summand) → map f xs ≡ hs → ((x : Summand) → ¬ (SummandFits (f x))) → Beyond hs
 unfolding Every
 no-head f [] hs e n w = sym e
-no-head f (x ∷ xs) hs e n w = let u : Every SummandWithin (map f (x ∷ xs)) = subst (λ (l : List Summand). Every SummandWithin l) (sym e) w in absurd (n x (u .0))
+no-head f (x ∷ xs) hs e n w = let u : Every SummandFits (map f (x ∷ xs)) = subst (λ (l : List Summand). Every SummandFits l) (sym e) w in absurd (n x (u .0))
 
 pub map-none : (f : Summand → Summand) (xs hs : List Summand) → map f xs ≡ hs → xs ≡ [] → hs ≡ []
 map-none f xs hs e n = sym e ∙ ap (map f) n

@@ -14,13 +14,13 @@ use Rattle.pcrl.specs.Parts.{new-count, first-new}
 use Rattle.pcrl.specs.Table.{Summand}
 use Rattle.pcrl.specs.Right.{Small, SummandWithin}
 use Rattle.pcrl.specs.Heads.{look, calls-of, with-var, with-cond, with-calls, heads-by, heads}
-use Rattle.laws.specs.Every.{every-left, every-right}
+use Rattle.laws.specs.Every.{every-left, every-right, every-both}
 use Rattle.nodes.proofs.NewParts.{new-all, new-open}
 use Rattle.nodes.specs.Nodes.{node-own, node-kids}
 use Rattle.nodes.specs.Layout.{one-if}
 use Rattle.counting.specs.Heads.{known-of, heads-open}
 use Rattle.following.specs.Follows.{CallSmall}
-use Rattle.contexts.specs.Spots.{CondSmall, around}
+use Rattle.contexts.specs.Spots.{SummandFits, CondSmall, around}
 
 -- BY KIND
 
@@ -95,27 +95,27 @@ unfolding around with-calls
 around-calls vs cs ks es x = ap (λ (l : List (ℕ × List Data)). record { vars = vs ++ x .vars; conds = cs ++ x .conds; act = x .act; terms = x .terms; calls = l }) (append-assoc (x .calls) es ks)
 
 -- what a head's limits say of its context
-module _ (vs : List ℕ) (cs : List (ℕ × Data)) (ks : List (ℕ × List Data)) (x : Summand) (h : SummandWithin (around vs cs ks x)) where
+module _ (vs : List ℕ) (cs : List (ℕ × Data)) (ks : List (ℕ × List Data)) (x : Summand) (h : SummandFits (around vs cs ks x)) where
   pub within-vars : length vs ≤ max-variables
   unfolding SummandWithin around
-  within-vars = let z = h .0 in omega (arith, length-append vs (x .vars))
+  within-vars = let z = h .within .0 in omega (arith, length-append vs (x .vars))
 
   pub within-conds : length cs ≤ max-conditions
   unfolding SummandWithin around
-  within-conds = let z = h .1 .0 in omega (arith, length-append cs (x .conds))
+  within-conds = let z = h .within .1 .0 in omega (arith, length-append cs (x .conds))
 
   pub within-calls : length ks ≤ max-calls
   unfolding SummandWithin around
-  within-calls = let z = h .1 .1 .0 in omega (arith, length-append (x .calls) ks)
+  within-calls = let z = h .within .1 .1 .0 in omega (arith, length-append (x .calls) ks)
 
   pub small-conds : Every CondSmall cs
   unfolding SummandWithin around
-  small-conds = every-left CondSmall cs (x .conds) (h .1 .1 .1 .0)
+  small-conds = every-left CondSmall cs (x .conds) (h .within .1 .1 .1 .0)
 
   pub small-terms : Every Small (x .terms)
   unfolding SummandWithin around
-  small-terms = h .1 .1 .1 .1 .0
+  small-terms = h .within .1 .1 .1 .1 .0
 
   pub small-calls : Every CallSmall ks
   unfolding SummandWithin around
-  small-calls = every-right CallSmall (x .calls) ks (h .1 .1 .1 .1 .1)
+  small-calls = every-right CallSmall (x .calls) ks (every-both _ _ CallSmall (λ c a b. (a, b)) (x .calls ++ ks) (h .within .1 .1 .1 .1 .1) (h .narrow))

@@ -49,6 +49,11 @@ pub record Ready (H : Sheet) (F : ℕ) (cells starts counts firsts : List ℕ) :
   pub rights-fine : (k : ℕ) → k < length (H .procs) → Fine H (length (params H k)) (right H k)
   pub equations-few : (k : ℕ) → k < length (H .procs) → first-new (length (H .procs)) (H .procs) k + new-count false (right H k) < byte-limit
 
+-- within its limits, and no call has more terms than an equation may have parameters: in a table that is within its limits all have it
+pub record SummandFits (h : Summand) : Type 0 where
+  pub within : SummandWithin h
+  pub narrow : Every (λ (c : ℕ × List Data). length (c .1) ≤ frame-width) (h .calls)
+
 abbrev pub CondSmall : ℕ × Data → Type 0
 CondSmall c = Small (c .1)
 
@@ -132,7 +137,7 @@ pub record Kept (s : Spot) (A B : Arrays) : Type 0 where
 
 -- heads that have not the limits: none of them can be, if all have
 abbrev pub Beyond : List Summand → Type 0
-Beyond hs = Every SummandWithin hs → hs ≡ []
+Beyond hs = Every SummandFits hs → hs ≡ []
 
 -- A step down: the heads are the same; or they have not the limits.
 abbrev pub Leads : List ℕ → List ℕ → List ℕ → List ℕ → Spot → Arrays → Spot → Arrays → Type 0

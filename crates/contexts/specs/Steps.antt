@@ -9,7 +9,6 @@ use Rattle.pcrl.specs.Reader.{all}
 use Rattle.pcrl.specs.Sheet.{Data, var, Sheet}
 use Rattle.pcrl.specs.Table.{Summand}
 use Rattle.pcrl.specs.Stream.{tau-code, encode-summand}
-use Rattle.pcrl.specs.Right.{SummandWithin}
 use Rattle.nodes.specs.Layout.{byte-limit}
 use Rattle.putting.specs.declared.Done.{Done}
 use Rattle.putting.specs.Slots.{slot-width, Slots, Adds}
@@ -18,7 +17,7 @@ use Rattle.nodes.specs.Layout.{sum-kind, alt-kind, atom-kind, cond-kind, call-k
 use Rattle.nodes.specs.Views.{Views}
 use Rattle.contexts.specs.declared.Side.{Side}
 use Rattle.contexts.specs.declared.Spot.{Spot}
-use Rattle.contexts.specs.Spots.{Ready, Arrays, arrays, Bound, Spotted, Deeper, Kept, Beyond, Leads, OnSide}
+use Rattle.contexts.specs.Spots.{Ready, SummandFits, Arrays, arrays, Bound, Spotted, Deeper, Kept, Beyond, Leads, OnSide}
 
 -- room for the terms of an action
 abbrev pub terms-room : ℕ
@@ -71,8 +70,8 @@ act-code (suc a) = a % byte-limit
 -- Summands written one behind another; or they have not the limits, or there is no room for them.
 abbrev pub SummandsOut : List Summand → ℕ → List ℕ → Done → List ℕ → Type 0
 SummandsOut hs w o r o′ =
-    (r .ok ≡ true → Every SummandWithin hs × Adds (all encode-summand hs) w o (r .w) o′)
-    × (r .ok ≡ false → Every SummandWithin hs → length o < w + length (all encode-summand hs))
+    (r .ok ≡ true → Every SummandFits hs × Adds (all encode-summand hs) w o (r .w) o′)
+    × (r .ok ≡ false → Every SummandFits hs → length o < w + length (all encode-summand hs))
 
 -- the heads at s written, and its context kept
 abbrev pub Written : List ℕ → List ℕ → List ℕ → List ℕ → Spot → Arrays → ℕ → List ℕ → Done → Arrays → List ℕ → Type 0

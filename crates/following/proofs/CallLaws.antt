@@ -4,7 +4,8 @@ use mathlib.Core.List.{List, [], _∷_, _++_, map, append-assoc, append-nil}
 use mathlib.Core.Bool.{Bool, true, false}
 use Prim.Native.Nat.{ℕ, suc, _+_, _*_, _%_, _<_, _≤_}
 use native.Mathlib.Omega.{arith}
-use lib.ListN.{length, drop, take, set}
+use lib.ListN.{length, drop, take, set, length-map}
+use Rattle.pcrl.specs.Limits.{frame-width}
 use Rattle.pcrl.specs.Tests.{Every}
 use Rattle.pcrl.specs.Reader.{all}
 use Rattle.pcrl.specs.Sheet.{Data, Proc, delta, atom, alt, cond, sum, seq, call, Sheet}
@@ -16,7 +17,6 @@ use Rattle.pcrl.specs.Heads.{look, new-call, calls-of}
 use Rattle.nodes.specs.declared.Node.{Node}
 use Rattle.nodes.specs.Layout.{byte-limit, seq-kind, call-kind, enc, enc-datas}
 use Rattle.nodes.specs.Nodes.{kind-of, node-number, node-datas}
-use Rattle.nodes.specs.Scoped.{max-scope}
 use Rattle.nodes.specs.Views.{Opened, Views}
 use Rattle.nodes.proofs.Nodes.{one-item}
 use Rattle.putting.specs.declared.Done.{Done}
@@ -26,7 +26,7 @@ use Rattle.putting.proofs.Bytes.{cell-more, adds-then}
 use Rattle.putting.proofs.PutLaws.{never}
 use Rattle.marking.specs.Marks.{bits, Above, Marked}
 use Rattle.following.specs.Fine.{Fine, Few}
-use Rattle.following.specs.Follows.{CallSmall, MarkedPut, CallPut}
+use Rattle.following.specs.Follows.{TermsSmall, CallSmall, MarkedPut, CallPut}
 
 -- sums bind from n on
 pub fine-above : (H : Sheet) (n k : ℕ) (p : Proc) → n ≤ k → Fine H k p → Above n p
@@ -55,11 +55,11 @@ one-call : (k : ℕ) (ds : List Data) → all encode-call ((k, ds) ∷ []) ≡ (
 unfolding all encode-call
 one-call k ds = append-nil _
 
-one-small : (k : ℕ) (ds : List Data) → Every Small ds → Every CallSmall ((k, ds) ∷ [])
+one-small : (k : ℕ) (ds : List Data) → TermsSmall ds → Every CallSmall ((k, ds) ∷ [])
 unfolding Every
 one-small k ds h = (h, tt)
 
-small-one : (k : ℕ) (ds : List Data) → Every CallSmall ((k, ds) ∷ []) → Every Small ds
+small-one : (k : ℕ) (ds : List Data) → Every CallSmall ((k, ds) ∷ []) → TermsSmall ds
 unfolding Every
 small-one k ds h = h .0
 
@@ -69,8 +69,8 @@ module _ (k w : ℕ) (o : List ℕ) (h : w < length o) (ds : List Data) (v : ℕ
   written a = adds-then (k ∷ []) (all encode-data ds) w (w + 1) v o (set o w k) o′ (cell-more o w k h) a ∙ ap (λ (l : List ℕ). take w o ++ l) (sym (one-call k ds))
 
 module _ (cells : List ℕ) (at c : ℕ) (slots : List ℕ) (n w : ℕ) (o : List ℕ) (inside : w < length o) (d : Node) (vw : Views cells at d) where
-  -- a call of a process with more terms than there can be variables is none
-  pub call-wide : d .kind ≡ call-kind → max-scope < d .datas → (r : Done) (o′ : List ℕ) → CallPut cells at c slots n w o r o′
+  -- a call of a process with more terms than there can be parameters is none
+  pub call-wide : d .kind ≡ call-kind → frame-width < d .datas → (r : Done) (o′ : List ℕ) → CallPut cells at c slots n w o r o′
   unfolding kind-of node-datas Fine
   call-wide is big r o′ H b p rest σ few e other s f = go p (vw b p [] rest (e ∙ one-item b p rest)) f
     where
@@ -97,7 +97,7 @@ module _ (cells : List ℕ) (at c : ℕ) (slots : List ℕ) (n w : ℕ) (o : Lis
       go (call k ds) u f =
           let z : d .number % byte-limit ≡ k = omega (arith, u .number-is, f .0, few .procs-few) in
           let y = put ds _ σ (sym (u .datas-is)) (u .terms-are) s (f .1 .1) in
-          (λ t. (one-small k _ (y .0 t .0), written k w o inside _ (r .w) o′ (subst (λ (x : ℕ). Adds (all encode-data (map (put-data (look σ)) ds)) (w + 1) (set o w x) (r .w) o′) z (y .0 t .1))), λ t h. y .1 t (small-one k _ h))
+          (λ t. (one-small k _ (y .0 t .0, omega (arith, length-map ds (put-data (look σ)), f .1 .0, few .params-few k (f .0))), written k w o inside _ (r .w) o′ (subst (λ (x : ℕ). Adds (all encode-data (map (put-data (look σ)) ds)) (w + 1) (set o w x) (r .w) o′) z (y .0 t .1))), λ t h. y .1 t (small-one k _ h .0))
 
   pub part-put : c < byte-limit → (d .kind ≡ call-kind → ⊥) → (m : ℕ) → Marked cells at n m → (r : Done) (o′ : List ℕ) → MarkedPut m slots n (w + 1) (set o w c) r o′ → CallPut cells at c slots n w o r o′
   part-put cl other m mk r o′ put H b p rest σ few e nq s f =
@@ -106,9 +106,9 @@ module _ (cells : List ℕ) (at c : ℕ) (slots : List ℕ) (n w : ℕ) (o : Lis
       let y : bits n m ≡ marks (length σ) p = mk b p rest e (fine-above H n n p (omega arith) f) ∙ ap (λ (k : ℕ). marks k p) (sym (s .many)) in
       let z = put σ s in (
         λ t. (
-          subst (λ (l : List (ℕ × List Data)). Every CallSmall l) (sym g) (one-small c _ (subst (λ (l : List Bool). Every Small (marked l σ)) y (z .0 t .0))),
+          subst (λ (l : List (ℕ × List Data)). Every CallSmall l) (sym g) (one-small c _ (subst (λ (l : List Bool). TermsSmall (marked l σ)) y (z .0 t .0))),
           subst (λ (l : List (ℕ × List Data)). Adds (all encode-call l) w o (r .w) o′) (sym g)
               (written c w o inside _ (r .w) o′ (subst (λ (l : List Bool). Adds (all encode-data (marked l σ)) (w + 1) (set o w c) (r .w) o′) y (z .0 t .1))),
         ),
-        λ t h. z .1 t (subst (λ (l : List Bool). Every Small (marked l σ)) (sym y) (small-one c _ (subst (λ (l : List (ℕ × List Data)). Every CallSmall l) g h))),
+        λ t h. z .1 t (subst (λ (l : List Bool). TermsSmall (marked l σ)) (sym y) (small-one c _ (subst (λ (l : List (ℕ × List Data)). Every CallSmall l) g h))),
       )

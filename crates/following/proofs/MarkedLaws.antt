@@ -8,7 +8,7 @@ use native.Mathlib.Omega.{arith}
 use lib.ListN.{length, drop, take, getD, length-drop}
 use lib.Seq.{getD-drop, drop-drop, paste, take-paste}
 use lib.Count.{trailingZeros, under}
-use Rattle.pcrl.specs.Limits.{max-nodes}
+use Rattle.pcrl.specs.Limits.{max-nodes, frame-width}
 use Rattle.pcrl.specs.Tests.{Every}
 use Rattle.pcrl.specs.Reader.{all}
 use Rattle.pcrl.specs.Sheet.{Data, val}
@@ -23,7 +23,7 @@ use Rattle.putting.specs.Slots.{term-bytes, slot-width, Slot, Slots, Adds}
 use Rattle.putting.proofs.PutLaws.{never, short}
 use Rattle.putting.proofs.Opening.{bytes-few}
 use Rattle.marking.specs.Marks.{bits}
-use Rattle.following.specs.Follows.{OnePut, MarkedPut}
+use Rattle.following.specs.Follows.{OnePut, TermsSmall, MarkedPut}
 
 -- THE TERM OF A SLOT
 
@@ -98,36 +98,38 @@ rest-less n t h = let z = div-le-self n (2 ^ t) in omega arith
 -- THE MARKED TERMS
 
 module _ (m : ℕ) (slots : List ℕ) (n w : ℕ) (o : List ℕ) where
-  pub record MarkedLeft (σ : List Data) (rest at v : ℕ) (out : List ℕ) : Type 0 where
+  pub record MarkedLeft (σ : List Data) (rest at k v : ℕ) (out : List ℕ) : Type 0 where
     pub bytes : take v out ++ all encode-data (marked (bits (n - at) rest) (drop at σ)) ≡ take w o ++ all encode-data (marked (bits n m) σ)
+    pub number : k + length (marked (bits (n - at) rest) (drop at σ)) ≡ length (marked (bits n m) σ)
     pub small : Every Small (marked (bits (n - at) rest) (drop at σ)) → Every Small (marked (bits n m) σ)
     pub small-left : Every Small (marked (bits n m) σ) → Every Small (marked (bits (n - at) rest) (drop at σ))
 
-  abbrev pub Left : ℕ → ℕ → ℕ → List ℕ → Type 0
-  Left rest at v out = (σ : List Data) → Slots σ slots n → MarkedLeft σ rest at v out
+  abbrev pub Left : ℕ → ℕ → ℕ → ℕ → List ℕ → Type 0
+  Left rest at k v out = (σ : List Data) → Slots σ slots n → MarkedLeft σ rest at k v out
 
-  pub marked-start : Left m 0 w o
+  pub marked-start : Left m 0 0 w o
   marked-start σ s =
       let z : n - 0 ≡ n = omega arith in
       record {
         bytes = ap (λ (k : ℕ). take w o ++ all encode-data (marked (bits k m) σ)) z;
+        number = let y = ap (λ (k : ℕ). length (marked (bits k m) σ)) z in omega arith;
         small = λ h. subst (λ (k : ℕ). Every Small (marked (bits k m) σ)) z h;
         small-left = λ h. subst (λ (k : ℕ). Every Small (marked (bits k m) σ)) (sym z) h;
       }
 
-  module _ (rest at v : ℕ) (out : List ℕ) (left : Left rest at v out) where
+  module _ (rest at k v : ℕ) (out : List ℕ) (left : Left rest at k v out) where
     -- no mark is left
-    pub marked-end : ((σ : List Data) → Slots σ slots n → marked (bits (n - at) rest) (drop at σ) ≡ []) → MarkedPut m slots n w o (record { ok = true; w = v }) out
+    pub marked-end : k ≤ frame-width → ((σ : List Data) → Slots σ slots n → marked (bits (n - at) rest) (drop at σ) ≡ []) → MarkedPut m slots n w o (record { ok = true; w = v }) out
     unfolding all Every
-    marked-end h σ s =
-        (λ t. (left σ s .small (subst (λ (l : List Data). Every Small l) (sym (h σ s)) tt), sym (append-nil (take v out)) ∙ ap (λ (l : List Data). take v out ++ all encode-data l) (sym (h σ s)) ∙ left σ s .bytes), λ t. never (sym t))
+    marked-end few h σ s =
+        (λ t. ((left σ s .small (subst (λ (l : List Data). Every Small l) (sym (h σ s)) tt), omega (arith, left σ s .number, ap length (h σ s))), sym (append-nil (take v out)) ∙ ap (λ (l : List Data). take v out ++ all encode-data l) (sym (h σ s)) ∙ left σ s .bytes), λ t. never (sym t))
 
-    pub marked-done : rest ≡ 0 → MarkedPut m slots n w o (record { ok = true; w = v }) out
-    marked-done e = marked-end (λ σ s. ap (λ (x : ℕ). marked (bits (n - at) x) (drop at σ)) e ∙ marked-none (n - at) (drop at σ))
+    pub marked-done : k ≤ frame-width → rest ≡ 0 → MarkedPut m slots n w o (record { ok = true; w = v }) out
+    marked-done few e = marked-end few (λ σ s. ap (λ (x : ℕ). marked (bits (n - at) x) (drop at σ)) e ∙ marked-none (n - at) (drop at σ))
 
     module _ (pos : 0 < rest) (small : rest < 2 ^ 32) (i : ℕ) (ei : i ≡ at + trailingZeros 32 rest) where
-      pub marked-out : at ≤ n → n ≤ i → MarkedPut m slots n w o (record { ok = true; w = v }) out
-      marked-out a h = marked-end (λ σ s. marked-past (val 0) 32 (n - at) rest (drop at σ) pos small (length-drop at σ ∙ ap (λ (k : ℕ). k - at) (s .many)) (omega arith))
+      pub marked-out : k ≤ frame-width → at ≤ n → n ≤ i → MarkedPut m slots n w o (record { ok = true; w = v }) out
+      marked-out few a h = marked-end few (λ σ s. marked-past (val 0) 32 (n - at) rest (drop at σ) pos small (length-drop at σ ∙ ap (λ (k : ℕ). k - at) (s .many)) (omega arith))
 
       -- the next one
       next : (σ : List Data) → Slots σ slots n → at ≤ n → i < n
@@ -141,8 +143,12 @@ module _ (m : ℕ) (slots : List ℕ) (n w : ℕ) (o : List ℕ) where
           ∙ ap₂ (λ (d : Data) (k : ℕ). d ∷ marked (bits k (rest / 2 ^ t / 2)) (drop (t + 1) (drop at σ))) (getD-drop at σ t (val 0) ∙ ap (λ (k : ℕ). getD σ k (val 0)) (sym ei)) u
           ∙ ap (λ (l : List Data). getD σ i (val 0) ∷ marked (bits (n - (i + 1)) (rest / 2 ^ t / 2)) l) (drop-drop (t + 1) at σ ∙ ap (λ (k : ℕ). drop k σ) y)
 
+      -- one more than a call may have
+      pub marked-many : frame-width ≤ k → at ≤ n → i < n → (q : ℕ) (o′ : List ℕ) → MarkedPut m slots n w o (record { ok = false; w = q }) o′
+      marked-many most a h q o′ σ s = (λ t. never t, λ t few. let l = few .1 in omega (arith, left σ s .number, ap length (next σ s a h)))
+
       module _ (a : at ≤ n) (h : i < n) (r : Done) (out′ : List ℕ) (put : OnePut slots i v out r out′) where
-        pub marked-on : r .ok ≡ true → Left (rest / 2 ^ trailingZeros 32 rest / 2) (i + 1) (r .w) out′
+        pub marked-on : r .ok ≡ true → Left (rest / 2 ^ trailingZeros 32 rest / 2) (i + 1) (k + 1) (r .w) out′
         unfolding all Every
         marked-on ok σ s =
             let e = next σ s a h in
@@ -150,10 +156,11 @@ module _ (m : ℕ) (slots : List ℕ) (n w : ℕ) (o : List ℕ) where
             let M = marked (bits (n - (i + 1)) (rest / 2 ^ trailingZeros 32 rest / 2)) (drop (i + 1) σ) in
             record {
               bytes = ap (λ (l : List ℕ). l ++ all encode-data M) (u .1) ∙ append-assoc (take v out) (encode-data (look σ i)) (all encode-data M) ∙ ap (λ (l : List Data). take v out ++ all encode-data l) (sym e) ∙ left σ s .bytes;
+              number = omega (arith, left σ s .number, ap length e);
               small = λ k. left σ s .small (subst (λ (l : List Data). Every Small l) (sym e) (u .0, k));
               small-left = λ k. subst (λ (l : List Data). Every Small l) e (left σ s .small-left k) .1;
             }
 
         pub marked-long : r .ok ≡ false → (q : ℕ) (o′ : List ℕ) → MarkedPut m slots n w o (record { ok = false; w = q }) o′
         unfolding Every
-        marked-long bad q o′ σ s = (λ t. never t, λ t k. put (look σ i) (s .each i h) .1 bad (subst (λ (l : List Data). Every Small l) (next σ s a h) (left σ s .small-left k) .0))
+        marked-long bad q o′ σ s = (λ t. never t, λ t k. put (look σ i) (s .each i h) .1 bad (subst (λ (l : List Data). Every Small l) (next σ s a h) (left σ s .small-left (k .0)) .0))

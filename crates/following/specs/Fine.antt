@@ -3,7 +3,7 @@
 use mathlib.Core.Path.{_≡_}
 use Prim.Native.Nat.{ℕ, suc, _≤_, _<_}
 use lib.ListN.{length}
-use Rattle.pcrl.specs.Limits.{max-arity}
+use Rattle.pcrl.specs.Limits.{max-arity, frame-width}
 use Rattle.pcrl.specs.Tests.{Every}
 use Rattle.pcrl.specs.Sheet.{Data, Act, Proc, delta, atom, alt, cond, sum, seq, call, Sheet, params}
 use Rattle.nodes.specs.Layout.{byte-limit, act-number}
@@ -24,4 +24,4 @@ module _ (H : Sheet) where
   -- processes, few enough for bytes, with few parameters
   pub record Few : Type 0 where
     pub procs-few : length (H .procs) < byte-limit
-    pub params-few : (k : ℕ) → k < length (H .procs) → length (params H k) ≤ max-scope
+    pub params-few : (k : ℕ) → k < length (H .procs) → length (params H k) ≤ frame-width

@@ -4,7 +4,7 @@ use mathlib.Core.List.{List, _++_}
 use mathlib.Core.Bool.{Bool, true, false}
 use Prim.Native.Nat.{ℕ, _+_, _*_, _≤_, _<_}
 use lib.ListN.{length, drop, take}
-use Rattle.pcrl.specs.Limits.{max-calls}
+use Rattle.pcrl.specs.Limits.{max-calls, frame-width}
 use Rattle.pcrl.specs.Tests.{Every}
 use Rattle.pcrl.specs.Reader.{all}
 use Rattle.pcrl.specs.Sheet.{Data, Proc, Sheet}
@@ -21,15 +21,19 @@ use Rattle.following.specs.declared.Calls.{Calls}
 use Rattle.following.specs.declared.Pushed.{Pushed}
 use Rattle.following.specs.Fine.{Fine, Few}
 
--- the most bytes of a call: its equation, and a term for each variable in scope
+-- the most bytes of a call: its equation, and a term for each parameter that an equation may have
 abbrev pub call-bytes : ℕ
-call-bytes = 993
+call-bytes = 125
 
 abbrev pub calls-room : ℕ
-calls-room = 7944
+calls-room = 1000
+
+-- the terms of a call: small ones, and no more than an equation may have parameters
+abbrev pub TermsSmall : List Data → Type 0
+TermsSmall ds = Every Small ds × (length ds ≤ frame-width)
 
 abbrev pub CallSmall : ℕ × List Data → Type 0
-CallSmall c = Every Small (c .1)
+CallSmall c = TermsSmall (c .1)
 
 -- the term of a slot
 abbrev pub OnePut : List ℕ → ℕ → ℕ → List ℕ → Done → List ℕ → Type 0
@@ -39,8 +43,8 @@ OnePut slots i w o r o′ = (d : Data) → Slot d slots (slot-width * i)
 -- the terms of the marked slots
 abbrev pub MarkedPut : ℕ → List ℕ → ℕ → ℕ → List ℕ → Done → List ℕ → Type 0
 MarkedPut m slots n w o r o′ = (σ : List Data) → Slots σ slots n
-    → (r .ok ≡ true → Every Small (marked (bits n m) σ) × Adds (all encode-data (marked (bits n m) σ)) w o (r .w) o′)
-    × (r .ok ≡ false → ¬ (Every Small (marked (bits n m) σ)))
+    → (r .ok ≡ true → TermsSmall (marked (bits n m) σ) × Adds (all encode-data (marked (bits n m) σ)) w o (r .w) o′)
+    × (r .ok ≡ false → ¬ (TermsSmall (marked (bits n m) σ)))
 
 -- one part's call
 abbrev pub CallPut : List ℕ → ℕ → ℕ → List ℕ → ℕ → ℕ → List ℕ → Done → List ℕ → Type 0

@@ -3,7 +3,7 @@ ghost use mathlib.Core.Path.{_≡_};
 ghost use mathlib.Core.Bool.{true};
 ghost use Prim.Native.Nat.{_+_, _*_, _≤_, _<_};
 ghost use lib.ListN.{length, take, drop};
-ghost use Rattle.pcrl.specs.Limits.{max-calls};
+ghost use Rattle.pcrl.specs.Limits.{max-calls, frame-width};
 ghost use Rattle.nodes.specs.Layout.{byte-limit};
 ghost use Rattle.nodes.specs.Scoped.{max-scope};
 ghost use Rattle.putting.specs.Slots.{term-bytes, slot-width};
@@ -13,9 +13,12 @@ use putting::Done;
 pub const MAX_CALLS: usize = 8;
 
 // The most bytes of a call, and of all calls of a summand.
-const CALL: usize = 993;
+const CALL: usize = 125;
 
-pub const CALLS: usize = 7944;
+pub const CALLS: usize = 1000;
+
+// The most terms of a call.
+const MAX_TERMS: usize = 4;
 
 pub struct Calls {
     pub ok: bool,
@@ -67,21 +70,25 @@ fn put_one(slots: &[u8], i: usize, out: &mut [u8], w: usize) -> Done
     Done { ok: true, w: w + l }
 }
 
-// The terms in the marked slots: "trailing zeros the next one".
+// The terms in the marked slots, "trailing zeros the next one". Not ok: one is too long, or they are too many for a call.
 fn put_marked(m: u32, slots: &[u8], n: usize, out: &mut [u8], w: usize) -> Done
-    requires { ⌜ (n ≤ max-scope) × (slot-width * n ≤ length (now slots)) × (w + term-bytes * max-scope ≤ length (now out)) ⌝ }
-    ensures { λ r. ⌜ (w ≤ r .w) × (r .w ≤ w + term-bytes * max-scope) ⌝ }
+    requires { ⌜ (n ≤ max-scope) × (slot-width * n ≤ length (now slots)) × (w + term-bytes * frame-width ≤ length (now out)) ⌝ }
+    ensures { λ r. ⌜ (w ≤ r .w) × (r .w ≤ w + term-bytes * frame-width) ⌝ }
     ensures { λ r. ⌜ take w (now (out .exit)) ≡ take w (now (out .entry)) ⌝ }
     ensures { λ r. ⌜ MarkedPut m (now (slots .entry)) n w (now (out .entry)) r (now (out .exit)) ⌝ }
 {
     let mut rest = m;
     let mut at: usize = 0;
+    let mut k: usize = 0;
     let mut v = w;
     while rest != 0 {
         let t = u32::trailing_zeros(rest);
         let i = at + (t as usize);
         if i >= n {
             return Done { ok: true, w: v };
+        }
+        if k >= MAX_TERMS {
+            return Done { ok: false, w: w };
         }
         let r = put_one(slots, i, &mut *out, v);
         if !r.ok {
@@ -90,6 +97,7 @@ fn put_marked(m: u32, slots: &[u8], n: usize, out: &mut [u8], w: usize) -> Done
         v = r.w;
         rest = (rest >> t) / 2;
         at = i + 1;
+        k += 1;
     }
     Done { ok: true, w: v }
 }
@@ -112,7 +120,7 @@ fn put_call(
     let d = nodes::node_at(cells, at);
     if d.kind == nodes::CALL {
         let count = d.datas;
-        if count > nodes::MAX_SCOPE {
+        if count > MAX_TERMS {
             return Done { ok: false, w: w };
         }
         out[w] = (d.number % 256) as u8;

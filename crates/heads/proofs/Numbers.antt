@@ -13,7 +13,9 @@ use Rattle.pcrl.specs.Reader.{all}
 use Rattle.pcrl.specs.Sheet.{Process, Sheet, right, no-process}
 use Rattle.pcrl.specs.Parts.{new-count, all-new-parts, first-new}
 use Rattle.pcrl.specs.Stream.{encode-list, encode-summand}
+use Rattle.pcrl.specs.Right.{SummandWithin}
 use Rattle.pcrl.specs.Heads.{heads}
+use Rattle.laws.specs.Every.{every-weaken}
 use Rattle.nodes.specs.declared.Skipped.{Skipped}
 use Rattle.nodes.specs.Layout.{byte-limit}
 use Rattle.nodes.specs.Views.{Skips}
@@ -22,6 +24,7 @@ use Rattle.counting.specs.Counting.{Placed}
 use Rattle.putting.specs.declared.Done.{Done}
 use Rattle.putting.proofs.Bytes.{cell-more, adds-then}
 use Rattle.putting.proofs.PutLaws.{never}
+use Rattle.contexts.specs.Spots.{SummandFits}
 use Rattle.heads.specs.Writing.{HeadsWritten, HeadsCounted, SummandsWritten, NumbersFirst}
 use Rattle.heads.proofs.Accepted.{first-below}
 
@@ -40,7 +43,7 @@ module _ (cells starts counts firsts : List ℕ) (fuel at c : ℕ) (slots : List
       let z = ct H fuel b p rest σ m c (rd .procs-few) (rd .tallied) (omega arith) e in
       let y : a % byte-limit ≡ length hs = omega arith in
       let u = put H σ b p rest rd e f s fn nw in (
-        λ t. (u .0 t .0, adds-then (length hs ∷ []) (all encode-summand hs) w (w + 1) (r .w) o (set o w (a % byte-limit)) o′ (cell-more o w (a % byte-limit) inside ∙ ap (λ (k : ℕ). take w o ++ (k ∷ [])) y) (u .0 t .1)),
+        λ t. (every-weaken SummandFits SummandWithin (λ h k. k .within) hs (u .0 t .0), adds-then (length hs ∷ []) (all encode-summand hs) w (w + 1) (r .w) o (set o w (a % byte-limit)) o′ (cell-more o w (a % byte-limit) inside ∙ ap (λ (k : ℕ). take w o ++ (k ∷ [])) y) (u .0 t .1)),
         λ t within. let l = u .1 t within in omega (arith, length-set o w (a % byte-limit)),
       )
 

@@ -12,7 +12,6 @@ use Rattle.pcrl.specs.Reader.{all}
 use Rattle.pcrl.specs.Sheet.{Data, Proc, Sheet}
 use Rattle.pcrl.specs.Table.{Summand}
 use Rattle.pcrl.specs.Stream.{encode-summand}
-use Rattle.pcrl.specs.Right.{SummandWithin}
 use Rattle.pcrl.specs.Heads.{look, heads}
 use Rattle.laws.specs.Every.{every-append, every-left, every-right}
 use Rattle.nodes.specs.declared.Node.{Node}
@@ -31,7 +30,7 @@ use Rattle.putting.proofs.Several.{slot-kept}
 use Rattle.following.proofs.Parts.{all-append}
 use Rattle.contexts.specs.declared.Spot.{Spot}
 use Rattle.contexts.specs.declared.Side.{Side}
-use Rattle.contexts.specs.Spots.{Ready, Arrays, arrays, around, Spotted, Deeper, Kept, Beyond, Leads}
+use Rattle.contexts.specs.Spots.{Ready, SummandFits, Arrays, arrays, around, Spotted, Deeper, Kept, Beyond, Leads}
 use Rattle.contexts.specs.Steps.{SideDown, CallDown, SummandsOut, Written, SideWritten}
 use Rattle.contexts.proofs.Spotting.{map-none, none-map, kept-same, kept-then, kept-up, deeper-same, deeper-then, side-kept, stuck}
 use Rattle.contexts.proofs.Sides.{Passed, Sides, sides}
@@ -67,12 +66,12 @@ ends cells counts fuel at a ct z y n H F b p rest σ m c few t l e =
 -- SUMMANDS WRITTEN
 
 module _ (w v : ℕ) (o o′ : List ℕ) (r : Done) (o″ : List ℕ) where
-  out-then : (xs ys : List Summand) → Every SummandWithin xs → Adds (all encode-summand xs) w o v o′ → w ≤ length o → v ≤ length o′ → length o′ ≡ length o → SummandsOut ys v o′ r o″ → SummandsOut (xs ++ ys) w o r o″
+  out-then : (xs ys : List Summand) → Every SummandFits xs → Adds (all encode-summand xs) w o v o′ → w ≤ length o → v ≤ length o′ → length o′ ≡ length o → SummandsOut ys v o′ r o″ → SummandsOut (xs ++ ys) w o r o″
   out-then xs ys within e lw lv same k =
       let split = all-append encode-summand xs ys in (
-        λ ok. (every-append SummandWithin xs ys within (k .0 ok .0), adds-then (all encode-summand xs) (all encode-summand ys) w v (r .w) o o′ o″ e (k .0 ok .1) ∙ ap (λ (l : List ℕ). take w o ++ l) (sym split)),
+        λ ok. (every-append SummandFits xs ys within (k .0 ok .0), adds-then (all encode-summand xs) (all encode-summand ys) w v (r .w) o o′ o″ e (k .0 ok .1) ∙ ap (λ (l : List ℕ). take w o ++ l) (sym split)),
         λ bad h.
-            let q = k .1 bad (every-right SummandWithin xs ys h) in
+            let q = k .1 bad (every-right SummandFits xs ys h) in
             omega (arith, ap length split, length-append (all encode-summand xs) (all encode-summand ys), length-take-le v o′ lv, length-take-le w o lw, ap length e, length-append (take w o) (all encode-summand xs)),
       )
 
@@ -80,7 +79,7 @@ module _ (w v : ℕ) (o o′ : List ℕ) (r : Done) (o″ : List ℕ) where
   out-short xs ys bad k = (
     λ ok. never (sym bad ∙ ok),
     λ b h.
-        let q = k .1 bad (every-left SummandWithin xs ys h) in
+        let q = k .1 bad (every-left SummandFits xs ys h) in
         omega (arith, ap length (all-append encode-summand xs ys), length-append (all encode-summand xs) (all encode-summand ys)),
   )
 
@@ -138,7 +137,7 @@ module _ (cells starts counts firsts : List ℕ) where
           done = m .done ++ k .done;
           left = k .left;
           split = m .split ∙ ap (λ (l : List Summand). m .done ++ l) (k .split) ∙ sym (append-assoc (m .done) (k .done) (k .left));
-          within = every-append SummandWithin (m .done) (k .done) (m .within) (k .within);
+          within = every-append SummandFits (m .done) (k .done) (m .within) (k .within);
           bytes = adds-then (all encode-summand (m .done)) (all encode-summand (k .done)) w v u o o′ o″ (m .bytes) (k .bytes) ∙ ap (λ (l : List ℕ). take w o ++ l) (sym (all-append encode-summand (m .done) (k .done)));
           spotted = k .spotted;
           deeper = deeper-then s r t (m .deeper) (k .deeper);

@@ -11,7 +11,6 @@ use Rattle.pcrl.specs.Reader.{all}
 use Rattle.pcrl.specs.Sheet.{Data, Proc, Sheet}
 use Rattle.pcrl.specs.Table.{Summand}
 use Rattle.pcrl.specs.Stream.{encode-summand}
-use Rattle.pcrl.specs.Right.{SummandWithin}
 use Rattle.pcrl.specs.Heads.{heads}
 use Rattle.nodes.specs.declared.Node.{Node}
 use Rattle.nodes.specs.Layout.{byte-limit, alt-kind, atom-kind, cond-kind, call-kind, enc}
@@ -23,7 +22,7 @@ use Rattle.putting.specs.Slots.{Adds}
 use Rattle.following.specs.Follows.{calls-room}
 use Rattle.contexts.specs.declared.Spot.{Spot}
 use Rattle.contexts.specs.declared.Side.{Side}
-use Rattle.contexts.specs.Spots.{conds-room, Ready, Arrays, Bound, Spotted, Deeper, Kept, weight}
+use Rattle.contexts.specs.Spots.{conds-room, Ready, SummandFits, Arrays, Bound, Spotted, Deeper, Kept, weight}
 use Rattle.contexts.specs.Steps.{Stays, Written}
 use Rattle.heads.specs.declared.alternatives.Ahead.{Ahead}
 use Rattle.heads.specs.declared.walk.Reached.{Reached}
@@ -99,7 +98,7 @@ module _ (cells starts counts firsts : List ℕ) where
     pub done : List Summand
     pub left : List Summand
     pub split : hs ≡ done ++ left
-    pub within : Every SummandWithin done
+    pub within : Every SummandFits done
     pub bytes : Adds (all encode-summand done) w o v o′
     pub spotted : Spotted H F cells r B left
     pub deeper : Deeper s r

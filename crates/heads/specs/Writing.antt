@@ -18,7 +18,7 @@ use Rattle.counting.specs.Counting.{Placed, Tallied, FirstNew}
 use Rattle.putting.specs.declared.Done.{Done}
 use Rattle.putting.specs.Slots.{Slots, Adds}
 use Rattle.following.specs.Fine.{Fine}
-use Rattle.contexts.specs.Spots.{Ready}
+use Rattle.contexts.specs.Spots.{Ready, SummandFits}
 use Rattle.contexts.specs.Steps.{SummandsOut}
 
 -- room for a slot for each variable that can be in scope
@@ -37,13 +37,14 @@ abbrev pub HeadsCounted : List ℕ → List ℕ → ℕ → ℕ → ℕ → Type
 HeadsCounted cells counts fuel at r = (H : Sheet) (F : ℕ) (b : Bool) (p : Proc) (rest : List ℕ) (σ : List Data) (m c : ℕ) → length (H .procs) ≤ row-width → Tallied H F counts → fuel ≤ F
     → drop at cells ≡ enc b p ++ rest → r ≡ cut (length (heads H fuel σ m c p))
 
--- The summands of an equation, with their count, of which there are few enough for a byte.
+-- The summands of an equation, with their count, of which there are few enough for a byte; or they are not all within their limits, or
+-- a call has more terms than an equation may have parameters, or there is no room for them.
 abbrev pub SummandsWritten : List ℕ → List ℕ → List ℕ → List ℕ → ℕ → ℕ → ℕ → List ℕ → ℕ → ℕ → ℕ → List ℕ → Done → List ℕ → Type 0
 SummandsWritten cells starts counts firsts fuel at c slots n m w o r o′ =
     (H : Sheet) (σ : List Data) (b : Bool) (p : Proc) (rest : List ℕ) → Ready H fuel cells starts counts firsts
     → drop at cells ≡ enc b p ++ rest → (kind-of p ≡ seq-kind → b ≡ false) → Slots σ slots n → Fine H n p → c + new-count false p < byte-limit → length (heads H fuel σ m c p) < byte-limit
     → (r .ok ≡ true → Every SummandWithin (heads H fuel σ m c p) × Adds (encode-list encode-summand (heads H fuel σ m c p)) w o (r .w) o′)
-    × (r .ok ≡ false → Every SummandWithin (heads H fuel σ m c p) → length o < w + length (encode-list encode-summand (heads H fuel σ m c p)))
+    × (r .ok ≡ false → Every SummandFits (heads H fuel σ m c p) → length o < w + length (encode-list encode-summand (heads H fuel σ m c p)))
 
 -- The numbers of the first new equations of all processes.
 abbrev pub NumbersFirst : List ℕ → List ℕ → ℕ → List ℕ → Type 0

@@ -14,6 +14,7 @@ pub mod params; // the slots of an equation's parameters
 pub mod walk; // one walk over the term and the right sides that it calls at the head
 
 use contexts::Spot;
+use following::CALLS;
 use putting::Done;
 use putting::SLOT;
 use walk::walk;
@@ -40,8 +41,8 @@ pub fn write_heads(
     let mut work = [0u8; 1188];
     let mut vars = [0u8; 4];
     let mut conds = [0u8; 256];
-    let mut after = [0u8; 7944];
-    let mut calls = [0u8; 7944];
+    let mut after = [0u8; CALLS];
+    let mut calls = [0u8; CALLS];
     putting::copy(slots, 0, SLOT * n, &mut work, 0);
     let s = Spot {
         ok: true,
@@ -54,7 +55,7 @@ pub fn write_heads(
         nc: 0,
         lc: 0,
         nk: 0,
-        top: 7944,
+        top: CALLS,
     };
     walk(
         cells,

@@ -13,13 +13,16 @@ use Rattle.pcrl.specs.Sheet.{Action, Sig, Sheet, Process, no-process}
 use Rattle.pcrl.specs.Values.{eval}
 use Rattle.pcrl.specs.Parts.{tabulate, NewPart, all-new-parts, count, marked, marks, in-proc}
 use Rattle.laws.specs.Lists.{length-tabulate}
-use Rattle.pcrl.specs.Table.{Equation, Table, params-of, summands-of, summand-count}
+use Rattle.pcrl.specs.Table.{Equation, Table, equation, no-equation, params-of, summands-of, summand-count}
 use Rattle.pcrl.specs.Heads.{table-of}
 use Rattle.pcrl.specs.Stream.{encode-sig, encode-list, encode-numbers, encode-summand, encode-equations, encode-start, encode}
 use Rattle.pcrl.specs.Right.{SummandWithin, EquationWithin, Within, RightName, RightAction, RightSig, RightSizes}
 use Rattle.laws.specs.Every.{every-weaken, every-both, every-at, at-every, map-every, every-map, every-append, every-left, every-right}
 use Rattle.theory.specs.Standing.{Standing, RightProcess}
 use Rattle.theory.specs.Equations.{equation-count}
+use Rattle.theory.specs.SortedTable.{SortedEquation, equation-sorted}
+use Rattle.laws.specs.Each.{each-length}
+use Rattle.contexts.specs.Spots.{SummandFits}
 use Rattle.nodes.specs.declared.Outline.{Outline}
 use Rattle.nodes.specs.Layout.{cell-limit, byte-limit}
 use Rattle.nodes.specs.Held.{Arrays, Held}
@@ -39,7 +42,7 @@ use Rattle.sheets.specs.declared.Rows.{Rows}
 use Rattle.sheets.specs.Resolving.{arrays}
 use Rattle.putting.specs.declared.Done.{Done}
 use Rattle.linear.specs.declared.Written.{Written}
-use Rattle.listing.specs.Summands.{SummandsWithin, summands-bytes, Listed, PutsSummands}
+use Rattle.listing.specs.Summands.{SummandsWithin, SummandsFit, summands-bytes, Listed, PutsSummands}
 use Rattle.linear.specs.Within.{FewMarks, TableWritten, FewIn, ReadyIn, WritesStream}
 
 -- the names of a right signature's actions are short
@@ -108,9 +111,23 @@ module _ (H : Sheet) where
       let params : Every (λ (e : Equation). FewParams (e .params)) es = map-every (λ (e : Equation). FewParams (e .params)) FewParams (λ (e : Equation). e .params) (λ e k. k) es lists in
       (few, (sw .few, (every-both (λ (e : Equation). FewParams (e .params)) (λ (e : Equation). Every SummandWithin (e .summands)) EquationWithin (λ e a b. (a, b)) es params (sw .each), size)))
 
-  pub within-summands : Within (table-of H) → SummandsWithin es
+  params-few : Within (table-of H) → (e : ℕ) → e < length es → length (equation (table-of H) e .params) ≤ frame-width
+  unfolding Within EquationWithin equation
+  params-few w e h = every-at EquationWithin es no-equation e (w .1 .1 .0) h .0
+
+  all-sorted : Standing H → Every (SortedEquation H) es
+  unfolding equation
+  all-sorted ok = at-every (SortedEquation H) es no-equation (equation-sorted H ok)
+
+  -- a call has as many terms as its equation has parameters
+  pub within-summands : Standing H → Within (table-of H) → SummandsFit es
   unfolding Within EquationWithin
-  within-summands w = record { few = w .1 .0; each = every-weaken EquationWithin (λ (e : Equation). Every SummandWithin (e .summands)) (λ e k. k .1) es (w .1 .1 .0) }
+  within-summands ok w = record {
+    few = w .1 .0;
+    each = every-both (SortedEquation H) EquationWithin (λ (e : Equation). Every SummandFits (e .summands))
+        (λ e s k. every-both _ SummandWithin SummandFits (λ h a b. record { within = b; narrow = every-weaken _ _ (λ c q. omega (arith, each-length _ (c .1) _ (q .1), params-few w (c .0) (q .0))) (h .calls) (a .calls) }) (e .summands) (s .summands) (k .1)) es
+        (all-sorted ok) (w .1 .1 .0);
+  }
 
   pub too-many : (t : ℕ) → t ≡ min count-cut (length (H .procs) + length parts) → max-equations < t → Within (table-of H) → ⊥
   unfolding Within
@@ -165,7 +182,7 @@ module _ (s : List ℕ) (A : Arrays) (names : List ℕ) (n : Outline) (o o′ : 
         let y = put-params H r in
         let g = sig (H .sig) (r .held .signature) (r .named) (short-names (H .sig) (r .standing .signature)) in
         let l = sums H (r .standing) (ready-placed H s A names n r) (y .count-is) (y .rows-of) in
-        no-table H o o′ f bad (λ w. no-room H o a p (x .w) q (g .same) (y .puts .same) (puts-then g (y .puts)) (l .failed short-of (within-summands H w)))
+        no-table H o o′ f bad (λ w. no-room H o a p (x .w) q (g .same) (y .puts .same) (puts-then g (y .puts)) (l .failed short-of (within-summands H (r .standing) w)))
 
 -- the whole stream was put
 module _ (s : List ℕ) (A : Arrays) (names : List ℕ) (n : Outline) (o : List ℕ) (t : ℕ) (counts : CountsParts (A .procs) (A .cells) (A .starts) n t) (few : t ≤ max-equations) (rows : List ℕ) (room : row-width * max-equations ≤ length rows)

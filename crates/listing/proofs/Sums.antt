@@ -26,13 +26,13 @@ use Rattle.counting.specs.Limits.{cut}
 use Rattle.marking.specs.Marks.{bits}
 use Rattle.putting.specs.declared.Done.{Done}
 use Rattle.putting.specs.Slots.{Slots}
-use Rattle.contexts.specs.Spots.{Ready}
+use Rattle.contexts.specs.Spots.{Ready, SummandFits}
 use Rattle.heads.specs.Writing.{HeadsCounted, SummandsWritten}
 use Rattle.emit.proofs.Putting.{joined-last}
 use Rattle.emit.proofs.Signed.{joined-all}
 use Rattle.parts.proofs.TableParams.{all-map}
 use Rattle.listing.specs.declared.Source.{Source}
-use Rattle.listing.specs.Summands.{SummandsWithin, summands-bytes}
+use Rattle.listing.specs.Summands.{SummandsFit, summands-bytes}
 use Rattle.listing.specs.Listing.{summands-at, bytes-at, count-cut, SourceOf, Posed, Sources, CountsAll, ListPut, EquationPut, AllPut, PutsAll}
 
 -- ---- COUNTS
@@ -158,9 +158,9 @@ module _ (procs cells starts counts firsts : List ℕ) (n : Outline) (rows : Lis
         adds = b .1 ∙ ap (λ (x : List ℕ). x ++ d) (a .adds) ∙ append-assoc (take w o) e d ∙ ap (λ (x : List ℕ). take w o ++ x) (sym more);
       }
 
-  within-at : (H : Sheet) → SummandsWithin (table-of H .equations) → (k : ℕ) → k < length (table-of H .equations) → Every SummandWithin (summands-at H k)
+  fits-at : (H : Sheet) → SummandsFit (table-of H .equations) → (k : ℕ) → k < length (table-of H .equations) → Every SummandFits (summands-at H k)
   unfolding summands-at equation
-  within-at H sw k h = every-at (λ (e : Equation). Every SummandWithin (e .summands)) (table-of H .equations) no-equation k (sw .each) h
+  fits-at H sw k h = every-at (λ (e : Equation). Every SummandFits (e .summands)) (table-of H .equations) no-equation k (sw .each) h
 
   at-within : (H : Sheet) → ((k : ℕ) → k < length (table-of H .equations) → Every SummandWithin (summands-at H k)) → Every (λ (e : Equation). Every SummandWithin (e .summands)) (table-of H .equations)
   unfolding summands-at equation
@@ -174,7 +174,7 @@ module _ (procs cells starts counts firsts : List ℕ) (n : Outline) (rows : Lis
     wrong = λ e sw.
         let a = sofar H g few in
         let es = equation-count H in
-        let short = list-put k s v p r q l src put H g few .wrong bad (within-at H sw k (omega (arith, g .total-is))) in
+        let short = list-put k s v p r q l src put H g few .wrong bad (fits-at H sw k (omega (arith, g .total-is))) in
         let more : joined (k + 1) (bytes-at H) ≡ joined k (bytes-at H) ++ bytes-at H k = ap (λ (i : ℕ). joined i (bytes-at H)) (add-one k) ∙ joined-last k (bytes-at H) in
         let grows = joined-grows (bytes-at H) (k + 1) (length (table-of H .equations)) (omega (arith, g .total-is)) in
         omega (arith, a .place, ap length more, length-append (joined k (bytes-at H)) (bytes-at H k), ap length (bytes-are H));

@@ -22,11 +22,11 @@ use Rattle.marking.specs.Marks.{bits}
 use Rattle.putting.specs.declared.Done.{Done}
 use Rattle.putting.specs.Slots.{Adds}
 use Rattle.following.specs.Fine.{Fine}
-use Rattle.contexts.specs.Spots.{Ready}
+use Rattle.contexts.specs.Spots.{Ready, SummandFits}
 use Rattle.parts.specs.Rows.{row-width, RowsOf}
 use Rattle.parts.specs.Sheets.{Placed}
 use Rattle.listing.specs.declared.Source.{Source}
-use Rattle.listing.specs.Summands.{SummandsWithin, summands-bytes}
+use Rattle.listing.specs.Summands.{SummandsWithin, SummandsFit, summands-bytes}
 
 -- counts are cut here: one more than there may be summands
 abbrev pub count-cut : ℕ
@@ -95,7 +95,7 @@ CountsAll procs cells starts counts firsts n rows total f r =
 -- a list with its count is written; or not every summand has the limits, or there is no room
 pub record ListPut (hs : List Summand) (w : ℕ) (o : List ℕ) (r : Done) (o′ : List ℕ) : Type 0 where
   pub right : r .ok ≡ true → Every SummandWithin hs × Adds (encode-list encode-summand hs) w o (r .w) o′
-  pub wrong : r .ok ≡ false → Every SummandWithin hs → length o < w + length (encode-list encode-summand hs)
+  pub wrong : r .ok ≡ false → Every SummandFits hs → length o < w + length (encode-list encode-summand hs)
 
 abbrev pub EquationPut : (cells starts counts firsts : List ℕ) (f : ℕ) → Source → (w : ℕ) (o : List ℕ) → Done → List ℕ → Type 0
 EquationPut cells starts counts firsts f s w o r o′ =
@@ -103,7 +103,7 @@ EquationPut cells starts counts firsts f s w o r o′ =
 
 pub record AllPut (H : Sheet) (w : ℕ) (o : List ℕ) (r : Done) (o′ : List ℕ) : Type 0 where
   pub right : r .ok ≡ true → SummandsWithin (table-of H .equations) × (r .w ≡ w + length (summands-bytes (table-of H .equations))) × (take (r .w) o′ ≡ take w o ++ summands-bytes (table-of H .equations)) × (r .w ≤ length o)
-  pub wrong : r .ok ≡ false → SummandsWithin (table-of H .equations) → length o < w + length (summands-bytes (table-of H .equations))
+  pub wrong : r .ok ≡ false → SummandsFit (table-of H .equations) → length o < w + length (summands-bytes (table-of H .equations))
 
 abbrev pub PutsAll : (procs cells starts counts firsts : List ℕ) → Outline → (rows : List ℕ) (total f w : ℕ) (o : List ℕ) → Done → List ℕ → Type 0
 PutsAll procs cells starts counts firsts n rows total f w o r o′ =

@@ -13,6 +13,7 @@ use Rattle.pcrl.specs.Table.{Equation, summands-of, summand-count}
 use Rattle.pcrl.specs.Stream.{encode-list, encode-summand}
 use Rattle.pcrl.specs.Right.{SummandWithin}
 use Rattle.pcrl.specs.Heads.{table-of}
+use Rattle.contexts.specs.Spots.{SummandFits}
 use Rattle.theory.specs.Standing.{Standing}
 use Rattle.nodes.specs.declared.Outline.{Outline}
 use Rattle.emit.specs.Putting.{Puts}
@@ -25,12 +26,17 @@ pub record SummandsWithin (es : List Equation) : Type 0 where
   pub few : summand-count es ≤ max-summands
   pub each : Every (λ (e : Equation). Every SummandWithin (e .summands)) es
 
+-- the same, and no call has more terms than an equation may have parameters
+pub record SummandsFit (es : List Equation) : Type 0 where
+  pub few : summand-count es ≤ max-summands
+  pub each : Every (λ (e : Equation). Every SummandFits (e .summands)) es
+
 unfoldable pub summands-bytes : List Equation → List ℕ
 summands-bytes es = all (encode-list encode-summand) (summands-of es)
 
 pub record Listed (H : Sheet) (w : ℕ) (o : List ℕ) (r : Done) (o′ : List ℕ) : Type 0 where
   pub listed : r .ok ≡ true → SummandsWithin (table-of H .equations) × Puts (summands-bytes (table-of H .equations)) w o (r .w) o′
-  pub failed : r .ok ≡ false → SummandsWithin (table-of H .equations) → length o < w + length (summands-bytes (table-of H .equations))
+  pub failed : r .ok ≡ false → SummandsFit (table-of H .equations) → length o < w + length (summands-bytes (table-of H .equations))
 
 abbrev pub PutsSummands : (procs cells starts : List ℕ) → Outline → (rows : List ℕ) (count w : ℕ) (o : List ℕ) → Done → List ℕ → Type 0
 PutsSummands procs cells starts n rows count w o r o′ =

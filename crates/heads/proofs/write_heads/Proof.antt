@@ -46,7 +46,7 @@ returns c = let start = c .before .before .before .before .before .before .befor
     let the-copy = c .before .before .before .before .before .before .before .before .before .before .before .before .before .before .before .copy in
     let the-walk = c .before .before .before .before .before .before .before .walk in (
       the-walk .ensures .0,
-      heads-out (a .cells .now) (a .starts .now) (a .counts .now) (a .firsts .now) (a .fuel) (a .at) (a .c) (a .slots .now) (a .n) (a .m) (a .w) (a .out .now) (the-copy .last .1 .1 .1 .0) (replicate 4 0) (replicate 256 0) (replicate 7944 0) 7944 refl
+      heads-out (a .cells .now) (a .starts .now) (a .counts .now) (a .firsts .now) (a .fuel) (a .at) (a .c) (a .slots .now) (a .n) (a .m) (a .w) (a .out .now) (the-copy .last .1 .1 .1 .0) (replicate 4 0) (replicate 256 0) (replicate 1000 0) 1000 refl
           (ap (take (slot-width * (a .n))) (the-copy .ensures) ∙ copied-front (a .cells .now) (a .starts .now) (a .counts .now) (a .firsts .now) (replicate 1188 0) (a .slots .now) (slot-width * (a .n)) (omega arith)) (the-walk .result) _ (the-walk .last .1 .1 .1 .1 .1 .1 .1 .1 .1 .1 .0) (the-walk .ensures .1),
     )
 
