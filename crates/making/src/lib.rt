@@ -1,16 +1,18 @@
 // Make a table and check a sheet, from any bytes: questions 1 to 11.
 ghost use mathlib.Core.Path.{_≡_};
-ghost use Prim.Native.Nat.{_≤_};
+ghost use Prim.Native.Nat.{_≤_, _<_};
 ghost use lib.ListN.{length};
 ghost use Rattle.pcrl.specs.Limits.{max-stream};
-ghost use Rattle.pcrl.specs.Answers.{table-made, file-made, output-after};
-ghost use Rattle.sheets.specs.Reading.{Room};
+ghost use Rattle.pcrl.specs.Answers.{sheet-read, table-made, file-made, output-after};
+ghost use Rattle.nodes.specs.Layout.{cell-limit};
+ghost use Rattle.sheets.specs.Reading.{Room, Reads};
 ghost use Rattle.pcrl.specs.Result.{refusal};
 ghost use Rattle.making.specs.Making.{made-answer, Tries};
 use blocks::Filed;
 use blocks::MAX_STREAM;
 use blocks::write_file;
 use linear::write_table;
+use sheets::Answer;
 use sheets::read::read_sheet;
 
 const NOT_WITHIN: u8 = 10;
@@ -36,26 +38,19 @@ pub struct Tried {
     pub length: usize,
 }
 
-// Questions 1 to 11 in their order, over arrays that are lent.
-fn make(
+// Questions 10 and 11 of a sheet that was read, over arrays that are lent.
+fn write(
     sheet: &[u8],
-    raw: &mut [u16],
-    values: &mut [u8],
+    a: Answer,
+    values: &[u8],
     cells: &mut [u16],
     stream: &mut [u8],
     out: &mut [u8],
 ) -> Tried
-    requires { ⌜ Room (now sheet) (now raw) (now values) (now cells) × (length (now stream) ≤ max-stream) ⌝ }
+    requires { ⌜ Reads (sheet-read (now sheet)) (now sheet) a (now values) (now cells) ⌝ }
+    requires { ⌜ (a .refused ≡ 0) × (length (now cells) < cell-limit) × (length (now stream) ≤ max-stream) ⌝ }
     ensures { λ r. ⌜ Tries (file-made (now (sheet .entry)) (length (now (out .entry)))) (length (now (stream .entry))) (now (out .entry)) r (now (out .exit)) ⌝ }
 {
-    let a = read_sheet(sheet, raw, values, cells);
-    if a.refused != 0 {
-        return Tried {
-            done: true,
-            refused: a.refused,
-            length: 0,
-        };
-    }
     let rows = a.rows;
     let w = write_table(sheet, rows, values, cells, stream);
     if !w.ok {
@@ -88,6 +83,29 @@ fn make(
     }
 }
 
+// Questions 1 to 11 in their order, over arrays that are lent.
+fn make(
+    sheet: &[u8],
+    raw: &mut [u16],
+    values: &mut [u8],
+    cells: &mut [u16],
+    stream: &mut [u8],
+    out: &mut [u8],
+) -> Tried
+    requires { ⌜ Room (now sheet) (now raw) (now values) (now cells) × (length (now stream) ≤ max-stream) ⌝ }
+    ensures { λ r. ⌜ Tries (file-made (now (sheet .entry)) (length (now (out .entry)))) (length (now (stream .entry))) (now (out .entry)) r (now (out .exit)) ⌝ }
+{
+    let a = read_sheet(sheet, raw, values, cells);
+    if a.refused != 0 {
+        return Tried {
+            done: true,
+            refused: a.refused,
+            length: 0,
+        };
+    }
+    write(sheet, a, values, cells, stream, out)
+}
+
 fn make_short(sheet: &[u8], out: &mut [u8]) -> Tried
     requires { ⌜ length (now sheet) ≤ 64 ⌝ }
     ensures { λ r. ⌜ Tries (file-made (now (sheet .entry)) (length (now (out .entry)))) 1024 (now (out .entry)) r (now (out .exit)) ⌝ }
@@ -110,19 +128,47 @@ fn make_middle(sheet: &[u8], out: &mut [u8]) -> Tried
     make(sheet, &mut raw, &mut values, &mut cells, &mut stream, out)
 }
 
-fn make_long(sheet: &[u8], out: &mut [u8]) -> Made
+// A long sheet read: the raw tree's array is left before that of the stream is needed.
+fn read_long(sheet: &[u8], values: &mut [u8; 4096], cells: &mut [u16; 12288]) -> Answer
+    ensures { λ r. ⌜ Reads (sheet-read (now (sheet .entry))) (now (sheet .entry)) r (now (values .exit)) (now (cells .exit)) ⌝ }
+{
+    let mut raw = [0u16; 12288];
+    read_sheet(sheet, &mut raw, values, cells)
+}
+
+fn write_long(
+    sheet: &[u8],
+    a: Answer,
+    values: &[u8; 4096],
+    cells: &mut [u16; 12288],
+    out: &mut [u8],
+) -> Made
+    requires { ⌜ Reads (sheet-read (now sheet)) (now sheet) a (now values) (now cells) × (a .refused ≡ 0) ⌝ }
     ensures answer { λ r. ⌜ r ≡ made-answer (file-made (now (sheet .entry)) (length (now (out .entry)))) ⌝ }
     ensures written { λ r. ⌜ now (out .exit) ≡ output-after (file-made (now (sheet .entry)) (length (now (out .entry)))) (now (out .entry)) ⌝ }
 {
-    let mut raw = [0u16; 12288];
-    let mut values = [0u8; 4096];
-    let mut cells = [0u16; 12288];
     let mut stream = [0u8; 64768];
-    let t = make(sheet, &mut raw, &mut values, &mut cells, &mut stream, out);
+    let t = write(sheet, a, values, cells, &mut stream, out);
     Made {
         refused: t.refused,
         length: t.length,
     }
+}
+
+fn make_long(sheet: &[u8], out: &mut [u8]) -> Made
+    ensures answer { λ r. ⌜ r ≡ made-answer (file-made (now (sheet .entry)) (length (now (out .entry)))) ⌝ }
+    ensures written { λ r. ⌜ now (out .exit) ≡ output-after (file-made (now (sheet .entry)) (length (now (out .entry)))) (now (out .entry)) ⌝ }
+{
+    let mut values = [0u8; 4096];
+    let mut cells = [0u16; 12288];
+    let a = read_long(sheet, &mut values, &mut cells);
+    if a.refused != 0 {
+        return Made {
+            refused: a.refused,
+            length: 0,
+        };
+    }
+    write_long(sheet, a, &values, &mut cells, out)
 }
 
 // Over short arrays for a sheet below `short` bytes, over middle ones below `middle`; and where the stream is too long for

@@ -17,7 +17,7 @@ const MOST_STEPPING: usize = 72 << 10;
 
 /// The same as the first for a sheet of up to 64 bytes, but for one that is refused by 10: that one is
 /// tried again with the long arrays.
-const MOST_SHORT: usize = 32 << 10;
+const MOST_SHORT: usize = 24 << 10;
 
 /// A sheet of up to so many bytes is short.
 const SHORT: usize = 64;

@@ -1,38 +1,29 @@
--- The stream's array is long enough.
+-- A sheet that is refused, or what is written of it.
 use borrow.Author.Needs.{needs}
 use native.Mathlib.Omega.{arith}
+use lib.ListN.{length}
+use Rattle.making.proofs.MakingLaws.{made-refused, answer-refused, output-same}
 use Rattle.making.proofs.make_long.Statement.{statement}
 use Rattle.making.proofs.make_long.Tie as tie
 
-slice-aggregate-make : tie.Need-slice-aggregate-make
-slice-aggregate-make c = search needs
+read-long-requires : tie.Need-read-long-requires
+read-long-requires c κs = search needs
 
-slice-aggregate-make-2 : tie.Need-slice-aggregate-make-2
-slice-aggregate-make-2 c = search needs
+returns : tie.Need-returns
+returns c = let a = c .before .before .before .before .before .before .before .args in
+    let r = c .before .before .read-long in
+    let e = made-refused (a .sheet .now) (r .result) (r .last .1 .0) (r .last .1 .1 .0) (r .ensures) (length (a .out .now)) (λ z. omega arith) in
+    (answer-refused _ _ e, output-same _ _ (a .out .now) e)
 
-slice-aggregate-make-3 : tie.Need-slice-aggregate-make-3
-slice-aggregate-make-3 c = search needs
-
-slice-aggregate-make-4 : tie.Need-slice-aggregate-make-4
-slice-aggregate-make-4 c = search needs
-
-make-requires : tie.Need-make-requires
-make-requires c κs = search needs
+write-long-requires : tie.Need-write-long-requires
+write-long-requires c κs = search needs
 
 same-length : tie.Need-same-length
 same-length c = search needs
 
-returns : tie.Need-returns
-returns c = let t = c .before .before .before .before .before .before .make in let d = t .ensures .full (omega arith) in (t .ensures .answer d, t .ensures .output d)
+returns-2 : tie.Need-returns-2
+returns-2 c = search needs
 
 pub make-long-spec : {M : Type 1} → statement M
 make-long-spec =
-    tie.close
-    (tie.spec
-    slice-aggregate-make
-    slice-aggregate-make-2
-    slice-aggregate-make-3
-    slice-aggregate-make-4
-    make-requires
-    same-length
-    returns)
+    tie.close (tie.spec read-long-requires returns write-long-requires same-length returns-2)
