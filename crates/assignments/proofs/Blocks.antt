@@ -3,7 +3,7 @@ use mathlib.Core.Path.{_≡_, refl, sym, _∙_, ap, ap₂, subst}
 use mathlib.Core.List.{List, [], _∷_}
 use mathlib.Core.Bool.{Bool, true, false}
 use Prim.Native.Nat.{ℕ, zero, suc, _+_, _-_, _*_, _/_, _%_, _≤_, _<_}
-use native.Mathlib.Nat.{div-div-eq-div-mul, mul-one, mul-comm, mul-assoc, mul-pos, mul-zero, div-eq-of-lt-le, div-mul-le-self}
+use native.Mathlib.Nat.{div-div-eq-div-mul, mul-one, mul-comm, mul-assoc, mul-pos, mul-zero, div-eq-of-lt-le, div-mul-le-self, mul-div-left}
 use native.Mathlib.Omega.{arith}
 use lib.Dec.{eqb, ltb}
 use lib.ListN.{length, getD, drop, take, List·getD-append}
@@ -33,16 +33,34 @@ coarser : (l : ℕ) (s : List ℕ) (i j : ℕ) → i / product (drop l s) ≡ j 
 coarser l s i j h =
     rw (product-split l s) (sym (div-div-eq-div-mul i (product (drop l s)) (product (take l s))) ∙ ap (λ (x : ℕ). x / product (take l s)) h ∙ div-div-eq-div-mul j (product (drop l s)) (product (take l s)))
 
--- a longer product of last sizes is the larger one
-pub product-mono : (a b : ℕ) (s : List ℕ) → ((i : ℕ) → i < length s → 0 < getD s i 0) → a ≤ b → product (drop b s) ≤ product (drop a s)
-product-mono a b s h k =
+-- a longer product of last sizes is a multiple of a shorter one
+between : (a b : ℕ) (s : List ℕ) → a ≤ b → product (drop a s) ≡ product (drop b s) * product (take (b - a) (drop a s))
+between a b s k =
     let z : a + (b - a) ≡ b = omega arith in
-    let e : product (drop a s) ≡ product (drop b s) * product (take (b - a) (drop a s)) = product-split (b - a) (drop a s) ∙ ap (λ (x : List ℕ). product x * product (take (b - a) (drop a s))) (drop-drop (b - a) a s ∙ ap (λ (x : ℕ). drop x s) z) in
-    go (product (take (b - a) (drop a s))) e (product-pos a s h)
+    product-split (b - a) (drop a s) ∙ ap (λ (x : List ℕ). product x * product (take (b - a) (drop a s))) (drop-drop (b - a) a s ∙ ap (λ (x : ℕ). drop x s) z)
+
+pub product-mono : (a b : ℕ) (s : List ℕ) → ((i : ℕ) → i < length s → 0 < getD s i 0) → a ≤ b → product (drop b s) ≤ product (drop a s)
+product-mono a b s h k = go (product (take (b - a) (drop a s))) (between a b s k) (product-pos a s h)
   where
     go : (x : ℕ) → product (drop a s) ≡ product (drop b s) * x → 0 < product (drop a s) → product (drop b s) ≤ product (drop a s)
     go zero e p = absurd (omega (arith, mul-zero (product (drop b s))))
     go (suc x) e p = let z : suc x * product (drop b s) ≡ product (drop b s) + x * product (drop b s) = omega arith in omega (arith, mul-comm (product (drop b s)) (suc x))
+
+pub multiple : (b a : ℕ) (s : List ℕ) → ((i : ℕ) → i < length s → 0 < getD s i 0) → product (drop b s) ≤ product (drop a s) → product (drop a s) ≡ product (drop a s) / product (drop b s) * product (drop b s)
+multiple b a s h k = go (ltb b a) refl
+  where
+    pos : 0 < product (drop b s)
+    pos = product-pos b s h
+
+    by : (x : ℕ) → product (drop a s) ≡ x * product (drop b s) → product (drop a s) ≡ product (drop a s) / product (drop b s) * product (drop b s)
+    by x e = e ∙ ap (λ (y : ℕ). y * product (drop b s)) (sym (ap (λ (y : ℕ). y / product (drop b s)) e ∙ mul-div-left x pos))
+
+    go : (t : Bool) → ltb b a ≡ t → product (drop a s) ≡ product (drop a s) / product (drop b s) * product (drop b s)
+    go true r =
+        let l = ltb-true b a r in
+        let m = product-mono b a s h (omega arith) in
+        by 1 (omega arith)
+    go false r = let l = ltb-false b a r in by (product (take (b - a) (drop a s))) (between a b s l ∙ mul-comm (product (drop b s)) (product (take (b - a) (drop a s))))
 
 -- what is in one block is in one larger block
 pub finer : (a b : ℕ) (s : List ℕ) → ((i : ℕ) → i < length s → 0 < getD s i 0) → product (drop a s) ≤ product (drop b s) → (i j : ℕ) → i / product (drop a s) ≡ j / product (drop a s) → i / product (drop b s) ≡ j / product (drop b s)
@@ -67,25 +85,27 @@ same-values (suc l) [] i j h v k = refl
 same-values (suc l) (n ∷ s) i j h zero k = ap (λ (x : ℕ). x % n) (coarser l s i j h)
 same-values (suc l) (n ∷ s) i j h (suc v) k = same-values l s i j h v (omega arith)
 
-pub split-at : (p : ℕ) (a w : List ℕ) → p ≤ length a → (v : ℕ) → p ≤ v → getD (env p a w) v 0 ≡ getD w (v - p) 0
+split-at : (p : ℕ) (a w : List ℕ) → p ≤ length a → (v : ℕ) → p ≤ v → getD (env p a w) v 0 ≡ getD w (v - p) 0
 split-at p a w h v k =
     let e : v ≡ length (take p a) + (v - p) = simp (length-take-le p a h) (omega arith) in
     ap (λ (x : ℕ). getD (env p a w) x 0) e ∙ getD-append-add (take p a) w (v - p) 0
+
+-- environments that agree in the variables behind the parameters agree
+pub env-same : (p : ℕ) (a u w : List ℕ) → p ≤ length a → (v : ℕ) → (p ≤ v → getD u (v - p) 0 ≡ getD w (v - p) 0) → getD (env p a u) v 0 ≡ getD (env p a w) v 0
+env-same p a u w h v k = go (ltb v p) refl
+  where
+    go : (t : Bool) → ltb v p ≡ t → getD (env p a u) v 0 ≡ getD (env p a w) v 0
+    go true r =
+        let x : v < length (take p a) = simp (length-take-le p a h) (ltb-true v p r) in
+        List·getD-append (take p a) u 0 v x ∙ sym (List·getD-append (take p a) w 0 v x)
+    go false r = let x : p ≤ v = ltb-false v p r in split-at p a u h v x ∙ k x ∙ sym (split-at p a w h v x)
 
 -- places whose environments agree as far as their blocks do
 abbrev pub Agree : ℕ → List ℕ → ℕ → ℕ → List ℕ → List ℕ → Type 0
 Agree p sizes i j e f = (l : ℕ) → i / product (drop l sizes) ≡ j / product (drop l sizes) → (v : ℕ) → v < p + l → getD e v 0 ≡ getD f v 0
 
 pub env-agree : (p : ℕ) (a sizes f : List ℕ) (i j : ℕ) → p ≤ length a → ((v : ℕ) → getD f v 0 ≡ getD (env p a (valuesOf sizes j)) v 0) → Agree p sizes i j (env p a (valuesOf sizes i)) f
-env-agree p a sizes f i j h g l q v k = go (ltb v p) refl ∙ sym (g v)
-  where
-    go : (t : Bool) → ltb v p ≡ t → getD (env p a (valuesOf sizes i)) v 0 ≡ getD (env p a (valuesOf sizes j)) v 0
-    go true r =
-        let x : v < length (take p a) = simp (length-take-le p a h) (ltb-true v p r) in
-        List·getD-append (take p a) (valuesOf sizes i) 0 v x ∙ sym (List·getD-append (take p a) (valuesOf sizes j) 0 v x)
-    go false r =
-        let x : p ≤ v = ltb-false v p r in
-        split-at p a (valuesOf sizes i) h v x ∙ same-values l sizes i j q (v - p) (omega arith) ∙ sym (split-at p a (valuesOf sizes j) h v x)
+env-agree p a sizes f i j h g l q v k = env-same p a (valuesOf sizes i) (valuesOf sizes j) h v (λ x. same-values l sizes i j q (v - p) (omega arith)) ∙ sym (g v)
 
 -- a block of d holds what divides to the same
 pub in-block : (j d i : ℕ) → 0 < d → j ≤ i → i < (j / d + 1) * d → i / d ≡ j / d

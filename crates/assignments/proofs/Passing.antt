@@ -58,35 +58,43 @@ module _ (acc : ℕ → Bool) (total : ℕ) where
       let m = rw z at (r .1) in
       (ap (λ (x : List ℕ). getElem? x (suc k)) e ∙ r .0 ∙ ap₂ (λ (x i : ℕ). getElem? (places acc (total - x) x) i) z y, ap length e ∙ omega arith)
 
-  -- THE SEARCH: k is asked for, `left` of it is left at j
+  -- THE SEARCH: k is asked for, of the numbers from `from` on; `left` of it is left at j
 
-  unfoldable pub Going : ℕ → ℕ → ℕ → Type 0
-  Going k j left = (getElem? (places acc total 0) k ≡ getElem? (places acc (total - j) j) left) × (k + length (places acc (total - j) j) ≡ left + length (places acc total 0))
+  module _ (from k : ℕ) where
+    unfoldable pub Going : ℕ → ℕ → Type 0
+    Going j left = (getElem? (places acc (total - from) from) k ≡ getElem? (places acc (total - j) j) left) × (k + length (places acc (total - j) j) ≡ left + length (places acc (total - from) from))
 
-  pub going-start : (k : ℕ) → Going k 0 k
-  unfolding Going
-  going-start k = rw (sub-zero total) (refl, refl)
+    pub going-start : Going from k
+    unfolding Going
+    going-start = (refl, refl)
 
-  pub going-skip : (k j left r : ℕ) → j ≤ r → ((i : ℕ) → j ≤ i → i < r → acc i ≡ false) → Going k j left → Going k r left
-  unfolding Going
-  going-skip k j left r h g w = rw (none-pass j r h g) at w
+    pub going-skip : (j left r : ℕ) → j ≤ r → ((i : ℕ) → j ≤ i → i < r → acc i ≡ false) → Going j left → Going r left
+    unfolding Going
+    going-skip j left r h g w = rw (none-pass j r h g) at w
 
-  pub going-on : (k j left r left′ : ℕ) → j ≤ r → r ≤ total → ((i : ℕ) → j ≤ i → i < r → acc i ≡ true) → r - j ≤ left → left′ ≡ left - (r - j) → Going k j left → Going k r left′
-  unfolding Going
-  going-on k j left r left′ h l g q e w =
-      let z : j + (r - j) ≡ r = omega arith in
-      let n = on-by (r - j) j left (omega arith) (λ i a b. g i a (omega arith)) q in
-      let n0 = rw z at (n .0) in
-      let n1 = rw z at (n .1) in
-      (w .0 ∙ n0 ∙ ap (λ (x : ℕ). getElem? (places acc (total - r) r) x) (sym e), omega (arith, w .1))
+    pub going-on : (j left r left′ : ℕ) → j ≤ r → r ≤ total → ((i : ℕ) → j ≤ i → i < r → acc i ≡ true) → r - j ≤ left → left′ ≡ left - (r - j) → Going j left → Going r left′
+    unfolding Going
+    going-on j left r left′ h l g q e w =
+        let z : j + (r - j) ≡ r = omega arith in
+        let n = on-by (r - j) j left (omega arith) (λ i a b. g i a (omega arith)) q in
+        let n0 = rw z at (n .0) in
+        let n1 = rw z at (n .1) in
+        (w .0 ∙ n0 ∙ ap (λ (x : ℕ). getElem? (places acc (total - r) r) x) (sym e), omega (arith, w .1))
 
-  pub going-found : (k j left r at : ℕ) → j ≤ r → r ≤ total → ((i : ℕ) → j ≤ i → i < r → acc i ≡ true) → left < r - j → at ≡ j + left → Going k j left → getElem? (places acc total 0) k ≡ some at
-  unfolding Going
-  going-found k j left r at h l g q e w = w .0 ∙ nth-by (r - j) j left (omega arith) (λ i a b. g i a (omega arith)) q ∙ ap some (sym e)
+    pub going-found : (j left r at : ℕ) → j ≤ r → r ≤ total → ((i : ℕ) → j ≤ i → i < r → acc i ≡ true) → left < r - j → at ≡ j + left → Going j left → getElem? (places acc (total - from) from) k ≡ some at
+    unfolding Going
+    going-found j left r at h l g q e w = w .0 ∙ nth-by (r - j) j left (omega arith) (λ i a b. g i a (omega arith)) q ∙ ap some (sym e)
 
-  pub going-end : (k j left : ℕ) → total ≤ j → Going k j left → k ≡ left + length (places acc total 0)
-  unfolding Going
-  going-end k j left h w = let z : length (places acc (total - j) j) ≡ 0 = ap length (passed-end j h) in omega (arith, w .1)
+    pub going-end : (j left : ℕ) → total ≤ j → Going j left → k ≡ left + length (places acc (total - from) from)
+    unfolding Going
+    going-end j left h w = let z : length (places acc (total - j) j) ≡ 0 = ap length (passed-end j h) in omega (arith, w .1)
+
+    pub none-left : (j left : ℕ) → total ≤ j → Going j left → (x : ℕ) → Finds (places acc (total - from) from) k false x left
+    unfolding Finds
+    none-left j left h w x = going-end j left h w
+
+  pub from-first : (k : ℕ) (found : Bool) (at left : ℕ) → Finds (places acc (total - 0) 0) k found at left → Finds (places acc total 0) k found at left
+  from-first k found at left = subst (λ (x : ℕ). Finds (places acc x 0) k found at left) (sub-zero total)
 
 -- what is answered, by the parts of the answer
 module _ (l : List ℕ) (k : ℕ) (r : Found) where

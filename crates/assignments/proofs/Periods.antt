@@ -6,17 +6,15 @@ use mathlib.Core.Option.{some}
 use Prim.Native.Nat.{ℕ, zero, suc, _+_, _-_, _*_, _/_, _%_, _≤_, _<_}
 use native.Mathlib.Nat.{div-add-mod', mul-add-div-right, mul-add-mod-self-right, mul-assoc, mul-le-mul-right, mod-lt, mul-comm, mul-div-left, mul-zero}
 use native.Mathlib.Omega.{arith}
-use lib.Dec.{eqb, ltb}
-use lib.ListN.{length, getD, getElem?, take, drop, length-append, length-map, List·getD-append}
-use lib.Seq.{length-take-le}
-use borrow.Author.Tests.{ltb-true, ltb-false}
+use lib.Dec.{eqb}
+use lib.ListN.{length, getD, getElem?, take, drop, length-append, length-map}
 use Rattle.laws.specs.Lists.{some-append}
 use Rattle.evaluation.specs.Run.{pick, top}
 use Rattle.evaluation.proofs.Bytes.{run-past}
 use Rattle.assignments.specs.Places.{product, valuesOf, places}
 use Rattle.assignments.specs.Conditions.{env, code, Finds}
 use Rattle.assignments.specs.Parting.{asked, part-met, Above}
-use Rattle.assignments.proofs.Blocks.{product-pos, product-split, split-at, all-same, asked-same}
+use Rattle.assignments.proofs.Blocks.{product-pos, product-split, env-same, all-same, asked-same}
 
 -- LISTS
 
@@ -48,6 +46,20 @@ module _ (acc : ℕ → Bool) where
       go true e = ap (λ (l : List ℕ). j ∷ l) (e ∙ ap (λ (x : ℕ). places acc m (j + 1) ++ places acc n x) w)
       go false e = e ∙ ap (λ (x : ℕ). places acc m (j + 1) ++ places acc n x) w
 
+  -- what passes later on is what passes of the test moved there
+  pub places-later : (P n j : ℕ) → places acc n (P + j) ≡ map (λ x. P + x) (places (λ i. acc (P + i)) n j)
+  unfolding places
+  places-later P zero j = refl
+  places-later P (suc n) j = rw z (go (acc (P + j)) (places-later P n (j + 1)))
+    where
+      z : P + j + 1 ≡ P + (j + 1)
+      z = omega arith
+
+      go : (t : Bool) → places acc n (P + (j + 1)) ≡ map (λ x. P + x) (places (λ i. acc (P + i)) n (j + 1))
+          → pick t ((P + j) ∷ places acc n (P + (j + 1))) (places acc n (P + (j + 1))) ≡ map (λ x. P + x) (pick t (j ∷ places (λ i. acc (P + i)) n (j + 1)) (places (λ i. acc (P + i)) n (j + 1)))
+      go true e = ap (λ (l : List ℕ). (P + j) ∷ l) e
+      go false e = e
+
   module _ (P : ℕ) (again : (i : ℕ) → acc (P + i) ≡ acc i) where
     places-shift : (n j : ℕ) → places acc n (P + j) ≡ map (λ x. P + x) (places acc n j)
     unfolding places
@@ -71,14 +83,14 @@ module _ (acc : ℕ → Bool) where
     abbrev c : ℕ
     c = length (places acc P 0)
 
-    periods-length : (q : ℕ) → length (places acc (q * P) 0) ≡ q * c
+    pub periods-length : (q : ℕ) → length (places acc (q * P) 0) ≡ q * c
     unfolding places
     periods-length zero = let z : zero * P ≡ 0 = omega arith in let w : 0 ≡ zero * c = omega arith in ap (λ (x : ℕ). length (places acc x 0)) z ∙ w
     periods-length (suc q) =
         let z : suc q * c ≡ c + q * c = omega arith in
         ap length (one-more q) ∙ simp (length-append, length-map) (ap (λ (x : ℕ). c + x) (periods-length q) ∙ sym z)
 
-    periods-at : (q t k a : ℕ) → t < q → getElem? (places acc P 0) k ≡ some a → getElem? (places acc (q * P) 0) (t * c + k) ≡ some (t * P + a)
+    pub periods-at : (q t k a : ℕ) → t < q → getElem? (places acc P 0) k ≡ some a → getElem? (places acc (q * P) 0) (t * c + k) ≡ some (t * P + a)
     periods-at zero t k a h e = absurd (omega arith)
     periods-at (suc q) zero k a h e =
         let z : zero * c + k ≡ k = omega arith in
@@ -128,30 +140,20 @@ around (n ∷ s) k j h =
     let d : (k * n * product s + j) / product s ≡ k * n + j / product s = mul-add-div-right pos (k * n) j in
     ap (λ (x : ℕ). valuesOf (n ∷ s) (x + j)) z ∙ ap₂ (λ (x : ℕ) (l : List ℕ). x ∷ l) (ap (λ (x : ℕ). x % n) d ∙ mul-add-mod-self-right k n (j / product s)) (around s (k * n) j (λ i l. h (suc i) (omega arith)))
 
--- the values from l on are the same one block of them further
-pub later-values : (l : ℕ) (s : List ℕ) (j : ℕ) → ((i : ℕ) → i < length s → 0 < getD s i 0) → (v : ℕ) → l ≤ v → getD (valuesOf s (product (drop l s) + j)) v 0 ≡ getD (valuesOf s j) v 0
-later-values zero s j h v k = let z : product s + j ≡ 1 * product s + j = omega arith in ap (λ (x : ℕ). getD (valuesOf s x) v 0) z ∙ ap (λ (w : List ℕ). getD w v 0) (around s 1 j h)
-later-values (suc l) [] j h v k = refl
-later-values (suc l) (n ∷ s) j h zero k = absurd (omega arith)
-later-values (suc l) (n ∷ s) j h (suc v) k = later-values l s j (λ i q. h (suc i) (omega arith)) v (omega arith)
+-- the values from l on are the same some blocks of them further
+pub later-values : (l : ℕ) (s : List ℕ) (q j : ℕ) → ((i : ℕ) → i < length s → 0 < getD s i 0) → (v : ℕ) → l ≤ v → getD (valuesOf s (q * product (drop l s) + j)) v 0 ≡ getD (valuesOf s j) v 0
+later-values zero s q j h v k = ap (λ (w : List ℕ). getD w v 0) (around s q j h)
+later-values (suc l) [] q j h v k = refl
+later-values (suc l) (n ∷ s) q j h zero k = absurd (omega arith)
+later-values (suc l) (n ∷ s) q j h (suc v) k = later-values l s q j (λ i q. h (suc i) (omega arith)) v (omega arith)
 
 -- CONDITIONS SAY THE SAME A ROUND LATER
 
 module _ (p low : ℕ) (sizes a : List ℕ) (few : p ≤ length a) (positive : (i : ℕ) → i < length sizes → 0 < getD sizes i 0) where
   later-env : (j v : ℕ) → (p ≤ v → low ≤ v) → getD (env p a (valuesOf sizes (product (drop (low - p) sizes) + j))) v 0 ≡ getD (env p a (valuesOf sizes j)) v 0
-  later-env j v h = go (ltb v p) refl
-    where
-      J : ℕ
-      J = product (drop (low - p) sizes) + j
-
-      go : (t : Bool) → ltb v p ≡ t → getD (env p a (valuesOf sizes J)) v 0 ≡ getD (env p a (valuesOf sizes j)) v 0
-      go true r =
-          let x : v < length (take p a) = simp (length-take-le p a few) (ltb-true v p r) in
-          List·getD-append (take p a) (valuesOf sizes J) 0 v x ∙ sym (List·getD-append (take p a) (valuesOf sizes j) 0 v x)
-      go false r =
-          let x : p ≤ v = ltb-false v p r in
-          let y = h x in
-          split-at p a (valuesOf sizes J) few v x ∙ later-values (low - p) sizes j positive (v - p) (omega arith) ∙ sym (split-at p a (valuesOf sizes j) few v x)
+  later-env j v h =
+      let z : product (drop (low - p) sizes) + j ≡ 1 * product (drop (low - p) sizes) + j = omega arith in
+      env-same p a (valuesOf sizes (product (drop (low - p) sizes) + j)) (valuesOf sizes j) few v (λ x. let y = h x in ap (λ (i : ℕ). getD (valuesOf sizes i) (v - p) 0) z ∙ later-values (low - p) sizes 1 j positive (v - p) (omega arith))
 
   pub met-again : (s funcs froms ends blocks : List ℕ) (n : ℕ) → Above s p froms ends blocks n low
       → (j : ℕ) → part-met s funcs froms ends blocks n (env p a (valuesOf sizes (product (drop (low - p) sizes) + j))) ≡ part-met s funcs froms ends blocks n (env p a (valuesOf sizes j))

@@ -116,6 +116,14 @@ module _ (s : List ℕ) (p : ℕ) (sizes froms ends blocks : List ℕ) (n reach 
 
 -- THE LOOP THAT PARTS THEM
 
+-- one more, by the cases that it is the last or one before
+pub last-or : (G : ℕ → Type 0) (m : ℕ) → G m → ((i : ℕ) → i < m → G i) → (i : ℕ) → i < m + 1 → G i
+last-or G m x f i h = go (ltb i m) refl
+  where
+    go : (t : Bool) → ltb i m ≡ t → G i
+    go true q = f i (ltb-true i m q)
+    go false q = let l = ltb-false i m q in let z : m ≡ i = omega arith in subst G z x
+
 pub zeros : (n i : ℕ) → getD {A = ℕ} (replicate n 0) i 0 ≡ 0
 zeros zero i = refl
 zeros (suc n) zero = refl
@@ -131,14 +139,6 @@ module _ (s : List ℕ) (p : ℕ) (froms ends blocks : List ℕ) (n b : ℕ) whe
 
   pub parting-none : (early late : List ℕ) (grain low : ℕ) → ((i : ℕ) → getD early i 0 ≡ 0) → ((i : ℕ) → getD late i 0 ≡ 0) → Parting early late grain low 0
   parting-none early late grain low e l = record { early-rest = λ i h. e i; late-rest = λ i h. l i; early-is = λ i h. absurd (omega arith); late-is = λ i h. absurd (omega arith) }
-
-  -- one more, by the cases that it is the last or one before
-  last-or : (G : ℕ → Type 0) (m : ℕ) → G m → ((i : ℕ) → i < m → G i) → (i : ℕ) → i < m + 1 → G i
-  last-or G m x f i h = go (ltb i m) refl
-    where
-      go : (t : Bool) → ltb i m ≡ t → G i
-      go true q = f i (ltb-true i m q)
-      go false q = let l = ltb-false i m q in let z : m ≡ i = omega arith in subst G z x
 
   module _ (early late : List ℕ) (grain low m : ℕ) (now : Parting early late grain low m) (d w : ℕ) (is-d : d ≡ getD blocks m 0) (is-w : w ≡ d) (in-list : m < n) where
     pub parting-late : m < length late → w < b → (f low′ : ℕ) → (getD froms m 0 + 1 ≤ getD ends m 0 → getD ends m 0 ≤ length s → f ≡ foot p (code s (getD froms m 0) (getD ends m 0))) → low′ ≡ min low f → Parting early (set late m d) grain low′ (m + 1)

@@ -15,9 +15,9 @@ use Rattle.evaluation.specs.Run.{pick}
 use Rattle.assignments.specs.Places.{places}
 use Rattle.assignments.specs.Conditions.{Finds}
 use Rattle.assignments.proofs.Passing.{none-pass, passed-end, going-start, going-on, going-found, going-end}
-use Rattle.assignments.proofs.Periods.{map-some, behind-some, places-append}
+use Rattle.assignments.proofs.Periods.{map-some, behind-some, places-append, places-later}
 
-map-from : (f : ℕ → ℕ) (l : List ℕ) (k x : ℕ) → getElem? (map f l) k ≡ some x → (a : ℕ) × (getElem? l k ≡ some a) × (x ≡ f a)
+pub map-from : (f : ℕ → ℕ) (l : List ℕ) (k x : ℕ) → getElem? (map f l) k ≡ some x → (a : ℕ) × (getElem? l k ≡ some a) × (x ≡ f a)
 map-from f [] k x e = absurd (let z : _≡_ {A = ℕ} 0 1 = cc in omega arith)
 map-from f (y ∷ l) zero x e = (y, refl, let z : f y ≡ x = cc in sym z)
 map-from f (y ∷ l) (suc k) x e = map-from f l k x e
@@ -52,31 +52,18 @@ pub passed-fits : (P q left k m top : ℕ) → q ≤ k / m → k < top → (q * 
 passed-fits P q left k m top h f = let w = passed-few P q left k m h in omega arith
 
 module _ (P : ℕ) (pos : 0 < P) where
-  places-later : (acc : ℕ → Bool) (n j : ℕ) → places acc n (P + j) ≡ map (λ x. P + x) (places (λ i. acc (P + i)) n j)
-  unfolding places
-  places-later acc zero j = refl
-  places-later acc (suc n) j = rw z (go (acc (P + j)) (places-later acc n (j + 1)))
-    where
-      z : P + j + 1 ≡ P + (j + 1)
-      z = omega arith
-
-      go : (t : Bool) → places acc n (P + (j + 1)) ≡ map (λ x. P + x) (places (λ i. acc (P + i)) n (j + 1))
-          → pick t ((P + j) ∷ places acc n (P + (j + 1))) (places acc n (P + (j + 1))) ≡ map (λ x. P + x) (pick t (j ∷ places (λ i. acc (P + i)) n (j + 1)) (places (λ i. acc (P + i)) n (j + 1)))
-      go true e = ap (λ (l : List ℕ). (P + j) ∷ l) e
-      go false e = e
-
   first-then : (acc : ℕ → Bool) (n : ℕ) → places acc (suc n * P) 0 ≡ places acc P 0 ++ map (λ x. P + x) (places (λ i. acc (P + i)) (n * P) 0)
   first-then acc n =
       let z : suc n * P ≡ P + n * P = omega arith in
       let w : 0 + P ≡ P + 0 = omega arith in
-      ap (λ (x : ℕ). places acc x 0) z ∙ places-append acc P (n * P) 0 ∙ ap (λ (l : List ℕ). places acc P 0 ++ l) (ap (places acc (n * P)) w ∙ places-later acc (n * P) 0)
+      ap (λ (x : ℕ). places acc x 0) z ∙ places-append acc P (n * P) 0 ∙ ap (λ (l : List ℕ). places acc P 0 ++ l) (ap (places acc (n * P)) w ∙ places-later acc P (n * P) 0)
 
   -- one block of which all pass, or none
   full-length : (acc : ℕ → Bool) → ((i : ℕ) → i < P → acc i ≡ true) → length (places acc P 0) ≡ P
-  full-length acc h = sym (going-end acc P P P 0 (omega arith) (going-on acc P P 0 P P 0 (omega arith) (omega arith) (λ i u v. h i v) (omega arith) (omega arith) (going-start acc P P)) ∙ omega arith)
+  full-length acc h = ap (λ (x : ℕ). length (places acc x 0)) (sym (sub-zero P)) ∙ sym (going-end acc P 0 P P 0 (omega arith) (going-on acc P 0 P 0 P P 0 (omega arith) (omega arith) (λ i u v. h i v) (omega arith) (omega arith) (going-start acc P 0 P)) ∙ omega arith)
 
   full-first : (acc : ℕ → Bool) → ((i : ℕ) → i < P → acc i ≡ true) → getElem? (places acc P 0) 0 ≡ some 0
-  full-first acc h = going-found acc P 0 0 0 P 0 (omega arith) (omega arith) (λ i u v. h i v) (omega arith) (omega arith) (going-start acc P 0)
+  full-first acc h = ap (λ (x : ℕ). getElem? (places acc x 0) 0) (sym (sub-zero P)) ∙ going-found acc P 0 0 0 0 P 0 (omega arith) (omega arith) (λ i u v. h i v) (omega arith) (omega arith) (going-start acc P 0 0)
 
   none-at-all : (acc : ℕ → Bool) → ((i : ℕ) → i < P → acc i ≡ false) → places acc P 0 ≡ []
   none-at-all acc h = ap (λ (x : ℕ). places acc x 0) (sym (sub-zero P)) ∙ none-pass acc P 0 P (omega arith) (λ i u v. h i v) ∙ passed-end acc P P (omega arith)

@@ -43,3 +43,14 @@ pub record Apart (s : List ℕ) (p : ℕ) (sizes froms ends blocks : List ℕ) (
   pub repeats : product (drop (r .low - p) sizes) ≤ bound
   pub early : (i : ℕ) → i < n → bound ≤ getD blocks i 0 → (getD (r .early) i 0 ≡ getD blocks i 0) × ((getD (r .late) i 0 ≡ 0) × (r .grain ≤ getD blocks i 0))
   pub late : (i : ℕ) → i < n → getD blocks i 0 < bound → (getD (r .late) i 0 ≡ getD blocks i 0) × ((getD (r .early) i 0 ≡ 0) × (r .low ≤ foot p (code s (getD froms i 0) (getD ends i 0))))
+
+-- No condition of the part names one of the sum variables from `level` on that stand before `low`: `before` and `behind` are the blocks of
+-- those behind the first ones, and behind the gap.
+pub record Gapped (s : List ℕ) (p : ℕ) (sizes froms ends blocks : List ℕ) (n round before behind : ℕ) : Type 0 where
+  pub level : ℕ
+  pub low : ℕ
+  pub before-is : before ≡ product (drop level sizes)
+  pub behind-is : behind ≡ product (drop (low - p) sizes)
+  pub within : before ≤ round
+  pub smaller : behind ≤ before
+  pub unnamed : Above s (p + level) froms ends blocks n low

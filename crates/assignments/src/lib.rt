@@ -7,9 +7,11 @@ ghost use Rattle.assignments.specs.Places.{product, valuesOf, places, Si
 ghost use Rattle.assignments.specs.Conditions.{env, met, Ready, Finds};
 
 pub mod one_part; // the search with one part of the conditions
+pub mod gaps; // variables that no condition names, between others
+pub mod rounds; // the search in all rounds
 pub mod two_parts; // the conditions parted in two, and the search with both parts
 
-use one_part::find_rounds;
+use rounds::find_rounds;
 use two_parts::find_parted;
 use two_parts::split;
 
@@ -42,6 +44,13 @@ pub struct Parts {
     pub late: [u32; 8],
     pub grain: usize,
     pub low: usize,
+}
+
+// Blocks of the sum variables behind the first ones, before a gap if there is one, and of those behind it.
+pub struct Gap {
+    pub some: bool,
+    pub before: usize,
+    pub behind: usize,
 }
 
 pub struct Found {

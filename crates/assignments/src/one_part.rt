@@ -10,14 +10,13 @@ ghost use Rattle.assignments.specs.Parting.{Standing, asked, part-met, P
 use crate::Eight;
 use crate::Found;
 use crate::Four;
-use crate::block_size;
 use crate::environment;
 use crate::values;
 use crate::wide_block;
 
 // The first number of the next block of d.
 fn next(j: usize, d: usize) -> usize
-    requires { ⌜ (0 < d) × ((d < 4294967296) × (j < 65536)) ⌝ }
+    requires { ⌜ (0 < d) × ((d < 4294967296) × (j < 131072)) ⌝ }
     ensures { λ r. ⌜ (j < r) × ((i : ℕ) → j ≤ i → i < r → i / d ≡ j / d) ⌝ }
 {
     (j / d + 1) * d
@@ -84,7 +83,47 @@ pub fn none_found(left: u64) -> Found
     }
 }
 
-// The k-th of the assignments below `total` that meet the conditions asked, or how much of k is left; what they say changes only between blocks of g.
+// The k-th of the assignments from `from` on and before `to` that meet the conditions asked, or how much of k is left; what they say changes only between blocks of g.
+pub fn find_from(
+    s: &[u8],
+    funcs: &[u16],
+    params: Eight,
+    p: usize,
+    z: Four,
+    froms: &[usize; 8],
+    ends: &[usize; 8],
+    blocks: &[u32; 8],
+    n: usize,
+    g: usize,
+    from: usize,
+    to: usize,
+    k: u64,
+) -> Found
+    requires { ⌜ (p ≤ frame-width) × (((i : ℕ) → p ≤ i → getD (params .at) i 0 ≡ 0) × ((n ≤ max-conditions) × (Sizes (z .at) × ((to ≤ 131072) × ((0 < g) × (g ≤ 65536)))))) ⌝ }
+    ensures { λ r. ⌜ (r .at ≤ to) × ((r .left ≤ k) × ((l : ℕ) → g ≡ product (drop l (z .at)) → ((i : ℕ) → i < n → Part (now (s .entry)) p (z .at) (now (froms .entry)) (now (ends .entry)) (now (blocks .entry)) g i) → Finds (places (λ j. part-met (now (s .entry)) (now (funcs .entry)) (now (froms .entry)) (now (ends .entry)) (now (blocks .entry)) n (env p (params .at) (valuesOf (z .at) j))) (to - from) from) k (r .found) (r .at) (r .left))) ⌝ }
+{
+    let mut j = from;
+    let mut left = k;
+    while j < to {
+        let e = environment(params, p, values(z, j));
+        let a = e.at;
+        let d = test(s, funcs, &a, froms, ends, blocks, n);
+        if d == 0 {
+            let r = evaluation::smaller(next(j, g), to);
+            let m = (r - j) as u64;
+            if left < m {
+                return found_at(j + (left as usize));
+            }
+            left -= m;
+            j = r;
+        } else {
+            j = next(j, wide_block(d));
+        }
+    }
+    none_found(left)
+}
+
+// The same from the first assignment on.
 pub fn find_in(
     s: &[u8],
     funcs: &[u16],
@@ -102,63 +141,19 @@ pub fn find_in(
     requires { ⌜ (p ≤ frame-width) × (((i : ℕ) → p ≤ i → getD (params .at) i 0 ≡ 0) × ((n ≤ max-conditions) × (Sizes (z .at) × ((total ≤ 65536) × ((0 < g) × (g ≤ 65536)))))) ⌝ }
     ensures { λ r. ⌜ (r .at ≤ 65536) × ((r .left ≤ k) × ((l : ℕ) → g ≡ product (drop l (z .at)) → ((i : ℕ) → i < n → Part (now (s .entry)) p (z .at) (now (froms .entry)) (now (ends .entry)) (now (blocks .entry)) g i) → Finds (places (λ j. part-met (now (s .entry)) (now (funcs .entry)) (now (froms .entry)) (now (ends .entry)) (now (blocks .entry)) n (env p (params .at) (valuesOf (z .at) j))) total 0) k (r .found) (r .at) (r .left))) ⌝ }
 {
-    let mut j: usize = 0;
-    let mut left = k;
-    while j < total {
-        let e = environment(params, p, values(z, j));
-        let a = e.at;
-        let d = test(s, funcs, &a, froms, ends, blocks, n);
-        if d == 0 {
-            let r = evaluation::smaller(next(j, g), total);
-            let m = (r - j) as u64;
-            if left < m {
-                return found_at(j + (left as usize));
-            }
-            left -= m;
-            j = r;
-        } else {
-            j = next(j, wide_block(d));
-        }
-    }
-    none_found(left)
-}
-
-// The k-th of all assignments that meet the conditions asked, or how much of k is left: they say the same again after each round.
-pub fn find_rounds(
-    s: &[u8],
-    funcs: &[u16],
-    params: Eight,
-    p: usize,
-    z: Four,
-    froms: &[usize; 8],
-    ends: &[usize; 8],
-    blocks: &[u32; 8],
-    n: usize,
-    g: usize,
-    round: usize,
-    k: u64,
-) -> Found
-    requires { ⌜ (p ≤ frame-width) × (((i : ℕ) → p ≤ i → getD (params .at) i 0 ≡ 0) × ((n ≤ max-conditions) × (Sizes (z .at) × ((round ≤ 65536) × ((0 < round) × ((0 < g) × (g ≤ 65536))))))) ⌝ }
-    ensures { λ r. ⌜ (r .at ≤ 131072) × ((r .left ≤ k) × ((l low : ℕ) → g ≡ product (drop l (z .at)) → round ≡ product (drop (low - p) (z .at)) → ((i : ℕ) → i < n → Part (now (s .entry)) p (z .at) (now (froms .entry)) (now (ends .entry)) (now (blocks .entry)) g i) → Above (now (s .entry)) p (now (froms .entry)) (now (ends .entry)) (now (blocks .entry)) n low → Finds (places (λ j. part-met (now (s .entry)) (now (funcs .entry)) (now (froms .entry)) (now (ends .entry)) (now (blocks .entry)) n (env p (params .at) (valuesOf (z .at) j))) (product (z .at)) 0) k (r .found) (r .at) (r .left))) ⌝ }
-{
-    let total = block_size(z, 0);
-    let r = find_in(s, funcs, params, p, z, froms, ends, blocks, n, g, round, k);
-    if r.found {
-        return r;
-    }
-    let m = k - r.left;
-    if m == 0 {
-        return r;
-    }
-    if round == total {
-        return r;
-    }
-    let q = k / m;
-    let rounds = (total / round) as u64;
-    if rounds <= q {
-        return none_found(k - m * rounds);
-    }
-    let i = k % m;
-    let f = find_in(s, funcs, params, p, z, froms, ends, blocks, n, g, round, i);
-    found_at((q as usize) * round + f.at)
+    find_from(
+        s,
+        funcs,
+        params,
+        p,
+        z,
+        froms,
+        ends,
+        blocks,
+        n,
+        g,
+        0,
+        total,
+        k,
+    )
 }

@@ -6,31 +6,20 @@ ghost use Prim.Native.Nat.{ℕ, _+_, _-_, _≤_, _<_, min};
 ghost use lib.ListN.{length, getD, drop};
 ghost use Rattle.pcrl.specs.Limits.{frame-width, max-variables, max-conditions};
 ghost use Rattle.assignments.specs.Places.{product, valuesOf, places, Sizes};
-ghost use Rattle.evaluation.specs.Run.{foot};
-ghost use Rattle.assignments.specs.Conditions.{env, code, met, Ready, Finds};
+ghost use Rattle.assignments.specs.Conditions.{env, met, Ready, Finds};
 ghost use Rattle.assignments.specs.Parting.{Apart};
 use crate::Eight;
 use crate::Found;
 use crate::Four;
 use crate::Parts;
 use crate::block_size;
+use crate::gaps::term_low;
 use crate::grain;
 use crate::one_part::find_in;
-use crate::one_part::find_rounds;
 use crate::one_part::found_at;
 use crate::one_part::none_found;
+use crate::rounds::find_rounds;
 use crate::wide_block;
-
-// The lowest sum variable that a condition names, 8 if none.
-fn term_low(s: &[u8], from: usize, end: usize, p: usize) -> usize
-    ensures { λ r. ⌜ (from + 1 ≤ end → end ≤ length (now (s .entry)) → r ≡ foot p (code (now (s .entry)) from end)) ⌝ }
-{
-    if s.len() <= from {
-        return 0;
-    }
-    let v = evaluation::variables(s, from + 1, end, p);
-    v.low
-}
 
 // The conditions in two parts: blocks of the early ones, which are of b assignments at least, and of the late ones; 0 for a condition that is not of the part.
 // `grain`: the early ones change only between blocks of it; `low`: the late ones name no sum variable before it. They are apart if that is level l.

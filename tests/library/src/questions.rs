@@ -65,6 +65,13 @@ fn across() -> String {
     four_sums_with("t", |_| tree(29, "p").replacen('p', "s", 1))
 }
 
+/// Conditions that name all four variables.
+fn all_four() -> String {
+    let data = tree(29, "p").replacen('p', "q", 3);
+    let data = data.replacen('q', "r", 2).replacen('r', "s", 1);
+    four_sums_with("t", |_| data.clone())
+}
+
 fn file(body: &str, more: &str) -> Vec<u8> {
     let sheet = format!("{}proc X={body};{more}init X;", declared());
     assert!(sheet.len() <= 4096, "{} bytes", sheet.len());
@@ -133,6 +140,11 @@ pub fn usual() -> Vec<Question> {
         question(
             "eight conditions on both the first and the last variable",
             file("Y", &across()),
+            none,
+        ),
+        question(
+            "eight conditions on all four variables",
+            file("Y", &all_four()),
             none,
         ),
         question("step 0 of 128 blocks", largest(), 0),

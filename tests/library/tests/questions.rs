@@ -25,7 +25,7 @@ fn conditions_of_31_nodes_over_four_sums_of_16() {
         .into_iter()
         .filter(|question| question.what.contains("conditions"));
     let files: Vec<Vec<u8>> = dear.map(|question| question.file).collect();
-    assert_eq!(files.len(), 6);
+    assert_eq!(files.len(), 7);
     for file in files {
         let table = reader::read_table(&file).expect("a table");
         let summand = &table.equations[0].summands[0];

@@ -1,7 +1,7 @@
 -- The lowest of the variables that its term names.
 use borrow.Author.Needs.{needs}
-use Rattle.assignments.proofs.two_parts.term_low.Statement.{statement}
-use Rattle.assignments.proofs.two_parts.term_low.Tie as tie
+use Rattle.assignments.proofs.gaps.term_low.Statement.{statement}
+use Rattle.assignments.proofs.gaps.term_low.Tie as tie
 
 returns : tie.Need-returns
 returns c = search needs
