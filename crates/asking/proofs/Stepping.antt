@@ -5,7 +5,6 @@ use mathlib.Core.Bool.{Bool, true, false}
 use mathlib.Core.Option.{Option, none, some}
 use Prim.Native.Nat.{ℕ, zero, suc, _+_, _-_, _*_, _/_, _≤_, _<_}
 use native.Mathlib.Omega.{arith}
-use borrow.Author.Tests.{lt-ltb}
 use lib.ListN.{length, getD, getElem?, drop, take, replicate, length-append, length-take, length-drop, length-reverse}
 use lib.Seq.{drop-at, take-suc, length-take-le, getD-take, getD-drop, ext-getD}
 use Rattle.pcrl.specs.Limits.{frame-width, stack-limit}
@@ -26,10 +25,9 @@ use Rattle.terms.specs.Stands.{list-at}
 use Rattle.tables.specs.declared.Index.{Index}
 use Rattle.tables.specs.Indexed.{Indexed}
 use Rattle.stacks.specs.Lent.{frame-bytes, frame-at, frames-at, frames-in, stack-bytes}
-use Rattle.stacks.specs.Known.{RightAt}
 use Rattle.stacks.proofs.Views.{no-frame, length-frames-in, getD-frames-in}
 use Rattle.stacks.proofs.Filling.{length-frames-at}
-use Rattle.stacks.proofs.RightFrameLaws.{each-right, index-params}
+use Rattle.stacks.proofs.RightFrameLaws.{used-right, index-params}
 use Rattle.firing.specs.declared.Fired.{Fired}
 use Rattle.firing.specs.Fires.{listing}
 use Rattle.firing.specs.Told as firing
@@ -119,8 +117,7 @@ module _ (T : Table) (bytes : List ℕ) (d k : ℕ) (long : length bytes ≡ sta
     rest-length = let h = holds .depth in length-drop 1 s ∙ (let z : length s - 1 ≡ d - 1 = omega arith in z)
 
     pub top-right : RightFrame frame-width T top
-    unfolding RightAt
-    top-right = subst (λ (u : Bool). RightAt frame-width T u top) (lt-ltb (d - 1) d (omega arith)) (each-right frame-width stack-limit T bytes d count fits right (d - 1) (let f = fits in omega arith))
+    top-right = used-right frame-width stack-limit T bytes d count fits right (d - 1) (omega arith)
 
     pub number-is : top .number ≡ getD bytes at 0
     unfolding frame-at

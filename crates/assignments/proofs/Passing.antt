@@ -96,6 +96,15 @@ module _ (acc : ℕ → Bool) (total : ℕ) where
   pub from-first : (k : ℕ) (found : Bool) (at left : ℕ) → Finds (places acc (total - 0) 0) k found at left → Finds (places acc total 0) k found at left
   from-first k found at left = subst (λ (x : ℕ). Finds (places acc x 0) k found at left) (sub-zero total)
 
+  -- all pass
+  module _ (k : ℕ) (all : (i : ℕ) → acc i ≡ true) where
+    pub any-found : k < total → (x : ℕ) → Finds (places acc total 0) k true k x
+    unfolding Finds
+    any-found h x = ap (λ (n : ℕ). getElem? (places acc n 0) k) (sym (sub-zero total)) ∙ going-found 0 k 0 k total k (omega arith) (omega arith) (λ i a b. all i) (omega arith) (omega arith) (going-start 0 k)
+
+    pub any-past : total ≤ k → (x : ℕ) → Finds (places acc total 0) k false x (k - total)
+    any-past h x = from-first k false x (k - total) (none-left 0 k total (k - total) (omega arith) (going-on 0 k 0 k total (k - total) (omega arith) (omega arith) (λ i a b. all i) (omega arith) (omega arith) (going-start 0 k)) x)
+
 -- what is answered, by the parts of the answer
 module _ (l : List ℕ) (k : ℕ) (r : Found) where
   pub finds-at : (at : ℕ) → (r .found ≡ true) × ((r .at ≡ at) × (r .left ≡ 0)) → ((x : ℕ) → Finds l k true at x) → Finds l k (r .found) (r .at) (r .left)

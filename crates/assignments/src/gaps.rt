@@ -20,6 +20,9 @@ use crate::one_part::find_in;
 use crate::one_part::found_at;
 use crate::one_part::none_found;
 
+// Assignments of a variable before a gap, one in it and one behind it, at the fewest: two values each.
+const FEWEST: usize = 8;
+
 // The lowest variable from p on that a condition names, 8 if none.
 pub fn term_low(s: &[u8], from: usize, end: usize, p: usize) -> usize
     ensures { λ r. ⌜ (from + 1 ≤ end → end ≤ length (now (s .entry)) → r ≡ foot p (code (now (s .entry)) from end)) ⌝ }
@@ -100,6 +103,9 @@ pub fn gap_of(
     requires { ⌜ (p ≤ frame-width) × ((n ≤ max-conditions) × Sizes (z .at)) ⌝ }
     ensures { λ r. ⌜ ((0 < r .behind) × ((r .behind ≤ r .before) × (r .before ≤ 65536))) × ((blocks : List ℕ) → r .some ≡ true → ((i : ℕ) → i < n → Standing (now (s .entry)) (now (froms .entry)) (now (ends .entry)) i) → Gapped (now (s .entry)) p (z .at) (now (froms .entry)) (now (ends .entry)) blocks n round (r .before) (r .behind)) ⌝ }
 {
+    if round < FEWEST {
+        return no_gap();
+    }
     let x = gap_at(s, p, z, froms, ends, n, g, round, 1);
     if x.some {
         return x;

@@ -1,5 +1,6 @@
 // The k-th assignment of a summand's sum variables that meets its conditions: a counter that goes over blocks of assignments.
 ghost use mathlib.Core.Path.{_≡_};
+ghost use mathlib.Core.Bool.{Bool, true};
 ghost use Prim.Native.Nat.{ℕ, _-_, _*_, _/_, _%_, _≤_, _<_};
 ghost use lib.ListN.{getD, drop};
 ghost use Rattle.pcrl.specs.Limits.{max-size, frame-width, max-variables, max-conditions};
@@ -11,6 +12,8 @@ pub mod gaps; // variables that no condition names, between others
 pub mod rounds; // the search in all rounds
 pub mod two_parts; // the conditions parted in two, and the search with both parts
 
+use one_part::found_at;
+use one_part::none_found;
 use rounds::find_rounds;
 use two_parts::find_parted;
 use two_parts::split;
@@ -106,10 +109,14 @@ pub fn wide_block(x: u32) -> usize
     x as usize
 }
 
+// A division takes longer than to see that there is nothing to divide by.
 fn digit(j: usize, s: u8) -> u8
     requires { ⌜ 0 < s ⌝ }
     ensures { λ r. ⌜ r ≡ j % s ⌝ }
 {
+    if s == 1 {
+        return 0;
+    }
     (j % (s as usize)) as u8
 }
 
@@ -117,6 +124,9 @@ fn quotient(j: usize, s: u8) -> usize
     requires { ⌜ 0 < s ⌝ }
     ensures { λ r. ⌜ r ≡ j / s ⌝ }
 {
+    if s == 1 {
+        return j;
+    }
     j / (s as usize)
 }
 
@@ -149,6 +159,18 @@ pub fn environment(params: Eight, p: usize, w: Four) -> Eight
     Eight { at: a }
 }
 
+// The k-th of all assignments.
+fn find_any(sizes: Four, k: u64) -> Found
+    requires { ⌜ Sizes (sizes .at) ⌝ }
+    ensures { λ r. ⌜ ((acc : ℕ → Bool) → ((i : ℕ) → acc i ≡ true) → Finds (places acc (product (sizes .at)) 0) k (r .found) (r .at) (r .left)) ⌝ }
+{
+    let total = block_size(sizes, 0) as u64;
+    if k < total {
+        return found_at(k as usize);
+    }
+    none_found(k - total)
+}
+
 // The k-th assignment that meets the conditions, or how much of k is left.
 pub fn find(
     s: &[u8],
@@ -166,6 +188,9 @@ pub fn find(
     let ends = c.ends;
     let blocks = c.blocks;
     let n = c.count;
+    if n == 0 {
+        return find_any(sizes, k);
+    }
     let g = grain(sizes, c.reach, p);
     let round = grain(sizes, c.low, p);
     if 1 < n {

@@ -1,4 +1,4 @@
--- The register of the check, a byte and two bytes at a time. A shift goes under `bitXor`, so the shifts of a register are those of its
+-- The register of the check, a byte, two bytes and two more at a time. A shift goes under `bitXor`, so the shifts of a register are those of its
 -- two bytes, each by itself; and eight shifts of a register with an empty top only move it up.
 use mathlib.Core.Path.{_≡_, refl, sym, ap, ap₂, _∙_}
 use Prim.Native.Nat.{ℕ, _+_, _-_, _*_, _/_, _%_, _≤_, _<_}
@@ -9,7 +9,7 @@ use borrow.Author.Tests.{lt-ltb, le-ltb}
 use lib.Bits.{bitXor, xor-lt, xor-comm, xor-zero-r, xor-block, xor-shifted}
 use Rattle.pcrl.specs.Blocks.{crc-bit, crc-byte}
 use Rattle.codec.specs.Crc.{crc-bit-below}
-use Rattle.blocks.proofs.Xor.{xor-swap, xor-double, xor-both}
+use Rattle.blocks.proofs.Xor.{xor-assoc, xor-swap, xor-double, xor-both}
 
 -- ONE SHIFT
 
@@ -68,7 +68,7 @@ shift-xor a c ha hc =
 abbrev pub shifted : ℕ → ℕ
 shifted x = crc-bit (crc-bit (crc-bit (crc-bit (crc-bit (crc-bit (crc-bit (crc-bit x)))))))
 
-shifted-below : (x : ℕ) → x < 65536 → shifted x < 65536
+pub shifted-below : (x : ℕ) → x < 65536 → shifted x < 65536
 shifted-below x h = crc-bit-below _ (crc-bit-below _ (crc-bit-below _ (crc-bit-below _ (crc-bit-below _ (crc-bit-below _ (crc-bit-below _ (crc-bit-below _ h)))))))
 
 -- y is two registers' `bitXor`
@@ -139,3 +139,19 @@ module _ (x b : ℕ) (h : x < 65536) (k : b < 256) where
         ap shifted e
         ∙ shifted-xor (below * 256) s (omega arith) (shifted-below (top * 256) (omega arith))
         ∙ xor-comm (shifted (below * 256)) (shifted s)
+
+-- Two bytes more: what the register was is shifted by itself, sixteen times.
+pub crc-bytes-more : (x c d : ℕ) → x < 65536 → c < 256 → d < 256 → crc-byte (crc-byte x c) d ≡ bitXor (shifted (shifted x)) (bitXor (shifted (shifted (c * 256))) (shifted (d * 256)))
+unfolding crc-byte
+crc-bytes-more x c d h k m =
+    let first : shifted (bitXor x (c * 256)) ≡ bitXor (shifted x) (shifted (c * 256)) = shifted-xor x (c * 256) h (omega arith) in
+    let below-x = shifted-below x h in
+    let below-c = shifted-below (c * 256) (omega arith) in
+    ap (λ (y : ℕ). shifted (bitXor y (d * 256))) first
+    ∙ shifted-xor (bitXor (shifted x) (shifted (c * 256))) (d * 256) (xor-lt 16 (shifted x) (shifted (c * 256)) below-x below-c) (omega arith)
+    ∙ ap (λ (y : ℕ). bitXor y (shifted (d * 256))) (shifted-xor (shifted x) (shifted (c * 256)) below-x below-c)
+    ∙ xor-assoc (shifted (shifted x)) (shifted (shifted (c * 256))) (shifted (d * 256))
+
+-- and of a register that two bytes made, each part is
+pub shifted-both : (a c : ℕ) → a < 65536 → c < 65536 → shifted (shifted (bitXor a c)) ≡ bitXor (shifted (shifted a)) (shifted (shifted c))
+shifted-both a c h k = ap shifted (shifted-xor a c h k) ∙ shifted-xor (shifted a) (shifted c) (shifted-below a h) (shifted-below c k)

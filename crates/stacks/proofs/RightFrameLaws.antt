@@ -2,20 +2,19 @@
 use mathlib.Core.Path.{_≡_, refl, sym, ap, ap₂, subst, _∙_}
 use mathlib.Core.List.{List, map}
 use mathlib.Core.Bool.{Bool, true, false}
-use Prim.Native.Nat.{ℕ, _+_, _-_, _*_, _/_, _<_, _≤_, min}
+use Prim.Native.Nat.{ℕ, suc, _+_, _-_, _*_, _/_, _<_, _≤_, min}
 use native.Mathlib.Omega.{arith}
-use native.Mathlib.Decide.{decLt}
-use borrow.Author.Tests.{lt-ltb, le-ltb, ltb-true, ltb-false}
-use lib.Dec.{ltb}
+use native.Mathlib.Decide.{decLt, ℕ-discrete}
+use lib.Dec.{eqb}
 use lib.ListN.{length, getD, take, drop, replicate, length-take, length-drop, length-map, length-replicate, getD-replicate}
 use lib.Seq.{getD-take, getD-drop, take-all, ext-getD}
 use Rattle.pcrl.specs.Parts.{tabulate}
-use Rattle.pcrl.specs.Tests.{Every}
+use Rattle.pcrl.specs.Tests.{Every, and}
 use Rattle.pcrl.specs.Sheet.{Sig}
 use Rattle.pcrl.specs.Table.{Table, Equation, equation, no-equation, params-of}
 use Rattle.pcrl.specs.Stack.{Frame, InSorts, used, padded, RightFrame, IsZero, RightFrames}
 use Rattle.pcrl.specs.Stream.{encode-numbers, encode-sorts}
-use Rattle.laws.specs.Says.{Says, says-as, said-yes, said-no}
+use Rattle.laws.specs.Says.{Says, says-as, says-eq, said-yes, said-no}
 use Rattle.laws.specs.Every.{at-every, every-at}
 use Rattle.laws.specs.Lists.{length-tabulate, getD-tabulate, getD-map}
 use Rattle.terms.specs.Stands.{Stands, KnownParams, list-at}
@@ -24,7 +23,7 @@ use Rattle.tables.specs.declared.Index.{Index}
 use Rattle.tables.specs.Indexed.{Indexed}
 use Rattle.stacks.specs.Lent.{frame-bytes, frame-at, frames-in}
 use Rattle.stacks.specs.Fitting.{Fitting}
-use Rattle.stacks.specs.Known.{Known, RightAt}
+use Rattle.stacks.specs.Known.{Known}
 use Rattle.stacks.proofs.Views.{no-frame, length-frames-in, getD-frames-in, frame-same}
 use Rattle.stacks.proofs.FittingLaws.{fitting-sorted, sorted-fitting, all-zero}
 
@@ -115,11 +114,39 @@ frame-cut width bytes part at e = frame-same width part bytes 0 at (λ j w.
     let z : 0 + j ≡ j = omega arith in
     ap₂ (λ (l : List ℕ) (x : ℕ). getD l x 0) e z ∙ getD-take (frame-bytes width) (drop at bytes) j 0 w ∙ getD-drop at bytes j 0)
 
-module _ (width limit : ℕ) (T : Table) (bytes : List ℕ) (depth : ℕ) where
-  -- what is asked of frame i
-  abbrev pub Asked : ℕ → Type 0
-  Asked i = RightAt width T (ltb i depth) (frame-at width bytes (i * frame-bytes width))
+-- frame i of bytes is zero where its bytes are
+module _ (width : ℕ) (bytes : List ℕ) (at : ℕ) (inside : at + frame-bytes width ≤ length bytes) where
+  abbrev cut : List ℕ
+  cut = take (frame-bytes width) (drop at bytes)
 
+  cut-length : length cut ≡ frame-bytes width
+  cut-length = simp (length-take, length-drop) (omega arith)
+
+  cut-at : (k : ℕ) → k < frame-bytes width → getD cut k 0 ≡ getD bytes (at + k) 0
+  cut-at k h = getD-take (frame-bytes width) (drop at bytes) k 0 h ∙ getD-drop at bytes k 0
+
+  pub zero-frame-at : ((k : ℕ) → at ≤ k → k < at + frame-bytes width → getD bytes k 0 ≡ 0) → IsZero width (frame-at width bytes at)
+  zero-frame-at h = subst (IsZero width) (frame-cut width bytes cut at refl) (zero-there width cut cut-length (λ k w. let b = cut-length in cut-at k (omega arith) ∙ h (at + k) (omega arith) (omega arith)))
+
+  pub zero-bytes-at : IsZero width (frame-at width bytes at) → (k : ℕ) → at ≤ k → k < at + frame-bytes width → getD bytes k 0 ≡ 0
+  zero-bytes-at z k l h = elim (ℕ-discrete (getD bytes k 0) 0) [
+    | yes e ↦ e
+    | no n ↦ absurd
+        (let j : at + (k - at) ≡ k = omega arith in
+        not-zero width cut cut-length (k - at) (let b = cut-length in omega arith) (λ e. n (ap (λ (x : ℕ). getD bytes x 0) (sym j) ∙ sym (cut-at (k - at) (omega arith)) ∙ e))
+        (subst (IsZero width) (sym (frame-cut width bytes cut at refl)) z))
+  ]
+
+-- zeros from a byte on, one byte after another from the last one down
+abbrev pub From : List ℕ → ℕ → ℕ → Type 0
+From s at end = (k : ℕ) → at ≤ k → k < end → getD s k 0 ≡ 0
+
+pub one-more-zero : (s : List ℕ) (end j i : ℕ) → j ≡ suc i → i < end → (good : Bool) → Says good (From s j end) → Says (and good (eqb (getD s i 0) 0)) (From s i end)
+one-more-zero s end j i z h true q =
+    says-as (eqb (getD s i 0) 0) (λ e k l w. elim (ℕ-discrete k i) [ yes a ↦ ap (λ (x : ℕ). getD s x 0) a ∙ e | no n ↦ q k (omega arith) w ]) (λ r. r i (omega arith) h) (says-eq (getD s i 0) 0)
+one-more-zero s end j i z h false q = λ r. q (λ k l w. r k (omega arith) w)
+
+module _ (width limit : ℕ) (T : Table) (bytes : List ℕ) (depth : ℕ) where
   abbrev fs : List Frame
   fs = frames-in width bytes
 
@@ -127,9 +154,9 @@ module _ (width limit : ℕ) (T : Table) (bytes : List ℕ) (depth : ℕ) where
     long : length fs ≡ limit
     long = length-frames-in width bytes ∙ count
 
-    pub all-right : ((i : ℕ) → i < limit → Asked i) → RightFrames width limit T fs depth
-    unfolding RightFrames RightAt
-    all-right h =
+    pub all-right : ((i : ℕ) → i < depth → RightFrame width T (frame-at width bytes (i * frame-bytes width))) → ((i : ℕ) → depth ≤ i → i < limit → IsZero width (frame-at width bytes (i * frame-bytes width))) → RightFrames width limit T fs depth
+    unfolding RightFrames
+    all-right h z =
         let taken : length (take depth fs) ≡ depth = length-take depth fs ∙ (let z : min depth (length fs) ≡ depth = omega (arith, long) in z) in
         let dropped : length (drop depth fs) ≡ limit - depth = length-drop depth fs ∙ ap (λ (n : ℕ). n - depth) long in (
           long,
@@ -138,29 +165,25 @@ module _ (width limit : ℕ) (T : Table) (bytes : List ℕ) (depth : ℕ) where
             (
               at-every (RightFrame width T) (take depth fs) no-frame (λ i w.
                   let b : i < depth = omega (arith, taken) in
-                  subst (RightFrame width T) (sym (getD-take depth fs i no-frame b ∙ getD-frames-in width bytes i no-frame (omega (arith, count))))
-                  (subst (λ (u : Bool). RightAt width T u (frame-at width bytes (i * frame-bytes width))) (lt-ltb i depth b) (h i (omega arith)))),
+                  subst (RightFrame width T) (sym (getD-take depth fs i no-frame b ∙ getD-frames-in width bytes i no-frame (omega (arith, count)))) (h i b)),
               at-every (IsZero width) (drop depth fs) no-frame (λ i w.
-                  subst (IsZero width) (sym (getD-drop depth fs i no-frame ∙ getD-frames-in width bytes (depth + i) no-frame (omega (arith, count, dropped))))
-                  (subst (λ (u : Bool). RightAt width T u (frame-at width bytes ((depth + i) * frame-bytes width))) (le-ltb (depth + i) depth (omega arith)) (h (depth + i) (omega (arith, dropped))))),
+                  subst (IsZero width) (sym (getD-drop depth fs i no-frame ∙ getD-frames-in width bytes (depth + i) no-frame (omega (arith, count, dropped)))) (z (depth + i) (omega arith) (omega (arith, dropped)))),
             ),
           ),
         )
 
-    pub each-right : RightFrames width limit T fs depth → (i : ℕ) → i < limit → Asked i
-    unfolding RightFrames RightAt
-    each-right r i w = go (ltb i depth) refl
-      where
-        go : (u : Bool) → ltb i depth ≡ u → RightAt width T u (frame-at width bytes (i * frame-bytes width))
-        go true e =
-            let b : i < depth = ltb-true i depth e in
-            subst (RightFrame width T) (getD-take depth fs i no-frame b ∙ getD-frames-in width bytes i no-frame (omega (arith, count)))
-            (every-at (RightFrame width T) (take depth fs) no-frame i (r .1 .1 .0) (omega (arith, length-take depth fs, long)))
-        go false e =
-            let b : depth ≤ i = ltb-false i depth e in
-            let z : depth + (i - depth) ≡ i = omega arith in
-            subst (IsZero width) (getD-drop depth fs (i - depth) no-frame ∙ ap (λ (x : ℕ). getD fs x no-frame) z ∙ getD-frames-in width bytes i no-frame (omega (arith, count)))
-            (every-at (IsZero width) (drop depth fs) no-frame (i - depth) (r .1 .1 .1) (omega (arith, length-drop depth fs, long)))
+    pub used-right : RightFrames width limit T fs depth → (i : ℕ) → i < depth → RightFrame width T (frame-at width bytes (i * frame-bytes width))
+    unfolding RightFrames
+    used-right r i b =
+        subst (RightFrame width T) (getD-take depth fs i no-frame b ∙ getD-frames-in width bytes i no-frame (omega (arith, count)))
+        (every-at (RightFrame width T) (take depth fs) no-frame i (r .1 .1 .0) (omega (arith, length-take depth fs, long)))
+
+    pub unused-zero : RightFrames width limit T fs depth → (i : ℕ) → depth ≤ i → i < limit → IsZero width (frame-at width bytes (i * frame-bytes width))
+    unfolding RightFrames
+    unused-zero r i b w =
+        let z : depth + (i - depth) ≡ i = omega arith in
+        subst (IsZero width) (getD-drop depth fs (i - depth) no-frame ∙ ap (λ (x : ℕ). getD fs x no-frame) z ∙ getD-frames-in width bytes i no-frame (omega (arith, count)))
+        (every-at (IsZero width) (drop depth fs) no-frame (i - depth) (r .1 .1 .1) (omega (arith, length-drop depth fs, long)))
 
   pub wrong-count : ¬ (length bytes / frame-bytes width ≡ limit) → ¬ RightFrames width limit T fs depth
   unfolding RightFrames

@@ -6,13 +6,13 @@ ghost use lib.ListN.{length, getD, take, drop, set, replicate};
 ghost use Rattle.pcrl.specs.Limits.{frame-width, stack-limit};
 ghost use Rattle.pcrl.specs.Table.{Table};
 ghost use Rattle.pcrl.specs.Right.{RightTable};
-ghost use Rattle.pcrl.specs.Stack.{zero-frame, RightFrame, IsZero, RightFrames, frames-of, stack-of};
+ghost use Rattle.pcrl.specs.Stack.{zero-frame, RightFrame, RightFrames, frames-of, stack-of};
 ghost use Rattle.pcrl.specs.Answers.{start-stack};
 ghost use Rattle.laws.specs.Says.{Says};
 ghost use Rattle.tables.specs.Indexed.{Indexed};
 ghost use Rattle.stacks.specs.Lent.{frame-bytes, frame-at, frames-at, frames-in, stack-bytes};
 ghost use Rattle.stacks.specs.Fitting.{FitsAt, Fitting};
-ghost use Rattle.stacks.specs.Known.{Known, RightAt};
+ghost use Rattle.stacks.specs.Known.{Known};
 
 // "A frame is an equation number and four values": its bytes.
 pub const FRAME: usize = 5;
@@ -61,29 +61,18 @@ fn right_frame(s: &[u8], sizes: &[u8], params: &[u16], f: &[u8]) -> bool
     fitting(sizes, terms::list_at(s, terms::place(params, e)), &f[1..])
 }
 
-// "all unused .. frames zero"
-fn zero_frame(f: &[u8]) -> bool
-    requires { ⌜ length (now f) ≡ frame-bytes frame-width ⌝ }
-    ensures { λ r. ⌜ Says r (IsZero frame-width (frame-at frame-width (now (f .entry)) 0)) ⌝ }
+// "all unused .. frames zero": the bytes from `at` on and before `end`. The loop has one way out, so that the compiler tests many at once.
+fn zeros(s: &[u8], at: usize, end: usize) -> bool
+    requires { ⌜ (at ≤ end) × (end ≤ length (now s)) ⌝ }
+    ensures { λ r. ⌜ Says r ((k : ℕ) → at ≤ k → k < end → getD (now (s .entry)) k 0 ≡ 0) ⌝ }
 {
-    let mut i = 0;
-    while i < f.len() {
-        if f[i] != 0 {
-            return false;
-        }
-        i += 1;
+    let mut good = true;
+    let mut i = end;
+    while at < i {
+        i -= 1;
+        good = tables::both(good, s[i] == 0);
     }
-    true
-}
-
-fn right_at(s: &[u8], sizes: &[u8], params: &[u16], used: bool, f: &[u8]) -> bool
-    requires { ⌜ length (now f) ≡ frame-bytes frame-width ⌝ }
-    ensures { λ r. ⌜ ((T : Table) → Known T (now (s .entry)) (now (sizes .entry)) (now (params .entry)) → Says r (RightAt frame-width T used (frame-at frame-width (now (f .entry)) 0))) ⌝ }
-{
-    if used {
-        return right_frame(s, sizes, params, f);
-    }
-    zero_frame(f)
+    good
 }
 
 // The first n places.
@@ -109,11 +98,15 @@ pub fn right_frames(s: &[u8], index: tables::Index, frames: &[u8], depth: usize)
     let sizes = terms::list_at(s, 0);
     let places = index.params;
     let params = first(&places, index.equations);
+    let unused = depth * FRAME;
+    if !zeros(frames, unused, BYTES) {
+        return false;
+    }
     let mut i = 0;
-    while i < LIMIT {
+    while i < depth {
         let at = i * FRAME;
         let end = at + FRAME;
-        if !right_at(s, sizes, params, i < depth, &frames[at..end]) {
+        if !right_frame(s, sizes, params, &frames[at..end]) {
             return false;
         }
         i += 1;

@@ -5,15 +5,16 @@ use mathlib.Core.Bool.{Bool, true, false}
 use mathlib.Core.Option.{Option, none, some}
 use Prim.Native.Nat.{ℕ, suc, _+_, _*_, _<_, _≤_}
 use native.Mathlib.Omega.{arith}
+use lib.Dec.{eqb}
 use lib.ListN.{length, getD, take, drop, length-append, length-drop, length-map, drop-of-length-le}
 use lib.Seq.{drop-cons, length-take-le}
-use Rattle.pcrl.specs.Tests.{Every}
+use Rattle.pcrl.specs.Tests.{Every, and}
 use Rattle.pcrl.specs.Reader.{found}
 use Rattle.pcrl.specs.Table.{Equation, Table, params-of}
 use Rattle.pcrl.specs.Stream.{encode-numbers, encode-func, encode-action, encode}
 use Rattle.pcrl.specs.Decode.{decode}
 use Rattle.pcrl.specs.Blocks.{block-stream, blocks-for, Filled, filled?, table-in, table-read}
-use Rattle.laws.specs.Says.{Says}
+use Rattle.laws.specs.Says.{Says, says-as, says-eq}
 use Rattle.codec.specs.StreamLaws.{encode-decode}
 use Rattle.terms.proofs.Places.{as-many}
 use Rattle.tables.specs.declared.Tabled.{Tabled}
@@ -40,6 +41,15 @@ module _ (s : List ℕ) (i : ℕ) (h : i < length s) where
   pub zeros-more : (j : ℕ) → j ≡ suc i → getD s i 0 ≡ 0 → Zeros (drop j s) → Zeros (drop i s)
   unfolding Every
   zeros-more j z e q = rw (drop-cons s i 0 h) (e, subst (λ (k : ℕ). Zeros (drop k s)) z q)
+
+-- one byte more, before the others
+pub zeros-said : (s : List ℕ) (j i : ℕ) → j ≡ suc i → i < length s → (good : Bool) → Says good (Zeros (drop j s)) → Says (and good (eqb (getD s i 0) 0)) (Zeros (drop i s))
+zeros-said s j i z h true q = says-as (eqb (getD s i 0) 0) (λ e. zeros-more s i h j z e q) (λ r. zero-first (eqb (getD s i 0) 0) (says-eq (getD s i 0) 0) r) (says-eq (getD s i 0) 0)
+  where
+    zero-first : (t : Bool) → Says t (getD s i 0 ≡ 0) → Zeros (drop i s) → getD s i 0 ≡ 0
+    zero-first true e r = e
+    zero-first false n r = absurd (zeros-bad s i h n r)
+zeros-said s j i z h false q = λ r. q (zeros-back s i h j z r)
 
 -- BLOCKS
 

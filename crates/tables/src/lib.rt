@@ -4,7 +4,7 @@ ghost use mathlib.Core.Bool.{false};
 ghost use Prim.Native.Nat.{_*_, _≤_};
 ghost use lib.ListN.{length, take, drop};
 ghost use Rattle.pcrl.specs.Limits.{max-functions, max-actions, max-equations, max-stream};
-ghost use Rattle.pcrl.specs.Tests.{Every};
+ghost use Rattle.pcrl.specs.Tests.{Every, and};
 ghost use Rattle.pcrl.specs.Blocks.{block-stream, blocks-for, table-read};
 ghost use Rattle.laws.specs.Says.{Says};
 ghost use Rattle.tables.specs.Indexed.{TableRead, Decoded};
@@ -96,18 +96,23 @@ fn none() -> Read
     }
 }
 
-// "zeros after it"
+pub fn both(a: bool, b: bool) -> bool
+    ensures { λ r. ⌜ r ≡ and a b ⌝ }
+{
+    if a { b } else { false }
+}
+
+// "zeros after it": the loop has one way out, so that the compiler tests many bytes at once.
 fn zeros(s: &[u8], at: usize) -> bool
     ensures { λ r. ⌜ Says r (Every (λ b. b ≡ 0) (drop at (now (s .entry)))) ⌝ }
 {
-    let mut i = at;
-    while i < s.len() {
-        if s[i] != 0 {
-            return false;
-        }
-        i += 1;
+    let mut good = true;
+    let mut i = s.len();
+    while at < i {
+        i -= 1;
+        good = both(good, s[i] == 0);
     }
-    true
+    good
 }
 
 // "fewest blocks, zeros after it"
