@@ -24,7 +24,7 @@ use Rattle.tables.specs.declared.Index.{Index}
 use Rattle.firing.specs.Known.{KnownParts, AtRow}
 
 -- a piece stands at its place in an array of which only the first n places are used
-there : {A : Type 0} (encode : A → List ℕ) (s : List ℕ) (xs : List A) (places : List ℕ) (n : ℕ) (a : A) → n ≡ length xs → Standing encode s xs (take n places) → (i : ℕ) → i < length xs → Stands s (getD places i 0) (encode (getD xs i a))
+pub there : {A : Type 0} (encode : A → List ℕ) (s : List ℕ) (xs : List A) (places : List ℕ) (n : ℕ) (a : A) → n ≡ length xs → Standing encode s xs (take n places) → (i : ℕ) → i < length xs → Stands s (getD places i 0) (encode (getD xs i a))
 there encode s xs places n a e k i h = subst (λ (p : ℕ). Stands s p (encode (getD xs i a))) (getD-take n places i 0 (omega arith)) (stands-there encode s xs (take n places) k a i h)
 
 module _ (T : Table) (s : List ℕ) (index : Index) (indexed : Indexed T s index) (right : RightTable T) where

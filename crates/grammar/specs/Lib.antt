@@ -1,4 +1,4 @@
-pub mod Print
+pub mod Formed
 pub mod PrintLaws
 pub mod Outcome
 pub mod ParsedTerms
@@ -10,7 +10,6 @@ pub mod Weight
 pub mod PrintedTerms
 pub mod PrintedLines
 pub mod Printed
-pub mod Render
 pub mod Spelled
 pub mod Taken
 pub mod Rendered

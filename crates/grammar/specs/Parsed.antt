@@ -14,7 +14,8 @@ use Rattle.pcrl.specs.Tokens.{Token, name, numeral, the}
 use Rattle.pcrl.specs.Reader.{Got, missing, found, all}
 use Rattle.pcrl.specs.Tree.{RawSheet}
 use Rattle.pcrl.specs.Grammar.{Reads, on, fail, sort-line, numerals, one-or-two, func-line, act-line, parameters, proc-line, init-line, data-given, none-in, lines, sheet, whole, parse}
-use Rattle.grammar.specs.Print.{bracketed, joined, print-choice, line, print-lines, print-sorts, print-values, print-sort, print-func, print-takes, print-act, print-param, print-params, print-proc, print-init, print-sheet, FormedFunc, FormedAct, Formed}
+use Rattle.pcrl.specs.Print.{bracketed, joined, print-choice, line, print-lines, print-sorts, print-values, print-sort, print-func, print-takes, print-act, print-param, print-params, print-proc, print-init, print-sheet}
+use Rattle.grammar.specs.Formed.{FormedFunc, FormedAct, Formed}
 use Rattle.grammar.specs.PrintLaws.{joined-cons, takes-some, params-some, sheet-before}
 use Rattle.grammar.specs.Outcome.{Found, nothing, just, of-found, found-bind, found-map, found-on, found-expect, found-name, found-numeral, found-test}
 use Rattle.grammar.specs.ParsedTerms.{Prints, given-printed, choice-printed}

@@ -5,7 +5,7 @@ use mathlib.Core.List.{List, [], _∷_, _++_, append-assoc}
 use Prim.Native.Nat.{ℕ, zero, suc, _+_}
 use Rattle.pcrl.specs.Tokens.{Token, the}
 use Rattle.pcrl.specs.Grammar.{fail, data-term, data-list, data-given, choice, conditional, sequence, part}
-use Rattle.grammar.specs.Print.{bracketed, print-data, print-datas, print-given, print-choice, print-conditional, print-sequence, print-part}
+use Rattle.pcrl.specs.Print.{bracketed, print-data, print-datas, print-given, print-choice, print-conditional, print-sequence, print-part}
 use Rattle.grammar.specs.Outcome.{Found, nothing, just, found-bind, found-on, found-expect, found-name, found-on-numeral}
 
 -- the tokens are what is printed for the value, and what is left

@@ -7,7 +7,7 @@ use native.Mathlib.Omega.{arith}
 use lib.ListN.{length, length-append}
 use Rattle.pcrl.specs.Tokens.{Token, the}
 use Rattle.pcrl.specs.Tree.{Name, RawSheet}
-use Rattle.grammar.specs.Print.{bracketed, joined, print-sorts, print-takes, print-param, print-params, line, print-lines, print-sort, print-func, print-act, print-proc, print-init, print-sheet}
+use Rattle.pcrl.specs.Print.{bracketed, joined, print-sorts, print-takes, print-param, print-params, line, print-lines, print-sort, print-func, print-act, print-proc, print-init, print-sheet}
 
 -- one more before some
 pub joined-cons : {A : Type 0} (s : String) (w : A → List Token) (a : A) (l : List A) → 1 ≤ length l → joined s w (a ∷ l) ≡ w a ++ (the s ∷ joined s w l)

@@ -16,7 +16,8 @@ use Rattle.pcrl.specs.Tree.{RawSheet}
 use Rattle.pcrl.specs.Grammar.{sort-line, func-line, act-line, proc-line, lines, sheet, whole, parse}
 use Rattle.laws.specs.Every.{every-of-all}
 use Rattle.laws.specs.Readers.{test-read}
-use Rattle.grammar.specs.Print.{line, print-lines, print-sort, print-func, print-act, print-proc, print-init, print-sheet, FormedFunc, FormedAct, Formed}
+use Rattle.pcrl.specs.Print.{line, print-lines, print-sort, print-func, print-act, print-proc, print-init, print-sheet}
+use Rattle.grammar.specs.Formed.{FormedFunc, FormedAct, Formed}
 use Rattle.grammar.specs.PrintLaws.{sheet-before, sheet-length}
 use Rattle.grammar.specs.Ahead.{absent, expect-sign}
 use Rattle.grammar.specs.Parsed.{print-sheet-of, print-parse}

@@ -14,7 +14,8 @@ use Rattle.pcrl.specs.Reader.{found, bind, all}
 use Rattle.pcrl.specs.Tree.{Name, SortLine, FuncLine, ActLine, ProcLine, InitLine}
 use Rattle.pcrl.specs.Grammar.{Reads, on, expect, a-name, a-numeral, sort-line, numerals, one-or-two, func-line, act-line, parameters, proc-line, init-line, data-given, none-in, lines}
 use Rattle.laws.specs.Readers.{test-read}
-use Rattle.grammar.specs.Print.{bracketed, joined, print-given, print-choice, line, print-lines, print-sorts, print-values, print-sort, print-func, print-takes, print-act, print-param, print-params, print-proc, print-init, FormedFunc, FormedAct}
+use Rattle.pcrl.specs.Print.{bracketed, joined, print-given, print-choice, line, print-lines, print-sorts, print-values, print-sort, print-func, print-takes, print-act, print-param, print-params, print-proc, print-init}
+use Rattle.grammar.specs.Formed.{FormedFunc, FormedAct}
 use Rattle.grammar.specs.PrintLaws.{joined-length}
 use Rattle.grammar.specs.Ahead.{absent, on-sign, on-absent, expect-sign}
 use Rattle.grammar.specs.Weight.{weight-given-bound, weight-choice-bound}

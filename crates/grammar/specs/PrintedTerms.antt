@@ -11,7 +11,7 @@ use Rattle.pcrl.specs.Tokens.{Token, the, is?}
 use Rattle.pcrl.specs.Reader.{found, bind}
 use Rattle.pcrl.specs.Tree.{RawData, RawDatas, Choice, Conditional, Sequence, Part}
 use Rattle.pcrl.specs.Grammar.{on, expect, on-numeral, a-name, data-term, data-list, data-given, choice, conditional, sequence, part}
-use Rattle.grammar.specs.Print.{bracketed, print-data, print-datas, print-given, print-choice, print-conditional, print-sequence, print-part}
+use Rattle.pcrl.specs.Print.{bracketed, print-data, print-datas, print-given, print-choice, print-conditional, print-sequence, print-part}
 use Rattle.grammar.specs.Ahead.{absent, on-absent}
 use Rattle.grammar.specs.Weight.{weight-data, weight-datas, weight-given, weight-choice, weight-conditional, weight-sequence, weight-part}
 

@@ -6,12 +6,11 @@ use native.Mathlib.Omega.{arith}
 use native.Mathlib.Decide.{ℕ-discrete, decLe}
 use lib.Dec.{T, eqb, ltb}
 use lib.ListN.{length, getD}
-use Rattle.pcrl.specs.Text.{byte}
+use Rattle.pcrl.specs.Text.{byte, digits, decimal}
 use Rattle.pcrl.specs.Limits.{max-numeral}
 use Rattle.pcrl.specs.Tests.{or, Every, every?, both?, T?}
 use Rattle.pcrl.specs.Bytes.{digit}
 use Rattle.pcrl.specs.Tokens.{value-of}
-use Rattle.pcrl.specs.Walk.{digits, decimal}
 
 -- a value in decimal: digits, no leading zero, and they spell the value
 abbrev pub Spelled : ℕ → Type 0

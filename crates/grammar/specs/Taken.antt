@@ -1,4 +1,4 @@
--- A valid token is taken whole from its bytes, where a blank or nothing stands behind them.
+-- A valid token is taken whole from its bytes, where nothing stands behind them or a byte that does not go on with it.
 use mathlib.Core.Path.{_≡_, refl, sym, ap, subst, _∙_}
 use mathlib.Core.List.{List, [], _∷_, _++_}
 use mathlib.Core.Bool.{Bool, true, false}
@@ -8,21 +8,20 @@ use native.Mathlib.Omega.{arith}
 use native.Mathlib.Decide.{ℕ-discrete}
 use lib.Dec.{T, leb, leb→le, le→leb, eqb, eqb→eq, ltb}
 use lib.ListN.{length, getD}
-use Rattle.pcrl.specs.Text.{byte}
+use Rattle.pcrl.specs.Text.{byte, decimal}
 use Rattle.pcrl.specs.Limits.{max-name, max-numeral}
 use Rattle.pcrl.specs.Tests.{and, or, negated, same?, among, Every}
 use Rattle.pcrl.specs.Bytes.{separator, letter, digit, name-byte}
 use Rattle.pcrl.specs.Tokens.{Token, name, numeral, sign, words, marks, run, front, Lexeme, name-of, value-of, numeral-of, mark-of, first-token}
-use Rattle.pcrl.specs.Walk.{decimal}
+use Rattle.pcrl.specs.Render.{write, goes-on}
 use Rattle.laws.specs.Tests.{is-true, both-pass}
-use Rattle.grammar.specs.TokenLaws.{ValidName, ValidToken, front-cons}
-use Rattle.grammar.specs.Render.{blank-byte, write}
+use Rattle.grammar.specs.TokenLaws.{ValidName, ValidToken, front-every, front-cons}
 use Rattle.grammar.specs.Spelled.{spelled}
 
--- behind a token: nothing, or a blank
-pub data Behind : List ℕ → Type 0 where
-  nothing : Behind []
-  blank : (s : List ℕ) → Behind (blank-byte ∷ s)
+-- nothing stands next, or a byte that does not pass the test
+pub data Stops (p : ℕ → Bool) : List ℕ → Type 0 where
+  nothing : Stops p []
+  at : (b : ℕ) (s : List ℕ) → p b ≡ false → Stops p (b ∷ s)
 
 -- the token that bytes begin with
 unfoldable pub lexeme : List ℕ → Option Lexeme
@@ -34,17 +33,17 @@ unfoldable pub begins : List ℕ → Bool
 begins [] = false
 begins (b ∷ s) = negated (separator b)
 
--- the token is taken from its bytes, whatever stands behind them
+-- the token is taken from its bytes, where what stands behind them does not go on with it
 pub record Taken (t : Token) : Type 0 where
   pub here : T (begins (write t))
-  pub whole : (r : List ℕ) → Behind r → lexeme (write t ++ r) ≡ some (t, length (write t))
+  pub whole : (r : List ℕ) → Stops (goes-on t) r → lexeme (write t ++ r) ≡ some (t, length (write t))
 
--- the bytes that pass a test, before a blank that does not
-pub front-append : (p : ℕ → Bool) → p blank-byte ≡ false → (w r : List ℕ) → Every (λ b. T (p b)) w → Behind r → front p (w ++ r) ≡ w
+-- the bytes that pass a test, before one that does not
+pub front-append : (p : ℕ → Bool) (w r : List ℕ) → Every (λ b. T (p b)) w → Stops p r → front p (w ++ r) ≡ w
 unfolding Every run
-front-append p e [] r h nothing = refl
-front-append p e [] r h (blank s) = rw (e, run)
-front-append p e (b ∷ w) r h k = front-cons p b (w ++ r) (is-true (p b) (h .0)) ∙ ap (λ l. b ∷ l) (front-append p e w r (h .1) k)
+front-append p [] r h nothing = refl
+front-append p [] r h (at b s e) = rw (e, run)
+front-append p (b ∷ w) r h k = front-cons p b (w ++ r) (is-true (p b) (h .0)) ∙ ap (λ l. b ∷ l) (front-append p w r (h .1) k)
 
 -- no separator passes the test
 pub no-separator : (p : ℕ → Bool) → p 0x20 ≡ false → p 0x0A ≡ false → (b : ℕ) → T (p b) → T (negated (separator b))
@@ -69,11 +68,11 @@ name-of-valid n v = rw (is-true (leb (length n) max-name) (le→leb (length n) m
 
 -- "names"
 pub name-taken : (n : List ℕ) → ValidName n → Taken (name n)
-unfolding ValidName write begins lexeme
+unfolding ValidName write begins lexeme goes-on
 name-taken [] v = absurd (omega arith)
 name-taken (b ∷ w) v = record {
   here = no-separator letter refl refl b (v .1 .0);
-  whole = λ r k. first-name b (w ++ r) (is-true (letter b) (v .1 .0)) ∙ (ap name-of (front-append name-byte refl (b ∷ w) r (v .0 .1) k) ∙ name-of-valid (b ∷ w) v);
+  whole = λ r k. first-name b (w ++ r) (is-true (letter b) (v .1 .0)) ∙ (ap name-of (front-append name-byte (b ∷ w) r (v .0 .1) k) ∙ name-of-valid (b ∷ w) v);
 }
 
 -- one of the words, or one of the marks
@@ -86,24 +85,28 @@ among-every P (m ∷ ms) h w k = by (same? w m) k (among-every P ms (h .1) w)
     by (yes e) t next = subst P (sym e) (h .0)
     by (no g) t next = next t
 
--- by running the rule on it, with nothing behind and with a blank
-pub by-running : (w : List ℕ) → T (begins w) → lexeme (w ++ []) ≡ some (sign w, length w) → ((s : List ℕ) → lexeme (w ++ (blank-byte ∷ s)) ≡ some (sign w, length w)) → Taken (sign w)
-unfolding write
-by-running w h e f = record { here = h; whole = either }
-  where
-    either : (r : List ℕ) → Behind r → lexeme (w ++ r) ≡ some (sign w, length w)
-    either r nothing = e
-    either r (blank s) = f s
+-- a word: a run of letters that the rule finds among the words
+pub word-taken : (b : ℕ) (w : List ℕ) → letter b ≡ true → front name-byte (b ∷ w) ≡ b ∷ w → name-of (b ∷ w) ≡ some (sign (b ∷ w), length (b ∷ w)) → among (b ∷ w) words ≡ true → Taken (sign (b ∷ w))
+unfolding write begins lexeme goes-on
+word-taken b w l h e k = record {
+  here = no-separator letter refl refl b (rw l tt);
+  whole = λ r s. first-name b (w ++ r) l ∙ (ap name-of (front-append name-byte (b ∷ w) r (subst (Every (λ c. T (name-byte c))) h (front-every name-byte (b ∷ w))) (subst (λ t. Stops (λ c. and t (name-byte c)) r) k s)) ∙ e);
+}
 
 -- "The words sort, func, act, proc, init, sum, delta and tau", each by computation
 pub words-taken : Every (λ w. Taken (sign w)) words
-unfolding Every words begins lexeme first-token run name-of among same? ℕ-discrete
-words-taken = (by-running _ tt refl (λ s. refl), (by-running _ tt refl (λ s. refl), (by-running _ tt refl (λ s. refl), (by-running _ tt refl (λ s. refl), (by-running _ tt refl (λ s. refl), (by-running _ tt refl (λ s. refl), (by-running _ tt refl (λ s. refl), (by-running _ tt refl (λ s. refl), tt))))))))
+unfolding Every words run name-of among same? ℕ-discrete
+words-taken = (word-taken _ _ refl refl refl refl, (word-taken _ _ refl refl refl refl, (word-taken _ _ refl refl refl refl, (word-taken _ _ refl refl refl refl, (word-taken _ _ refl refl refl refl, (word-taken _ _ refl refl refl refl, (word-taken _ _ refl refl refl refl, (word-taken _ _ refl refl refl refl, tt))))))))
 
--- "`( ) , ; : # = + . -> <| |>`", likewise
+-- a mark, whatever stands behind it
+pub mark-taken : (w : List ℕ) → T (begins w) → ((r : List ℕ) → lexeme (w ++ r) ≡ some (sign w, length w)) → Taken (sign w)
+unfolding write
+mark-taken w h e = record { here = h; whole = λ r s. e r }
+
+-- "`( ) , ; : # = + . -> <| |>`", each by computation
 pub marks-taken : Every (λ w. Taken (sign w)) marks
 unfolding Every marks begins lexeme first-token mark-of same? ℕ-discrete
-marks-taken = (by-running _ tt refl (λ s. refl), (by-running _ tt refl (λ s. refl), (by-running _ tt refl (λ s. refl), (by-running _ tt refl (λ s. refl), (by-running _ tt refl (λ s. refl), (by-running _ tt refl (λ s. refl), (by-running _ tt refl (λ s. refl), (by-running _ tt refl (λ s. refl), (by-running _ tt refl (λ s. refl), (by-running _ tt refl (λ s. refl), (by-running _ tt refl (λ s. refl), (by-running _ tt refl (λ s. refl), tt))))))))))))
+marks-taken = (mark-taken _ tt (λ r. refl), (mark-taken _ tt (λ r. refl), (mark-taken _ tt (λ r. refl), (mark-taken _ tt (λ r. refl), (mark-taken _ tt (λ r. refl), (mark-taken _ tt (λ r. refl), (mark-taken _ tt (λ r. refl), (mark-taken _ tt (λ r. refl), (mark-taken _ tt (λ r. refl), (mark-taken _ tt (λ r. refl), (mark-taken _ tt (λ r. refl), (mark-taken _ tt (λ r. refl), tt))))))))))))
 
 -- no digit is a letter
 pub digit-no-letter : (b : ℕ) → T (digit b) → letter b ≡ false
@@ -122,10 +125,10 @@ unfolding Every begins
 digits-begin [] d g = absurd (omega arith)
 digits-begin (b ∷ w) d g = no-separator digit refl refl b (d .0)
 
-pub digits-whole : (w : List ℕ) → Every (λ b. T (digit b)) w → 1 ≤ length w → (r : List ℕ) → Behind r → lexeme (w ++ r) ≡ numeral-of w
+pub digits-whole : (w : List ℕ) → Every (λ b. T (digit b)) w → 1 ≤ length w → (r : List ℕ) → Stops digit r → lexeme (w ++ r) ≡ numeral-of w
 unfolding Every lexeme
 digits-whole [] d g r k = absurd (omega arith)
-digits-whole (b ∷ w) d g r k = first-numeral b (w ++ r) (digit-no-letter b (d .0)) (is-true (digit b) (d .0)) ∙ ap numeral-of (front-append digit refl (b ∷ w) r d k)
+digits-whole (b ∷ w) d g r k = first-numeral b (w ++ r) (digit-no-letter b (d .0)) (is-true (digit b) (d .0)) ∙ ap numeral-of (front-append digit (b ∷ w) r d k)
 
 pub numeral-of-spelled : (v : ℕ) → v ≤ max-numeral → numeral-of (decimal v) ≡ some (numeral v, length (decimal v))
 unfolding numeral-of
@@ -141,7 +144,7 @@ numeral-of-spelled v h =
 
 -- "numerals"
 pub numeral-taken : (v : ℕ) → v ≤ max-numeral → Taken (numeral v)
-unfolding write
+unfolding write goes-on
 numeral-taken v h =
     let k = spelled v h in
     record { here = digits-begin (decimal v) (k .0) (k .1 .0); whole = λ r e. digits-whole (decimal v) (k .0) (k .1 .0) r e ∙ numeral-of-spelled v h }

@@ -15,7 +15,7 @@ use Rattle.pcrl.specs.Tree.{ActLine, RawSheet}
 use Rattle.pcrl.specs.Grammar.{parse}
 use Rattle.pcrl.specs.Right.{free-name, RightName}
 use Rattle.laws.specs.Every.{every-left, every-right}
-use Rattle.grammar.specs.Print.{line, print-lines, print-sort, print-func, print-act, print-sheet}
+use Rattle.pcrl.specs.Print.{line, print-lines, print-sort, print-func, print-act, print-sheet}
 use Rattle.grammar.specs.Parsed.{print-parse}
 use Rattle.grammar.specs.TokenLaws.{ValidName, ValidToken, tokens-valid}
 

@@ -6,7 +6,7 @@ use native.Mathlib.Omega.{arith}
 use lib.ListN.{length, length-append}
 use Rattle.pcrl.specs.Tokens.{the}
 use Rattle.pcrl.specs.Tree.{RawData, RawDatas, Choice, Conditional, Sequence, Part}
-use Rattle.grammar.specs.Print.{bracketed, print-data, print-datas, print-given, print-choice, print-conditional, print-sequence, print-part}
+use Rattle.pcrl.specs.Print.{bracketed, print-data, print-datas, print-given, print-choice, print-conditional, print-sequence, print-part}
 
 unfoldable mutual
   pub weight-data : RawData → ℕ

@@ -1,5 +1,6 @@
 -- To unfold `definitions` is to unfold every definition of pcrl that computes: what a theorem by computation names.
 use Prim.Native.Nat.{ℕ}
+use Rattle.pcrl.specs.Text
 use Rattle.pcrl.specs.Tests
 use Rattle.pcrl.specs.Result
 use Rattle.pcrl.specs.Bytes
@@ -7,6 +8,8 @@ use Rattle.pcrl.specs.Reader
 use Rattle.pcrl.specs.Maybe
 use Rattle.pcrl.specs.Tokens
 use Rattle.pcrl.specs.Grammar
+use Rattle.pcrl.specs.Print
+use Rattle.pcrl.specs.Render
 use Rattle.pcrl.specs.Counts
 use Rattle.pcrl.specs.Names
 use Rattle.pcrl.specs.Sorts
@@ -26,16 +29,21 @@ use Rattle.pcrl.specs.Steps
 use Rattle.pcrl.specs.Ask
 use Rattle.pcrl.specs.Terms
 use Rattle.pcrl.specs.States
+use Rattle.pcrl.specs.Printer
 use Rattle.pcrl.specs.Answers
 use Rattle.pcrl.specs.Walk
 
 unfoldable pub in-tests : ℕ
-unfolding Tests.both? Tests.between? Tests.at-most? Tests.below? Tests.T? Tests.same? Tests.among Tests.distinct Tests.some? Tests.Every Tests.every? Tests.Each Tests.each? Result.question Result.question-of Result.after Result.refusal Bytes.short? Bytes.Printable Bytes.printable? Reader.bind Reader.keep Reader.one Reader.test Reader.pair Reader.view Reader.times Reader.each Reader.all Reader.counted Maybe.for-each native.Mathlib.Decide.ℕ-discrete native.Mathlib.Decide.decLe native.Mathlib.Decide.decLt
+unfolding Tests.both? Tests.between? Tests.at-most? Tests.below? Tests.T? Tests.same? Tests.among Tests.distinct Tests.some? Tests.Every Tests.every? Tests.Each Tests.each? Result.question Result.question-of Result.after Result.refusal Result.passed Bytes.short? Bytes.Printable Bytes.printable? Reader.bind Reader.keep Reader.one Reader.test Reader.pair Reader.view Reader.times Reader.each Reader.all Reader.counted Maybe.for-each native.Mathlib.Decide.ℕ-discrete native.Mathlib.Decide.decLe native.Mathlib.Decide.decLt
 in-tests = 0
 
 unfoldable pub in-reading : ℕ
 unfolding Tokens.words Tokens.marks Tokens.run Tokens.name-of Tokens.value-of Tokens.numeral-of Tokens.mark-of Tokens.first-token Tokens.before Tokens.followed Tokens.tokens-behind Tokens.tokens Tokens.is? Tokens.open-behind Tokens.most-open Tokens.Shallow Tokens.shallow? Grammar.on Grammar.fail Grammar.expect Grammar.a-name Grammar.a-numeral Grammar.on-numeral Grammar.data-term Grammar.data-given Grammar.choice Grammar.sort-line Grammar.numerals Grammar.one-or-two Grammar.func-line Grammar.act-line Grammar.parameters Grammar.proc-line Grammar.no-variable Grammar.none-in Grammar.init-line Grammar.lines Grammar.sheet Grammar.whole Grammar.parse Counts.Counted Counts.counted? Names.names-of Names.number-of Names.declared Names.new-variable Names.resolve-data Names.resolve-given Names.named Names.resolve-choice Names.sorts-of Names.resolve-func Names.resolve-act Names.resolve-params Names.resolve-proc Names.resolve-init Names.sizes-of Names.resolve Sorts.binding Sorts.HasSort Sorts.has-sort? Sorts.arguments? Sorts.IsAct Sorts.is-act? Sorts.Sorted Sorts.sorted? Sorts.volume Sorts.Complete Sorts.complete? Sorts.RightlySorted Sorts.rightly-sorted? Circles.at-head Circles.NoCircle Circles.all-pass Circles.all-true Circles.passed-after Circles.guarded
 in-reading = 0
+
+unfoldable pub in-printing : ℕ
+unfolding Text.digits Text.decimal Print.bracketed Print.joined Print.print-data Print.print-given Print.print-choice Print.line Print.print-sorts Print.print-values Print.print-sort Print.print-func Print.print-takes Print.print-act Print.print-param Print.print-params Print.print-proc Print.print-init Print.print-sheet Render.write Render.goes-on Render.between Render.render Printer.longest-run Printer.numbered Printer.listed Printer.in-brackets Printer.applied Printer.side Printer.wanting Printer.choice-of Printer.right-of Printer.letters Printer.indexed Printer.sort-name Printer.raw-data Printer.raw-act Printer.raw-call Printer.raw-sequence Printer.raw-conditional Printer.raw-sums Printer.raw-summand Printer.sort-line-of Printer.func-line-of Printer.act-line-of Printer.param-of Printer.proc-line-of Printer.init-line-of Printer.printed Printer.table-text
+in-printing = 0
 
 unfoldable pub in-tables : ℕ
 unfolding Sheet.list-of Sheet.size Sheet.func Sheet.takes-of Sheet.params Sheet.right Values.place Values.apply Values.eval Values.put-data Values.except Values.put Values.or-var Values.these Values.only Parts.in-data Parts.in-list Parts.in-proc Parts.tabulate Parts.marks Parts.count Parts.marked Parts.as-params Parts.if-after Parts.new-parts Parts.new-count Parts.all-new-parts Parts.first-new Parts.kind-new Parts.kind-in Parts.kind Table.equation Table.params-of Table.summands-of Table.summand-count Table.nodes Heads.with-var Heads.with-cond Heads.with-calls Heads.look Heads.new-call Heads.calls-of Heads.heads-by Heads.heads Heads.fuel Heads.equation-of Heads.table-of Stream.encode-data Stream.encode-numbers Stream.encode-list Stream.encode-sorts Stream.encode-func Stream.encode-action Stream.encode-sig Stream.encode-act Stream.encode-cond Stream.encode-call Stream.encode-summand Stream.encode-equations Stream.encode-start Stream.encode Right.SummandWithin Right.EquationWithin Right.Within Right.summand-within? Right.equation-within? Right.within? Right.RightSizes Right.RightFunc Right.free-name Right.RightName Right.RightAction Right.action-names Right.RightSig Right.RightSorts Right.RightCond Right.RightCall Right.RightSummand Right.RightSummands Right.RightEquations Right.RightStart Right.RightTable Decode.node-of Decode.arguments-of Decode.guard Decode.Fits Decode.fits? Decode.wants Decode.build Decode.read-terms Decode.first Decode.read-term Decode.read-sorts Decode.read-sizes Decode.to-func Decode.read-func Decode.to-action Decode.read-name Decode.read-action Decode.to-sig Decode.read-sig Decode.to-summand Decode.zip Decode.to-equations Decode.read-act Decode.read-cond Decode.read-call Decode.read-summand Decode.read-summands Decode.read-equations Decode.read-start Decode.to-table Decode.decode
@@ -50,9 +58,9 @@ unfolding Stack.InSorts Stack.in-sorts? Stack.used Stack.padded Stack.zero-frame
 in-stacks = 0
 
 unfoldable pub in-answers : ℕ
-unfolding Answers.tokens-read Answers.tree-read Answers.sheet-read Answers.table-made Answers.stream-filed Answers.file-made Answers.output-after Answers.stream-read Answers.table-checked Answers.start-stack Answers.reply Answers.started-in Answers.stack-read Answers.one-answer Answers.asked-in Answers.asked-all-in Walk.digits Walk.decimal Walk.values-text Walk.label-text Walk.line Walk.step-line Walk.closing Walk.answer-lines Walk.walk-lines Walk.walk-made Walk.walk-text
+unfolding Answers.tokens-read Answers.tree-read Answers.sorted-read Answers.sheet-read Answers.table-made Answers.stream-filed Answers.file-made Answers.output-after Answers.stream-read Answers.table-checked Answers.text-printed Answers.table-printed Answers.start-stack Answers.reply Answers.started-in Answers.stack-read Answers.one-answer Answers.asked-in Answers.asked-all-in Walk.values-text Walk.label-text Walk.line Walk.step-line Walk.closing Walk.answer-lines Walk.walk-lines Walk.walk-made Walk.walk-text
 in-answers = 0
 
 unfoldable pub definitions : ℕ
-unfolding in-tests in-reading in-tables in-files in-stacks in-answers
+unfolding in-tests in-reading in-printing in-tables in-files in-stacks in-answers
 definitions = 0

@@ -13,7 +13,7 @@ use Rattle.pcrl.specs.Tokens.{name}
 use Rattle.pcrl.specs.Sheet.{Action, no-action}
 use Rattle.pcrl.specs.Maybe.{for-each}
 use Rattle.pcrl.specs.Names.{Names, sorts-of, resolve-act}
-use Rattle.grammar.specs.Print.{FormedAct}
+use Rattle.grammar.specs.Formed.{FormedAct}
 use Rattle.laws.specs.Each.{each-length}
 use Rattle.laws.specs.Numbers.{sorts-declared}
 use Rattle.parser.specs.Cells.{Symbol, tag, token, act-tag, enc-act, enc-items, enc-name}

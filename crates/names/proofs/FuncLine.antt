@@ -10,7 +10,7 @@ use lib.Seq.{getD-set-same, getD-set-other}
 use Rattle.pcrl.specs.Tree.{FuncLine}
 use Rattle.pcrl.specs.Tokens.{name}
 use Rattle.pcrl.specs.Names.{Names, number-of, sorts-of, resolve-func}
-use Rattle.grammar.specs.Print.{FormedFunc}
+use Rattle.grammar.specs.Formed.{FormedFunc}
 use Rattle.laws.specs.Numbers.{sorts-declared}
 use Rattle.parser.specs.Cells.{Symbol, tag, token, func-tag, enc-func, enc-items, enc-name, enc-numeral}
 use Rattle.nodes.specs.Held.{SortsAt}

@@ -12,7 +12,7 @@ use Rattle.pcrl.specs.Reader.{all}
 use Rattle.pcrl.specs.Tree.{FuncLine}
 use Rattle.pcrl.specs.Sheet.{Func, no-func}
 use Rattle.pcrl.specs.Names.{Names, resolve-func}
-use Rattle.grammar.specs.Print.{FormedFunc}
+use Rattle.grammar.specs.Formed.{FormedFunc}
 use Rattle.laws.specs.Each.{each-length}
 use Rattle.parser.specs.Cells.{enc-func, enc-numeral}
 use Rattle.nodes.specs.Held.{func-width, FuncAt}

@@ -13,7 +13,7 @@ use Rattle.pcrl.specs.Tree.{Name, FuncLine, ActLine}
 use Rattle.pcrl.specs.Sheet.{Func, no-func, no-action}
 use Rattle.pcrl.specs.Maybe.{for-each}
 use Rattle.pcrl.specs.Names.{Names, declared, number-of, resolve-func, resolve-act, resolve-params}
-use Rattle.grammar.specs.Print.{FormedFunc, FormedAct}
+use Rattle.grammar.specs.Formed.{FormedFunc, FormedAct}
 use Rattle.parser.specs.Cells.{Symbol, enc-func, enc-act, enc-items, enc-param, enc-numeral}
 use Rattle.nodes.specs.Held.{SortsAt, FuncAt, ActAt}
 use Rattle.names.specs.NameCells.{names-at, scope-at}

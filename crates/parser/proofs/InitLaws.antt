@@ -14,7 +14,7 @@ use Rattle.pcrl.specs.Tests.{and, same?}
 use Rattle.pcrl.specs.Tokens.{Token, sign, the, is?}
 use Rattle.pcrl.specs.Tree.{RawData, RawDatas}
 use Rattle.pcrl.specs.Grammar.{no-variable, no-variables, none-in}
-use Rattle.grammar.specs.Print.{bracketed, print-data, print-datas, print-given}
+use Rattle.pcrl.specs.Print.{bracketed, print-data, print-datas, print-given}
 use Rattle.lexer.specs.Cells.{cell-token}
 use Rattle.parser.specs.Call.{opens, called, all-called}
 use Rattle.parser.specs.Reading.{rest}

@@ -12,7 +12,7 @@ use Rattle.pcrl.specs.Tokens.{Token, name}
 use Rattle.pcrl.specs.Reader.{Got, missing, found, bind, test, keep}
 use Rattle.pcrl.specs.Tree.{Name, RawDatas, Part, InitLine}
 use Rattle.pcrl.specs.Grammar.{a-name, data-given, none-in, init-line}
-use Rattle.grammar.specs.Print.{print-given}
+use Rattle.pcrl.specs.Print.{print-given}
 use Rattle.grammar.specs.Outcome.{Found, of-found, found-name}
 use Rattle.grammar.specs.ParsedTerms.{Prints, given-printed}
 use Rattle.parser.specs.Cells.{Symbol, symbol-of, enc-call, enc-part, enc-init}

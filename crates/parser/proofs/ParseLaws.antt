@@ -11,7 +11,7 @@ use Rattle.pcrl.specs.Tokens.{Token}
 use Rattle.pcrl.specs.Reader.{Got, found}
 use Rattle.pcrl.specs.Tree.{RawSheet}
 use Rattle.pcrl.specs.Grammar.{sheet, whole, parse}
-use Rattle.grammar.specs.Print.{print-sheet}
+use Rattle.pcrl.specs.Print.{print-sheet}
 use Rattle.grammar.specs.Parsed.{print-sheet-of}
 use Rattle.lexer.specs.Cells.{cell-token}
 use Rattle.parser.specs.Cells.{enc-sheet}

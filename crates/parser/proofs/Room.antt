@@ -8,7 +8,7 @@ use lib.ListN.{length, length-append}
 use Rattle.pcrl.specs.Tokens.{Token, name, numeral, the}
 use Rattle.pcrl.specs.Reader.{all}
 use Rattle.pcrl.specs.Tree.{Name, RawData, RawDatas, Choice, Conditional, Sequence, Part, SortLine, FuncLine, ActLine, ProcLine, InitLine, RawSheet}
-use Rattle.grammar.specs.Print.{bracketed, joined, print-data, print-datas, print-given, print-choice, print-conditional, print-sequence, print-part, line, print-lines, print-sorts, print-values, print-sort, print-func, print-takes, print-act, print-param, print-params, print-proc, print-init, print-sheet}
+use Rattle.pcrl.specs.Print.{bracketed, joined, print-data, print-datas, print-given, print-choice, print-conditional, print-sequence, print-part, line, print-lines, print-sorts, print-values, print-sort, print-func, print-takes, print-act, print-param, print-params, print-proc, print-init, print-sheet}
 use Rattle.parser.specs.Cells.{Symbol, enc-name, enc-numeral, enc-param, enc-data, enc-datas, enc-call, enc-choice, enc-conditional, enc-sequence, enc-part, enc-items, enc-sort, enc-func, enc-act, enc-proc, enc-init, enc-sheet}
 
 mutual

@@ -4,7 +4,7 @@ use Prim.Native.Nat.{ℕ}
 use native.Mathlib.Decide.{ℕ-discrete}
 use lib.ListN.{length, drop}
 use Rattle.pcrl.specs.Limits.{frame-width, stack-limit}
-use Rattle.pcrl.specs.Result.{Result, refused, accepted, question, question-of, after}
+use Rattle.pcrl.specs.Result.{Result, refused, accepted, question, question-of, after, passed}
 use Rattle.pcrl.specs.Tests.{T?}
 use Rattle.pcrl.specs.Bytes.{short?, printable?}
 use Rattle.pcrl.specs.Tokens.{Token, tokens, shallow?}
@@ -20,6 +20,7 @@ use Rattle.pcrl.specs.Heads.{table-of}
 use Rattle.pcrl.specs.Stream.{encode}
 use Rattle.pcrl.specs.Right.{within?}
 use Rattle.pcrl.specs.Blocks.{file-of-stream, room?, right-length?, right-blocks?, stream-of, table-read}
+use Rattle.pcrl.specs.Printer.{table-text}
 use Rattle.pcrl.specs.Stack.{Frame, Stack, padded, right-frames?, frames-of, stack-of}
 use Rattle.pcrl.specs.Ask.{Answer, Asked, ask, ask-all}
 
@@ -35,14 +36,17 @@ tokens-read s =
 unfoldable pub tree-read : List ℕ → Result RawSheet
 tree-read s = after (tokens-read s) (λ ts. question-of 5 (parse ts) (λ R. accepted R))
 
--- Check a sheet: the resolved sheet of its bytes, questions 1 to 9.
-unfoldable pub sheet-read : List ℕ → Result Sheet
-sheet-read s =
+-- the resolved sheet of its bytes, questions 1 to 8
+unfoldable pub sorted-read : List ℕ → Result Sheet
+sorted-read s =
     after (tree-read s) (λ R.
     question 6 (counted? R) (λ _.
     question-of 7 (resolve R) (λ H.
-    question 8 (rightly-sorted? H) (λ _.
-    question 9 (T? (guarded H)) (λ _. accepted H)))))
+    question 8 (rightly-sorted? H) (λ _. accepted H))))
+
+-- Check a sheet: the resolved sheet of its bytes, questions 1 to 9.
+unfoldable pub sheet-read : List ℕ → Result Sheet
+sheet-read s = after (sorted-read s) (λ H. question 9 (T? (guarded H)) (λ _. accepted H))
 
 -- the table of a sheet's bytes, questions 1 to 10
 unfoldable pub table-made : List ℕ → Result Table
@@ -70,6 +74,17 @@ stream-read file =
 -- Check a table: the table of a file, questions 12 to 14.
 unfoldable pub table-checked : List ℕ → Result Table
 table-checked file = after (stream-read file) (λ s. question-of 14 (table-read s) (λ T. accepted T))
+
+-- the text of a table, where so many bytes are lent for it: "17: the printed text would fail one of questions 1 to 8; asked after 14,
+-- before output space"
+unfoldable pub text-printed : Table → ℕ → Result (List ℕ)
+text-printed T room =
+    question-of 17 (passed (sorted-read (table-text T))) (λ _.
+    question 11 (room? (table-text T) room) (λ _. accepted (table-text T)))
+
+-- Print a table: the text of a sheet that has it, questions 12 to 14, 17 and 11.
+unfoldable pub table-printed : List ℕ → ℕ → Result (List ℕ)
+table-printed file room = after (table-checked file) (λ T. text-printed T room)
 
 -- what an operation on lent frames answers, and the frames and depth that it leaves
 pub record Reply (A : Type 0) : Type 0 where

@@ -7,6 +7,8 @@ pub mod Tokens
 pub mod Reader
 pub mod Tree
 pub mod Grammar
+pub mod Print
+pub mod Render
 pub mod Counts
 pub mod Sheet
 pub mod Maybe
@@ -28,5 +30,6 @@ pub mod Ask
 pub mod Terms
 pub mod Equality
 pub mod States
+pub mod Printer
 pub mod Answers
 pub mod Walk

@@ -25,3 +25,8 @@ after (accepted a) rest = rest a
 unfoldable pub refusal : {A : Type 0} → Result A → ℕ
 refusal (refused n) = n
 refusal (accepted a) = 0
+
+-- what was accepted, if it was
+unfoldable pub passed : {A : Type 0} → Result A → Option A
+passed (refused n) = none
+passed (accepted a) = some a

@@ -3,7 +3,7 @@ use mathlib.Core.List.{List, [], _∷_, _++_}
 use mathlib.Core.Bool.{true, false}
 use Prim.Native.Nat.{ℕ, zero, suc, _+_, _/_, _%_}
 use lib.Dec.{ltb}
-use Rattle.pcrl.specs.Text.{bytes, byte}
+use Rattle.pcrl.specs.Text.{bytes, decimal}
 use Rattle.pcrl.specs.Limits.{frame-width, stack-limit}
 use Rattle.pcrl.specs.Result.{Result, refused, accepted}
 use Rattle.pcrl.specs.Label.{Label, silent, named}
@@ -15,14 +15,6 @@ use Rattle.pcrl.specs.Answers.{table-made, start-stack}
 -- "takes step 0 up to 8 times"
 abbrev pub walk-steps : ℕ
 walk-steps = 8
-
--- a number in decimal; f bounds how many digits it has
-unfoldable pub digits : ℕ → ℕ → List ℕ
-digits zero n = []
-digits (suc f) n = elim (ltb n 10) [ true ↦ (byte "0" + n) ∷ [] | false ↦ digits f (n / 10) ++ ((byte "0" + n % 10) ∷ []) ]
-
-unfoldable pub decimal : ℕ → List ℕ
-decimal n = digits (suc n) n
 
 -- "values by commas, no blanks"
 unfoldable pub values-text : List ℕ → List ℕ

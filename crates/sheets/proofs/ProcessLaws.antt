@@ -13,7 +13,7 @@ use Rattle.pcrl.specs.Tokens.{name}
 use Rattle.pcrl.specs.Tree.{Name, ProcLine}
 use Rattle.pcrl.specs.Sheet.{Proc}
 use Rattle.pcrl.specs.Names.{Names, declared, resolve-choice, resolve-params, resolve-proc}
-use Rattle.grammar.specs.Print.{line, print-proc}
+use Rattle.pcrl.specs.Print.{line, print-proc}
 use Rattle.parser.specs.Cells.{Symbol, tag, token, proc-tag, enc-items, enc-param, enc-choice, enc-proc}
 use Rattle.nodes.specs.Scoped.{max-scope}
 use Rattle.names.specs.declared.Params.{Params}

@@ -14,7 +14,7 @@ use Rattle.pcrl.specs.Tree.{ProcLine}
 use Rattle.pcrl.specs.Sheet.{Process, no-process}
 use Rattle.pcrl.specs.Names.{Names, resolve-proc}
 use Rattle.laws.specs.Each.{each-length}
-use Rattle.grammar.specs.Print.{line, print-lines, print-proc}
+use Rattle.pcrl.specs.Print.{line, print-lines, print-proc}
 use Rattle.parser.specs.Cells.{enc-proc}
 use Rattle.nodes.specs.Layout.{cell-limit, enc}
 use Rattle.nodes.specs.Held.{proc-width, ProcAt}

@@ -17,7 +17,7 @@ use Rattle.pcrl.specs.Names.{resolve}
 use Rattle.pcrl.specs.Tests.{T?}
 use Rattle.pcrl.specs.Sorts.{rightly-sorted?}
 use Rattle.pcrl.specs.Circles.{guarded}
-use Rattle.pcrl.specs.Answers.{tokens-read, tree-read, sheet-read}
+use Rattle.pcrl.specs.Answers.{tokens-read, tree-read, sorted-read, sheet-read}
 use Rattle.laws.specs.Questions.{question-passes, question-fails, question-of-passes, past-question}
 use Rattle.lexer.specs.Cells.{cell-token, Lexes}
 use Rattle.lexer.specs.declared.Lexed.{Lexed}
@@ -40,20 +40,46 @@ use Rattle.sheets.specs.Reading.{judged, Reads}
 abbrev pub from-tree : RawSheet → Result Sheet
 from-tree R = question 6 (counted? R) (λ _. question-of 7 (resolve R) (λ H. judged H))
 
+-- questions 6 to 8 of a raw sheet, and 9 of a resolved one
+abbrev to-eight : RawSheet → Result Sheet
+to-eight R = question 6 (counted? R) (λ _. question-of 7 (resolve R) (λ H. question 8 (rightly-sorted? H) (λ _. accepted H)))
+
+abbrev nine : Sheet → Result Sheet
+nine H = question 9 (T? (guarded H)) (λ _. accepted H)
+
+-- 9 may as well be put inside 6 to 8
+nine-inside : (R : RawSheet) → after (to-eight R) nine ≡ from-tree R
+unfolding after question question-of judged
+nine-inside R = at-six (counted? R) (resolve R)
+  where
+    at-eight : {P : Type 0} (H : Sheet) (d : Dec P) → after (question 8 d (λ _. accepted H)) nine ≡ question 8 d (λ _. nine H)
+    at-eight H (yes h) = refl
+    at-eight H (no h) = refl
+
+    at-six : {P : Type 0} (d : Dec P) (o : Option Sheet) → after (question 6 d (λ _. question-of 7 o (λ H. question 8 (rightly-sorted? H) (λ _. accepted H)))) nine ≡ question 6 d (λ _. question-of 7 o (λ H. judged H))
+    at-six (no h) o = refl
+    at-six (yes h) none = refl
+    at-six (yes h) (some H) = at-eight H (rightly-sorted? H)
+
 module _ (s : List ℕ) where
+  -- the answer, where that of questions 1 to 5 is x
+  from-answer : (x : Result RawSheet) → tree-read s ≡ x → sheet-read s ≡ after (after x to-eight) nine
+  unfolding sheet-read sorted-read
+  from-answer x e = ap (λ (y : Result RawSheet). after (after y to-eight) nine) e
+
   -- refused by 1 to 4
   pub no-tokens : (n : ℕ) → tokens-read s ≡ refused n → sheet-read s ≡ refused n
-  unfolding sheet-read tree-read after
-  no-tokens n e = rw e
+  unfolding tree-read after
+  no-tokens n e = from-answer (refused n) (rw e)
 
   -- by 5
   pub no-tree : (ts : List Token) → tokens-read s ≡ accepted ts → parse ts ≡ none → sheet-read s ≡ refused 5
-  unfolding sheet-read tree-read after question-of
-  no-tree ts e f = rw (e, f)
+  unfolding tree-read after question-of
+  no-tree ts e f = from-answer (refused 5) (rw (e, f))
 
   pub with-tree : (ts : List Token) (R : RawSheet) → tokens-read s ≡ accepted ts → parse ts ≡ some R → sheet-read s ≡ from-tree R
-  unfolding sheet-read tree-read after question-of judged
-  with-tree ts R e f = rw (e, f)
+  unfolding tree-read after question-of
+  with-tree ts R e f = from-answer (accepted R) (rw (e, f)) ∙ nine-inside R
 
   module _ (toks : List ℕ) (l : Lexed) (lexes : Lexes (tokens-read s) s l toks) where
     pub refused-early : l .refused ≢ 0 → sheet-read s ≡ refused (l .refused)

@@ -17,7 +17,7 @@ use Rattle.pcrl.specs.Names.{names-of, declared, sizes-of, sorts-of, resolve-fu
 use Rattle.laws.specs.Lists.{getD-map}
 use Rattle.laws.specs.Each.{each-length, each-map}
 use Rattle.laws.specs.Optional.{first-given, each-given}
-use Rattle.grammar.specs.Print.{print-lines, print-proc, print-init}
+use Rattle.pcrl.specs.Print.{print-lines, print-proc, print-init}
 use Rattle.parser.specs.Cells.{Symbol, enc-proc, enc-init}
 use Rattle.nodes.specs.declared.Outline.{Outline}
 use Rattle.nodes.specs.Layout.{enc}

@@ -10,7 +10,7 @@ use Rattle.pcrl.specs.Tokens.{the}
 use Rattle.pcrl.specs.Tree.{Name, RawData, RawDatas, Choice, Conditional, Sequence, Part, ProcLine, InitLine}
 use Rattle.pcrl.specs.Sheet.{Data, Datas, list-of, Act, Proc}
 use Rattle.pcrl.specs.Names.{Names, number-of, new-variable, resolve-data, resolve-datas, resolve-given, named, resolve-choice, resolve-conditional, resolve-sequence, resolve-part, resolve-init}
-use Rattle.grammar.specs.Print.{bracketed, line, print-data, print-datas, print-given, print-choice, print-conditional, print-sequence, print-part, print-params, print-proc, print-init}
+use Rattle.pcrl.specs.Print.{bracketed, line, print-data, print-datas, print-given, print-choice, print-conditional, print-sequence, print-part, print-params, print-proc, print-init}
 use Rattle.nodes.specs.Layout.{enc-data, enc-arguments, enc-datas, enc}
 use Rattle.resolver.specs.Room.{arguments-are}
 use Rattle.laws.specs.Optional.{first-given, test-passed}

@@ -15,7 +15,8 @@ use Rattle.pcrl.specs.Tree.{FuncLine, ProcLine, RawSheet}
 use Rattle.pcrl.specs.Grammar.{parse}
 use Rattle.pcrl.specs.Answers.{tokens-read}
 use Rattle.laws.specs.Questions.{past-question, past-question-of}
-use Rattle.grammar.specs.Print.{print-lines, print-proc, print-init, print-sheet, FormedFunc, FormedAct}
+use Rattle.pcrl.specs.Print.{print-lines, print-proc, print-init, print-sheet}
+use Rattle.grammar.specs.Formed.{FormedFunc, FormedAct}
 use Rattle.grammar.specs.PrintLaws.{sheet-length}
 use Rattle.grammar.specs.Parsed.{print-parse}
 use Rattle.grammar.specs.TokenLaws.{ValidToken, tokens-valid}

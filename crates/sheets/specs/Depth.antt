@@ -7,7 +7,7 @@ use Rattle.pcrl.specs.Limits.{max-open}
 use Rattle.pcrl.specs.Tests.{Every}
 use Rattle.pcrl.specs.Tokens.{name, numeral, the, Shallow}
 use Rattle.pcrl.specs.Tree.{Name, RawData, RawDatas, Choice, Conditional, Sequence, Part, SortLine, FuncLine, ActLine, ProcLine, RawSheet}
-use Rattle.grammar.specs.Print.{print-data, print-datas, print-given, print-choice, print-conditional, print-sequence, print-part, line, print-lines, print-sorts, print-values, print-sort, print-func, print-takes, print-act, print-param, print-params, print-proc, print-init, print-sheet}
+use Rattle.pcrl.specs.Print.{print-data, print-datas, print-given, print-choice, print-conditional, print-sequence, print-part, line, print-lines, print-sorts, print-values, print-sort, print-func, print-takes, print-act, print-param, print-params, print-proc, print-init, print-sheet}
 use Rattle.resolver.specs.Raw.{sum-depth, conditional-depth, sequence-depth, part-depth}
 use Rattle.sheets.specs.Rising.{Rises, rises-none, rises-less, rises-append, rises-flat, rises-bracketed, rises-joined, rises-lines, lines-below}
 

@@ -8,7 +8,7 @@ use Rattle.pcrl.specs.Tokens.{Token, name, numeral, the}
 use Rattle.pcrl.specs.Reader.{all}
 use Rattle.pcrl.specs.Tree.{FuncLine, RawSheet}
 use Rattle.laws.specs.Every.{every-left, every-right}
-use Rattle.grammar.specs.Print.{joined, line, print-lines, print-sorts, print-values, print-sort, print-func, print-sheet}
+use Rattle.pcrl.specs.Print.{joined, line, print-lines, print-sorts, print-values, print-sort, print-func, print-sheet}
 use Rattle.grammar.specs.PrintLaws.{joined-length, sheet-length}
 
 module _ (P : Token → Type 0) where

@@ -12,7 +12,7 @@ use Rattle.pcrl.specs.Tree.{ProcLine, RawSheet}
 use Rattle.pcrl.specs.Sheet.{Process, Sig, Sheet, no-action, no-process}
 use Rattle.pcrl.specs.Counts.{Counted}
 use Rattle.pcrl.specs.Names.{Names, names-of, sizes-of, resolve-func, resolve-act, resolve-proc, resolve}
-use Rattle.grammar.specs.Print.{line, print-lines, print-proc}
+use Rattle.pcrl.specs.Print.{line, print-lines, print-proc}
 use Rattle.parser.specs.Cells.{Symbol, enc-sort, enc-func, enc-act, enc-proc, enc-init}
 use Rattle.parser.specs.declared.Lines.{Lines}
 use Rattle.nodes.specs.declared.Outline.{Outline}

@@ -12,7 +12,7 @@ use Rattle.pcrl.specs.Text.{byte}
 use Rattle.pcrl.specs.Tests.{or, negated, same?, Every}
 use Rattle.pcrl.specs.Tokens.{Token, name, numeral, sign, the, is?, open-behind, most-open}
 use Rattle.pcrl.specs.Reader.{all}
-use Rattle.grammar.specs.Print.{bracketed, joined, line, print-lines}
+use Rattle.pcrl.specs.Print.{bracketed, joined, line, print-lines}
 
 -- with n open before these tokens, n + d are open somewhere among them, and n again behind them
 pub record Rises (n d : ℕ) (ts : List Token) : Type 0 where

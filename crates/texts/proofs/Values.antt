@@ -8,7 +8,7 @@ use mathlib.Core.Bool.{Bool, true, false}
 use lib.Dec.{eqb}
 use lib.ListN.{length, getD, take, List·getD-eq-default}
 use lib.Seq.{take-nil, getD-take}
-use Rattle.pcrl.specs.Text.{bytes}
+use Rattle.pcrl.specs.Text.{bytes, decimal}
 use Rattle.pcrl.specs.Sheet.{Sig, Act, tau, action, no-action}
 use Rattle.pcrl.specs.Label.{Label, silent, named, label}
 use Rattle.pcrl.specs.Table.{Table}
@@ -21,7 +21,7 @@ use Rattle.laws.specs.Tests.{where-yes, where-no}
 use native.Mathlib.Decide.{ℕ-discrete}
 use Rattle.firing.specs.Fires.{act-of}
 use Rattle.labels.specs.Labels.{label-of}
-use Rattle.pcrl.specs.Walk.{decimal, values-text, label-text, line, step-line}
+use Rattle.pcrl.specs.Walk.{values-text, label-text, line, step-line}
 use Rattle.texts.specs.Pieces.{bracketed}
 
 pub no-value : (n v w : ℕ) → n ≡ 0 → [] ≡ bracketed (take n (v ∷ w ∷ []))

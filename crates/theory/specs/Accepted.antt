@@ -18,7 +18,7 @@ use Rattle.pcrl.specs.Right.{RightSizes, AreSorts, RightFunc, RightName, RightA
 use Rattle.pcrl.specs.Answers.{sheet-read}
 use Rattle.laws.specs.Every.{every-left, every-right, every-map, every-both, map-every}
 use Rattle.laws.specs.Each.{each-every, each-map, each-length}
-use Rattle.grammar.specs.Print.{FormedFunc, FormedAct, Formed}
+use Rattle.grammar.specs.Formed.{FormedFunc, FormedAct, Formed}
 use Rattle.grammar.specs.Parsed.{print-parse}
 use Rattle.grammar.specs.TokenLaws.{ValidName}
 use Rattle.grammar.specs.ValidNames.{names-valid, right-name}
@@ -125,7 +125,8 @@ module _ (R : RawSheet) (H : Sheet) (r : Resolved R H) where
 -- all questions passed: the sheet is in good standing
 pub standing-of : (s : List ℕ) (H : Sheet) → Accepted s H → Standing H
 unfolding Counted RightlySorted
-standing-of s H a =
+standing-of s H passed =
+    let a = passed .as-resolved in
     let R = a .raw in
     let r = resolved-lines R H (a .resolved) in
     let f = print-parse (a .found) R (a .form) .1 in
@@ -137,7 +138,7 @@ standing-of s H a =
       some-process = omega arith;
       few-processes = omega arith;
       processes = right-processes R H r (a .counted) (a .rightly-sorted .1 .0);
-      no-circle = guarded-no-circle H (a .rightly-sorted) .0 (a .no-circle);
+      no-circle = guarded-no-circle H (a .rightly-sorted) .0 (passed .no-circle);
       start = a .rightly-sorted .1 .1;
     }
 

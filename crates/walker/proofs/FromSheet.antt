@@ -5,12 +5,12 @@ use Prim.Native.Nat.{ℕ, _-_, _≤_}
 use native.Mathlib.Omega.{arith}
 use lib.ListN.{length, take, drop}
 use lib.Seq.{take-append-le, take-all}
-use Rattle.pcrl.specs.Text.{bytes}
+use Rattle.pcrl.specs.Text.{bytes, decimal}
 use Rattle.pcrl.specs.Result.{Result, refused, accepted, after}
 use Rattle.pcrl.specs.Table.{Table}
 use Rattle.pcrl.specs.Blocks.{max-file, file-of, RightLength, right-length?, Room, room?}
 use Rattle.pcrl.specs.Answers.{table-made, stream-filed, file-made, output-after, stream-read, table-checked}
-use Rattle.pcrl.specs.Walk.{decimal, line, walk-made, walk-text}
+use Rattle.pcrl.specs.Walk.{line, walk-made, walk-text}
 use Rattle.laws.specs.Questions.{past-question, past-answer, question-passes}
 use Rattle.codec.specs.FileLaws.{read-written}
 use Rattle.theory.specs.Made.{made-all}

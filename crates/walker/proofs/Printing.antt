@@ -3,11 +3,11 @@ use mathlib.Core.Path.{_≡_, sym, ap}
 use mathlib.Core.List.{List, _++_}
 use Prim.Native.Nat.{ℕ}
 use Rattle.pcrl.specs.Limits.{frame-width}
-use Rattle.pcrl.specs.Text.{bytes}
+use Rattle.pcrl.specs.Text.{bytes, decimal}
 use Rattle.pcrl.specs.Result.{Result, refused, accepted}
 use Rattle.pcrl.specs.Table.{Table}
 use Rattle.pcrl.specs.Answers.{start-stack}
-use Rattle.pcrl.specs.Walk.{decimal, line, walk-steps, walk-lines, walk-made}
+use Rattle.pcrl.specs.Walk.{line, walk-steps, walk-lines, walk-made}
 
 pub made-refused : (x : Result Table) (n : ℕ) → x ≡ refused n → line (bytes "refused " ++ decimal n) ≡ walk-made x
 unfolding walk-made

@@ -19,7 +19,8 @@ use Rattle.pcrl.specs.Right.{RightSizes, RightFunc, RightName, RightAction, Rig
 use Rattle.pcrl.specs.Result.{Result, refused, accepted}
 use Rattle.pcrl.specs.Ask.{Answer}
 use Rattle.pcrl.specs.Answers.{table-made}
-use Rattle.pcrl.specs.Walk.{decimal, values-text, label-text, line, step-line, closing, answer-lines, walk-steps, walk-lines, walk-made, walk-text}
+use Rattle.pcrl.specs.Text.{decimal}
+use Rattle.pcrl.specs.Walk.{values-text, label-text, line, step-line, closing, answer-lines, walk-steps, walk-lines, walk-made, walk-text}
 use Rattle.laws.specs.Every.{every-at}
 use Rattle.laws.specs.Each.{each-length, each-every, each-flip}
 use Rattle.laws.specs.Any.{every-any}

@@ -7,9 +7,9 @@ use mathlib.Core.Path.{_≡_, refl, sym, ap, _∙_, subst}
 use mathlib.Core.List.{List, [], _∷_, _++_}
 use Prim.Native.Nat.{ℕ, _%_}
 use lib.ListN.{getD, take}
-use Rattle.pcrl.specs.Text.{bytes}
+use Rattle.pcrl.specs.Text.{bytes, decimal}
 use Rattle.pcrl.specs.Label.{Label}
-use Rattle.pcrl.specs.Walk.{decimal, label-text}
+use Rattle.pcrl.specs.Walk.{label-text}
 use Rattle.labels.specs.Labels.{label-of}
 use Rattle.texts.proofs.Writing.{wrote-more, wrote-as}
 use Rattle.texts.proofs.Values.{line-is}

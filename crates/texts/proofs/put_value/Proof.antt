@@ -5,7 +5,7 @@ use Rattle.texts.proofs.put_value.Tie as tie
 use native.Mathlib.Omega.{arith}
 use mathlib.Core.Path.{_≡_, ap}
 use Prim.Native.Nat.{ℕ, _%_}
-use Rattle.pcrl.specs.Walk.{decimal}
+use Rattle.pcrl.specs.Text.{decimal}
 use Rattle.texts.proofs.Writing.{wrote-as}
 
 wide-requires : tie.Need-wide-requires

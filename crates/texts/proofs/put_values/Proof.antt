@@ -4,8 +4,7 @@ use Rattle.texts.proofs.put_values.Statement.{statement}
 use Rattle.texts.proofs.put_values.Tie as tie
 use native.Mathlib.Omega.{arith}
 use mathlib.Core.List.{List, [], _∷_, _++_}
-use Rattle.pcrl.specs.Text.{bytes}
-use Rattle.pcrl.specs.Walk.{decimal}
+use Rattle.pcrl.specs.Text.{bytes, decimal}
 use Rattle.texts.proofs.Writing.{wrote-nothing, wrote-more, wrote-as}
 use Rattle.texts.proofs.Values.{no-value, one-value, two-values}
 

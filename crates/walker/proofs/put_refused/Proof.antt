@@ -6,8 +6,8 @@ use native.Mathlib.Omega.{arith}
 use mathlib.Core.Path.{_≡_, refl, sym, ap, _∙_}
 use mathlib.Core.List.{List, _++_}
 use Prim.Native.Nat.{ℕ, _%_}
-use Rattle.pcrl.specs.Text.{bytes}
-use Rattle.pcrl.specs.Walk.{decimal, line}
+use Rattle.pcrl.specs.Text.{bytes, decimal}
+use Rattle.pcrl.specs.Walk.{line}
 use Rattle.texts.proofs.Writing.{wrote-more, wrote-as}
 
 slice-aggregate-put-bytes : tie.Need-slice-aggregate-put-bytes

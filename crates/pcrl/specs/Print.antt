@@ -1,17 +1,12 @@
 -- The form of document 01, written from the tree: which tokens stand for it.
--- The tree keeps its brackets, so each part says all its tokens and nothing is put in.
+-- The tree keeps its brackets, so each part says all its tokens and nothing is put in. (The parser is its inverse: a theorem of the crate grammar.)
 use mathlib.Core.List.{List, [], _∷_, _++_}
 use mathlib.Core.Option.{Option, none, some}
-use Prim.Native.Nat.{ℕ, _≤_}
+use Prim.Native.Nat.{ℕ}
 use Prim.Native.String.{String}
-use lib.Dec.{T}
-use lib.ListN.{length}
-use Rattle.pcrl.specs.Limits.{max-arity}
-use Rattle.pcrl.specs.Tests.{Between, Every}
 use Rattle.pcrl.specs.Tokens.{Token, name, numeral, the}
 use Rattle.pcrl.specs.Reader.{all}
 use Rattle.pcrl.specs.Tree.{Name, RawData, RawDatas, Choice, Conditional, Sequence, Part, SortLine, FuncLine, ActLine, ProcLine, InitLine, RawSheet}
-use Rattle.pcrl.specs.Grammar.{none-in}
 
 -- what is between two brackets
 unfoldable pub bracketed : List Token → List Token
@@ -124,20 +119,3 @@ print-sheet R =
     ++ (print-lines "act" print-act (R .acts)
     ++ (print-lines "proc" print-proc (R .procs)
     ++ line "init" (print-init (R .start)))))
-
--- "`func` name `:` sort, or sort `#` sort", and at least one value
-unfoldable pub FormedFunc : FuncLine → Type 0
-FormedFunc l = Between 1 max-arity (length (l .takes)) × (1 ≤ length (l .values))
-
--- "`act` name, or name `:` sort, or name `:` sort `#` sort"
-unfoldable pub FormedAct : ActLine → Type 0
-FormedAct l = length (l .takes) ≤ max-arity
-
--- what the form asks of a sheet beyond what a tree of it has by its type
-pub record Formed (R : RawSheet) : Type 0 where
-  pub funcs : Every FormedFunc (R .funcs)
-  pub acts : Every FormedAct (R .acts)
-  -- "at least one proc"
-  pub procs : 1 ≤ length (R .procs)
-  -- "with no name in its data that lacks brackets"
-  pub start : T (none-in (R .start .data-given))
