@@ -1,0 +1,147 @@
+-- The printed sheet of a right table always resolves, and to the linear sheet of the table: no name of it is taken twice or missing.
+use mathlib.Core.Path.{_≡_, refl, ap, sym, subst, _∙_}
+use mathlib.Core.List.{List, [], _∷_, map, map-id}
+use mathlib.Core.Option.{Option, some}
+use Prim.Native.Nat.{ℕ, suc, _+_, _<_, _≤_}
+use native.Mathlib.Omega.{arith}
+use lib.ListN.{length, getD, drop}
+use Rattle.pcrl.specs.Limits.{max-numeral}
+use Rattle.pcrl.specs.Tests.{distinct, Every, Each}
+use Rattle.pcrl.specs.Maybe.{for-each}
+use Rattle.pcrl.specs.Tree.{Name, RawData, Conditional, SortLine}
+use Rattle.pcrl.specs.Sheet.{val, Func, Action, Proc}
+use Rattle.pcrl.specs.Names.{declared, new-variable, number-of, resolve-given, resolve-choice, resolve-conditional, sorts-of, resolve-func, resolve-act, resolve-params, resolve-proc, resolve-init, sizes-of, resolve}
+use Rattle.pcrl.specs.Table.{Equation, Table}
+use Rattle.pcrl.specs.Right.{RightSizes, RightFunc, RightAction, RightSig}
+use Rattle.pcrl.specs.Printer.{numbered, in-brackets, choice-of, right-of, sort-name, var-name, raw-data, raw-summand, sort-line-of, func-line-of, act-line-of, param-of, proc-line-of, init-line-of, printed}
+use Rattle.laws.specs.Lists.{map-twice}
+use Rattle.laws.specs.Tests.{is-true}
+use Rattle.laws.specs.Each.{each-of-every}
+use Rattle.laws.specs.Every.{every-weaken, every-map}
+use Rattle.printing.specs.Plain.{Plain, PlainEquation, PlainTable}
+use Rattle.printing.specs.NumberedLaws.{shown-numbered}
+use Rattle.printing.specs.Lookups.{in-turn, in-turn-snoc}
+use Rattle.printing.specs.PrintedNames.{N, sort-found, proc-found, variables, var-new, declared-distinct}
+use Rattle.printing.specs.Linear.{linear-summand, joined, linear-right, linear-process, linear-sheet}
+use Rattle.printing.specs.ResolvedSummands.{summand-becomes, terms-given}
+
+-- a value for each element
+for-each-all : {A B C : Type 0} (P : A → Type 0) (f : B → Option C) (g : A → B) (h : A → C) → ((a : A) → P a → f (g a) ≡ some (h a)) → (l : List A) → Every P l
+    → for-each f (map g l) ≡ some (map h l)
+unfolding for-each Every
+for-each-all P f g h e [] k = refl
+for-each-all P f g h e (a ∷ l) k = rw (e a (k .0), for-each-all P f g h e l (k .1))
+
+for-each-numbered : {A B C : Type 0} (P : A → Type 0) (f : B → Option C) (g : ℕ → A → B) (h : A → C) → ((k : ℕ) (a : A) → P a → f (g k a) ≡ some (h a)) → (i : ℕ) (l : List A) → Every P l
+    → for-each f (numbered g i l) ≡ some (map h l)
+unfolding for-each Every numbered
+for-each-numbered P f g h e i [] k = refl
+for-each-numbered P f g h e i (a ∷ l) k = rw (e i a (k .0), for-each-numbered P f g h e (suc i) l (k .1))
+
+module _ (U : Table) (plain : PlainTable U) where
+  abbrev acts : List Action
+  acts = U .sig .acts
+
+  -- SORTS
+
+  sorts-become : (Ds : List ℕ) → Every (λ D. D < length (U .sig .sorts)) Ds → sorts-of (N U plain) (map (sort-name acts) Ds) ≡ some Ds
+  unfolding sorts-of
+  sorts-become Ds h = for-each-all _ (λ D. number-of D (N U plain .sorts)) (sort-name acts) (λ D. D) (sort-found U plain) Ds h ∙ ap some (map-id Ds)
+
+  sizes-become : sizes-of (printed U) ≡ U .sig .sorts
+  unfolding sizes-of printed sort-line-of RightSig RightSizes
+  sizes-become =
+      ap (λ (l : List ℕ). 2 ∷ l) (shown-numbered (sort-line-of acts) (λ (l : SortLine). l .size) (λ k a. refl) 1 (drop 1 (U .sig .sorts)))
+      ∙ whole (U .sig .sorts) (plain .signature .0 .0 .0 .0) (plain .signature .0 .1)
+    where
+      whole : (l : List ℕ) → 1 ≤ length l → getD l 0 0 ≡ 2 → 2 ∷ drop 1 l ≡ l
+      whole [] h e = absurd (omega arith)
+      whole (n ∷ l) h e = ap (λ (k : ℕ). k ∷ l) (sym e)
+
+  -- FUNCTIONS AND ACTIONS
+
+  func-becomes : (f : ℕ) (g : Func) → RightFunc (U .sig .sorts) g → resolve-func (N U plain) (func-line-of acts f g) ≡ some g
+  unfolding resolve-func func-line-of RightFunc
+  func-becomes f g r = rw (sorts-become (g .takes) (r .0 .1), sort-found U plain (g .gives) (r .1 .0))
+
+  act-becomes : (a : Action) → RightAction (U .sig .sorts) a → resolve-act (N U plain) (act-line-of acts a) ≡ some a
+  unfolding resolve-act act-line-of RightAction
+  act-becomes a r = rw (sorts-become (a .takes) (r .1 .1))
+
+  -- PROCESSES
+
+  params-become : (n : ℕ) (Ds : List ℕ) → n + length Ds ≤ max-numeral → Every (λ D. D < length (U .sig .sorts)) Ds
+      → resolve-params (N U plain) (variables U plain n) (numbered (param-of acts) n Ds) ≡ some (variables U plain (n + length Ds), Ds)
+  unfolding resolve-params numbered param-of Every
+  params-become n [] l h = let e : n ≡ n + 0 = omega arith in ap (λ (m : ℕ). some (variables U plain m, [])) e
+  params-become n (D ∷ Ds) l h =
+      let e : suc n + length Ds ≡ n + suc (length Ds) = omega arith in
+      rw (
+        is-true (new-variable (N U plain) (variables U plain n) (var-name acts n)) (var-new U plain n (omega arith)),
+        sort-found U plain D (h .0),
+        in-turn-snoc (var-name acts) 0 n n (omega arith),
+        params-become (suc n) Ds (omega arith) (h .1),
+      )
+      (ap (λ (m : ℕ). some (variables U plain m, D ∷ Ds)) e)
+
+  module _ (scope : List Name) where
+    choice-becomes : (c : Conditional) (cs : List Conditional) (p : Proc) (ps : List Proc) → resolve-conditional (N U plain) scope c ≡ some p
+        → Each (λ c p. resolve-conditional (N U plain) scope c ≡ some p) cs ps → resolve-choice (N U plain) scope (choice-of c cs) ≡ some (joined p ps)
+    unfolding choice-of joined resolve-choice Each
+    choice-becomes c [] p [] h k = h
+    choice-becomes c [] p (q ∷ ps) h k = absurd k
+    choice-becomes c (d ∷ cs) p [] h k = absurd k
+    choice-becomes c (d ∷ cs) p (q ∷ ps) h k = rw (h, choice-becomes d cs q ps (k .0) (k .1))
+
+    right-becomes : (cs : List Conditional) (ps : List Proc) → Each (λ c p. resolve-conditional (N U plain) scope c ≡ some p) cs ps
+        → resolve-choice (N U plain) scope (right-of cs) ≡ some (linear-right ps)
+    unfolding right-of linear-right resolve-choice Each
+    right-becomes [] [] h = refl
+    right-becomes [] (p ∷ ps) h = absurd h
+    right-becomes (c ∷ cs) [] h = absurd h
+    right-becomes (c ∷ cs) (p ∷ ps) h = choice-becomes c cs p ps (h .0) (h .1)
+
+  proc-becomes : (e : ℕ) (q : Equation) → PlainEquation U q → resolve-proc (N U plain) (proc-line-of acts e q) ≡ some (linear-process q)
+  unfolding resolve-proc proc-line-of linear-process in-turn
+  proc-becomes e q p =
+      let n = length (q .params) in
+      let z : 0 + n ≡ n = omega arith in
+      let few = p .few in
+      let ps : resolve-params (N U plain) [] (numbered (param-of acts) 0 (q .params)) ≡ some (variables U plain n, q .params) =
+      subst (λ (m : ℕ). resolve-params (N U plain) [] (numbered (param-of acts) 0 (q .params)) ≡ some (variables U plain m, q .params)) z (params-become 0 (q .params) (omega arith) (p .params)) in
+      rw (
+        ps,
+        right-becomes (variables U plain n) (map (raw-summand acts n) (q .summands)) (map (linear-summand n) (q .summands))
+            (each-of-every _ (raw-summand acts n) (linear-summand n) (q .summands) (every-weaken _ _ (summand-becomes U plain n) (q .summands) (p .summands))),
+      )
+
+  -- INIT
+
+  init-becomes : resolve-init (N U plain) (init-line-of acts (U .start)) ≡ some (U .start .0, map val (U .start .1))
+  unfolding resolve-init init-line-of raw-data in-turn Plain
+  init-becomes =
+      let vs = U .start .1 in
+      let e : map (raw-data acts) (map val vs) ≡ map RawData.value vs = map-twice (raw-data acts) val RawData.value (λ v. refl) vs in
+      let g : resolve-given (N U plain) [] (in-brackets (map RawData.value vs)) ≡ some (map val vs) =
+      subst (λ (es : List RawData). resolve-given (N U plain) [] (in-brackets es) ≡ some (map val vs)) e
+      (terms-given U plain 0 (omega arith) (map val vs) (every-map _ _ val plain-value vs (plain .values))) in
+      rw (proc-found U plain (U .start .0) (plain .start), g)
+    where
+      plain-value : (v : ℕ) → v ≤ max-numeral → Plain (length (U .sig .funcs)) 0 (val v)
+      plain-value v h = h
+
+  -- THE PRINTED SHEET RESOLVES TO THE LINEAR SHEET.
+  pub printed-resolves : resolve (printed U) ≡ some (linear-sheet U)
+  unfolding resolve linear-sheet printed RightSig
+  printed-resolves =
+      let sig = plain .signature in
+      rw (
+        is-true (distinct (declared (N U plain))) (declared-distinct U plain),
+        for-each-numbered (RightFunc (U .sig .sorts)) (resolve-func (N U plain)) (func-line-of acts) (λ g. g) func-becomes 0 (U .sig .funcs) (sig .1 .0 .1),
+        for-each-all (RightAction (U .sig .sorts)) (resolve-act (N U plain)) (act-line-of acts) (λ a. a) act-becomes acts (sig .1 .1 .0 .1),
+        for-each-numbered (PlainEquation U) (resolve-proc (N U plain)) (proc-line-of acts) linear-process proc-becomes 0 (U .equations) (plain .equations),
+        init-becomes,
+        sizes-become,
+        map-id (U .sig .funcs),
+        map-id acts,
+      )

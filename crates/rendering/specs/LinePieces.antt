@@ -1,0 +1,187 @@
+-- Lines are rendered as their texts, and so is the whole sheet: `table-text` is `sheet-text`.
+use mathlib.Core.Path.{_≡_, refl, sym, ap, subst, _∙_}
+use mathlib.Core.List.{List, [], _∷_, _++_, map, append-assoc, append-nil}
+use mathlib.Core.Bool.{Bool, true, false}
+use Prim.Native.Nat.{ℕ, zero, suc, _≤_}
+use Prim.Native.String.{String}
+use native.Mathlib.Omega.{arith}
+use native.Mathlib.Decide.{ℕ-discrete}
+use lib.Dec.{T}
+use lib.ListN.{length, drop, getD, replicate}
+use Rattle.pcrl.specs.Limits.{max-size}
+use Rattle.pcrl.specs.Text.{bytes, byte, decimal}
+use Rattle.pcrl.specs.Tests.{or, same?, among, Every, Each}
+use Rattle.pcrl.specs.Bytes.{letter, digit, name-byte}
+use Rattle.pcrl.specs.Tokens.{Token, name, numeral, sign, the, words}
+use Rattle.pcrl.specs.Reader.{all}
+use Rattle.pcrl.specs.Tree.{RawData, SortLine, FuncLine, ActLine, ProcLine}
+use Rattle.pcrl.specs.Sheet.{Func, Action}
+use Rattle.pcrl.specs.Table.{Equation, Table}
+use Rattle.pcrl.specs.Print.{bracketed, joined, print-data, print-given, line, print-lines, print-sorts, print-values, print-sort, print-func, print-takes, print-act, print-param, print-params, print-proc, print-init, print-sheet}
+use Rattle.pcrl.specs.Render.{blank-byte, write, render}
+use Rattle.pcrl.specs.Printer.{numbered, in-brackets, letters, indexed, sort-name, func-name, proc-name, var-name, sort-line-of, func-line-of, act-line-of, param-of, proc-line-of, init-line-of, printed, table-text}
+use Rattle.laws.specs.Tests.{is-true}
+use Rattle.laws.specs.Every.{every-of-all, every-drop}
+use Rattle.grammar.specs.Spelled.{Spelled, spelled}
+use Rattle.rendering.specs.Rendering.{Marked, name-before}
+use Rattle.rendering.specs.Pieces.{Renders, RendersAll, all-bytes, nothing, token, joins, mark, closed, before-mark-too, word, nothing-all, joins-all}
+use Rattle.rendering.specs.TermPieces.{AsTexts, as-bytes, bracketed-renders, named-renders, right-renders}
+use Rattle.rendering.specs.Texts.{joined-text, bracketed-text, takes-text, sort-line-text, func-line-text, taken-text, act-line-text, param-text, proc-line-text, init-line-text, concat, sheet-text}
+
+-- R at each place of two lists that are made of one
+pub each-mapped : {A B C : Type 0} (R : B → C → Type 0) (f : A → B) (g : A → C) → ((a : A) → R (f a) (g a)) → (l : List A) → Each R (map f l) (map g l)
+unfolding Each
+each-mapped R f g h [] = tt
+each-mapped R f g h (a ∷ l) = (h a, each-mapped R f g h l)
+
+pub each-numbered : {A B C : Type 0} (R : B → C → Type 0) (f : ℕ → A → B) (g : ℕ → A → C) → ((i : ℕ) (a : A) → R (f i a) (g i a)) → (i : ℕ) (l : List A) → Each R (numbered f i l) (numbered g i l)
+unfolding Each numbered
+each-numbered R f g h i [] = tt
+each-numbered R f g h i (a ∷ l) = (h i a, each-numbered R f g h (suc i) l)
+
+-- pieces with a mark between any two
+pub joined-renders : {A : Type 0} (s : String) (w : A → List Token) → among (bytes s) words ≡ false → name-byte (getD (bytes s) 0 0) ≡ false → (l : List A) (ts : List (List ℕ)) → Each (λ a t. Renders (w a) t) l ts → Renders (joined s w l) (joined-text (bytes s) ts)
+unfolding Each joined joined-text Marked write
+joined-renders s w e k [] [] g = nothing
+joined-renders s w e k [] (t ∷ ts) g = absurd g
+joined-renders s w e k (a ∷ l) [] g = absurd g
+joined-renders s w e k (a ∷ []) (t ∷ []) g = g .0
+joined-renders s w e k (a ∷ []) (t ∷ u ∷ ts) g = absurd (g .1)
+joined-renders s w e k (a ∷ b ∷ l) (t ∷ []) g = absurd (g .1)
+joined-renders s w e k (a ∷ b ∷ l) (t ∷ u ∷ ts) g = joins (g .0) k (mark (bytes s) e (joined-renders s w e k (b ∷ l) (u ∷ ts) (g .1)))
+
+-- a line whose word stands before a name
+pub line-renders : (s : String) (n : List ℕ) (ts : List Token) (t : List ℕ) → among (bytes s) words ≡ true → name-byte (getD n 0 0) ≡ true → Renders (name n ∷ ts) t → RendersAll (line s (name n ∷ ts)) (bytes s ++ (blank-byte ∷ (t ++ bytes ";")))
+unfolding line among words same? ℕ-discrete
+line-renders s n ts t e k f = word (bytes s) n e k (closed f (bytes ";") refl refl)
+
+-- lines one behind another
+pub lines-render : {A B : Type 0} (P : A → Type 0) (s : String) (w : B → List Token) (f : ℕ → A → B) (g : ℕ → A → List ℕ) → ((i : ℕ) (a : A) → P a → RendersAll (line s (w (f i a))) (g i a)) → (i : ℕ) (l : List A) → Every P l → RendersAll (print-lines s w (numbered f i l)) (concat (numbered g i l))
+unfolding Every all numbered concat
+lines-render P s w f g h i [] e = nothing-all
+lines-render P s w f g h i (a ∷ l) e = joins-all (h i a (e .0)) (lines-render P s w f g h (suc i) l (e .1))
+
+pub lines-render-plain : {A B : Type 0} (P : A → Type 0) (s : String) (w : B → List Token) (f : A → B) (g : A → List ℕ) → ((a : A) → P a → RendersAll (line s (w (f a))) (g a)) → (l : List A) → Every P l → RendersAll (print-lines s w (map f l)) (all g l)
+unfolding Every all
+lines-render-plain P s w f g h [] e = nothing-all
+lines-render-plain P s w f g h (a ∷ l) e = joins-all (h a (e .0)) (lines-render-plain P s w f g h l (e .1))
+
+-- a size of a sort is spelled by digits
+pub size-spelled : (n : ℕ) → n ≤ max-size → name-byte (getD (decimal n) 0 0) ≡ true
+unfolding Every
+size-spelled n h = by (decimal n) (s .0) (s .1 .0)
+  where
+    s : Spelled n
+    s = spelled n (omega arith)
+
+    in-name : (b : ℕ) → T (digit b) → name-byte b ≡ true
+    in-name b d = or-second (letter b) (digit b) _ (is-true (digit b) d)
+      where
+        or-second : (x y z : Bool) → y ≡ true → or x (or y z) ≡ true
+        or-second true y z e = refl
+        or-second false y z e = ap (λ (y : Bool). or y z) e
+
+    by : (l : List ℕ) → Every (λ b. T (digit b)) l → 1 ≤ length l → name-byte (getD l 0 0) ≡ true
+    by [] e g = absurd (omega arith)
+    by (b ∷ l) e g = in-name b (e .0)
+
+-- a name and a numeral, with a blank between
+pub sized-renders : (x : List ℕ) (n : ℕ) → n ≤ max-size → Renders (name x ∷ numeral n ∷ []) (x ++ (blank-byte ∷ decimal n))
+unfolding write
+sized-renders x n h = record {
+  so = λ us m. name-before x n us (size-spelled n h) ∙ ap (λ (l : List ℕ). x ++ (blank-byte ∷ l)) (token (numeral n) .so us m) ∙ sym (append-assoc x (blank-byte ∷ decimal n) (render us));
+}
+
+module _ (acts : List Action) where
+  -- a letter stands first
+  letter-first : (b i : ℕ) → name-byte b ≡ true → name-byte (getD (indexed acts b i) 0 0) ≡ true
+  unfolding indexed letters
+  letter-first b i e = e
+
+  sort-first : (D : ℕ) → name-byte (getD (sort-name acts D) 0 0) ≡ true
+  unfolding sort-name
+  sort-first zero = refl
+  sort-first (suc D) = letter-first (byte "s") (suc D) refl
+
+  sort-line-renders : (D n : ℕ) → n ≤ max-size → RendersAll (line "sort" (print-sort (sort-line-of acts D n))) (sort-line-text acts D n)
+  unfolding print-sort sort-line-of sort-line-text among words same? ℕ-discrete
+  sort-line-renders D n h = all-bytes (simp append-assoc) (line-renders "sort" (sort-name acts D) _ _ refl (sort-first D) (sized-renders (sort-name acts D) n h))
+
+  takes-render : (Ds : List ℕ) → Renders (print-sorts (map (sort-name acts) Ds)) (takes-text acts Ds)
+  unfolding print-sorts takes-text among words same? ℕ-discrete write
+  takes-render Ds = joined-renders "#" (λ D. name D ∷ []) refl refl (map (sort-name acts) Ds) (map (sort-name acts) Ds) (each-mapped _ (sort-name acts) (sort-name acts) (λ D. token (name (sort-name acts D))) Ds)
+
+  values-render : (vs : List ℕ) → Renders (print-values vs) (joined-text (bytes ",") (map decimal vs))
+  unfolding print-values among words same? ℕ-discrete write Each
+  values-render vs = joined-renders "," (λ v. numeral v ∷ []) refl refl vs (map decimal vs) (each vs)
+    where
+      each : (vs : List ℕ) → Each (λ v t. Renders (numeral v ∷ []) t) vs (map decimal vs)
+      each [] = tt
+      each (v ∷ vs) = (token (numeral v), each vs)
+
+  func-line-renders : (f : ℕ) (g : Func) → RendersAll (line "func" (print-func (func-line-of acts f g))) (func-line-text acts f g)
+  unfolding print-func func-line-of func-line-text among words same? ℕ-discrete Marked write
+  func-line-renders f g =
+      all-bytes (simp append-assoc)
+      (line-renders "func" (func-name acts f) _ _ refl (letter-first (byte "f") f refl)
+      (joins (token (name (func-name acts f))) refl (mark (bytes ":") refl (joins (takes-render (g .takes)) refl (mark (bytes "->") refl (joins (token (name (sort-name acts (g .gives)))) refl (mark (bytes "=") refl (values-render (g .values)))))))))
+
+  taken-marked : (Ds : List ℕ) → Marked (print-takes (map (sort-name acts) Ds))
+  unfolding print-takes Marked write
+  taken-marked [] = tt
+  taken-marked (D ∷ Ds) = refl
+
+  taken-renders : (Ds : List ℕ) → Renders (print-takes (map (sort-name acts) Ds)) (taken-text acts Ds)
+  unfolding print-takes taken-text among words same? ℕ-discrete
+  taken-renders [] = nothing
+  taken-renders (D ∷ Ds) = mark (bytes ":") refl (takes-render (D ∷ Ds))
+
+  act-line-renders : (a : Action) → name-byte (getD (a .name) 0 0) ≡ true → RendersAll (line "act" (print-act (act-line-of acts a))) (act-line-text acts a)
+  unfolding print-act act-line-of act-line-text among words same? ℕ-discrete write
+  act-line-renders a k =
+      all-bytes (simp append-assoc) (line-renders "act" (a .name) _ _ refl k (joins (token (name (a .name))) (taken-marked (a .takes)) (taken-renders (a .takes))))
+
+  params-render : (Ds : List ℕ) → Renders (print-params (numbered (param-of acts) 0 Ds)) (bracketed-text (numbered (param-text acts) 0 Ds))
+  unfolding print-params bracketed-text numbered print-param param-of param-text among words same? ℕ-discrete Marked write
+  params-render [] = nothing
+  params-render (D ∷ Ds) = bracketed-renders (joined-renders "," print-param refl refl _ _ (each-numbered _ (param-of acts) (param-text acts) one 0 (D ∷ Ds)))
+    where
+      one : (i D : ℕ) → Renders (print-param (param-of acts i D)) (param-text acts i D)
+      one i D = joins (token (name (var-name acts i))) refl (mark (bytes ":") refl (token (name (sort-name acts D))))
+
+  head-marked : (Ds : List ℕ) (ts : List Token) → Marked (print-params (numbered (param-of acts) 0 Ds) ++ (the "=" ∷ ts))
+  unfolding print-params numbered bracketed Marked write
+  head-marked [] ts = refl
+  head-marked (D ∷ Ds) ts = refl
+
+  proc-line-renders : (e : ℕ) (q : Equation) → RendersAll (line "proc" (print-proc (proc-line-of acts e q))) (proc-line-text acts e q)
+  unfolding print-proc proc-line-of proc-line-text among words same? ℕ-discrete Marked write
+  proc-line-renders e q =
+      all-bytes (simp append-assoc)
+      (line-renders "proc" (proc-name acts e) _ _ refl (letter-first (byte "p") e refl)
+      (joins (token (name (proc-name acts e))) (head-marked (q .params) _) (joins (params-render (q .params)) refl (mark (bytes "=") refl (right-renders acts (length (q .params)) (q .summands))))))
+
+  init-line-renders : (s : ℕ × List ℕ) → RendersAll (line "init" (print-init (init-line-of acts s))) (init-line-text acts s)
+  unfolding print-init init-line-of init-line-text among words same? ℕ-discrete print-data write
+  init-line-renders s =
+      all-bytes (simp append-assoc) (line-renders "init" (proc-name acts (s .0)) _ _ refl (letter-first (byte "p") (s .0) refl) (named-renders (proc-name acts (s .0)) (map RawData.value (s .1)) (map decimal (s .1)) (each-mapped _ RawData.value decimal value (s .1))))
+    where
+      value : (v : ℕ) → Renders (print-data (RawData.value v)) (decimal v)
+      value v = token (numeral v)
+
+-- What the text asks of a table: sizes of at most 16, and action names that begin with a letter, a digit or an underscore. A right table has it.
+pub record Spellable (T : Table) : Type 0 where
+  pub sizes : Every (λ n. n ≤ max-size) (T .sig .sorts)
+  pub names : Every (λ (a : Action). name-byte (getD (a .name) 0 0) ≡ true) (T .sig .acts)
+
+-- THE TEXT OF A TABLE IS MADE OF THE PIECES.
+pub text-is : (T : Table) → Spellable T → table-text T ≡ sheet-text T
+unfolding table-text printed print-sheet sheet-text render
+text-is T h =
+    let acts = T .sig .acts in
+    let sorts = lines-render (λ n. n ≤ max-size) "sort" print-sort (sort-line-of acts) (sort-line-text acts) (sort-line-renders acts) 1 (drop 1 (T .sig .sorts)) (every-drop _ 1 (T .sig .sorts) (h .sizes)) in
+    let funcs = lines-render (λ (g : Func). Unit {0}) "func" print-func (func-line-of acts) (func-line-text acts) (λ f g _. func-line-renders acts f g) 0 (T .sig .funcs) (every-of-all _ (λ g. tt) (T .sig .funcs)) in
+    let actions = lines-render-plain (λ (a : Action). name-byte (getD (a .name) 0 0) ≡ true) "act" print-act (act-line-of acts) (act-line-text acts) (act-line-renders acts) acts (h .names) in
+    let procs = lines-render (λ (q : Equation). Unit {0}) "proc" print-proc (proc-line-of acts) (proc-line-text acts) (λ e q _. proc-line-renders acts e q) 0 (T .equations) (every-of-all _ (λ q. tt) (T .equations)) in
+    let all-lines = joins-all sorts (joins-all funcs (joins-all actions (joins-all procs (init-line-renders acts (T .start))))) in
+    ap render (sym (append-nil (print-sheet (printed T)))) ∙ all-lines .so [] ∙ append-nil (sheet-text T)

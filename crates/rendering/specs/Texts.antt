@@ -1,0 +1,139 @@
+-- The printed text of a table, piece by piece: what each function of the printer writes. (That they make `table-text`: proofs, Rendering.)
+use mathlib.Core.List.{List, [], _∷_, _++_, map}
+use Prim.Native.Nat.{ℕ, zero, suc}
+use lib.ListN.{length, drop, getD, replicate}
+use Rattle.pcrl.specs.Text.{bytes, byte, decimal}
+use Rattle.pcrl.specs.Reader.{all}
+use Rattle.pcrl.specs.Sheet.{Data, val, var, app, Datas, nil, cons, Act, tau, action, Func, Action, no-action}
+use Rattle.pcrl.specs.Table.{Summand, Equation, Table}
+use Rattle.pcrl.specs.Printer.{numbered, sort-name, func-name, proc-name, var-name}
+
+-- texts with a mark between any two
+unfoldable pub joined-text : List ℕ → List (List ℕ) → List ℕ
+joined-text m [] = []
+joined-text m (t ∷ []) = t
+joined-text m (t ∷ u ∷ ts) = t ++ (m ++ joined-text m (u ∷ ts))
+
+-- texts in brackets, with commas between; nothing for none
+unfoldable pub bracketed-text : List (List ℕ) → List ℕ
+bracketed-text [] = []
+bracketed-text (t ∷ ts) = bytes "(" ++ (joined-text (bytes ",") (t ∷ ts) ++ bytes ")")
+
+-- a bracket before and behind a condition that stands inside another
+unfoldable pub open-text : {A : Type 0} → List A → List ℕ
+open-text [] = []
+open-text (c ∷ cs) = bytes "("
+
+unfoldable pub close-text : {A : Type 0} → List A → List ℕ
+close-text [] = []
+close-text (c ∷ cs) = bytes ")"
+
+module _ (acts : List Action) where
+  unfoldable mutual
+    pub data-text : Data → List ℕ
+    data-text (val v) = decimal v
+    data-text (var i) = var-name acts i
+    data-text (app f ds) = func-name acts f ++ bracketed-text (datas-texts ds)
+
+    pub datas-texts : Datas → List (List ℕ)
+    datas-texts nil = []
+    datas-texts (cons d ds) = data-text d ∷ datas-texts ds
+
+  abbrev pub given-text : List Data → List ℕ
+  given-text ds = bracketed-text (map data-text ds)
+
+  unfoldable pub act-text : Act → List Data → List ℕ
+  act-text tau ds = bytes "tau"
+  act-text (action a) ds = getD acts a no-action .name ++ given-text ds
+
+  -- a call behind its point
+  unfoldable pub call-text : ℕ × List Data → List ℕ
+  call-text c = bytes "." ++ (proc-name acts (c .0) ++ given-text (c .1))
+
+  abbrev pub condition-text : Data → List ℕ
+  condition-text d = bytes "<|" ++ (data-text d ++ bytes "|>")
+
+  -- what stands of a condition before what it guards, and behind it
+  unfoldable pub first-text : ℕ × Data → List ℕ
+  first-text (zero, d) = bytes "delta" ++ condition-text d
+  first-text (suc w, d) = []
+
+  unfoldable pub second-text : ℕ × Data → List ℕ
+  second-text (zero, d) = []
+  second-text (suc w, d) = condition-text d ++ bytes "delta"
+
+  unfoldable pub before-text : List (ℕ × Data) → List ℕ
+  before-text [] = []
+  before-text (c ∷ cs) = first-text c ++ (open-text cs ++ before-text cs)
+
+  unfoldable pub behind-text : List (ℕ × Data) → List ℕ
+  behind-text [] = []
+  behind-text (c ∷ cs) = behind-text cs ++ (close-text cs ++ second-text c)
+
+  -- the sum of variable i, of sort D, up to its comma
+  unfoldable pub sum-text : ℕ → ℕ → List ℕ
+  sum-text i D = bytes "sum(" ++ (var-name acts i ++ (bytes ":" ++ (sort-name acts D ++ bytes ",")))
+
+  -- the sums of variables numbered from n on
+  unfoldable pub sums-text : ℕ → List ℕ → List ℕ
+  sums-text n [] = []
+  sums-text n (D ∷ Ds) = sum-text n D ++ sums-text (suc n) Ds
+
+  -- a summand behind n parameters
+  unfoldable pub summand-text : ℕ → Summand → List ℕ
+  summand-text n h =
+      sums-text n (h .vars)
+      ++ (before-text (h .conds)
+      ++ (act-text (h .act) (h .terms)
+      ++ (all call-text (h .calls)
+      ++ (behind-text (h .conds) ++ replicate (length (h .vars)) (byte ")")))))
+
+  unfoldable pub right-text : ℕ → List Summand → List ℕ
+  right-text n [] = bytes "delta"
+  right-text n (h ∷ hs) = joined-text (bytes "+") (map (summand-text n) (h ∷ hs))
+
+  unfoldable pub takes-text : List ℕ → List ℕ
+  takes-text Ds = joined-text (bytes "#") (map (sort-name acts) Ds)
+
+  unfoldable pub sort-line-text : ℕ → ℕ → List ℕ
+  sort-line-text D n = bytes "sort " ++ (sort-name acts D ++ (bytes " " ++ (decimal n ++ bytes ";")))
+
+  unfoldable pub func-line-text : ℕ → Func → List ℕ
+  func-line-text f g =
+      bytes "func "
+      ++ (func-name acts f
+      ++ (bytes ":"
+      ++ (takes-text (g .takes)
+      ++ (bytes "->" ++ (sort-name acts (g .gives) ++ (bytes "=" ++ (joined-text (bytes ",") (map decimal (g .values)) ++ bytes ";")))))))
+
+  -- nothing, or `:` and sorts
+  unfoldable pub taken-text : List ℕ → List ℕ
+  taken-text [] = []
+  taken-text (D ∷ Ds) = bytes ":" ++ takes-text (D ∷ Ds)
+
+  unfoldable pub act-line-text : Action → List ℕ
+  act-line-text a = bytes "act " ++ (a .name ++ (taken-text (a .takes) ++ bytes ";"))
+
+  unfoldable pub param-text : ℕ → ℕ → List ℕ
+  param-text i D = var-name acts i ++ (bytes ":" ++ sort-name acts D)
+
+  unfoldable pub proc-line-text : ℕ → Equation → List ℕ
+  proc-line-text e q =
+      bytes "proc "
+      ++ (proc-name acts e
+      ++ (bracketed-text (numbered param-text 0 (q .params)) ++ (bytes "=" ++ (right-text (length (q .params)) (q .summands) ++ bytes ";"))))
+
+  unfoldable pub init-line-text : ℕ × List ℕ → List ℕ
+  init-line-text s = bytes "init " ++ (proc-name acts (s .0) ++ (bracketed-text (map decimal (s .1)) ++ bytes ";"))
+
+-- texts one behind another
+unfoldable pub concat : List (List ℕ) → List ℕ
+concat ts = all (λ t. t) ts
+
+unfoldable pub sheet-text : Table → List ℕ
+sheet-text T =
+    let acts = T .sig .acts in
+    concat (numbered (sort-line-text acts) 1 (drop 1 (T .sig .sorts)))
+    ++ (concat (numbered (func-line-text acts) 0 (T .sig .funcs))
+    ++ (all (act-line-text acts) acts
+    ++ (concat (numbered (proc-line-text acts) 0 (T .equations)) ++ init-line-text acts (T .start))))

@@ -1,0 +1,1 @@
+// The printed text of a table, piece by piece; no code.
