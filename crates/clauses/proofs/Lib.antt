@@ -1,0 +1,11 @@
+pub mod TermText
+pub mod Closing
+pub mod Marks
+pub mod TermSteps
+pub mod TermLists
+pub mod Upto
+pub mod TextLaws
+pub mod SumLaws
+pub mod ConditionLaws
+pub mod CallLaws
+pub mod SummandLaws

@@ -1,0 +1,61 @@
+-- By the kinds of a byte.
+use borrow.Author.Needs.{needs}
+use native.Mathlib.Omega.{arith}
+use Rattle.texts.proofs.Writing.{wrote-as}
+use Rattle.clauses.proofs.Marks.{value-text, variable-text, function-text}
+use Rattle.clauses.proofs.data.put_node.Statement.{statement}
+use Rattle.clauses.proofs.data.put_node.Tie as tie
+
+wide-requires : tie.Need-wide-requires
+wide-requires c κs = search needs
+
+put-decimal-requires : tie.Need-put-decimal-requires
+put-decimal-requires c κs = search needs
+
+same-length : tie.Need-same-length
+same-length c = search needs
+
+returns : tie.Need-returns
+returns c =
+    let a = c .before .before .before .before .before .before .before .args in
+    let n = c .before .before .before .before .before .wide in
+    wrote-as (a .out .now) (a .at) _ _ _ _ (value-text (a .l .funcs) (a .l .vars) (a .b) (n .result) (n .ensures .0) (omega (arith, n .ensures))) (c .before .before .put-decimal .ensures)
+
+put-name-requires : tie.Need-put-name-requires
+put-name-requires c κs = search needs
+
+same-length-2 : tie.Need-same-length-2
+same-length-2 c = search needs
+
+returns-2 : tie.Need-returns-2
+returns-2 c =
+    let a = c .before .before .before .before .before .before .before .before .args in
+    let n = c .before .before .before .before .before .before .wide in
+    wrote-as (a .out .now) (a .at) _ _ _ _ (variable-text (a .l .funcs) (a .l .vars) (a .b) (n .result) (n .ensures .0) (omega (arith, n .ensures)) (omega (arith, n .ensures))) (c .before .before .put-name .ensures)
+
+put-name-requires-2 : tie.Need-put-name-requires-2
+put-name-requires-2 c κs = search needs
+
+same-length-3 : tie.Need-same-length-3
+same-length-3 c = search needs
+
+returns-3 : tie.Need-returns-3
+returns-3 c =
+    let a = c .before .before .before .before .before .before .before .before .args in
+    let n = c .before .before .before .before .before .before .wide in
+    wrote-as (a .out .now) (a .at) _ _ _ _ (function-text (a .l .funcs) (a .l .vars) (a .b) (n .result) (n .ensures .0) (omega (arith, n .ensures)) (n .ensures .1)) (c .before .before .put-name2 .ensures)
+
+pub put-node-spec : {M : Type 1} → statement M
+put-node-spec =
+    tie.close
+    (tie.spec
+    wide-requires
+    put-decimal-requires
+    same-length
+    returns
+    put-name-requires
+    same-length-2
+    returns-2
+    put-name-requires-2
+    same-length-3
+    returns-3)

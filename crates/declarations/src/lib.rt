@@ -1,0 +1,220 @@
+// The lines of sorts, functions and actions as text, read from the stream.
+ghost use mathlib.Core.Path.{_≡_};
+ghost use mathlib.Core.List.{List, _++_, map};
+ghost use Prim.Native.Nat.{ℕ, _+_, _*_, _≤_, _<_};
+ghost use lib.ListN.{length, getD};
+ghost use Rattle.pcrl.specs.Limits.{max-stream};
+ghost use Rattle.pcrl.specs.Tests.{Every};
+ghost use Rattle.pcrl.specs.Text.{bytes, decimal};
+ghost use Rattle.pcrl.specs.Reader.{all};
+ghost use Rattle.pcrl.specs.Sheet.{Func, Action, Sig};
+ghost use Rattle.pcrl.specs.Sorts.{volume};
+ghost use Rattle.pcrl.specs.Stream.{encode-func, encode-action};
+ghost use Rattle.pcrl.specs.Right.{RightFunc, RightAction};
+ghost use Rattle.pcrl.specs.Printer.{numbered};
+ghost use Rattle.rendering.specs.Texts.{joined-text, concat, func-line-text, act-line-text};
+ghost use Rattle.terms.specs.Stands.{Stands};
+ghost use Rattle.evaluation.specs.Known.{KnownTerms};
+ghost use Rattle.firing.specs.Known.{KnownParts};
+ghost use Rattle.texts.specs.Wrote.{Wrote};
+ghost use Rattle.lettering.specs.Named.{sort-by, Lettered};
+ghost use Rattle.declarations.specs.Lines.{sort-line-by, takes-by, func-head-by, colon-before};
+use lettering::Letters;
+use lettering::put_name;
+use lettering::put_sort;
+use texts::put_byte;
+use texts::put_bytes;
+use texts::put_decimal;
+
+// "`sort` name size"
+fn put_sort_line(out: &mut [u8], at: usize, l: Letters, d: usize, size: u8) -> usize
+    requires { ⌜ at ≤ length (now out) ⌝ }
+    ensures { λ r. ⌜ Wrote (now (out .entry)) at (sort-line-by (l .sorts) d size) (now (out .exit)) r ⌝ }
+{
+    let a = put_bytes(out, at, b"sort ");
+    let b = put_name(out, a, b's', l.sorts, d);
+    let c = put_byte(out, b, b' ');
+    let e = put_decimal(out, c, terms::wide(size));
+    put_byte(out, e, b';')
+}
+
+// The sorts of these sizes, behind Bool.
+pub fn put_sorts(sizes: &[u8], l: Letters, out: &mut [u8], at: usize) -> usize
+    requires { ⌜ at ≤ length (now out) ⌝ }
+    ensures { λ r. ⌜ Wrote (now (out .entry)) at (concat (numbered (sort-line-by (l .sorts)) 1 (now (sizes .entry)))) (now (out .exit)) r ⌝ }
+{
+    let mut p = at;
+    let mut i: usize = 0;
+    while i < sizes.len() {
+        p = put_sort_line(out, p, l, i + 1, sizes[i]);
+        i += 1;
+    }
+    p
+}
+
+// "sort, or sort `#` sort"
+fn put_takes(sorts: &[u8], l: Letters, out: &mut [u8], at: usize) -> usize
+    requires { ⌜ at ≤ length (now out) ⌝ }
+    ensures { λ r. ⌜ Wrote (now (out .entry)) at (takes-by (l .sorts) (now (sorts .entry))) (now (out .exit)) r ⌝ }
+{
+    if sorts.len() == 0 {
+        return at;
+    }
+    let mut p = put_sort(out, at, l, sorts[0]);
+    let mut i: usize = 1;
+    while i < sorts.len() {
+        let q = put_byte(out, p, b'#');
+        p = put_sort(out, q, l, sorts[i]);
+        i += 1;
+    }
+    p
+}
+
+fn put_value(out: &mut [u8], at: usize, v: u8) -> usize
+    requires { ⌜ at ≤ length (now out) ⌝ }
+    ensures { λ r. ⌜ Wrote (now (out .entry)) at (decimal v) (now (out .exit)) r ⌝ }
+{
+    put_decimal(out, at, terms::wide(v))
+}
+
+// "values by commas"
+pub fn put_values(vs: &[u8], out: &mut [u8], at: usize) -> usize
+    requires { ⌜ at ≤ length (now out) ⌝ }
+    ensures { λ r. ⌜ Wrote (now (out .entry)) at (joined-text (bytes ",") (map decimal (now (vs .entry)))) (now (out .exit)) r ⌝ }
+{
+    if vs.len() == 0 {
+        return at;
+    }
+    let mut p = put_value(out, at, vs[0]);
+    let mut i: usize = 1;
+    while i < vs.len() {
+        let q = put_byte(out, p, b',');
+        p = put_value(out, q, vs[i]);
+        i += 1;
+    }
+    p
+}
+
+fn product(x: u8, y: u8) -> usize
+    ensures { λ r. ⌜ (r ≡ x * y) × (r < 65536) ⌝ }
+{
+    terms::wide(x) * terms::wide(y)
+}
+
+// The size of the i-th of some sorts.
+fn size_at(s: &[u8], sorts: &[u8], i: usize) -> u8
+    ensures { λ r. ⌜ r ≡ getD (now (s .entry)) (1 + getD (now (sorts .entry)) i 0) 0 ⌝ }
+{
+    terms::peek(s, 1 + terms::wide(terms::peek(sorts, i)))
+}
+
+// How many values a function of these sorts has.
+fn many_values(s: &[u8], sorts: &[u8]) -> usize
+    ensures { λ r. ⌜ (r < 65536) × ((S : Sig) (funcs : List ℕ) (g : Func) → KnownTerms S (now (s .entry)) funcs → RightFunc (S .sorts) g → now (sorts .entry) ≡ g .takes → r ≡ length (g .values)) ⌝ }
+{
+    let x = size_at(s, sorts, 0);
+    if sorts.len() < 2 {
+        return terms::wide(x);
+    }
+    product(x, size_at(s, sorts, 1))
+}
+
+// n bytes of the stream from a place on.
+pub fn bytes_at(s: &[u8], from: usize, n: usize) -> &[u8]
+    requires { ⌜ (length (now s) ≤ max-stream) × (n < 65536) ⌝ }
+    ensures { λ r. ⌜ ((e : List ℕ) → Stands (now (s .entry)) from e → length e ≡ n → now r ≡ e) ⌝ }
+{
+    let v = evaluation::smaller(from, s.len());
+    let w = evaluation::smaller(v + n, s.len());
+    &s[v..w]
+}
+
+// The values of the function that stands at a place.
+fn values_at(s: &[u8], from: usize) -> &[u8]
+    requires { ⌜ (length (now s) ≤ max-stream) × (from < 65536) ⌝ }
+    ensures { λ r. ⌜ ((S : Sig) (funcs : List ℕ) (g : Func) → KnownTerms S (now (s .entry)) funcs → RightFunc (S .sorts) g → Stands (now (s .entry)) from (encode-func g) → now r ≡ g .values) ⌝ }
+{
+    let takes = terms::list_at(s, from);
+    bytes_at(s, from + 2 + takes.len(), many_values(s, takes))
+}
+
+// "`func` name `:` sort, or sort `#` sort, `->`"
+fn put_func_head(takes: &[u8], f: usize, l: Letters, out: &mut [u8], at: usize) -> usize
+    requires { ⌜ at ≤ length (now out) ⌝ }
+    ensures { λ r. ⌜ Wrote (now (out .entry)) at (func-head-by l f (now (takes .entry))) (now (out .exit)) r ⌝ }
+{
+    let a = put_bytes(out, at, b"func ");
+    let b = put_name(out, a, b'f', l.funcs, f);
+    let c = put_byte(out, b, b':');
+    let d = put_takes(takes, l, out, c);
+    put_bytes(out, d, b"->")
+}
+
+// The function that stands at a place: "`func` name `:` sort, or sort `#` sort, `->` sort `=` values by commas".
+fn put_func(s: &[u8], from: usize, f: usize, l: Letters, out: &mut [u8], at: usize) -> usize
+    requires { ⌜ (at ≤ length (now out)) × ((length (now s) ≤ max-stream) × (from < 65536)) ⌝ }
+    ensures { λ r. ⌜ (r ≤ length (now (out .entry))) × (length (now (out .exit)) ≡ length (now (out .entry))) ⌝ }
+    ensures { λ r. ⌜ ((S : Sig) (funcs : List ℕ) (g : Func) → KnownTerms S (now (s .entry)) funcs → RightFunc (S .sorts) g → Lettered (S .acts) l → f < 256 → Stands (now (s .entry)) from (encode-func g) → Wrote (now (out .entry)) at (func-line-text (S .acts) f g) (now (out .exit)) r) ⌝ }
+{
+    let takes = terms::list_at(s, from);
+    let gives = terms::peek(s, from + 1 + takes.len());
+    let a = put_func_head(takes, f, l, out, at);
+    let b = put_sort(out, a, l, gives);
+    let c = put_byte(out, b, b'=');
+    let d = put_values(values_at(s, from), out, c);
+    put_byte(out, d, b';')
+}
+
+pub fn put_funcs(s: &[u8], funcs: &[u16], n: usize, l: Letters, out: &mut [u8], at: usize) -> usize
+    requires { ⌜ (at ≤ length (now out)) × (length (now s) ≤ max-stream) ⌝ }
+    ensures { λ r. ⌜ (r ≤ length (now (out .entry))) × (length (now (out .exit)) ≡ length (now (out .entry))) ⌝ }
+    ensures { λ r. ⌜ ((S : Sig) → KnownTerms S (now (s .entry)) (now (funcs .entry)) → length (S .funcs) ≤ 256 → Lettered (S .acts) l → n ≡ length (S .funcs) → Wrote (now (out .entry)) at (concat (numbered (func-line-text (S .acts)) 0 (S .funcs))) (now (out .exit)) r) ⌝ }
+{
+    let mut p = at;
+    let mut f: usize = 0;
+    while f < n {
+        p = put_func(s, terms::place(funcs, f), f, l, out, p);
+        f += 1;
+    }
+    p
+}
+
+// The action that stands at a place: "`act` name, or name `:` sort, or name `:` sort `#` sort".
+fn put_act(s: &[u8], from: usize, l: Letters, out: &mut [u8], at: usize) -> usize
+    requires { ⌜ (at ≤ length (now out)) × ((length (now s) ≤ max-stream) × (from < 65536)) ⌝ }
+    ensures { λ r. ⌜ (r ≤ length (now (out .entry))) × (length (now (out .exit)) ≡ length (now (out .entry))) ⌝ }
+    ensures { λ r. ⌜ ((acts : List Action) (sizes : List ℕ) (a : Action) → length sizes ≤ 256 → RightAction sizes a → Lettered acts l → Stands (now (s .entry)) from (encode-action a) → Wrote (now (out .entry)) at (act-line-text acts a) (now (out .exit)) r) ⌝ }
+{
+    let name = terms::list_at(s, from);
+    let takes = terms::list_at(s, from + 1 + name.len());
+    let a = put_bytes(out, at, b"act ");
+    let b = put_bytes(out, a, name);
+    let c = put_colon(out, b, takes.len());
+    let d = put_takes(takes, l, out, c);
+    put_byte(out, d, b';')
+}
+
+// A colon, if sorts follow.
+fn put_colon(out: &mut [u8], at: usize, n: usize) -> usize
+    requires { ⌜ at ≤ length (now out) ⌝ }
+    ensures { λ r. ⌜ Wrote (now (out .entry)) at (colon-before n) (now (out .exit)) r ⌝ }
+{
+    if n == 0 {
+        return at;
+    }
+    put_byte(out, at, b':')
+}
+
+pub fn put_acts(s: &[u8], acts: &[u16], n: usize, l: Letters, out: &mut [u8], at: usize) -> usize
+    requires { ⌜ (at ≤ length (now out)) × (length (now s) ≤ max-stream) ⌝ }
+    ensures { λ r. ⌜ (r ≤ length (now (out .entry))) × (length (now (out .exit)) ≡ length (now (out .entry))) ⌝ }
+    ensures { λ r. ⌜ ((S : Sig) (Ps : List (List ℕ)) (params : List ℕ) → KnownParts S Ps (now (s .entry)) (now (acts .entry)) params → length (S .sorts) ≤ 256 → Every (RightAction (S .sorts)) (S .acts) → Lettered (S .acts) l → n ≡ length (S .acts) → Wrote (now (out .entry)) at (all (act-line-text (S .acts)) (S .acts)) (now (out .exit)) r) ⌝ }
+{
+    let mut p = at;
+    let mut i: usize = 0;
+    while i < n {
+        p = put_act(s, terms::place(acts, i), l, out, p);
+        i += 1;
+    }
+    p
+}

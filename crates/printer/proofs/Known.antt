@@ -1,0 +1,100 @@
+-- What is known of a right table by where its parts stand: the start, and an equation's sorts and summands.
+use mathlib.Core.Path.{_≡_, refl, sym, ap, subst, _∙_}
+use mathlib.Core.List.{List, [], _∷_, _++_}
+use Prim.Native.Nat.{ℕ, zero, suc, _+_, _≤_, _<_, min}
+use native.Mathlib.Omega.{arith}
+use lib.ListN.{length, getD, take, drop, length-append, length-drop, length-map, List·getD-map}
+use Rattle.pcrl.specs.Limits.{frame-width, max-summands}
+use Rattle.pcrl.specs.Tests.{Every, Each}
+use Rattle.pcrl.specs.Table.{Summand, Equation, Table, equation, no-equation, params-of, summands-of}
+use Rattle.pcrl.specs.Stream.{encode-numbers, encode-list, encode-summand, encode-start}
+use Rattle.pcrl.specs.Right.{RightSizes, RightSorts, RightSummands, RightEquations, RightStart, RightTable}
+use Rattle.laws.specs.Every.{every-at, every-weaken}
+use Rattle.laws.specs.Each.{each-length, each-at}
+use Rattle.theory.specs.TableRight.{params-length, params-at}
+use Rattle.theory.specs.StepRight.{summands-right}
+use Rattle.terms.specs.Stands.{Stands, list-at}
+use Rattle.terms.proofs.Places.{number-at, behind, count-at, list-is}
+use Rattle.tables.specs.declared.Index.{Index}
+use Rattle.tables.specs.Indexed.{Indexed}
+use Rattle.firing.proofs.Indexing.{there, terms-known, parts-known}
+use Rattle.printer.specs.Lines.{KnownTable}
+
+module _ (T : Table) (s : List ℕ) (p : ℕ) (h : Stands s p (encode-start (T .start))) where
+  pub start-at : getD s p 0 ≡ T .start .0
+  unfolding encode-start
+  start-at = let z : p ≡ p + 0 = omega arith in ap (λ (i : ℕ). getD s i 0) z ∙ number-at s p (T .start .0 ∷ T .start .1) 0 h (omega arith)
+
+  pub start-values : Stands s (p + 1) (T .start .1)
+  unfolding encode-start
+  start-values = behind s p (T .start .0 ∷ []) (T .start .1) h
+
+module _ (T : Table) (s funcs acts params rows : List ℕ) (known : KnownTable T s funcs acts params rows) where
+  right-start : RightStart (T .sig) (T .equations) (T .start)
+  unfolding RightTable
+  right-start = known .right .0 .1 .1
+
+  few-equations : length (T .equations) ≤ 64
+  unfolding RightTable RightEquations
+  few-equations = let n = params-length T in let m = known .right .0 .1 .0 .0 .0 .1 in omega arith
+
+  pub small-number : (e : ℕ) → e < length (T .equations) → e < 256
+  small-number e h = let few = few-equations in omega arith
+
+  pub start-small : T .start .0 < 256
+  unfolding RightStart
+  start-small = small-number (T .start .0) (right-start .0)
+
+  pub start-count : getD s (getD params (T .start .0) 0) 0 ≡ length (T .start .1)
+  unfolding RightStart
+  start-count =
+      let n = params-length T in
+      count-at s (getD params (T .start .0) 0) (getD (params-of (T .equations)) (T .start .0) []) (known .parts .params-at (T .start .0) (let z = right-start .0 in omega arith)) ∙ each-length _ _ _ (right-start .1)
+
+  module _ (e : ℕ) (below : e < length (T .equations)) where
+    pub sorts-at : list-at s (getD params e 0) ≡ equation T e .params
+    sorts-at = let n = params-length T in list-is s (getD params e 0) (getD (params-of (T .equations)) e []) (known .parts .params-at e (omega arith)) ∙ params-at T e
+
+    right-sorts : RightSorts (T .sig) frame-width (equation T e .params)
+    unfolding RightTable RightEquations
+    right-sorts = let n = params-length T in subst (RightSorts (T .sig) frame-width) (params-at T e) (every-at (RightSorts (T .sig) frame-width) (params-of (T .equations)) [] e (known .right .0 .1 .0 .0 .1) (omega arith))
+
+    pub few-sorts : length (equation T e .params) ≤ frame-width
+    unfolding RightSorts
+    few-sorts = right-sorts .0
+
+    pub small-sorts : Every (λ D. D < 256) (equation T e .params)
+    unfolding RightSorts RightSizes
+    small-sorts = every-weaken _ _ (λ D b. let few = known .terms .right-sizes .0 .0 .1 in omega arith) (equation T e .params) (right-sorts .1)
+
+    pub right-summands : RightSummands (T .sig) (params-of (T .equations)) (equation T e .params) (equation T e .summands)
+    unfolding RightTable RightEquations RightSummands summands-of equation
+    right-summands =
+        let l = params-length T in
+        let h = each-at _ (params-of (T .equations)) (summands-of (T .equations)) e [] [] (omega arith) (known .right .0 .1 .0 .1) in
+        let same : getD (summands-of (T .equations)) e [] ≡ equation T e .summands = List·getD-map (λ (x : Equation). x .summands) (T .equations) e no-equation in
+        (subst (λ (hs : List Summand). length hs ≤ max-summands) same (h .0), summands-right T (known .right) e below)
+
+-- what an index makes known
+pub known-table : (T : Table) (s : List ℕ) (index : Index) → Indexed T s index → RightTable T → KnownTable T s (index .funcs) (index .acts) (index .params) (index .rows)
+unfolding equation summands-of
+known-table T s index indexed right = record {
+  right = right;
+  terms = terms-known T s index indexed right;
+  parts = parts-known T s index indexed right;
+  rows-at = λ e h.
+      let es = T .equations in
+      let m : length (summands-of es) ≡ length es = length-map es (λ (x : Equation). x .summands) in
+      let same : getD (summands-of es) e [] ≡ equation T e .summands = List·getD-map (λ (x : Equation). x .summands) es e no-equation in
+      subst (λ (hs : List Summand). Stands s (getD (index .rows) e 0) (encode-list encode-summand hs)) same (there (encode-list encode-summand) s (summands-of es) (index .rows) (index .equations) [] (indexed .equations-are ∙ sym m) (indexed .parts .rows-stand) e (omega arith));
+}
+
+-- the start stands inside the stream
+pub start-inside : (s : List ℕ) (p : ℕ) (x : ℕ × List ℕ) → Stands s p (encode-start x) → Stands s (min p (length s)) (encode-start x)
+unfolding encode-start
+start-inside s p x h =
+    let long = ap length (h .1) in
+    let n = length-append (x .0 ∷ x .1) (h .0) in
+    let m = length-drop p s in
+    let z : p ≡ min p (length s) = omega arith in
+    subst (λ (q : ℕ). Stands s q (encode-start x)) z h

@@ -1,0 +1,6 @@
+pub mod Chained
+pub mod Params
+pub mod Known
+pub mod Whole
+pub mod Seventeen
+pub mod Tokened
