@@ -1,5 +1,5 @@
-/* A bench in miniature: makes a table from a sheet, starts a stack, lists its steps, takes some by number, and puts a
- * list of questions at once.
+/* A bench in miniature: makes a table from a sheet, prints the table as a sheet, starts a stack, lists its steps, takes
+ * some by number, and puts a list of questions at once.
  *
  *     bench [SHEET] [K ..]
  *
@@ -48,6 +48,19 @@ static size_t read_sheet(const char *name) {
     return length;
 }
 
+/* Prints the table as a sheet, as a bench can that received only a table. A large table may have none. */
+static void print_table(void) {
+    static uint8_t text[WIZBRATEL_MAX_SHEET];
+    size_t length = 0;
+    uint8_t refused = wizbratel_print_table(table, table_length, text, sizeof text, &length);
+    if (refused == WIZBRATEL_Q_PRINTED) {
+        puts("  none, by question 17");
+        return;
+    }
+    must("table", refused);
+    printf("  %.*s\n", (int)length, (const char *)text);
+}
+
 /* An answer in a line: the label and the depth after it. */
 static void print(const wizbratel_answer *answer) {
     if (answer->kind != WIZBRATEL_STEP) {
@@ -91,7 +104,9 @@ int main(int count, char **words) {
     if (!named)
         memcpy(sheet, buffer, length);
     must("sheet", wizbratel_make_table(sheet, length, table, sizeof table, &table_length));
-    printf("a table of %d bytes; steps from the start:\n", (int)table_length);
+    printf("a table of %d bytes; as a sheet:\n", (int)table_length);
+    print_table();
+    puts("steps from the start:");
     stack s;
     must("start", wizbratel_start(table, table_length, s.frames, WIZBRATEL_FRAMES, &s.depth));
     list(&s);

@@ -1,7 +1,7 @@
 /* Wizbratel: linear tables from pCRL process sheets, and steps through them.
  *
  *     sheet   a text that says what a process may do            wizbratel_check_sheet, wizbratel_make_table, wizbratel_walk
- *     table   the file that is made of it, 512 to 65,536 bytes  wizbratel_check_table
+ *     table   the file that is made of it, 512 to 65,536 bytes  wizbratel_check_table, wizbratel_print_table
  *     stack   64 frames and a depth: where the process stands   wizbratel_start, wizbratel_ask, wizbratel_ask_all
  *
  * Answer      0, or the number of the first question that fails: see WIZBRATEL_Q_* below; of wizbratel_walk a length.
@@ -28,7 +28,8 @@ extern "C" {
 #define WIZBRATEL_VERSION_MINOR 1
 #define WIZBRATEL_VERSION_PATCH 0
 
-/* The longest sheet, and the longest table file: an output of WIZBRATEL_MAX_FILE bytes is never too short. */
+/* The longest sheet, and the longest table file: an output of WIZBRATEL_MAX_FILE bytes is never too short for a table,
+ * one of WIZBRATEL_MAX_SHEET bytes never for a printed sheet. */
 #define WIZBRATEL_MAX_SHEET 4096
 #define WIZBRATEL_MAX_FILE 65536
 
@@ -38,7 +39,7 @@ extern "C" {
 /* Frames of a stack. */
 #define WIZBRATEL_FRAMES 64
 
-/* The questions, in the order in which they are put. A function answers the number of the first one that
+/* The questions, in the order in which they are put, but for 17. A function answers the number of the first one that
  * has to be answered with no. */
 
 /* Of a sheet: */
@@ -53,7 +54,7 @@ extern "C" {
 #define WIZBRATEL_Q_CIRCLE 9       /* Does no process come back to itself at the head, before any action? */
 #define WIZBRATEL_Q_TABLE_LIMIT 10 /* Is its table within its limits (64 equations, 255 summands, ..)? */
 
-/* Of the output that is lent for the table: */
+/* Of the output that is lent for the table, or for its printed sheet: */
 #define WIZBRATEL_Q_NO_ROOM 11 /* Is it long enough? */
 
 /* Of a table file: */
@@ -64,6 +65,9 @@ extern "C" {
 /* Of a stack: */
 #define WIZBRATEL_Q_FRAMES 15   /* 64 frames, depth 0 to 64, used frames right for this table, all else zero? */
 #define WIZBRATEL_Q_TOO_DEEP 16 /* Are there at most 64 frames after the step? */
+
+/* Of a table that is printed, after 14 and before 11: */
+#define WIZBRATEL_Q_PRINTED 17 /* Does its text pass 1 to 8? Tables of more than 16 equations never do. */
 
 /* A frame: an equation and the values of its parameters, spare ones 0. Of the lent frames the first
  * `depth` are used, the top one last; the others are zero. */
@@ -93,7 +97,7 @@ typedef struct {
  * Answers  0 if its table can be made, else 1 to 10. No bytes at all: 5.
  * Leaves   Nothing is written.
  * Time     Not more than make_table.
- * Stack    At most 512 KB; usual sheets 26 to 146 KB. */
+ * Stack    At most 512 KB; usual sheets 12 to 108 KB. */
 uint8_t wizbratel_check_sheet(const uint8_t *sheet, size_t length);
 
 /* Make the table file of a sheet.
@@ -102,8 +106,8 @@ uint8_t wizbratel_check_sheet(const uint8_t *sheet, size_t length);
  *          no output (`out` NULL, `room` 0) gets 11.
  * Leaves   After 0 the file over the front of `out` and its length in `*written`; what is behind it in
  *          `out` is untouched. One sheet gives the same bytes every time.
- * Time     1.6 us for 25 bytes, 10 us for 500, 0.10 ms for 4,096; the dearest sheets found 2 ms.
- * Stack    At most 512 KB; usual sheets 26 to 146 KB. */
+ * Time     1.1 us for 25 bytes, 10 us for 500, 0.09 ms for 4,096; the dearest sheets found 2 ms.
+ * Stack    At most 512 KB; usual sheets 12 to 108 KB. */
 uint8_t wizbratel_make_table(const uint8_t *sheet, size_t length, uint8_t *out, size_t room, size_t *written);
 
 /* Walk: step 0 up to 8 times, as text: a line for each step (its number, the label, the depth after it), then
@@ -120,9 +124,20 @@ size_t wizbratel_walk(const uint8_t *sheet, size_t length, uint8_t *out, size_t 
  *
  * Answers  0 if it is exactly a file that could have been made of a right table, else 12 to 14. No bytes: 12.
  * Leaves   Nothing is written.
- * Time     0.9 us for 512 bytes, 0.8 ms for 65,536.
+ * Time     0.5 us for 512 bytes, 0.7 ms for 65,536.
  * Stack    At most 72 KB. */
 uint8_t wizbratel_check_table(const uint8_t *file, size_t length);
+
+/* Print a table file as a sheet: sorts, functions, processes and variables are named by the letters s, f, p and v and
+ * a number, each equation is a process, and line feeds there are none.
+ *
+ * Answers  0, or 12 to 14 for the file, or 17 if the text is no sheet by questions 1 to 8, or 11 if the text is longer
+ *          than `room` bytes. 17 comes before 11. A good table with no output (`out` NULL, `room` 0) gets 11 or 17.
+ * Leaves   After 0 the text over the front of `out`, not ended by a zero, and its length in `*written`; what is behind
+ *          it in `out` is untouched. make_table makes exactly `table` of the text.
+ * Time     0.8 us for the shortest table, 20 us for a text of 4,096 bytes; 1 ms for 65,536 bytes.
+ * Stack    At most 84 KB. */
+uint8_t wizbratel_print_table(const uint8_t *table, size_t length, uint8_t *out, size_t room, size_t *written);
 
 /* Start a stack.
  *
@@ -139,10 +154,10 @@ uint8_t wizbratel_start(const uint8_t *file, size_t length, wizbratel_frame *fra
  *          would get too deep. Too large a k is no refusal: the kind is then WIZBRATEL_NONE.
  * Leaves   After 0 `*answer`, all of it. If its kind is WIZBRATEL_STEP the frames hold the new stack, zeros
  *          behind it, and `*depth` is its depth; after ENDED and NONE they are as they were.
- * Time     The file is checked at each call: 1.4 us with 512 bytes, 0.7 ms with 65,536. Then the steps before
- *          k are counted: 0.05 to 0.2 us for usual tables. The dearest table found, 230 summands with four
- *          sums of 16 values and eight long conditions, each on the first and the last of them, takes 8 s if k
- *          is too large. So look at a table of unknown origin in a thread that may wait.
+ * Time     The file is checked at each call: 1.0 us with 512 bytes, 0.7 ms with 65,536. Then the steps before
+ *          k are counted: 0.04 to 0.2 us for usual tables. The dearest table found, 230 summands with four
+ *          sums of 16 values and eight long conditions, each on all of them, takes 8 s if k is too large. So
+ *          look at a table of unknown origin in a thread that may wait.
  * Stack    At most 72 KB. */
 uint8_t wizbratel_ask(const uint8_t *file, size_t length, wizbratel_frame *frames, size_t count, size_t *depth, uint64_t k,
                       wizbratel_answer *answer);
@@ -156,7 +171,7 @@ uint8_t wizbratel_ask(const uint8_t *file, size_t length, wizbratel_frame *frame
  *          `bytes` is the size of `answers` in bytes: as many questions are put as there is room for whole
  *          answers, and what is behind the last answer is untouched. With no questions, or no room, the
  *          stack is only checked.
- * Time     As check_table once, then 0.05 to 0.2 us a question for usual tables; at the worst as ask.
+ * Time     As check_table once, then 0.04 to 0.2 us a question for usual tables; at the worst as ask.
  * Stack    At most 72 KB. */
 uint8_t wizbratel_ask_all(const uint8_t *file, size_t length, wizbratel_frame *frames, size_t count, size_t *depth,
                           const uint64_t *questions, size_t question_count, wizbratel_answer *answers, size_t bytes);

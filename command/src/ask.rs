@@ -21,10 +21,7 @@ const OPTIONS: Options = Options {
 pub fn run(words: &[OsString]) -> Result<Status, Stop> {
     let args = Args::parse(words, &OPTIONS)?;
     let name = args.file("TABLE")?;
-    let kind = match Kind::of(&args, name)? {
-        Kind::Sheet if args.has(SHEET) => Kind::Sheet,
-        _ => Kind::Table,
-    };
+    let kind = Kind::table_first(&args, name)?;
     let used = stack(&args)?;
     let Some(k) = args.number(K)? else {
         return Err(misuse("-k K is missing: the step's number, from 0"));

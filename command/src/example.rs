@@ -17,6 +17,8 @@ pub enum Example {
     Room(&'static str, usize),
     /// The plain sheet's table file, changed; what was done to it in words.
     File(&'static str, fn(&mut Vec<u8>)),
+    /// A sheet whose table is printed.
+    Printed(&'static str),
     /// Step 0 of a sheet's table and a stack of so many frames of one equation.
     Asked(&'static str, u8, usize),
 }
@@ -33,6 +35,9 @@ impl Example {
                 vec![sheet.to_string(), format!("with an output of {room} bytes")]
             }
             Example::File(change, _) => vec![format!("the table file of  {PLAIN}"), change.into()],
+            Example::Printed(sheet) => {
+                vec![sheet.to_string(), "its table printed as a sheet".into()]
+            }
             Example::Asked(sheet, equation, depth) => {
                 let hex = frames::hex(&[frame(equation)]);
                 let times = match depth {
@@ -61,6 +66,7 @@ impl Example {
                 change(&mut file);
                 Table::read(&file).map(|_| ())
             }
+            Example::Printed(sheet) => Table::make(sheet.as_bytes())?.print().map(|_| ()),
             Example::Asked(sheet, equation, depth) => {
                 let table = Table::make(sheet.as_bytes())?;
                 let stack = table.stack(&vec![frame(equation); depth])?;

@@ -6,7 +6,7 @@ use wizbratel::question;
 
 use crate::args::{number, Args, Options};
 use crate::example::Example;
-use crate::example::Example::{Asked, Blanks, File, Room, Sheet};
+use crate::example::Example::{Asked, Blanks, File, Printed, Room, Sheet};
 use crate::out;
 use crate::stop::{misuse, Status, Stop, GOOD};
 
@@ -34,7 +34,7 @@ const fn entry(fails: Example, advice: &'static str, mended: Example) -> Explain
 const LOOP: &str = "act a;proc X=a.X;init X;";
 
 /// The questions, 1 first.
-const EXPLAINED: [Explained; 16] = [
+const EXPLAINED: [Explained; 17] = [
     entry(
         Blanks(LOOP, 4073),
         "Leave blanks and line feeds out, shorten names, or cut the sheet in two.",
@@ -125,6 +125,13 @@ const EXPLAINED: [Explained; 16] = [
         "The process calls deeper than a stack can hold. Take another step, or let the process end its calls sooner.",
         Asked("act a;proc X=a.X.X;init X;", 0, 63),
     ),
+    entry(
+        Printed("act a;proc X=a.a.a.a.a.a.a.a.a+a.a.a.a.a.a.a.a.a;init X;"),
+        "Each equation of the table is printed as a process, and each part after a first one that is no call has an \
+         equation; data deep in functions, or a long name of an action that begins with s, f, p or v, can fail it \
+         too. The table itself is right: keep the sheet that it was made from.",
+        Printed("act a;proc X=a.a.a.a.a.a.a.a.a+a.a.a.a.a.a.a.a;init X;"),
+    ),
 ];
 
 /// Prints one question, or what all of them ask.
@@ -136,7 +143,7 @@ pub fn run(words: &[OsString]) -> Result<Status, Stop> {
     let asked = number("N", args.file("N")?)?;
     match u8::try_from(asked).ok().and_then(text) {
         Some(text) => out::print(&text).map(|()| GOOD),
-        None => Err(misuse(format!("no question {asked}: there are 1 to 16"))),
+        None => Err(misuse(format!("no question {asked}: there are 1 to 17"))),
     }
 }
 
@@ -186,8 +193,8 @@ mod tests {
 
     #[test]
     fn there_are_as_many_as_the_library_asks() {
-        assert!((1..=16).all(|number| text(number).is_some()));
-        assert!(text(0).is_none() && text(17).is_none());
-        assert_eq!(all().lines().count(), 16);
+        assert!((1..=17).all(|number| text(number).is_some()));
+        assert!(text(0).is_none() && text(18).is_none());
+        assert_eq!(all().lines().count(), 17);
     }
 }

@@ -10,6 +10,7 @@ wizbratel: linear tables of pCRL process sheets, and steps through them
   make SHEET [-o TABLE]       makes a sheet's table file: SHEET with the ending .table, or TABLE
   check FILE..                checks sheets and table files
   walk SHEET                  takes the first step 8 times
+  print TABLE                 prints a table as a sheet, whose table is the same byte for byte
   explain [N]                 says what question N asks, how it is failed and how to mend that; or lists all
   step SHEET|TABLE            steps by hand, or by a script on standard input: a number takes that step,
        [--seed N]             u undoes, r takes one at random (by the seed), l lists the steps, q ends
@@ -24,7 +25,8 @@ wizbratel: linear tables of pCRL process sheets, and steps through them
   help, --version
 
 `-` is standard input, or output behind -o. A file whose name ends in .table is taken for a table file, any other
-for a sheet, unless --table or --sheet says what all files are; ask takes a table file unless --sheet is given.
+for a sheet, unless --table or --sheet says what all files are; ask and print take a table
+file unless --sheet is given.
 
 The exit status is 0, 1 if something was refused, 2 for misuse and for files that cannot be read or written.
 ";

@@ -36,6 +36,14 @@ impl Kind {
             (false, false) => Ok(Kind::Sheet),
         }
     }
+
+    /// The same where a table is wanted: only the option makes a file a sheet.
+    pub fn table_first(args: &Args, name: &OsStr) -> Result<Kind, Stop> {
+        match Kind::of(args, name)? {
+            Kind::Sheet if args.has(SHEET) => Ok(Kind::Sheet),
+            _ => Ok(Kind::Table),
+        }
+    }
 }
 
 /// Whether the name stands for standard input or output.

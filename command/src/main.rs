@@ -15,6 +15,7 @@ mod help;
 mod input;
 mod make;
 mod out;
+mod print;
 mod random;
 mod step;
 mod stop;
@@ -46,6 +47,7 @@ fn run(words: &[OsString]) -> Result<Status, Stop> {
         "make" => make::run(rest),
         "check" => check::run(rest),
         "walk" => walk::run(rest),
+        "print" => print::run(rest),
         "explain" => explain::run(rest),
         "step" => step::run(rest),
         "ask" => ask::run(rest),

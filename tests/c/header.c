@@ -23,10 +23,11 @@ static void numbers(void) {
         WIZBRATEL_Q_FORM, WIZBRATEL_Q_COUNT, WIZBRATEL_Q_NAME, WIZBRATEL_Q_SORT,
         WIZBRATEL_Q_CIRCLE, WIZBRATEL_Q_TABLE_LIMIT, WIZBRATEL_Q_NO_ROOM, WIZBRATEL_Q_FILE_LENGTH,
         WIZBRATEL_Q_BLOCK, WIZBRATEL_Q_STREAM, WIZBRATEL_Q_FRAMES, WIZBRATEL_Q_TOO_DEEP,
+        WIZBRATEL_Q_PRINTED,
     };
-    for (int i = 0; i < 16; i++)
+    for (int i = 0; i < 17; i++)
         expect("a question's number", questions[i], i + 1);
-    expect("their count", (long)(sizeof questions / sizeof *questions), 16);
+    expect("their count", (long)(sizeof questions / sizeof *questions), 17);
 }
 
 /* NULL wherever the length is 0, in each function. */
@@ -42,8 +43,13 @@ static void nothing(void) {
     expect("make into nothing", wizbratel_make_table((const uint8_t *)sheet, strlen(sheet), NULL, 0, &length), WIZBRATEL_Q_NO_ROOM);
     expect("the length after it", (long)length, 7);
     expect("check no file", wizbratel_check_table(NULL, 0), WIZBRATEL_Q_FILE_LENGTH);
+    expect("print no file", wizbratel_print_table(NULL, 0, NULL, 0, &length), WIZBRATEL_Q_FILE_LENGTH);
+    expect("the length after it", (long)length, 7);
     expect("start of no file", wizbratel_start(NULL, 0, NULL, 0, &depth), WIZBRATEL_Q_FILE_LENGTH);
     expect("make", wizbratel_make_table((const uint8_t *)sheet, strlen(sheet), file, sizeof file, &length), 0);
+    size_t before = length;
+    expect("print into nothing", wizbratel_print_table(file, length, NULL, 0, &before), WIZBRATEL_Q_NO_ROOM);
+    expect("the length after it", (long)before, (long)length);
     expect("start in no frames", wizbratel_start(file, length, NULL, 0, &depth), WIZBRATEL_Q_FRAMES);
     expect("the depth after it", (long)depth, 7);
     expect("ask on no frames", wizbratel_ask(file, length, NULL, 0, &depth, 0, &answer), WIZBRATEL_Q_FRAMES);

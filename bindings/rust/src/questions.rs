@@ -1,7 +1,7 @@
-//! What the questions 1 to 16 ask. Each is put only if those before it were answered yes.
+//! What the questions 1 to 17 ask. Each is put only if those before it were answered yes; 17 is put before 11.
 
 /// What each question asks, question 1 first.
-const QUESTIONS: [&str; 16] = [
+const QUESTIONS: [&str; 17] = [
     "at most 4,096 bytes in the sheet?",
     "no bytes but printable ASCII, blanks and line feeds?",
     "all of the text tokens: names of at most 16 characters that begin with a letter, numerals up to 255 without \
@@ -17,20 +17,22 @@ const QUESTIONS: [&str; 16] = [
     "no process that comes back to itself through first parts alone, without an action before it?",
     "the table within its limits: 64 equations of 4 parameters, 255 summands, for each 4 sum variables, 8 conditions \
      and 8 calls, 31 nodes a data term, 64,768 bytes in all?",
-    "room for the whole table file in the lent output?",
+    "room for the whole table file, or the whole printed text, in the lent output?",
     "512 to 65,536 bytes in the table file, in whole blocks of 512?",
     "number, block count and check of each block right?",
     "the stream of a table in the blocks, rightly sorted, within all limits, in the fewest blocks, zeros behind it?",
     "a stack of this table: 64 frames lent, each used one an equation with values in its sorts, zeros in all that is \
      not used?",
     "at most 64 frames after the step?",
+    "the printed text a sheet by questions 1 to 8: at most 4,096 bytes, names of at most 16 characters, at most 16 \
+     round brackets open, at most 16 equations?",
 ];
 
-/// What a question asks, in words; there are questions 1 to 16.
+/// What a question asks, in words; there are questions 1 to 17.
 ///
 /// ```
 /// assert_eq!(wizbratel::question(1), Some("at most 4,096 bytes in the sheet?"));
-/// assert_eq!(wizbratel::question(17), None);
+/// assert_eq!(wizbratel::question(18), None);
 /// ```
 pub fn question(number: u8) -> Option<&'static str> {
     let index = usize::from(number).checked_sub(1)?;

@@ -16,7 +16,7 @@ use crate::question;
 pub struct Refused(u8);
 
 impl Refused {
-    /// The question's number, 1 to 16.
+    /// The question's number, 1 to 17.
     pub fn number(self) -> u8 {
         self.0
     }

@@ -8,7 +8,7 @@
 
 use std::mem::{align_of, size_of, size_of_val};
 
-/// The longest sheet, in bytes.
+/// The longest sheet, in bytes: an output of this length is never too short for a table's text.
 pub const MAX_SHEET: usize = 4096;
 
 /// The longest table file, in bytes: an output of this length is never too short.
@@ -63,6 +63,13 @@ extern "C" {
     ) -> u8;
     fn wizbratel_walk(sheet: *const u8, length: usize, out: *mut u8, room: usize) -> usize;
     fn wizbratel_check_table(file: *const u8, length: usize) -> u8;
+    fn wizbratel_print_table(
+        table: *const u8,
+        length: usize,
+        out: *mut u8,
+        room: usize,
+        written: *mut usize,
+    ) -> u8;
     fn wizbratel_start(
         file: *const u8,
         length: usize,
@@ -116,6 +123,13 @@ pub(crate) fn walk(sheet: &[u8], out: &mut [u8]) -> usize {
 pub(crate) fn check_table(file: &[u8]) -> u8 {
     // SAFETY: pointer and length are the slice's, which the function only reads.
     unsafe { wizbratel_check_table(file.as_ptr(), file.len()) }
+}
+
+/// Questions 12 to 14, 17 and 11: the table's sheet over the front of the output, and its length.
+pub(crate) fn print_table(file: &[u8], out: &mut [u8], written: &mut usize) -> u8 {
+    let (room, out) = (out.len(), out.as_mut_ptr());
+    // SAFETY: pointers and lengths are the slices'; `out` and `written` are lent mutably, so apart from all else.
+    unsafe { wizbratel_print_table(file.as_ptr(), file.len(), out, room, written) }
 }
 
 /// Questions 12 to 15: the table's start in the frames, and depth 1.

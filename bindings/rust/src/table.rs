@@ -3,7 +3,7 @@
 use std::fmt;
 
 use crate::stack::Stack;
-use crate::sys::{self, Frame, FRAMES, MAX_FILE};
+use crate::sys::{self, Frame, FRAMES, MAX_FILE, MAX_SHEET};
 use crate::Refused;
 
 /// Checks a sheet, questions 1 to 10: it is accepted exactly if its table can be made.
@@ -82,6 +82,40 @@ impl Table {
     /// The table file: whole blocks of 512 bytes.
     pub fn file(&self) -> &[u8] {
         &self.file
+    }
+
+    /// Prints the table as a sheet, whose table is this one byte for byte; question 17. Sorts, functions, processes and
+    /// variables are named by a letter and a number.
+    ///
+    /// ```
+    /// use wizbratel::Table;
+    /// let table = Table::make(b"sort D 3; act in: D; proc Get = sum(d: D, in(d).Get); init Get;")?;
+    /// let text = table.print()?;
+    /// assert_eq!(text, "sort s1 3;act in:s1;proc p0=sum(v0:s1,in(v0).p0);init p0;");
+    /// assert_eq!(Table::make(text.as_bytes())?, table);
+    /// # Ok::<(), wizbratel::Refused>(())
+    /// ```
+    pub fn print(&self) -> Result<String, Refused> {
+        let mut text = [0; MAX_SHEET];
+        let length = self.print_into(&mut text)?;
+        Ok(String::from_utf8_lossy(&text[..length]).into_owned())
+    }
+
+    /// Prints the table over the front of an output, questions 17 and 11, and says how long the text is. What is behind
+    /// it in the output stays, and a refusal leaves all of it. An output of [`MAX_SHEET`] bytes is never too short.
+    ///
+    /// ```
+    /// let table = wizbratel::Table::make(b"act a; proc X = a.X; init X;")?;
+    /// let mut out = [0; 27];
+    /// assert_eq!(table.print_into(&mut out), Ok(27));
+    /// assert_eq!(&out, b"act a;proc p0=a.p0;init p0;");
+    /// assert_eq!(table.print_into(&mut out[..26]).unwrap_err().number(), 11);
+    /// # Ok::<(), wizbratel::Refused>(())
+    /// ```
+    pub fn print_into(&self, out: &mut [u8]) -> Result<usize, Refused> {
+        let mut written = 0;
+        Refused::unless_zero(sys::print_table(&self.file, out, &mut written))?;
+        Ok(written)
     }
 
     /// The stack with which the table starts, of one frame.

@@ -58,7 +58,7 @@ fn refusals_say_what_was_asked() {
     let error: Box<dyn std::error::Error> = Box::new(refused);
     assert_eq!(error.to_string(), text);
     for number in 0..=u8::MAX {
-        let known = (1..=16).contains(&number);
+        let known = (1..=17).contains(&number);
         assert_eq!(question(number).is_some(), known, "{number}");
     }
 }

@@ -5,6 +5,7 @@ mod check;
 mod common;
 mod graph;
 mod make;
+mod print;
 mod step;
 mod walk;
 mod words;

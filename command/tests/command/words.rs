@@ -11,7 +11,9 @@ fn help_and_version() {
     for word in ["help", "--help", "-h"] {
         let ran = run(&[word]);
         assert_eq!((ran.status, &ran.err[..]), (0, ""));
-        for name in ["make", "check", "walk", "explain", "step", "ask", "graph"] {
+        for name in [
+            "make", "check", "walk", "print", "explain", "step", "ask", "graph",
+        ] {
             assert!(ran.text().contains(&format!("\n  {name} ")), "{name}");
         }
         assert!(ran.text().lines().all(|line| line.len() <= 120));
@@ -30,7 +32,7 @@ fn no_command() {
 
 #[test]
 fn every_question_is_explained() {
-    for number in 1..=16 {
+    for number in 1..=17 {
         let ran = run(&["explain", &number.to_string()]);
         assert_eq!((ran.status, &ran.err[..]), (0, ""));
         let text = ran.text();
@@ -38,8 +40,8 @@ fn every_question_is_explained() {
         assert!(text.contains(&format!("\n  refused {number}\n")), "{text}");
         assert!(text.ends_with("\n  accepted\n"), "{text}");
     }
-    assert_eq!(run(&["explain"]).text().lines().count(), 16);
-    for wrong in ["0", "17", "256", "263", "99999999999999999999"] {
+    assert_eq!(run(&["explain"]).text().lines().count(), 17);
+    for wrong in ["0", "18", "256", "263", "99999999999999999999"] {
         run(&["explain", wrong]).fails(2, &[wrong]);
     }
     for wrong in ["seven", "", "+7", "1.0"] {

@@ -1,2 +1,4 @@
 pub mod Tables
+pub mod Written
 pub mod Made
+pub mod Printed

@@ -1,11 +1,10 @@
 -- Over the functions' own promises: what `wizbratel_make_table` wrote is accepted by `wizbratel_check_table` as the table of the head rules;
 -- after a refusal every lent byte is as it was; `wizbratel_check_sheet` accepts exactly the sheets whose table can be made.
 use mathlib.Core.Path.{_≡_, refl, sym, ap, subst, _∙_}
-use mathlib.Core.List.{List, _++_}
+use mathlib.Core.List.{List}
 use Prim.Native.Nat.{ℕ, _≤_}
 use native.Mathlib.Omega.{arith}
 use lib.ListN.{length, take, drop}
-use lib.Seq.{take-at, drop-at}
 use Rattle.pcrl.specs.Limits.{max-stream}
 use Rattle.pcrl.specs.Result.{Result, refused, accepted, refusal, after}
 use Rattle.pcrl.specs.Table.{Table}
@@ -13,32 +12,19 @@ use Rattle.pcrl.specs.Heads.{table-of}
 use Rattle.pcrl.specs.Stream.{encode}
 use Rattle.pcrl.specs.Right.{Within}
 use Rattle.pcrl.specs.Blocks.{max-file, blocks-for, file-of-stream, Room, room?}
-use Rattle.pcrl.specs.Answers.{table-made, stream-filed, file-made, output-after, table-checked}
+use Rattle.pcrl.specs.Answers.{table-made, stream-filed, file-made, table-checked}
 use Rattle.laws.specs.Questions.{question-passes}
 use Rattle.codec.specs.FileOfStream.{length-file}
 use Rattle.theory.specs.Made.{made-all}
 use Rattle.theory.specs.Written.{WrittenFor, written-for}
 use Rattle.making.proofs.Numbers.{file-number}
-use Rattle.wizbratel.specs.Tables.{written-after, MakePromise}
+use Rattle.wizbratel.specs.Tables.{MakePromise}
+use Rattle.wizbratel.specs.Written.{what-was-written, refusal-leaves}
 
 module _ (sheet out : List ℕ) (w r : ℕ) (out′ : List ℕ) (w′ : ℕ) (promise : MakePromise sheet out w r out′ w′) where
   -- the file that was written, where nothing was refused
   pub file-written : r ≡ 0 → (file : List ℕ) × (file-made sheet (length out) ≡ accepted file) × (take w′ out′ ≡ file) × (drop w′ out′ ≡ drop w′ out)
-  unfolding refusal output-after written-after
-  file-written zero = go (file-made sheet (length out)) refl
-    where
-      go : (x : Result (List ℕ)) → file-made sheet (length out) ≡ x → (file : List ℕ) × (x ≡ accepted file) × (take w′ out′ ≡ file) × (drop w′ out′ ≡ drop w′ out)
-      go (refused n) e =
-          let z : n ≡ 0 = sym (ap refusal e) ∙ sym (promise .answer) ∙ zero in
-          absurd (file-number sheet (length out) 0 (λ m l u q. omega arith) (e ∙ ap refused z))
-      go (accepted file) e =
-          let long : w′ ≡ length file = promise .count ∙ ap (λ (x : Result (List ℕ)). written-after x w) e in
-          let whole : out′ ≡ file ++ drop (length file) out = promise .output ∙ ap (λ (x : Result (List ℕ)). output-after x out) e in (
-            file,
-            refl,
-            ap (take w′) whole ∙ take-at file (drop (length file) out) w′ (sym long),
-            ap (drop w′) whole ∙ drop-at file (drop (length file) out) w′ (sym long) ∙ ap (λ (n : ℕ). drop n out) (sym long),
-          )
+  file-written zero = what-was-written (file-made sheet (length out)) out w r out′ w′ promise (file-number sheet (length out) 0 (λ m l u q. omega arith)) zero
 
   -- WHAT WAS WRITTEN IS READ AS THE TABLE OF THE HEAD RULES: for the sheet H read from the bytes, `table-checked` gives `table-of H`,
   -- so `wizbratel_check_table` answers 0; and what is behind the file is untouched.
@@ -51,12 +37,7 @@ module _ (sheet out : List ℕ) (w r : ℕ) (out′ : List ℕ) (w′ : ℕ) (pr
 
   -- A REFUSAL LEAVES EVERY LENT BYTE.
   pub refused-leaves : (r ≡ 0 → ⊥) → (out′ ≡ out) × (w′ ≡ w)
-  unfolding refusal output-after written-after
-  refused-leaves some = go (file-made sheet (length out)) refl
-    where
-      go : (x : Result (List ℕ)) → file-made sheet (length out) ≡ x → (out′ ≡ out) × (w′ ≡ w)
-      go (refused n) e = (promise .output ∙ ap (λ (x : Result (List ℕ)). output-after x out) e, promise .count ∙ ap (λ (x : Result (List ℕ)). written-after x w) e)
-      go (accepted file) e = absurd (some (promise .answer ∙ ap refusal e))
+  refused-leaves some = refusal-leaves (file-made sheet (length out)) out w r out′ w′ promise some
 
   -- A SHEET IS ACCEPTED EXACTLY IF ITS TABLE CAN BE MADE: with so much output that no file is too long for it, both give one number.
   pub check-is-make : max-file ≤ length out → (c : ℕ) → c ≡ refusal (table-made sheet) → r ≡ c

@@ -10,7 +10,7 @@ ghost use Rattle.stepping.specs.Promises.{Replied, put-questions};
 ghost use Rattle.texts.specs.Wrote.{Wrote};
 ghost use Rattle.frames.specs.declared.Frame.{Frame};
 ghost use Rattle.frames.specs.Lists.{over, taken, frames-of};
-ghost use Rattle.wizbratel.specs.Tables.{MakePromise};
+ghost use Rattle.wizbratel.specs.Tables.{MakePromise, PrintPromise};
 use stacks::BYTES;
 use stacks::LIMIT;
 
@@ -33,6 +33,19 @@ pub extern "C" fn wizbratel_make_table(sheet: &[u8], out: &mut [u8], written: &m
         *written = a.length;
     }
     a.refused
+}
+
+// Print a table, questions 12 to 14, 17 and 11: the number of the first that fails, or 0. The text of a sheet that has the table stands over
+// the front of the lent output, and `written` is its length; after a refusal both are as they were.
+#[no_mangle]
+pub extern "C" fn wizbratel_print_table(file: &[u8], out: &mut [u8], written: &mut usize) -> u8
+    ensures { λ r. ⌜ PrintPromise (now (file .entry)) (now (out .entry)) (now (written .entry)) r (now (out .exit)) (now (written .exit)) ⌝ }
+{
+    let p = printer::delivery::print_table(file, out);
+    if p.refused == 0 {
+        *written = p.length;
+    }
+    p.refused
 }
 
 // Check a table, questions 12 to 14: the number of the first that fails, or 0.

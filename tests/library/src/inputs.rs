@@ -5,6 +5,7 @@ use reader::limits::FRAMES;
 use crate::asked::{asked, started, UNSET};
 use crate::files::rechecked;
 use crate::made::{made, made_whole};
+use crate::printed::printed;
 use crate::stepping::{Frame, ENDED, NONE};
 
 /// What the lines have made so far.
@@ -89,6 +90,10 @@ impl Input {
             }
             ["room", length] => {
                 let number = made(&self.sheet, number(length)?).err().unwrap_or(0);
+                self.answer = Some(in_words(number));
+            }
+            ["print", length] => {
+                let number = printed(&self.file, number(length)?).err().unwrap_or(0);
                 self.answer = Some(in_words(number));
             }
             ["length", length] => self.file.resize(number(length)?, 0),

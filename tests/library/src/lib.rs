@@ -11,7 +11,10 @@ pub mod large;
 pub mod layouts;
 pub mod listings;
 pub mod made;
+pub mod output;
 pub mod painted;
+pub mod printed;
+pub mod printing;
 pub mod program;
 pub mod questions;
 pub mod reached;
@@ -30,6 +33,13 @@ extern "C" {
     ) -> u8;
     fn wizbratel_walk(sheet: *const u8, length: usize, out: *mut u8, room: usize) -> usize;
     fn wizbratel_check_table(file: *const u8, length: usize) -> u8;
+    fn wizbratel_print_table(
+        table: *const u8,
+        length: usize,
+        out: *mut u8,
+        room: usize,
+        written: *mut usize,
+    ) -> u8;
     fn measures_crc(bytes: *const u8, length: usize) -> u16;
 }
 
@@ -58,6 +68,14 @@ pub fn walk(sheet: &[u8], out: &mut [u8]) -> usize {
 pub fn check_table(file: &[u8]) -> u8 {
     // SAFETY: as in `check_sheet`.
     unsafe { wizbratel_check_table(file.as_ptr(), file.len()) }
+}
+
+/// Questions 12 to 14, 17 and 11: the table's sheet over the front of the output, and its length; or the number of the
+/// first question that fails.
+pub fn print_table(file: &[u8], out: &mut [u8], written: &mut usize) -> u8 {
+    let (room, out) = (out.len(), out.as_mut_ptr());
+    // SAFETY: as in `make_table`.
+    unsafe { wizbratel_print_table(file.as_ptr(), file.len(), out, room, written) }
 }
 
 /// CRC-16, exported by `measures` to be timed.

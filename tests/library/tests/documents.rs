@@ -9,6 +9,7 @@ use library::followed::Followed;
 use library::inputs::{answer, in_words};
 use library::layouts;
 use library::listings::{listings, stream, Listing};
+use library::printed::printed_whole;
 use library::program::written;
 use library::stepping::Frame;
 use reader::equal_to;
@@ -79,6 +80,12 @@ fn stream_is(sheet: &str, shown: &[u8]) -> Result<(), String> {
     same(rest.iter().any(|&byte| byte != 0), false)
 }
 
+/// The sheet's table is printed so; the listing's line feeds are left out.
+fn printed_is(sheet: &str, shown: &str) -> Result<(), String> {
+    let text = printed_whole(&followed(sheet)?.file).map_err(in_words)?;
+    same(text, shown.replace('\n', ""))
+}
+
 /// The starts of two sheets, an empty line between them, are equal to so many steps, or are not.
 fn equal_is(sheets: &str, n: &str, wanted: bool) -> Result<(), String> {
     let (left, right) = sheets.split_once("\n\n").ok_or("one sheet")?;
@@ -104,6 +111,7 @@ fn check(listing: &Listing, sheet: Option<&str>) -> Result<(), String> {
         ["walk"] => same(written("walk", before()?.as_bytes()).as_str(), text),
         ["stream"] => stream_is(before()?, &stream(text)),
         ["stream", "places"] => stream_is(before()?, &layouts::placed(text)?),
+        ["printed"] => printed_is(before()?, text),
         ["numbers", file] => layouts::numbers_are(file, text),
         ["cells", "tokens"] => layouts::tokens_are(before()?, text),
         ["cells", "raw"] => layouts::raw_is(before()?, text),
@@ -150,9 +158,9 @@ fn every_listing() {
         ("README.md", &["pcrl", "stream", "walk"][..]),
         (
             "docs/RULES.md",
-            &["cases", "input", "pcrl", "stream", "walk"],
+            &["cases", "input", "pcrl", "printed", "stream", "walk"],
         ),
-        ("docs/LANGUAGE.md", &["pcrl", "steps", "walk"]),
+        ("docs/LANGUAGE.md", &["pcrl", "printed", "steps", "walk"]),
         (
             "docs/LAYOUTS.md",
             &[
@@ -173,7 +181,7 @@ fn every_listing() {
 #[test]
 fn every_question_has_an_input_that_fails_it() {
     let found = listings(&document("docs/RULES.md")).expect("listings");
-    for question in 1..=16 {
+    for question in 1..=17 {
         let fails = |listing: &&Listing| {
             listing.heading == format!("### Question {question}")
                 && listing.words.ends_with(&format!(" refused {question}"))
@@ -204,6 +212,7 @@ fn wrong_listings_are_found() {
     let right = [
         "```walk\n1 a 1\n2 b 0\nended\n```\n",
         "```steps\n0 a 1\n1 b 2\n2 ended\n```\n",
+        "```printed\nact a;act b;\nproc p0=a.p1;proc p1=b;init p0;\n```\n",
         "```frames 0\n01 00 00 00 00  b\n```\n",
         "```file 512\n0  00 00 01 00  block 0 of 1\n```\n",
         TOKENS,
@@ -223,6 +232,8 @@ fn wrong_listings_are_found() {
         "```walks\n1 a 1\n2 b 0\nended\n```\n",
         "```\n1 a 1\n2 b 0\nended\n```\n",
         "```steps\n0 a 1\n1 b 2\n```\n",
+        "```printed\nact a;act b;proc p0=a.p1;proc p1=b; init p0;\n```\n",
+        "```printed\nact a;act b;proc X=a.b;init X;\n```\n",
         "```stream\n01 02 00 03\n```\n",
         "```stream places\n0  01 02\n3  00\n```\n",
         "```frames 0\n01 00 00 00 01\n```\n",
@@ -252,6 +263,7 @@ fn wrong_listings_are_found() {
         "```pcrl equal 0 not 1\nact a;proc X=a;init X;\n\nact a;proc X=a+a;init X;\n```\n",
         "```input refused 13\nsheet act a;proc X=a;init X;\nlength 100\n```\n",
         "```input refused 13\nsheet act a;proc X=a;init X;\nwide 100\n```\n",
+        "```input refused 11\nsheet act a;proc X=a;init X;\nprint 24\n```\n",
     ] {
         assert!(
             check_all(&format!("{sheet}{listing}")).is_err(),

@@ -5,15 +5,19 @@ use std::time::Duration;
 
 use library::common::{slow, table_limits, within, worst};
 use library::painted::used;
+use library::printing::{printings, Printing};
 use library::questions::{usual, Question};
 use library::stepping::{ask, ask_all, start, Answer, ANSWER};
-use library::{check_sheet, check_table, large, make_table, sheets};
+use library::{check_sheet, check_table, large, make_table, print_table, sheets};
 
 /// Bytes of stack that `make_table` and `check_sheet` may use, for any input.
 const MOST: usize = 512 << 10;
 
 /// Bytes of stack that the check of a table file and the stepping functions may use, for any input.
 const MOST_STEPPING: usize = 72 << 10;
+
+/// Bytes of stack that printing a table may use, for any input.
+const MOST_PRINTING: usize = 96 << 10;
 
 /// The same as the first for a sheet of up to 64 bytes, but for one that is refused by 10: that one is
 /// tried again with the long arrays.
@@ -82,6 +86,22 @@ fn the_largest_table_file() {
     });
     println!("a table file of {} bytes: {bytes} of stack", file.len());
     assert!(bytes <= MOST_STEPPING);
+}
+
+#[test]
+fn printing() {
+    let refused = Printing {
+        what: "128 blocks, refused by 17",
+        file: large::large_file(),
+    };
+    for Printing { what, file } in printings().into_iter().chain([refused]) {
+        let (mut out, mut written) = ([0; 4096], 0);
+        let bytes = used(|| {
+            black_box(print_table(&file, &mut out, &mut written));
+        });
+        println!("print {what}: {bytes} of stack");
+        assert!(bytes <= MOST_PRINTING, "{what}: {bytes}");
+    }
 }
 
 #[test]

@@ -12,12 +12,18 @@ use crate::token::{check_brackets, tokens, Token};
 
 /// Puts questions 1 to 9 to a sheet: the sheet, or the number of the first one failed.
 pub fn check_sheet(text: &[u8]) -> Result<Sheet, Refusal> {
+    let sheet = check_written(text)?;
+    put(question::CIRCLES, !has_circle(&sheet))?;
+    Ok(sheet)
+}
+
+/// Questions 1 to 8.
+pub(crate) fn check_written(text: &[u8]) -> Result<Sheet, Refusal> {
     let tokens = check_text(text)?;
     let parsed = parse::sheet(&tokens).ok_or(question::FORM)?;
     put(question::COUNTS, counts_right(&parsed))?;
     let sheet = names::resolve(&parsed).ok_or(question::NAMES)?;
     put(question::SORTS, sorts::well_sorted(&sheet))?;
-    put(question::CIRCLES, !has_circle(&sheet))?;
     Ok(sheet)
 }
 

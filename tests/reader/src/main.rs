@@ -1,5 +1,5 @@
-//! Reads one case a line, bytes in hex, and answers a line each: `reader table`, `reader walk` or
-//! `reader readtable`.
+//! Reads one case a line, bytes in hex, and answers a line each: `reader table`, `reader walk`,
+//! `reader readtable` or `reader print`.
 
 #![forbid(unsafe_code)]
 
@@ -23,12 +23,20 @@ fn read_table(file: &[u8]) -> String {
     }
 }
 
+fn print(file: &[u8]) -> String {
+    match reader::print_table(file) {
+        Ok(text) => text,
+        Err(number) => format!("refused {number}"),
+    }
+}
+
 fn main() -> io::Result<()> {
     let answer: fn(&[u8]) -> String = match std::env::args().nth(1).as_deref() {
         Some("table") => table,
         Some("walk") => walk,
         Some("readtable") => read_table,
-        _ => return Err(io::Error::other("usage: reader table|walk|readtable")),
+        Some("print") => print,
+        _ => return Err(io::Error::other("usage: reader table|walk|readtable|print")),
     };
     let mut output = io::stdout().lock();
     for line in io::stdin().lock().lines() {

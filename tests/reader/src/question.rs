@@ -35,6 +35,8 @@ pub const STREAM: Refusal = 14;
 pub const STACK: Refusal = 15;
 /// At most 64 frames after the step?
 pub const DEPTH: Refusal = 16;
+/// The printed text one that passes questions 1 to 8?
+pub const PRINTED: Refusal = 17;
 
 /// `Ok` if the question is answered yes, else its number.
 pub(crate) fn put(number: Refusal, yes: bool) -> Result<(), Refusal> {

@@ -54,6 +54,13 @@ fn table_files_read_or_refused() {
 }
 
 #[test]
+fn tables_printed_or_refused() {
+    let file = reader::make_table(SHEET).unwrap();
+    let wanted = ["act a;act b;proc p0=a.p1;proc p1=b;init p0;", "refused 12"];
+    assert_eq!(answers("print", &[&file, b""]), wanted);
+}
+
+#[test]
 fn other_words_and_lines_are_errors() {
     assert!(!run(&[], "").status.success());
     assert!(!run(&["tables"], "").status.success());

@@ -7,7 +7,7 @@ use lib.ListN.{length}
 use Rattle.pcrl.specs.Answers.{file-made}
 use Rattle.making.proofs.Numbers.{file-number}
 use Rattle.making.proofs.MakingLaws.{told}
-use Rattle.wizbratel.proofs.Counted.{written-same, written-new}
+use Rattle.wizbratel.proofs.Counted.{written-same, written-new, made-long}
 use Rattle.wizbratel.proofs.wizbratel_make_table.Statement.{statement}
 use Rattle.wizbratel.proofs.wizbratel_make_table.Tie as tie
 
@@ -25,7 +25,7 @@ returns c =
     record {
       answer = told x (m .result) (m .ensures .0);
       output = m .ensures .1;
-      count = written-new x (m .result) (m .ensures .0) (a .written .now) (file-number (a .sheet .now) (length (a .out .now)) 0 (λ n l u z. omega arith)) (let i = c .if1 in omega arith);
+      count = written-new x _ _ (told x (m .result) (m .ensures .0)) (made-long x (m .result) (m .ensures .0)) (a .written .now) (file-number (a .sheet .now) (length (a .out .now)) 0 (λ n l u z. omega arith)) (let i = c .if1 in omega arith);
     }
 
 same-length-2 : tie.Need-same-length-2
@@ -39,7 +39,7 @@ returns-2 c =
     record {
       answer = told x (m .result) (m .ensures .0);
       output = m .ensures .1;
-      count = written-same x (m .result) (m .ensures .0) (a .written .now) (λ z. let i = c .if1 in omega arith);
+      count = written-same x _ _ (told x (m .result) (m .ensures .0)) (made-long x (m .result) (m .ensures .0)) (a .written .now) (λ z. let i = c .if1 in omega arith);
     }
 
 pub wizbratel-make-table-spec : {M : Type 1} → statement M

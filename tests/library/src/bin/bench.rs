@@ -1,5 +1,6 @@
 //! Times the proved library beside the other reader in one run and prints the ratios:
-//! `cargo run --release --offline --bin bench [WORD ..]`, with words only the parts that they name (crc, check, make, ask, dear).
+//! `cargo run --release --offline --bin bench [WORD ..]`, with words only the parts that they name (crc, check, make,
+//! print, ask, dear).
 //! On a busy machine the calls of several milliseconds come out too long, the reader's of 128 blocks above all: its ratio
 //! is then too good.
 
@@ -8,6 +9,7 @@ use std::time::Duration;
 
 use library::common::{slow, worst, Case};
 use library::large::large_file;
+use library::printing::{printings, Printing};
 use library::questions::{dearest, going_on, largest, smallest, usual, Question};
 use library::stepping::{Answer, Frame, ANSWER};
 use library::timing::{compare, compare_each};
@@ -136,6 +138,29 @@ fn bench_sheets(bench: Bench, dearest: Vec<Case>) {
     println!("longest of these: {longest:.2?}");
 }
 
+/// Questions 12 to 14, 17 and 11, into an output that is long enough.
+fn bench_print(Printing { what, file }: Printing) {
+    let mut out = vec![0; reader::limits::SHEET_BYTES];
+    let mut written = 0;
+    let wanted = reader::print_table(&file).err().unwrap_or(0);
+    let number = library::print_table(&file, &mut out, &mut written);
+    assert_eq!(number, wanted, "{what}");
+    compare(
+        &format!("print {what} ({} blocks)", file.len() / 512),
+        || {
+            black_box(library::print_table(
+                black_box(&file),
+                &mut out,
+                &mut written,
+            ));
+        },
+        "reader",
+        || {
+            let _ = black_box(reader::print_table(black_box(&file)));
+        },
+    );
+}
+
 /// The reader's frames of the library's.
 fn reader_frames(frames: &[Frame]) -> Vec<reader::Frame> {
     frames.iter().map(|&frame| frame.into()).collect()
@@ -261,6 +286,13 @@ fn main() {
     }
     if wanted("make") {
         bench_sheets(bench_make, [worst::sheets(), slow::sheets()].concat());
+    }
+    if wanted("print") {
+        printings().into_iter().for_each(bench_print);
+        bench_print(Printing {
+            what: "a table that is refused by 17",
+            file: large_file(),
+        });
     }
     if wanted("ask") {
         bench_asks();

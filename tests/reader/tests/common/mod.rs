@@ -9,6 +9,7 @@ pub mod mutate;
 pub mod random;
 pub mod slow;
 pub mod table_limits;
+pub mod tables;
 pub mod worst;
 
 use std::time::{Duration, Instant};

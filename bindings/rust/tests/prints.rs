@@ -1,0 +1,55 @@
+//! Every table of the vectors that prints, and tables of generated sheets, printed and read back.
+
+mod common;
+
+use common::{generate, number, vectors};
+use wizbratel::{Table, MAX_SHEET};
+
+#[test]
+fn tables_get_their_texts_or_numbers() {
+    let (mut texts, mut refused) = (0, 0);
+    for case in vectors("prints.jsonl") {
+        let name = case.text("name");
+        let (wanted, room) = (case.text("answer"), case.number("room") as usize);
+        let mut out = [7; MAX_SHEET];
+        let table = Table::read(&case.bytes("file"));
+        let printed = table.and_then(|table| table.print_into(&mut out[..room]));
+        match printed {
+            Ok(length) => {
+                texts += 1;
+                assert_eq!(&out[..length], case.text("text").as_bytes(), "{name}");
+                assert!(out[length..].iter().all(|&byte| byte == 7), "{name}");
+            }
+            Err(by) => {
+                refused += 1;
+                assert_eq!(format!("refused {}", by.number()), wanted, "{name}");
+                assert_eq!(out, [7; MAX_SHEET], "{name}");
+            }
+        }
+    }
+    assert_eq!((texts, refused), (39, 31));
+}
+
+#[test]
+fn texts_of_generated_sheets() {
+    let (mut texts, mut refused) = (0, 0);
+    for seed in 0..1500 {
+        let sheet = generate::sheet(seed);
+        let Ok(table) = Table::make(sheet.as_bytes()) else {
+            continue;
+        };
+        let printed = table.print();
+        match reader::print_table(table.file()) {
+            Ok(text) => {
+                texts += 1;
+                assert_eq!(printed.as_deref(), Ok(text.as_str()), "{sheet}");
+                assert_eq!(Table::make(text.as_bytes()), Ok(table), "{sheet}");
+            }
+            Err(wanted) => {
+                refused += 1;
+                assert_eq!(number(&printed), Some(wanted), "{sheet}");
+            }
+        }
+    }
+    assert!(texts > 500 && refused > 100, "{texts}, {refused}");
+}
