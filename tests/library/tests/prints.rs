@@ -10,7 +10,7 @@ use library::printing::printings;
 use reader::limits::{NAME_LENGTH, SHEET_BYTES};
 
 /// So many sheets and as many tables of no sheet, unless the variable of this name says otherwise.
-const TABLES: u64 = 30_000;
+const TABLES: u64 = 50_000;
 const VARIABLE: &str = "WIZBRATEL_PRINTED";
 
 /// Answers by their numbers.
