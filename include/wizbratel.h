@@ -154,7 +154,7 @@ uint8_t wizbratel_start(const uint8_t *file, size_t length, wizbratel_frame *fra
  *          would get too deep. Too large a k is no refusal: the kind is then WIZBRATEL_NONE.
  * Leaves   After 0 `*answer`, all of it. If its kind is WIZBRATEL_STEP the frames hold the new stack, zeros
  *          behind it, and `*depth` is its depth; after ENDED and NONE they are as they were.
- * Time     The file is checked at each call: 1.0 us with 512 bytes, 0.7 ms with 65,536. Then the steps before
+ * Time     The file is checked at each call: 0.9 us with 512 bytes, 0.7 ms with 65,536. Then the steps before
  *          k are counted: 0.04 to 0.2 us for usual tables. The dearest table found, 230 summands with four
  *          sums of 16 values and eight long conditions, each on all of them, takes 8 s if k is too large. So
  *          look at a table of unknown origin in a thread that may wait.

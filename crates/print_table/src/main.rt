@@ -12,8 +12,8 @@ fn write_front(text: &[u8], n: usize) {
 }
 
 fn main() {
-    // as long as the longest file
-    let mut file = io::large_buffer();
+    // one byte more than the longest file: a longer one is cut there and refused by 12 all the same
+    let mut file = [0u8; 65537];
     let n = io::read_full(STDIN_FILENO, &mut file);
     let mut text = [0u8; 4096];
     let m = printer::delivery::print_table(&file[..n], &mut text);
