@@ -37,11 +37,13 @@ pub fn run(words: &[OsString]) -> Result<Status, Stop> {
     let random = Random::new(args.number(SEED)?);
     let terminal = std::io::stdin().is_terminal();
     let out = std::io::stdout().lock();
-    Session::new(&table, random, terminal, out).follow(std::io::stdin().lock())
+    Session::new(input::shown(name), &table, random, terminal, out).follow(std::io::stdin().lock())
 }
 
 /// Where somebody stands who steps through a table.
 struct Session<'t, W> {
+    /// The file's name in messages.
+    name: String,
     table: &'t Table,
     stack: Stack<'t>,
     /// The used frames before each step taken.
@@ -53,8 +55,9 @@ struct Session<'t, W> {
 }
 
 impl<'t, W: Write> Session<'t, W> {
-    fn new(table: &'t Table, random: Random, terminal: bool, out: W) -> Self {
+    fn new(name: String, table: &'t Table, random: Random, terminal: bool, out: W) -> Self {
         Session {
+            name,
             table,
             stack: table.start(),
             before: Vec::new(),
@@ -125,7 +128,7 @@ impl<'t, W: Write> Session<'t, W> {
                 if !self.terminal {
                     self.status = REFUSED;
                 }
-                say(&refused.to_string());
+                say(&format!("{}: {refused}", self.name));
                 self.line(&format!("refused {}", refused.number()))
             }
         }

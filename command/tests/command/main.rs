@@ -1,8 +1,9 @@
-//! The command on good and bad input, one module for each of its words.
+//! The command on good and bad input, one module for each of its words, and one for files that cannot be used.
 
 mod ask;
 mod check;
 mod common;
+mod files;
 mod graph;
 mod make;
 mod print;
