@@ -8,13 +8,16 @@ use library::painted::used;
 use library::printing::{printings, Printing};
 use library::questions::{usual, Question};
 use library::stepping::{ask, ask_all, start, Answer, ANSWER};
-use library::{check_sheet, check_table, large, make_table, print_table, sheets};
+use library::{check_sheet, check_table, large, make_table, print_table, sheets, walk};
 
 /// Bytes of stack that `make_table` and `check_sheet` may use, for any input.
 const MOST: usize = 512 << 10;
 
 /// Bytes of stack that the check of a table file and the stepping functions may use, for any input.
 const MOST_STEPPING: usize = 72 << 10;
+
+/// Bytes of stack that the walk of a sheet may use, for any input.
+const MOST_WALKING: usize = 648 << 10;
 
 /// Bytes of stack that printing a table may use, for any input.
 const MOST_PRINTING: usize = 96 << 10;
@@ -86,6 +89,26 @@ fn the_largest_table_file() {
     });
     println!("a table file of {} bytes: {bytes} of stack", file.len());
     assert!(bytes <= MOST_STEPPING);
+}
+
+#[test]
+fn walks() {
+    let cases = [worst::sheets(), slow::sheets()].concat();
+    let usual = sheets::accepted().into_iter().map(|sheet| {
+        let what = format!("a sheet of {} bytes", sheet.len());
+        (what, sheet.into_bytes(), true)
+    });
+    let dear = cases.into_iter().map(|case| (case.what, case.sheet, false));
+    for (what, sheet, said) in usual.chain(dear) {
+        let mut out = [0; 256];
+        let bytes = used(|| {
+            black_box(walk(&sheet, &mut out));
+        });
+        if said {
+            println!("walk {what}: {bytes} of stack");
+        }
+        assert!(bytes <= MOST_WALKING, "{what}: {bytes}");
+    }
 }
 
 #[test]

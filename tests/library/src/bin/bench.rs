@@ -161,6 +161,24 @@ fn bench_print(Printing { what, file }: Printing) {
     );
 }
 
+/// The walk's text, into an output that is long enough.
+fn bench_walk(sheet: &str) {
+    let wanted = reader::walk(sheet.as_bytes());
+    let mut out = [0; 256];
+    let length = library::walk(sheet.as_bytes(), &mut out);
+    assert_eq!(&out[..length], wanted.as_bytes());
+    compare(
+        &format!("walk a sheet of {} bytes", sheet.len()),
+        || {
+            black_box(library::walk(black_box(sheet.as_bytes()), &mut out));
+        },
+        "reader",
+        || {
+            black_box(reader::walk(black_box(sheet.as_bytes())));
+        },
+    );
+}
+
 /// The reader's frames of the library's.
 fn reader_frames(frames: &[Frame]) -> Vec<reader::Frame> {
     frames.iter().map(|&frame| frame.into()).collect()
@@ -286,6 +304,9 @@ fn main() {
     }
     if wanted("make") {
         bench_sheets(bench_make, [worst::sheets(), slow::sheets()].concat());
+    }
+    if wanted("walk") {
+        sheets::accepted().iter().for_each(|sheet| bench_walk(sheet));
     }
     if wanted("print") {
         printings().into_iter().for_each(bench_print);
