@@ -116,7 +116,7 @@ uint8_t wizbratel_make_table(const uint8_t *sheet, size_t length, uint8_t *out, 
  * Answers  How many bytes were written: all of the text if `room` is WIZBRATEL_MAX_WALK or more.
  * Leaves   The text over the front of `out`, as far as there is room, not ended by a zero; what is behind it is
  *          untouched.
- * Time     As make_table, check_table and 8 questions of a list: 4.3 us for 32 bytes.
+ * Time     As make_table, check_table and 8 questions of a list: 3 us for 25 bytes.
  * Stack    130 KB more than make_table. */
 size_t wizbratel_walk(const uint8_t *sheet, size_t length, uint8_t *out, size_t room);
 
