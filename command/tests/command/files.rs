@@ -23,7 +23,7 @@ fn files_that_cannot_be_read_are_named() {
     let wrong = folder.path(OsStr::from_bytes(b"x\xff"));
     // reading from its beginning fails for everybody, for root too
     let unreadable = Path::new("/proc/self/mem");
-    for word in ["walk", "print", "step", "graph", "ask"] {
+    for word in ["check", "walk", "print", "step", "graph", "ask"] {
         on(word, &folder.path("missing")).fails(2, &["missing", "No such file"]);
         on(word, &folder.path("")).fails(2, &["directory"]);
         on(word, &through).fails(2, &["under", "Not a directory"]);
@@ -42,6 +42,7 @@ fn empty_and_huge_files_are_refused() {
         ("step", "question 5:", "question 1:"),
         ("graph", "question 5:", "question 1:"),
         ("print", "question 12:", "question 12:"),
+        ("check", "question 5:", "question 1:"),
     ] {
         on(word, &empty).fails(1, &["empty", no_bytes]);
         on(word, &huge).fails(1, &["huge", too_many]);
