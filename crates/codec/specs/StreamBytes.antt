@@ -10,10 +10,10 @@ use Rattle.pcrl.specs.Limits.{max-sorts, max-size, max-functions, max-actions, 
 use Rattle.pcrl.specs.Tests.{or, within, Between, Every, Each}
 use Rattle.pcrl.specs.Bytes.{letter, digit, name-byte}
 use Rattle.pcrl.specs.Reader.{all}
-use Rattle.pcrl.specs.Sheet.{Data, val, var, app, Datas, nil, cons, Act, tau, action, Func, Action, Sig, size, func, takes-of}
-use Rattle.pcrl.specs.Sorts.{Bool-sort, HasSort, HaveSorts, IsAct}
+use Rattle.pcrl.specs.Sheet.{Data, val, var, app, Datas, nil, cons, Act, tau, action, Func, Action, Operation, operation, Sig, size, function-at, takes-of}
+use Rattle.pcrl.specs.Sorts.{Bool-sort, IsOperation, IsFunc, HasSort, HaveSorts, IsAct}
 use Rattle.pcrl.specs.Table.{Summand, Equation, Table, params-of, summands-of}
-use Rattle.pcrl.specs.Stream.{variable-code, encode-data, encode-datas, encode-numbers, encode-list, encode-sorts, encode-func, encode-action, encode-sig, encode-act, encode-cond, encode-call, encode-summand, encode-equations, encode-start, encode}
+use Rattle.pcrl.specs.Stream.{variable-code, codes, encode-data, encode-datas, encode-numbers, encode-list, encode-sorts, encode-func, encode-action, encode-sig, encode-act, encode-cond, encode-call, encode-summand, encode-equations, encode-start, encode}
 use Rattle.pcrl.specs.Right.{RightSizes, AreSorts, RightFunc, RightName, RightAction, RightSig, RightSorts, RightTerm, RightCond, RightCall, RightSummand, RightSummands, RightEquations, RightStart, RightTable}
 use Rattle.laws.specs.Tests.{both-pass, one-passes}
 use Rattle.laws.specs.Lists.{below-some}
@@ -111,6 +111,22 @@ module _ (S : Sig) (ok : RightSig S) where
   unfolding RightSig
   few-acts = ok .1 .1 .0 .0
 
+  few-sorts : length (S .sorts) ≤ max-sorts
+  unfolding RightSig RightSizes
+  few-sorts = ok .0 .0 .0 .1
+
+  code-bytes : (f : ℕ) → IsFunc S f → Every Byte (codes (operation f))
+  unfolding IsOperation codes Every
+  code-bytes f h = go (operation f) h
+    where
+      go : (o : Operation) → IsOperation S o → Every Byte (codes o)
+      go (Operation.written g) k = (omega (arith, few-funcs), tt)
+      go Operation.not k = (omega arith, tt)
+      go Operation.and k = (omega arith, tt)
+      go Operation.or k = (omega arith, tt)
+      go (Operation.equal D) k = (omega arith, (omega (arith, few-sorts), tt))
+      go Operation.unsorted k = absurd k
+
   module _ (Γ : List ℕ) (l : length Γ ≤ variable-code) where
     mutual
       unfolding Every encode-data HasSort
@@ -118,7 +134,7 @@ module _ (S : Sig) (ok : RightSig S) where
       data-bytes : (d : Data) (D : ℕ) → HasSort S (getElem? Γ) d D → Every Byte (encode-data d)
       data-bytes (val v) D h = (omega (arith, apart S Γ ok l .sizes D), tt)
       data-bytes (var i) D h = (omega (arith, l, below-some Γ i D h), tt)
-      data-bytes (app f ds) D h = (omega (arith, few-funcs), datas-bytes ds (func S f .takes) (h .1 .1))
+      data-bytes (app f ds) D h = every-append Byte (codes (operation f)) (encode-datas ds) (code-bytes f (h .0)) (datas-bytes ds (function-at S f .takes) (h .1 .1))
 
       datas-bytes : (ds : Datas) (Ds : List ℕ) → HaveSorts S (getElem? Γ) ds Ds → Every Byte (encode-datas ds)
       datas-bytes nil Ds h = tt

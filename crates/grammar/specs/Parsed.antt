@@ -115,4 +115,4 @@ print-sheet-of n ts R e =
 -- THE PARSER TAKES NOTHING BUT THE FORM: what it takes is the tokens of the tree that it gives, and the tree is formed.
 pub print-parse : (ts : List Token) (R : RawSheet) → parse ts ≡ some R → (print-sheet R ≡ ts) × Formed R
 unfolding parse
-print-parse ts R e = print-sheet-of (4 * length ts + 4) ts R (whole-found (sheet (4 * length ts + 4) ts) R e)
+print-parse ts R e = print-sheet-of (5 * length ts + 5) ts R (whole-found (sheet (5 * length ts + 5) ts) R e)

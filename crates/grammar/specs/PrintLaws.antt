@@ -1,13 +1,15 @@
--- How lists are printed that hold at least one element, and a sheet before what follows it.
-use mathlib.Core.Path.{_≡_, refl}
+-- How lists are printed that hold at least one element, data behind data, and a sheet before what follows it.
+use mathlib.Core.Path.{_≡_, refl, sym}
 use mathlib.Core.List.{List, [], _∷_, _++_, append-assoc}
+use mathlib.Core.Option.{Option, none, some}
 use Prim.Native.Nat.{_+_, _≤_}
 use Prim.Native.String.{String}
 use native.Mathlib.Omega.{arith}
 use lib.ListN.{length, length-append}
-use Rattle.pcrl.specs.Tokens.{Token, the}
-use Rattle.pcrl.specs.Tree.{Name, RawSheet}
-use Rattle.pcrl.specs.Print.{bracketed, joined, print-sorts, print-takes, print-param, print-params, line, print-lines, print-sort, print-func, print-act, print-proc, print-init, print-sheet}
+use Rattle.pcrl.specs.Tokens.{Token, name, the}
+use Rattle.pcrl.specs.Tree.{Name, RawData, Conjunction, Comparison, RawDatas, RawSheet}
+use Rattle.pcrl.specs.Print.{bracketed, joined, print-data, print-conjunction, print-comparison, print-atom, print-given, print-sorts, print-takes, print-param, print-params, line, print-lines, print-sort, print-func, print-act, print-proc, print-init, print-sheet}
+use Rattle.pcrl.specs.Printer.{or-behind, and-behind, applied}
 
 -- one more before some
 pub joined-cons : {A : Type 0} (s : String) (w : A → List Token) (a : A) (l : List A) → 1 ≤ length l → joined s w (a ∷ l) ≡ w a ++ (the s ∷ joined s w l)
@@ -24,6 +26,23 @@ pub params-some : (ps : List (Name × Name)) → 1 ≤ length ps → print-param
 unfolding print-params
 params-some [] h = absurd (omega arith)
 params-some (p ∷ ps) h = refl
+
+-- one operand behind all of those joined before it
+pub or-behind-prints : (d : RawData) (e : Conjunction) → print-data (or-behind d e) ≡ print-data d ++ (the "\\/" ∷ print-conjunction e)
+unfolding or-behind print-data
+or-behind-prints (RawData.only c) e = refl
+or-behind-prints (RawData.or c d) e = rw (or-behind-prints d e) (sym (append-assoc (print-conjunction c) (the "\\/" ∷ print-data d) (the "\\/" ∷ print-conjunction e)))
+
+pub and-behind-prints : (c : Conjunction) (e : Comparison) → print-conjunction (and-behind c e) ≡ print-conjunction c ++ (the "/\\" ∷ print-comparison e)
+unfolding and-behind print-data
+and-behind-prints (Conjunction.single c) e = refl
+and-behind-prints (Conjunction.and c d) e = rw (and-behind-prints d e) (sym (append-assoc (print-comparison c) (the "/\\" ∷ print-conjunction d) (the "/\\" ∷ print-comparison e)))
+
+-- a function's name with bracketed data
+pub applied-given : (x : Name) (o : Option RawDatas) → print-atom (applied x o) ≡ name x ∷ print-given o
+unfolding applied print-data print-given
+applied-given x none = refl
+applied-given x (some ds) = refl
 
 -- a sheet before what follows it, kind by kind
 pub sheet-before : (R : RawSheet) (r : List Token) →

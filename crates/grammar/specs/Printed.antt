@@ -56,7 +56,7 @@ sheet-read n R r f h =
 pub parse-print : (R : RawSheet) → Formed R → parse (print-sheet R) ≡ some R
 unfolding parse whole
 parse-print R f =
-    let e = sheet-read (4 * length (print-sheet R) + 4) R [] f (omega arith) in
+    let e = sheet-read (5 * length (print-sheet R) + 5) R [] f (omega arith) in
     rw (rw append-nil at e)
 
 -- THE BOUND IS ABOVE ANY NEED: what is read whole at some bound is what `parse` gives.

@@ -9,30 +9,75 @@ use lib.Dec.{T}
 use Rattle.pcrl.specs.Tests.{same?}
 use Rattle.pcrl.specs.Tokens.{Token, the, is?}
 use Rattle.pcrl.specs.Reader.{found, bind}
-use Rattle.pcrl.specs.Tree.{RawData, RawDatas, Choice, Conditional, Sequence, Part}
-use Rattle.pcrl.specs.Grammar.{on, expect, on-numeral, a-name, data-term, data-list, data-given, choice, conditional, sequence, part}
-use Rattle.pcrl.specs.Print.{bracketed, print-data, print-datas, print-given, print-choice, print-conditional, print-sequence, print-part}
+use Rattle.pcrl.specs.Tree.{RawData, Conjunction, Comparison, Negation, Atom, RawDatas, Choice, Conditional, Sequence, Part}
+use Rattle.pcrl.specs.Grammar.{on, expect, on-numeral, a-name, data-term, conjunction, comparison, negation, atom, data-list, data-given, choice, conditional, sequence, part}
+use Rattle.pcrl.specs.Print.{bracketed, print-data, print-conjunction, print-comparison, print-negation, print-atom, print-datas, print-given, print-choice, print-conditional, print-sequence, print-part}
 use Rattle.grammar.specs.Ahead.{absent, on-absent}
-use Rattle.grammar.specs.Weight.{weight-data, weight-datas, weight-given, weight-choice, weight-conditional, weight-sequence, weight-part}
+use Rattle.grammar.specs.Weight.{weight-data, weight-conjunction, weight-comparison, weight-negation, weight-atom, weight-datas, weight-given, weight-choice, weight-conditional, weight-sequence, weight-part}
+
+-- What does not go on with an atom or its negation, with a comparison, with a conjunction, with data.
+abbrev pub EndsAtom : List Token → Type 0
+EndsAtom r = T (absent "(" r)
+
+abbrev pub EndsComparison : List Token → Type 0
+EndsComparison r = T (absent "==" r) × EndsAtom r
+
+abbrev pub EndsConjunction : List Token → Type 0
+EndsConjunction r = T (absent "/\\" r) × EndsComparison r
+
+abbrev pub EndsData : List Token → Type 0
+EndsData r = T (absent "\\/" r) × EndsConjunction r
+
+-- an atom does not begin with `!`
+pub no-bang : (a : Atom) (r : List Token) → T (absent "!" (print-atom a ++ r))
+unfolding print-data bracketed absent is? same? ℕ-discrete
+no-bang (Atom.value v) r = tt
+no-bang (Atom.variable x) r = tt
+no-bang (Atom.apply x ds) r = tt
+no-bang (Atom.group d) r = tt
 
 mutual
   unfolding data-term print-data bracketed weight-data bind on expect on-numeral a-name absent is? same? ℕ-discrete
 
-  pub data-read : (n : ℕ) (d : RawData) (r : List Token) → weight-data d < n → T (absent "(" r) → data-term n (print-data d ++ r) ≡ found d r
+  pub data-read : (n : ℕ) (d : RawData) (r : List Token) → weight-data d < n → EndsData r → data-term n (print-data d ++ r) ≡ found d r
   data-read zero d r h k = absurd (omega arith)
-  data-read (suc n) (RawData.value v) r h k = refl
-  data-read (suc n) (RawData.variable x) r h k = rw on-absent
-  data-read (suc n) (RawData.apply x ds) r h k = rw (append-assoc (print-datas ds) (the ")" ∷ []) r, datas-read n ds r (omega arith))
+  data-read (suc n) (RawData.only c) r h k = rw (conjunction-read n c r (omega arith) (k .1), on-absent, k .0)
+  data-read (suc n) (RawData.or c d) r h k =
+      rw (append-assoc (print-conjunction c) (the "\\/" ∷ print-data d) r, conjunction-read n c (the "\\/" ∷ (print-data d ++ r)) (omega arith) (tt, (tt, tt)), data-read n d r (omega arith) k)
+
+  pub conjunction-read : (n : ℕ) (c : Conjunction) (r : List Token) → weight-conjunction c < n → EndsConjunction r → conjunction n (print-conjunction c ++ r) ≡ found c r
+  conjunction-read zero c r h k = absurd (omega arith)
+  conjunction-read (suc n) (Conjunction.single c) r h k = rw (comparison-read n c r (omega arith) (k .1), on-absent, k .0)
+  conjunction-read (suc n) (Conjunction.and c d) r h k =
+      rw (append-assoc (print-comparison c) (the "/\\" ∷ print-conjunction d) r, comparison-read n c (the "/\\" ∷ (print-conjunction d ++ r)) (omega arith) (tt, tt), conjunction-read n d r (omega arith) k)
+
+  pub comparison-read : (n : ℕ) (c : Comparison) (r : List Token) → weight-comparison c < n → EndsComparison r → comparison n (print-comparison c ++ r) ≡ found c r
+  comparison-read zero c r h k = absurd (omega arith)
+  comparison-read (suc n) (Comparison.plain a) r h k = rw (negation-read n a r (omega arith) (k .1), on-absent, k .0)
+  comparison-read (suc n) (Comparison.equal a b) r h k =
+      rw (append-assoc (print-negation a) (the "==" ∷ print-negation b) r, negation-read n a (the "==" ∷ (print-negation b ++ r)) (omega arith) tt, negation-read n b r (omega arith) (k .1))
+
+  pub negation-read : (n : ℕ) (a : Negation) (r : List Token) → weight-negation a < n → EndsAtom r → negation n (print-negation a ++ r) ≡ found a r
+  negation-read zero a r h k = absurd (omega arith)
+  negation-read (suc n) (Negation.atom a) r h k = rw (on-absent, no-bang a r, atom-read n a r (omega arith) k)
+  negation-read (suc n) (Negation.not a) r h k = rw (negation-read n a r (omega arith) k)
+
+  pub atom-read : (n : ℕ) (a : Atom) (r : List Token) → weight-atom a < n → EndsAtom r → atom n (print-atom a ++ r) ≡ found a r
+  atom-read zero a r h k = absurd (omega arith)
+  atom-read (suc n) (Atom.value v) r h k = refl
+  atom-read (suc n) (Atom.variable x) r h k = rw (on-absent "(" _ _ r)
+  atom-read (suc n) (Atom.apply x ds) r h k = rw (append-assoc (print-datas ds) (the ")" ∷ []) r, datas-read n ds r (omega arith))
+  atom-read (suc n) (Atom.group d) r h k = rw (append-assoc (print-data d) (the ")" ∷ []) r, data-read n d (the ")" ∷ r) (omega arith) (tt, (tt, (tt, tt))))
 
   pub datas-read : (n : ℕ) (ds : RawDatas) (r : List Token) → weight-datas ds < n → data-list n (print-datas ds ++ (the ")" ∷ r)) ≡ found ds r
   datas-read zero ds r h = absurd (omega arith)
-  datas-read (suc n) (RawDatas.one d) r h = rw (data-read n d (the ")" ∷ r) (omega arith) tt)
+  datas-read (suc n) (RawDatas.one d) r h = rw (data-read n d (the ")" ∷ r) (omega arith) (tt, (tt, (tt, tt))))
   datas-read (suc n) (RawDatas.more d ds) r h =
-      rw (append-assoc (print-data d) (the "," ∷ print-datas ds) (the ")" ∷ r), data-read n d (the "," ∷ (print-datas ds ++ (the ")" ∷ r))) (omega arith) tt, datas-read n ds r (omega arith))
+      rw (append-assoc (print-data d) (the "," ∷ print-datas ds) (the ")" ∷ r), data-read n d (the "," ∷ (print-datas ds ++ (the ")" ∷ r))) (omega arith) (tt, (tt, (tt, tt))), datas-read n ds r (omega arith))
 
 -- What does not go on with a part, with a sequence, with a conditional, with a choice.
 abbrev pub EndsPart : List Token → Type 0
-EndsPart r = T (absent "(" r)
+EndsPart r = EndsAtom r
 
 abbrev pub EndsSequence : List Token → Type 0
 EndsSequence r = T (absent "." r) × EndsPart r
@@ -65,7 +110,7 @@ mutual
         append-assoc (print-sequence p) (the "<|" ∷ (print-data c ++ (the "|>" ∷ print-sequence q))) r,
         append-assoc (print-data c) (the "|>" ∷ print-sequence q) r,
         sequence-read n p (the "<|" ∷ (print-data c ++ (the "|>" ∷ (print-sequence q ++ r)))) (omega arith) (tt, tt),
-        data-read n c (the "|>" ∷ (print-sequence q ++ r)) (omega arith) tt,
+        data-read n c (the "|>" ∷ (print-sequence q ++ r)) (omega arith) (tt, (tt, (tt, tt))),
         sequence-read n q r (omega arith) (k .1),
       )
 

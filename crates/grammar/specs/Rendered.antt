@@ -6,7 +6,8 @@ use mathlib.Core.Option.{some}
 use Prim.Native.Nat.{ℕ, zero, suc, pred}
 use lib.Dec.{T}
 use lib.ListN.{length, getD}
-use Rattle.pcrl.specs.Tests.{and, negated, among, Every}
+use Rattle.pcrl.specs.Text.{bytes}
+use Rattle.pcrl.specs.Tests.{and, or, negated, among, Every}
 use Rattle.pcrl.specs.Bytes.{separator}
 use Rattle.pcrl.specs.Tokens.{Token, name, numeral, sign, words, first-token, before, followed, tokens-behind, tokens}
 use Rattle.pcrl.specs.Tree.{RawSheet}
@@ -46,11 +47,13 @@ pub blank-stops : (t : Token) (s : List ℕ) → Stops (goes-on t) (blank-byte �
 unfolding goes-on
 blank-stops (name n) s = at blank-byte s refl
 blank-stops (numeral v) s = at blank-byte s refl
-blank-stops (sign w) s = at blank-byte s (by (among w words))
+blank-stops (sign w) s = at blank-byte s (by (among w words) (among w (bytes "=" ∷ [])))
   where
-    by : (c : Bool) → and c false ≡ false
-    by true = refl
-    by false = refl
+    by : (c d : Bool) → or (and c false) (and d false) ≡ false
+    by true true = refl
+    by true false = refl
+    by false true = refl
+    by false false = refl
 
 -- two tokens, with what stands between them, before the bytes r
 pub pair-before : (t u : Token) → Taken t → T (begins (write u)) → (r : List ℕ) → tokens-behind 0 (write t ++ (between t u ++ (write u ++ r))) ≡ before t (tokens-behind 0 (write u ++ r))

@@ -8,13 +8,13 @@ use native.Mathlib.Omega.{arith}
 use native.Mathlib.Decide.{ℕ-discrete}
 use lib.Dec.{T, leb, leb→le, le→leb, eqb, eqb→eq, ltb}
 use lib.ListN.{length, getD}
-use Rattle.pcrl.specs.Text.{byte, decimal}
+use Rattle.pcrl.specs.Text.{bytes, byte, decimal}
 use Rattle.pcrl.specs.Limits.{max-name, max-numeral}
 use Rattle.pcrl.specs.Tests.{and, or, negated, same?, among, Every}
 use Rattle.pcrl.specs.Bytes.{separator, letter, digit, name-byte}
-use Rattle.pcrl.specs.Tokens.{Token, name, numeral, sign, words, marks, run, front, Lexeme, name-of, value-of, numeral-of, mark-of, first-token}
+use Rattle.pcrl.specs.Tokens.{Token, name, numeral, sign, the, words, marks, run, front, Lexeme, name-of, value-of, numeral-of, mark-of, first-token}
 use Rattle.pcrl.specs.Render.{write, goes-on}
-use Rattle.laws.specs.Tests.{is-true, both-pass}
+use Rattle.laws.specs.Tests.{is-true, both-pass, eqb-self, where-no}
 use Rattle.grammar.specs.TokenLaws.{ValidName, ValidToken, front-every, front-cons}
 use Rattle.grammar.specs.Spelled.{spelled}
 
@@ -22,6 +22,10 @@ use Rattle.grammar.specs.Spelled.{spelled}
 pub data Stops (p : ℕ → Bool) : List ℕ → Type 0 where
   nothing : Stops p []
   at : (b : ℕ) (s : List ℕ) → p b ≡ false → Stops p (b ∷ s)
+
+pub stops-map : {p q : ℕ → Bool} {s : List ℕ} → ((b : ℕ) → p b ≡ false → q b ≡ false) → Stops p s → Stops q s
+stops-map h nothing = nothing
+stops-map h (at b s e) = at b s (h b e)
 
 -- the token that bytes begin with
 unfoldable pub lexeme : List ℕ → Option Lexeme
@@ -90,8 +94,12 @@ pub word-taken : (b : ℕ) (w : List ℕ) → letter b ≡ true → front name-b
 unfolding write begins lexeme goes-on
 word-taken b w l h e k = record {
   here = no-separator letter refl refl b (rw l tt);
-  whole = λ r s. first-name b (w ++ r) l ∙ (ap name-of (front-append name-byte (b ∷ w) r (subst (Every (λ c. T (name-byte c))) h (front-every name-byte (b ∷ w))) (subst (λ t. Stops (λ c. and t (name-byte c)) r) k s)) ∙ e);
+  whole = λ r s. first-name b (w ++ r) l ∙ (ap name-of (front-append name-byte (b ∷ w) r (subst (Every (λ c. T (name-byte c))) h (front-every name-byte (b ∷ w))) (stops-map (λ c f. by (name-byte c) _ (rw k at f)) s)) ∙ e);
 }
+  where
+    by : (c d : Bool) → or c d ≡ false → c ≡ false
+    by true d f = f
+    by false d f = refl
 
 -- "The words sort, func, act, proc, init, sum, delta and tau", each by computation
 pub words-taken : Every (λ w. Taken (sign w)) words
@@ -103,10 +111,19 @@ pub mark-taken : (w : List ℕ) → T (begins w) → ((r : List ℕ) → lexeme 
 unfolding write
 mark-taken w h e = record { here = h; whole = λ r s. e r }
 
--- "`( ) , ; : # = + . -> <| |>`", each by computation
+-- `=`, where no further `=` stands behind it
+pub equals-taken : Taken (the "=")
+unfolding write begins lexeme goes-on first-token marks mark-of among words same? ℕ-discrete
+equals-taken = record { here = tt; whole = λ r s. by r s }
+  where
+    by : (r : List ℕ) → Stops (λ b. eqb b (byte "=")) r → lexeme (bytes "=" ++ r) ≡ some (the "=", 1)
+    by r nothing = refl
+    by r (at b s e) = where-no (same? (bytes "==") (byte "=" ∷ b ∷ [])) (λ f. let z : _≡_ {A = ℕ} 0 1 = cc (eqb-self b) in omega arith) _ _
+
+-- "`( ) , ; : # = + . -> <| |>`", and `!`, `==`, `/\` and `\/`, each by computation
 pub marks-taken : Every (λ w. Taken (sign w)) marks
 unfolding Every marks begins lexeme first-token mark-of same? ℕ-discrete
-marks-taken = (mark-taken _ tt (λ r. refl), (mark-taken _ tt (λ r. refl), (mark-taken _ tt (λ r. refl), (mark-taken _ tt (λ r. refl), (mark-taken _ tt (λ r. refl), (mark-taken _ tt (λ r. refl), (mark-taken _ tt (λ r. refl), (mark-taken _ tt (λ r. refl), (mark-taken _ tt (λ r. refl), (mark-taken _ tt (λ r. refl), (mark-taken _ tt (λ r. refl), (mark-taken _ tt (λ r. refl), tt))))))))))))
+marks-taken = (mark-taken _ tt (λ r. refl), (mark-taken _ tt (λ r. refl), (mark-taken _ tt (λ r. refl), (mark-taken _ tt (λ r. refl), (mark-taken _ tt (λ r. refl), (mark-taken _ tt (λ r. refl), (mark-taken _ tt (λ r. refl), (mark-taken _ tt (λ r. refl), (mark-taken _ tt (λ r. refl), (mark-taken _ tt (λ r. refl), (mark-taken _ tt (λ r. refl), (mark-taken _ tt (λ r. refl), (equals-taken, (mark-taken _ tt (λ r. refl), (mark-taken _ tt (λ r. refl), (mark-taken _ tt (λ r. refl), tt))))))))))))))))
 
 -- no digit is a letter
 pub digit-no-letter : (b : ℕ) → T (digit b) → letter b ≡ false

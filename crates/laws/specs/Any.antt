@@ -8,7 +8,7 @@ use native.Mathlib.Omega.{arith}
 use lib.ListN.{getElem?}
 use Rattle.pcrl.specs.Tests.{Every}
 use Rattle.pcrl.specs.Reader.{all}
-use Rattle.pcrl.specs.Parts.{tabulate}
+use Rattle.pcrl.specs.Lists.{tabulate}
 use Rattle.pcrl.specs.Steps.{Any, here, there}
 
 module _ {A : Type 0} {P : A → Type 0} where

@@ -1,6 +1,7 @@
 -- To unfold `definitions` is to unfold every definition of pcrl that computes: what a theorem by computation names.
 use Prim.Native.Nat.{ℕ}
 use Rattle.pcrl.specs.Text
+use Rattle.pcrl.specs.Lists
 use Rattle.pcrl.specs.Tests
 use Rattle.pcrl.specs.Result
 use Rattle.pcrl.specs.Bytes
@@ -38,15 +39,15 @@ unfolding Tests.both? Tests.between? Tests.at-most? Tests.below? Tests.T? Tests.
 in-tests = 0
 
 unfoldable pub in-reading : ℕ
-unfolding Tokens.words Tokens.marks Tokens.run Tokens.name-of Tokens.value-of Tokens.numeral-of Tokens.mark-of Tokens.first-token Tokens.before Tokens.followed Tokens.tokens-behind Tokens.tokens Tokens.is? Tokens.open-behind Tokens.most-open Tokens.Shallow Tokens.shallow? Grammar.on Grammar.fail Grammar.expect Grammar.a-name Grammar.a-numeral Grammar.on-numeral Grammar.data-term Grammar.data-given Grammar.choice Grammar.sort-line Grammar.numerals Grammar.one-or-two Grammar.func-line Grammar.act-line Grammar.parameters Grammar.proc-line Grammar.no-variable Grammar.none-in Grammar.init-line Grammar.lines Grammar.sheet Grammar.whole Grammar.parse Counts.Counted Counts.counted? Names.names-of Names.number-of Names.declared Names.new-variable Names.resolve-data Names.resolve-given Names.named Names.resolve-choice Names.sorts-of Names.resolve-func Names.resolve-act Names.resolve-params Names.resolve-proc Names.resolve-init Names.sizes-of Names.resolve Sorts.binding Sorts.HasSort Sorts.has-sort? Sorts.arguments? Sorts.IsAct Sorts.is-act? Sorts.Sorted Sorts.sorted? Sorts.volume Sorts.Complete Sorts.complete? Sorts.RightlySorted Sorts.rightly-sorted? Circles.at-head Circles.NoCircle Circles.all-pass Circles.all-true Circles.passed-after Circles.guarded
+unfolding Tokens.words Tokens.marks Tokens.run Tokens.name-of Tokens.value-of Tokens.numeral-of Tokens.mark-of Tokens.first-token Tokens.before Tokens.followed Tokens.tokens-behind Tokens.tokens Tokens.is? Tokens.open-behind Tokens.most-open Tokens.Shallow Tokens.shallow? Grammar.on Grammar.fail Grammar.expect Grammar.a-name Grammar.a-numeral Grammar.on-numeral Grammar.data-term Grammar.data-given Grammar.choice Grammar.sort-line Grammar.numerals Grammar.one-or-two Grammar.func-line Grammar.act-line Grammar.parameters Grammar.proc-line Grammar.no-variable Grammar.none-in Grammar.init-line Grammar.lines Grammar.sheet Grammar.whole Grammar.parse Counts.Counted Counts.counted? Names.names-of Names.number-of Names.declared Names.new-variable Names.sort-of Names.equal-at Names.resolve-data Names.resolve-given Names.named Names.resolve-choice Names.sorts-of Names.resolve-func Names.resolve-act Names.resolve-params Names.resolve-proc Names.resolve-init Names.sizes-of Names.resolve-terms Names.resolve Sorts.binding Sorts.IsOperation Sorts.is-operation? Sorts.HasSort Sorts.has-sort? Sorts.arguments? Sorts.IsAct Sorts.is-act? Sorts.Sorted Sorts.sorted? Sorts.volume Sorts.Complete Sorts.complete? Sorts.RightlySorted Sorts.rightly-sorted? Circles.at-head Circles.NoCircle Circles.all-pass Circles.all-true Circles.passed-after Circles.guarded
 in-reading = 0
 
 unfoldable pub in-printing : ℕ
-unfolding Text.digits Text.decimal Print.bracketed Print.joined Print.print-data Print.print-given Print.print-choice Print.line Print.print-sorts Print.print-values Print.print-sort Print.print-func Print.print-takes Print.print-act Print.print-param Print.print-params Print.print-proc Print.print-init Print.print-sheet Render.write Render.goes-on Render.between Render.render Printer.longest-run Printer.numbered Printer.listed Printer.in-brackets Printer.applied Printer.side Printer.wanting Printer.choice-of Printer.right-of Printer.letters Printer.indexed Printer.sort-name Printer.raw-data Printer.raw-act Printer.raw-call Printer.raw-sequence Printer.raw-conditional Printer.raw-sums Printer.raw-summand Printer.sort-line-of Printer.func-line-of Printer.act-line-of Printer.param-of Printer.proc-line-of Printer.init-line-of Printer.printed Printer.table-text
+unfolding Text.digits Text.decimal Print.bracketed Print.joined Print.print-data Print.print-given Print.print-choice Print.line Print.print-sorts Print.print-values Print.print-sort Print.print-func Print.print-takes Print.print-act Print.print-param Print.print-params Print.print-proc Print.print-init Print.print-sheet Render.write Render.goes-on Render.between Render.render Printer.longest-run Printer.numbered Printer.as-data Printer.as-negation Printer.as-comparison Printer.as-conjunction Printer.or-behind Printer.and-behind Printer.listed Printer.in-brackets Printer.applied Printer.operand Printer.shown-by Printer.shown Printer.side Printer.wanting Printer.choice-of Printer.right-of Printer.letters Printer.indexed Printer.sort-name Printer.raw-data Printer.raw-act Printer.raw-call Printer.raw-sequence Printer.raw-conditional Printer.raw-sums Printer.raw-summand Printer.sort-line-of Printer.func-line-of Printer.act-line-of Printer.param-of Printer.proc-line-of Printer.init-line-of Printer.printed Printer.table-text
 in-printing = 0
 
 unfoldable pub in-tables : ℕ
-unfolding Sheet.list-of Sheet.size Sheet.func Sheet.takes-of Sheet.params Sheet.right Values.place Values.apply Values.eval Values.put-data Values.except Values.put Values.or-var Values.these Values.only Parts.in-data Parts.in-list Parts.in-proc Parts.tabulate Parts.marks Parts.count Parts.marked Parts.as-params Parts.if-after Parts.new-parts Parts.new-count Parts.all-new-parts Parts.first-new Parts.kind-new Parts.kind-in Parts.kind Table.equation Table.params-of Table.summands-of Table.summand-count Table.nodes Heads.with-var Heads.with-cond Heads.with-calls Heads.look Heads.new-call Heads.calls-of Heads.heads-by Heads.heads Heads.fuel Heads.equation-of Heads.table-of Stream.encode-data Stream.encode-numbers Stream.encode-list Stream.encode-sorts Stream.encode-func Stream.encode-action Stream.encode-sig Stream.encode-act Stream.encode-cond Stream.encode-call Stream.encode-summand Stream.encode-equations Stream.encode-start Stream.encode Right.SummandWithin Right.EquationWithin Right.Within Right.summand-within? Right.equation-within? Right.within? Right.RightSizes Right.RightFunc Right.free-name Right.RightName Right.RightAction Right.action-names Right.RightSig Right.RightSorts Right.RightCond Right.RightCall Right.RightSummand Right.RightSummands Right.RightEquations Right.RightStart Right.RightTable Decode.node-of Decode.arguments-of Decode.guard Decode.Fits Decode.fits? Decode.wants Decode.build Decode.read-terms Decode.first Decode.read-term Decode.read-sorts Decode.read-sizes Decode.to-func Decode.read-func Decode.to-action Decode.read-name Decode.read-action Decode.to-sig Decode.read-sig Decode.to-summand Decode.zip Decode.to-equations Decode.read-act Decode.read-cond Decode.read-call Decode.read-summand Decode.read-summands Decode.read-equations Decode.read-start Decode.to-table Decode.decode
+unfolding Lists.tabulate Sheet.list-of Sheet.operator Sheet.operation Sheet.size Sheet.func Sheet.same-at Sheet.function Sheet.function-at Sheet.takes-of Sheet.params Sheet.right Values.place Values.apply Values.eval Values.put-data Values.except Values.put Values.or-var Values.these Values.only Parts.in-data Parts.in-list Parts.in-proc Parts.marks Parts.count Parts.marked Parts.as-params Parts.if-after Parts.new-parts Parts.new-count Parts.all-new-parts Parts.first-new Parts.kind-new Parts.kind-in Parts.kind Table.equation Table.params-of Table.summands-of Table.summand-count Table.nodes Heads.with-var Heads.with-cond Heads.with-calls Heads.look Heads.new-call Heads.calls-of Heads.heads-by Heads.heads Heads.fuel Heads.equation-of Heads.table-of Stream.codes Stream.encode-data Stream.encode-numbers Stream.encode-list Stream.encode-sorts Stream.encode-func Stream.encode-action Stream.encode-sig Stream.encode-act Stream.encode-cond Stream.encode-call Stream.encode-summand Stream.encode-equations Stream.encode-start Stream.encode Right.SummandWithin Right.EquationWithin Right.Within Right.summand-within? Right.equation-within? Right.within? Right.RightSizes Right.RightFunc Right.free-name Right.RightName Right.RightAction Right.action-names Right.RightSig Right.RightSorts Right.RightCond Right.RightCall Right.RightSummand Right.RightSummands Right.RightEquations Right.RightStart Right.RightTable Decode.node-of Decode.sorted-equal Decode.read-node Decode.arguments-of Decode.guard Decode.Fits Decode.fits? Decode.wants Decode.build Decode.read-terms Decode.first Decode.read-term Decode.read-sorts Decode.read-sizes Decode.to-func Decode.read-func Decode.to-action Decode.read-name Decode.read-action Decode.to-sig Decode.read-sig Decode.to-summand Decode.zip Decode.to-equations Decode.read-act Decode.read-cond Decode.read-call Decode.read-summand Decode.read-summands Decode.read-equations Decode.read-start Decode.to-table Decode.decode
 in-tables = 0
 
 unfoldable pub in-files : ℕ

@@ -6,6 +6,7 @@ pub mod Each
 pub mod Any
 pub mod Optional
 pub mod Numbers
+pub mod Operations
 pub mod Readers
 pub mod Questions
 pub mod Computing

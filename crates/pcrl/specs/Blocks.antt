@@ -10,7 +10,7 @@ use lib.Dec.{ltb}
 use lib.ListN.{length, take, drop, replicate}
 use Rattle.pcrl.specs.Tests.{Between, both?, between?, same?, Every, every?}
 use Rattle.pcrl.specs.Reader.{Got, missing, found, all}
-use Rattle.pcrl.specs.Parts.{tabulate}
+use Rattle.pcrl.specs.Lists.{tabulate}
 use Rattle.pcrl.specs.Table.{Table}
 use Rattle.pcrl.specs.Stream.{encode}
 use Rattle.pcrl.specs.Decode.{decode}

@@ -3,21 +3,21 @@
 use mathlib.Core.Path.{_≡_}
 use mathlib.Core.List.{List, [], _∷_, _++_}
 use mathlib.Core.Option.{Option}
-use Prim.Native.Nat.{ℕ, zero, suc, _-_, _<_}
+use Prim.Native.Nat.{ℕ, zero, suc, _+_, _-_, _<_}
 use native.Mathlib.Decide.{ℕ-discrete, decLt}
 use lib.Dec.{T}
 use lib.ListN.{length, getD, getElem?, drop}
 use Rattle.pcrl.specs.Limits.{max-name, max-sorts, max-size, max-functions, max-actions, max-arity, frame-width, max-equations, max-summands, max-variables, max-conditions, max-calls, max-nodes, max-stream}
 use Rattle.pcrl.specs.Tests.{both?, between?, at-most?, below?, T?, some?, distinct}
 use Rattle.pcrl.specs.Bytes.{name-byte}
-use Rattle.pcrl.specs.Reader.{Got, missing, found, Reader, keep, one, test, pair, view, times, counted, each}
-use Rattle.pcrl.specs.Sheet.{Data, val, var, app, Datas, nil, cons, Act, tau, action, Func, Action, Sig, size, func, takes-of}
-use Rattle.pcrl.specs.Sorts.{Bool-sort, volume}
+use Rattle.pcrl.specs.Reader.{Got, missing, found, Reader, bind, keep, one, test, pair, view, times, counted, each}
+use Rattle.pcrl.specs.Sheet.{Data, val, var, app, Datas, nil, cons, Act, tau, action, Func, Action, Sig, first-equal, size, function-at, takes-of}
+use Rattle.pcrl.specs.Sorts.{Bool-sort, IsFunc, is-func?, volume}
 use Rattle.pcrl.specs.Table.{Summand, Equation, Table, params-of, summand-count}
 use Rattle.pcrl.specs.Stream.{variable-code, function-code, tau-code, encode}
 use Rattle.pcrl.specs.Right.{free-name, action-names}
 
--- a byte of a term
+-- a node of a term
 pub data Node : Type 0 where
   value variable function : ℕ → Node
 
@@ -27,6 +27,20 @@ node-of b =
       | yes h ↦ value b
       | no h ↦ elim (decLt b function-code) [ yes k ↦ variable (b - variable-code) | no k ↦ function (b - function-code) ]
     ]
+
+-- "`==` is followed by one byte for its sort"
+unfoldable pub sorted-equal : Reader ℕ Node
+sorted-equal [] = missing
+sorted-equal (D ∷ xs) = found (function (first-equal + D)) xs
+
+-- no code is above those of operators
+abbrev pub code-limit : ℕ
+code-limit = 0x64
+
+-- the node that stands next
+unfoldable pub read-node : Reader ℕ Node
+read-node [] = missing
+read-node (b ∷ xs) = elim (ℕ-discrete b 0x61) [ yes e ↦ sorted-equal xs | no h ↦ keep (decLt b code-limit) (node-of b) xs ]
 
 -- the first n terms as arguments
 unfoldable pub arguments-of : ℕ → List Data → Datas
@@ -43,33 +57,32 @@ module _ (S : Sig) (Γ : List ℕ) where
   unfoldable pub Fits : ℕ → Node → Type 0
   Fits D (value v) = v < size S D
   Fits D (variable i) = getElem? Γ i ≡ Option.some D
-  Fits D (function f) = (f < length (S .funcs)) × (func S f .gives ≡ D)
+  Fits D (function f) = IsFunc S f × (function-at S f .gives ≡ D)
 
   unfoldable pub fits? : (D : ℕ) (n : Node) → Dec (Fits D n)
   unfolding Fits
   fits? D (value v) = decLt v (size S D)
   fits? D (variable i) = some? (getElem? Γ i) D
-  fits? D (function f) = both? (decLt f (length (S .funcs))) (ℕ-discrete (func S f .gives) D)
+  fits? D (function f) = both? (is-func? S f) (ℕ-discrete (function-at S f .gives) D)
 
   -- the sorts that are expected behind it
   unfoldable pub wants : Node → List ℕ
   wants (value v) = []
   wants (variable i) = []
-  wants (function f) = func S f .takes
+  wants (function f) = function-at S f .takes
 
   -- the node put before its arguments
   unfoldable pub build : Node → List Data → List Data
   build (value v) ds = val v ∷ ds
   build (variable i) ds = var i ∷ ds
-  build (function f) ds = app f (arguments-of (length (func S f .takes)) ds) ∷ drop (length (func S f .takes)) ds
+  build (function f) ds = app f (arguments-of (length (function-at S f .takes)) ds) ∷ drop (length (function-at S f .takes)) ds
 
   -- terms of the sorts Ds, with at most n nodes in all
   unfoldable pub read-terms : ℕ → List ℕ → Reader ℕ (List Data)
   read-terms zero [] xs = found [] xs
   read-terms zero (D ∷ Ds) xs = missing
   read-terms (suc n) [] xs = found [] xs
-  read-terms (suc n) (D ∷ Ds) [] = missing
-  read-terms (suc n) (D ∷ Ds) (b ∷ xs) = guard (fits? D (node-of b)) (λ h. view (build (node-of b)) (read-terms n (wants (node-of b) ++ Ds)) xs)
+  read-terms (suc n) (D ∷ Ds) xs = bind (read-node xs) (λ x ys. guard (fits? D x) (λ h. view (build x) (read-terms n (wants x ++ Ds)) ys))
 
   unfoldable pub first : List Data → Data
   first [] = val 0

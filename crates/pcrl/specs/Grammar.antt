@@ -10,7 +10,7 @@ use lib.ListN.{length}
 use Rattle.pcrl.specs.Tests.{and, T?}
 use Rattle.pcrl.specs.Tokens.{Token, is?}
 use Rattle.pcrl.specs.Reader.{Got, missing, found, Reader, _>>=_, _>>_, return, test}
-use Rattle.pcrl.specs.Tree.{Name, RawData, RawDatas, Choice, Conditional, Sequence, Part, SortLine, FuncLine, ActLine, ProcLine, InitLine, RawSheet}
+use Rattle.pcrl.specs.Tree.{Name, RawData, Conjunction, Comparison, Negation, Atom, RawDatas, Choice, Conditional, Sequence, Part, SortLine, FuncLine, ActLine, ProcLine, InitLine, RawSheet}
 
 abbrev pub Reads : Type 0 → Type 0
 Reads A = Reader Token A
@@ -47,18 +47,67 @@ on-numeral y other (Token.numeral v ∷ ts) = y v ts
 on-numeral y other (Token.sign w ∷ ts) = other (Token.sign w ∷ ts)
 
 unfoldable mutual
-  -- "Data is a numeral, a variable, or a function name with bracketed data."
+  -- conjunctions joined by `\/`
   pub data-term : ℕ → Reads RawData
   data-term zero = fail
-  data-term (suc n) =
-      on-numeral (λ v. return (RawData.value v))
+  data-term (suc n) = do
+    c ← conjunction n
+    on "\\/"
+        (do
+          d ← data-term n
+          return (RawData.or c d))
+        (return (RawData.only c))
+
+  -- comparisons joined by `/\`
+  pub conjunction : ℕ → Reads Conjunction
+  conjunction zero = fail
+  conjunction (suc n) = do
+    c ← comparison n
+    on "/\\"
+        (do
+          d ← conjunction n
+          return (Conjunction.and c d))
+        (return (Conjunction.single c))
+
+  -- "`==` takes two data .., doesn't chain"
+  pub comparison : ℕ → Reads Comparison
+  comparison zero = fail
+  comparison (suc n) = do
+    a ← negation n
+    on "=="
+        (do
+          b ← negation n
+          return (Comparison.equal a b))
+        (return (Comparison.plain a))
+
+  pub negation : ℕ → Reads Negation
+  negation zero = fail
+  negation (suc n) =
+      on "!"
+      (do
+        a ← negation n
+        return (Negation.not a))
+      (do
+        a ← atom n
+        return (Negation.atom a))
+
+  -- "Data is a numeral, a variable, or a function name with bracketed data." "Brackets in data are allowed"
+  pub atom : ℕ → Reads Atom
+  atom zero = fail
+  atom (suc n) =
+      on-numeral (λ v. return (Atom.value v))
+      (on "("
+      (do
+        d ← data-term n
+        expect ")"
+        return (Atom.group d))
       (do
         x ← a-name
         on "("
             (do
               ds ← data-list n
-              return (RawData.apply x ds))
-            (return (RawData.variable x)))
+              return (Atom.apply x ds))
+            (return (Atom.variable x))))
 
   -- bracketed data, behind the opening bracket
   pub data-list : ℕ → Reads RawDatas
@@ -221,9 +270,26 @@ proc-line n = do
 -- "no name in its data that lacks brackets"
 unfoldable mutual
   pub no-variable : RawData → Bool
-  no-variable (RawData.value v) = true
-  no-variable (RawData.variable x) = false
-  no-variable (RawData.apply x ds) = no-variables ds
+  no-variable (RawData.only c) = none-in-conjunction c
+  no-variable (RawData.or c d) = and (none-in-conjunction c) (no-variable d)
+
+  pub none-in-conjunction : Conjunction → Bool
+  none-in-conjunction (Conjunction.single c) = none-in-comparison c
+  none-in-conjunction (Conjunction.and c d) = and (none-in-comparison c) (none-in-conjunction d)
+
+  pub none-in-comparison : Comparison → Bool
+  none-in-comparison (Comparison.plain a) = none-in-negation a
+  none-in-comparison (Comparison.equal a b) = and (none-in-negation a) (none-in-negation b)
+
+  pub none-in-negation : Negation → Bool
+  none-in-negation (Negation.atom a) = none-in-atom a
+  none-in-negation (Negation.not a) = none-in-negation a
+
+  pub none-in-atom : Atom → Bool
+  none-in-atom (Atom.value v) = true
+  none-in-atom (Atom.variable x) = false
+  none-in-atom (Atom.apply x ds) = no-variables ds
+  none-in-atom (Atom.group d) = no-variable d
 
   pub no-variables : RawDatas → Bool
   no-variables (RawDatas.one d) = no-variable d
@@ -272,4 +338,4 @@ whole (found a (t ∷ ts)) = none
 
 -- 5: "The form above?"
 unfoldable pub parse : List Token → Option RawSheet
-parse ts = whole (sheet (4 * length ts + 4) ts)
+parse ts = whole (sheet (5 * length ts + 5) ts)

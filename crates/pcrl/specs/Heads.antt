@@ -5,7 +5,8 @@ use Prim.Native.Nat.{ℕ, zero, suc, _+_}
 use lib.ListN.{length, getD, replicate}
 use Rattle.pcrl.specs.Sheet.{Data, val, var, Proc, delta, atom, alt, cond, sum, seq, call, Sheet, params, right}
 use Rattle.pcrl.specs.Values.{eval, put-data}
-use Rattle.pcrl.specs.Parts.{tabulate, marks, count, marked, as-params, new-count, all-new-parts, first-new, Kind, absent, written, part, kind}
+use Rattle.pcrl.specs.Lists.{tabulate}
+use Rattle.pcrl.specs.Parts.{marks, count, marked, as-params, new-count, all-new-parts, first-new, Kind, absent, written, part, kind}
 use Rattle.pcrl.specs.Table.{Summand, Equation, Table, no-equation}
 
 -- "d put before their variables"

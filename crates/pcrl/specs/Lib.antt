@@ -1,4 +1,5 @@
 pub mod Text
+pub mod Lists
 pub mod Limits
 pub mod Tests
 pub mod Result

@@ -5,6 +5,7 @@ use mathlib.Core.Bool.{Bool, true, false}
 use Prim.Native.Nat.{ℕ, zero, suc, _+_}
 use lib.Dec.{eqb}
 use lib.ListN.{length}
+use Rattle.pcrl.specs.Lists.{tabulate}
 use Rattle.pcrl.specs.Tests.{or, and, negated}
 use Rattle.pcrl.specs.Sheet.{Data, val, var, app, Datas, nil, cons, Proc, delta, atom, alt, cond, sum, seq, call, Process, Sheet}
 
@@ -31,11 +32,6 @@ in-proc i (cond c p q) = or (in-data i c) (or (in-proc i p) (in-proc i q))
 in-proc i (sum x D p) = and (negated (eqb i x)) (in-proc i p)
 in-proc i (seq p q) = or (in-proc i p) (in-proc i q)
 in-proc i (call k ds) = in-list i ds
-
--- f 0, f 1, ..: n of them
-unfoldable pub tabulate : {A : Type 0} → ℕ → (ℕ → A) → List A
-tabulate zero f = []
-tabulate (suc n) f = f zero ∷ tabulate n (λ i. f (suc i))
 
 -- "Variables in scope are numbered from the outermost, and those free in the part are marked": n are in scope
 unfoldable pub marks : ℕ → Proc → List Bool

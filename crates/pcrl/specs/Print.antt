@@ -6,7 +6,7 @@ use Prim.Native.Nat.{ℕ}
 use Prim.Native.String.{String}
 use Rattle.pcrl.specs.Tokens.{Token, name, numeral, the}
 use Rattle.pcrl.specs.Reader.{all}
-use Rattle.pcrl.specs.Tree.{Name, RawData, RawDatas, Choice, Conditional, Sequence, Part, SortLine, FuncLine, ActLine, ProcLine, InitLine, RawSheet}
+use Rattle.pcrl.specs.Tree.{Name, RawData, Conjunction, Comparison, Negation, Atom, RawDatas, Choice, Conditional, Sequence, Part, SortLine, FuncLine, ActLine, ProcLine, InitLine, RawSheet}
 
 -- what is between two brackets
 unfoldable pub bracketed : List Token → List Token
@@ -18,14 +18,33 @@ joined s w [] = []
 joined s w (a ∷ []) = w a
 joined s w (a ∷ b ∷ l) = w a ++ (the s ∷ joined s w (b ∷ l))
 
--- "Data is a numeral, a variable, or a function name with bracketed data."
 unfoldable mutual
   unfolding bracketed
 
+  -- conjunctions joined by `\/`
   pub print-data : RawData → List Token
-  print-data (RawData.value v) = numeral v ∷ []
-  print-data (RawData.variable x) = name x ∷ []
-  print-data (RawData.apply x ds) = name x ∷ bracketed (print-datas ds)
+  print-data (RawData.only c) = print-conjunction c
+  print-data (RawData.or c d) = print-conjunction c ++ (the "\\/" ∷ print-data d)
+
+  -- comparisons joined by `/\`
+  pub print-conjunction : Conjunction → List Token
+  print-conjunction (Conjunction.single c) = print-comparison c
+  print-conjunction (Conjunction.and c d) = print-comparison c ++ (the "/\\" ∷ print-conjunction d)
+
+  pub print-comparison : Comparison → List Token
+  print-comparison (Comparison.plain a) = print-negation a
+  print-comparison (Comparison.equal a b) = print-negation a ++ (the "==" ∷ print-negation b)
+
+  pub print-negation : Negation → List Token
+  print-negation (Negation.atom a) = print-atom a
+  print-negation (Negation.not a) = the "!" ∷ print-negation a
+
+  -- "Data is a numeral, a variable, or a function name with bracketed data." "Brackets in data are allowed"
+  pub print-atom : Atom → List Token
+  print-atom (Atom.value v) = numeral v ∷ []
+  print-atom (Atom.variable x) = name x ∷ []
+  print-atom (Atom.apply x ds) = name x ∷ bracketed (print-datas ds)
+  print-atom (Atom.group d) = bracketed (print-data d)
 
   -- "with commas between"
   pub print-datas : RawDatas → List Token

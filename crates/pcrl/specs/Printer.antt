@@ -6,8 +6,8 @@ use lib.Dec.{eqb}
 use lib.ListN.{length, drop, getD, replicate}
 use Rattle.pcrl.specs.Text.{bytes, byte, decimal}
 use Rattle.pcrl.specs.Tokens.{run}
-use Rattle.pcrl.specs.Tree.{Name, RawData, RawDatas, Choice, Conditional, Sequence, Part, SortLine, FuncLine, ActLine, ProcLine, InitLine, RawSheet}
-use Rattle.pcrl.specs.Sheet.{Data, val, var, app, Datas, nil, cons, Act, tau, action, Func, Action, no-action}
+use Rattle.pcrl.specs.Tree.{Name, RawData, Conjunction, Comparison, Negation, Atom, RawDatas, Choice, Conditional, Sequence, Part, SortLine, FuncLine, ActLine, ProcLine, InitLine, RawSheet}
+use Rattle.pcrl.specs.Sheet.{Data, val, var, app, Datas, nil, cons, Act, tau, action, Func, Action, no-action, Operation, operation}
 use Rattle.pcrl.specs.Table.{Summand, Equation, Table}
 use Rattle.pcrl.specs.Right.{action-names}
 use Rattle.pcrl.specs.Print.{print-sheet}
@@ -23,6 +23,65 @@ unfoldable pub numbered : {A B : Type 0} → (ℕ → A → B) → ℕ → List 
 numbered f i [] = []
 numbered f i (a ∷ l) = f i a ∷ numbered f (suc i) l
 
+-- Data as its tightest form without brackets of its own: "the printer writes the fewest brackets that read back the same".
+pub data Shown : Type 0 where
+  data-shown : RawData → Shown
+  conjunction-shown : Conjunction → Shown
+  comparison-shown : Comparison → Shown
+  negation-shown : Negation → Shown
+  atom-shown : Atom → Shown
+
+-- the forms around a form
+abbrev pub of-atom : Atom → Negation
+of-atom a = Negation.atom a
+
+abbrev pub of-negation : Negation → Comparison
+of-negation a = Comparison.plain a
+
+abbrev pub of-comparison : Comparison → Conjunction
+of-comparison c = Conjunction.single c
+
+abbrev pub of-conjunction : Conjunction → RawData
+of-conjunction c = RawData.only c
+
+unfoldable pub as-data : Shown → RawData
+as-data (data-shown d) = d
+as-data (conjunction-shown c) = of-conjunction c
+as-data (comparison-shown c) = of-conjunction (of-comparison c)
+as-data (negation-shown a) = of-conjunction (of-comparison (of-negation a))
+as-data (atom-shown a) = of-conjunction (of-comparison (of-negation (of-atom a)))
+
+-- in brackets where the form is looser than its place
+unfoldable pub as-negation : Shown → Negation
+as-negation (data-shown d) = of-atom (Atom.group d)
+as-negation (conjunction-shown c) = of-atom (Atom.group (of-conjunction c))
+as-negation (comparison-shown c) = of-atom (Atom.group (of-conjunction (of-comparison c)))
+as-negation (negation-shown a) = a
+as-negation (atom-shown a) = of-atom a
+
+unfoldable pub as-comparison : Shown → Comparison
+as-comparison (data-shown d) = of-negation (of-atom (Atom.group d))
+as-comparison (conjunction-shown c) = of-negation (of-atom (Atom.group (of-conjunction c)))
+as-comparison (comparison-shown c) = c
+as-comparison (negation-shown a) = of-negation a
+as-comparison (atom-shown a) = of-negation (of-atom a)
+
+unfoldable pub as-conjunction : Shown → Conjunction
+as-conjunction (data-shown d) = of-comparison (of-negation (of-atom (Atom.group d)))
+as-conjunction (conjunction-shown c) = c
+as-conjunction (comparison-shown c) = of-comparison c
+as-conjunction (negation-shown a) = of-comparison (of-negation a)
+as-conjunction (atom-shown a) = of-comparison (of-negation (of-atom a))
+
+-- "the last two grouping to the left": the right operand behind all of the left one
+unfoldable pub or-behind : RawData → Conjunction → RawData
+or-behind (RawData.only c) e = RawData.or c (RawData.only e)
+or-behind (RawData.or c d) e = RawData.or c (or-behind d e)
+
+unfoldable pub and-behind : Conjunction → Comparison → Conjunction
+and-behind (Conjunction.single c) e = Conjunction.and c (Conjunction.single e)
+and-behind (Conjunction.and c d) e = Conjunction.and c (and-behind d e)
+
 -- data in brackets, if there are any
 unfoldable pub listed : RawData → List RawData → RawDatas
 listed d [] = RawDatas.one d
@@ -33,9 +92,22 @@ in-brackets [] = none
 in-brackets (d ∷ ds) = some (listed d ds)
 
 -- a function's name with bracketed data; no function of a right table is without
-unfoldable pub applied : Name → Option RawDatas → RawData
-applied x none = RawData.variable x
-applied x (some ds) = RawData.apply x ds
+unfoldable pub applied : Name → Option RawDatas → Atom
+applied x none = Atom.variable x
+applied x (some ds) = Atom.apply x ds
+
+-- an operand by its number
+unfoldable pub operand : ℕ → List Shown → Shown
+operand i ds = getD ds i (atom-shown (Atom.value 0))
+
+-- a function with these data: f names it if it is a written one
+unfoldable pub shown-by : (ℕ → Name) → Operation → List Shown → Shown
+shown-by f (Operation.written g) ds = atom-shown (applied (f g) (in-brackets (map as-data ds)))
+shown-by f Operation.not ds = negation-shown (Negation.not (as-negation (operand 0 ds)))
+shown-by f (Operation.equal D) ds = comparison-shown (Comparison.equal (as-negation (operand 0 ds)) (as-negation (operand 1 ds)))
+shown-by f Operation.and ds = conjunction-shown (and-behind (as-conjunction (operand 0 ds)) (as-comparison (operand 1 ds)))
+shown-by f Operation.or ds = data-shown (or-behind (as-data (operand 0 ds)) (as-conjunction (operand 1 ds)))
+shown-by f Operation.unsorted ds = operand 0 ds
 
 -- "brackets only where needed": around a conditional that is a side of a conditional
 unfoldable pub side : Conditional → Sequence
@@ -80,14 +152,17 @@ module _ (acts : List Action) where
   var-name i = indexed (byte "v") i
 
   unfoldable mutual
-    pub raw-data : Data → RawData
-    raw-data (val v) = RawData.value v
-    raw-data (var i) = RawData.variable (var-name i)
-    raw-data (app f ds) = applied (func-name f) (in-brackets (raw-datas ds))
+    pub shown : Data → Shown
+    shown (val v) = atom-shown (Atom.value v)
+    shown (var i) = atom-shown (Atom.variable (var-name i))
+    shown (app f ds) = shown-by func-name (operation f) (all-shown ds)
 
-    pub raw-datas : Datas → List RawData
-    raw-datas nil = []
-    raw-datas (cons d ds) = raw-data d ∷ raw-datas ds
+    pub all-shown : Datas → List Shown
+    all-shown nil = []
+    all-shown (cons d ds) = shown d ∷ all-shown ds
+
+  unfoldable pub raw-data : Data → RawData
+  raw-data d = as-data (shown d)
 
   abbrev pub raw-given : List Data → Option RawDatas
   raw-given ds = in-brackets (map raw-data ds)
@@ -138,7 +213,7 @@ module _ (acts : List Action) where
   }
 
   unfoldable pub init-line-of : ℕ × List ℕ → InitLine
-  init-line-of s = record { name = proc-name (s .0); data-given = in-brackets (map RawData.value (s .1)) }
+  init-line-of s = record { name = proc-name (s .0); data-given = in-brackets (map (λ v. as-data (atom-shown (Atom.value v))) (s .1)) }
 
 -- the tree of the printed sheet
 unfoldable pub printed : Table → RawSheet

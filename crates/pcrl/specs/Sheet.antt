@@ -1,7 +1,10 @@
 -- The resolved sheet: sorts, functions, actions, processes and variables are numbers, each counted from 0. Bool is sort 0.
 use mathlib.Core.List.{List, [], _∷_}
-use Prim.Native.Nat.{ℕ}
+use mathlib.Core.Bool.{true, false}
+use Prim.Native.Nat.{ℕ, zero, suc, _*_, _-_, _/_, _%_}
+use lib.Dec.{eqb, ltb}
 use lib.ListN.{getD}
+use Rattle.pcrl.specs.Lists.{tabulate}
 
 -- a value, a variable by its number, a function applied to data
 mutual
@@ -59,6 +62,44 @@ pub record Sheet : Type 0 where
   -- the process that init calls, and its data
   pub start : ℕ × List Data
 
+-- #102: "Data gains `!`, `==`, `/\` and `\/`": each is a function that every sheet has, `==` one for each sort.
+-- What a function's number stands for: those of operators are behind all that can be written.
+pub data Operation : Type 0 where
+  written : ℕ → Operation
+  not and or : Operation
+  -- `==` at a sort
+  equal : ℕ → Operation
+  -- none: `==` over two numerals has no sort
+  unsorted : Operation
+
+abbrev pub not-number : ℕ
+not-number = 32
+
+abbrev pub unsorted-number : ℕ
+unsorted-number = 33
+
+abbrev pub and-number : ℕ
+and-number = 34
+
+abbrev pub or-number : ℕ
+or-number = 35
+
+-- `==` at the sort D is 256 + D
+abbrev pub first-equal : ℕ
+first-equal = 256
+
+-- by the number behind that of `!`
+unfoldable pub operator : ℕ → Operation
+operator zero = not
+operator (suc zero) = unsorted
+operator (suc (suc zero)) = and
+operator (suc (suc (suc zero))) = or
+operator (suc (suc (suc (suc n)))) = unsorted
+
+unfoldable pub operation : ℕ → Operation
+operation f =
+    elim (ltb f not-number) [ true ↦ written f | false ↦ elim (ltb f first-equal) [ true ↦ operator (f - not-number) | false ↦ equal (f - first-equal) ] ]
+
 abbrev pub no-func : Func
 no-func = record { takes = []; gives = 0; values = [] }
 
@@ -72,8 +113,26 @@ module _ (S : Sig) where
   unfoldable pub size : ℕ → ℕ
   size D = getD (S .sorts) D 0
 
+  -- written function f
   unfoldable pub func : ℕ → Func
   func f = getD (S .funcs) f no-func
+
+  -- of the pairs of n values in order, 1 where both are one value
+  unfoldable pub same-at : ℕ → ℕ → ℕ
+  same-at n i = elim (eqb (i / n) (i % n)) [ true ↦ 1 | false ↦ 0 ]
+
+  unfoldable pub function : Operation → Func
+  function (written f) = func f
+  function not = record { takes = 0 ∷ []; gives = 0; values = 1 ∷ 0 ∷ [] }
+  function and = record { takes = 0 ∷ 0 ∷ []; gives = 0; values = 0 ∷ 0 ∷ 0 ∷ 1 ∷ [] }
+  function or = record { takes = 0 ∷ 0 ∷ []; gives = 0; values = 0 ∷ 1 ∷ 1 ∷ 1 ∷ [] }
+  -- "`==` takes two data of one sort"
+  function (equal D) = record { takes = D ∷ D ∷ []; gives = 0; values = tabulate (size D * size D) (same-at (size D)) }
+  function unsorted = no-func
+
+  -- the function of a number
+  unfoldable pub function-at : ℕ → Func
+  function-at f = function (operation f)
 
   -- the sorts that an action takes
   unfoldable pub takes-of : Act → List ℕ

@@ -8,7 +8,7 @@ use native.Mathlib.Decide.{ℕ-discrete, decLt}
 use lib.Dec.{eqb}
 use lib.ListN.{length, getD, getElem?}
 use Rattle.pcrl.specs.Tests.{both?, below?, some?, Every, every?, Each, each?}
-use Rattle.pcrl.specs.Sheet.{Data, val, var, app, Datas, nil, cons, Act, tau, action, Proc, delta, atom, alt, cond, sum, seq, call, Func, Sig, Process, Sheet, size, func, takes-of, params, right}
+use Rattle.pcrl.specs.Sheet.{Data, val, var, app, Datas, nil, cons, Act, tau, action, Proc, delta, atom, alt, cond, sum, seq, call, Func, Sig, Process, Sheet, Operation, operation, size, function-at, takes-of, params, right}
 
 -- the sorts of the variables in scope, by their numbers
 abbrev pub Scope : Type 0
@@ -26,13 +26,37 @@ binding x D Γ i = elim (eqb i x) [ true ↦ some D | false ↦ Γ i ]
 abbrev pub Bool-sort : ℕ
 Bool-sort = 0
 
+-- a function that is there
+unfoldable pub IsOperation : Sig → Operation → Type 0
+IsOperation S (Operation.written f) = f < length (S .funcs)
+IsOperation S Operation.not = Unit {0}
+IsOperation S Operation.and = Unit {0}
+IsOperation S Operation.or = Unit {0}
+IsOperation S (Operation.equal D) = D < length (S .sorts)
+IsOperation S Operation.unsorted = ⊥
+
+unfoldable pub is-operation? : (S : Sig) (o : Operation) → Dec (IsOperation S o)
+unfolding IsOperation
+is-operation? S (Operation.written f) = decLt f (length (S .funcs))
+is-operation? S Operation.not = yes tt
+is-operation? S Operation.and = yes tt
+is-operation? S Operation.or = yes tt
+is-operation? S (Operation.equal D) = decLt D (length (S .sorts))
+is-operation? S Operation.unsorted = no (λ x. x)
+
+abbrev pub IsFunc : Sig → ℕ → Type 0
+IsFunc S f = IsOperation S (operation f)
+
+abbrev pub is-func? : (S : Sig) (f : ℕ) → Dec (IsFunc S f)
+is-func? S f = is-operation? S (operation f)
+
 module _ (S : Sig) (Γ : Scope) where
   unfoldable mutual
     -- A numeral takes the sort of its place: "numerals below their sort's size".
     pub HasSort : Data → ℕ → Type 0
     HasSort (val v) D = v < size S D
     HasSort (var i) D = Γ i ≡ some D
-    HasSort (app f ds) D = (f < length (S .funcs)) × ((func S f .gives ≡ D) × HaveSorts ds (func S f .takes))
+    HasSort (app f ds) D = IsFunc S f × ((function-at S f .gives ≡ D) × HaveSorts ds (function-at S f .takes))
 
     -- as many as sorts, each of its sort
     pub HaveSorts : Datas → List ℕ → Type 0
@@ -47,7 +71,7 @@ module _ (S : Sig) (Γ : Scope) where
     pub has-sort? : (d : Data) (D : ℕ) → Dec (HasSort d D)
     has-sort? (val v) D = decLt v (size S D)
     has-sort? (var i) D = some? (Γ i) D
-    has-sort? (app f ds) D = both? (decLt f (length (S .funcs))) (both? (ℕ-discrete (func S f .gives) D) (have-sorts? ds (func S f .takes)))
+    has-sort? (app f ds) D = both? (is-func? S f) (both? (ℕ-discrete (function-at S f .gives) D) (have-sorts? ds (function-at S f .takes)))
 
     pub have-sorts? : (ds : Datas) (Ds : List ℕ) → Dec (HaveSorts ds Ds)
     have-sorts? nil [] = yes tt

@@ -8,7 +8,7 @@ use Rattle.pcrl.specs.Reader.{all}
 use Rattle.pcrl.specs.Sheet.{Data, Sig, size}
 use Rattle.pcrl.specs.Label.{Label, label}
 use Rattle.pcrl.specs.Values.{eval}
-use Rattle.pcrl.specs.Parts.{tabulate}
+use Rattle.pcrl.specs.Lists.{tabulate}
 use Rattle.pcrl.specs.Table.{Summand, Table, equation}
 use Rattle.pcrl.specs.Stack.{Frame, Stack, InSorts, used, padded}
 

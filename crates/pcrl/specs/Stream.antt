@@ -5,7 +5,7 @@ use mathlib.Core.List.{List, [], _∷_, _++_}
 use Prim.Native.Nat.{ℕ, _+_}
 use lib.ListN.{length}
 use Rattle.pcrl.specs.Reader.{all}
-use Rattle.pcrl.specs.Sheet.{Data, val, var, app, Datas, nil, cons, Act, tau, action, Func, Action, Sig}
+use Rattle.pcrl.specs.Sheet.{Data, val, var, app, Datas, nil, cons, Act, tau, action, Func, Action, Sig, Operation, operation}
 use Rattle.pcrl.specs.Table.{Summand, Equation, Table, params-of, summands-of}
 
 -- "value v is v; variable i is 20 + i, parameters first; function i is 40 + i"
@@ -14,6 +14,15 @@ variable-code = 0x20
 
 abbrev pub function-code : ℕ
 function-code = 0x40
+
+-- #102: "In the stream they are hex 60 to 63 in that order, and `==` is followed by one byte for its sort."
+unfoldable pub codes : Operation → List ℕ
+codes (Operation.written f) = (function-code + f) ∷ []
+codes Operation.not = 0x60 ∷ []
+codes (Operation.equal D) = 0x61 ∷ D ∷ []
+codes Operation.and = 0x62 ∷ []
+codes Operation.or = 0x63 ∷ []
+codes Operation.unsorted = []
 
 -- "hex FF for tau"
 abbrev pub tau-code : ℕ
@@ -24,7 +33,7 @@ unfoldable mutual
   pub encode-data : Data → List ℕ
   encode-data (val v) = v ∷ []
   encode-data (var i) = (variable-code + i) ∷ []
-  encode-data (app f ds) = (function-code + f) ∷ encode-datas ds
+  encode-data (app f ds) = codes (operation f) ++ encode-datas ds
 
   pub encode-datas : Datas → List ℕ
   encode-datas nil = []

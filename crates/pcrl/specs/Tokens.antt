@@ -28,9 +28,9 @@ the s = sign (bytes s)
 unfoldable pub words : List (List ℕ)
 words = map bytes ("sort" ∷ "func" ∷ "act" ∷ "proc" ∷ "init" ∷ "sum" ∷ "delta" ∷ "tau" ∷ [])
 
--- "`( ) , ; : # = + . -> <| |>`", the longer ones first
+-- "`( ) , ; : # = + . -> <| |>`", and by #102 "`!`, `==`, `/\` and `\/`"; the longer ones first
 unfoldable pub marks : List (List ℕ)
-marks = map bytes ("->" ∷ "<|" ∷ "|>" ∷ "(" ∷ ")" ∷ "," ∷ ";" ∷ ":" ∷ "#" ∷ "=" ∷ "+" ∷ "." ∷ [])
+marks = map bytes ("->" ∷ "<|" ∷ "|>" ∷ "==" ∷ "/\\" ∷ "\\/" ∷ "(" ∷ ")" ∷ "," ∷ ";" ∷ ":" ∷ "#" ∷ "=" ∷ "+" ∷ "." ∷ "!" ∷ [])
 
 -- how many bytes at the front pass a test, one after another
 unfoldable pub run : (ℕ → Bool) → List ℕ → ℕ

@@ -6,12 +6,33 @@ use Prim.Native.Nat.{ℕ}
 abbrev pub Name : Type 0
 Name = List ℕ
 
--- "Data is a numeral, a variable, or a function name with bracketed data."
+-- #102: "Data gains `!`, `==`, `/\` and `\/`, binding in that order from tightest".
 mutual
+  -- data: conjunctions joined by `\/`
   pub data RawData : Type 0 where
-    value : ℕ → RawData
-    variable : Name → RawData
-    apply : Name → RawDatas → RawData
+    only : Conjunction → RawData
+    or : Conjunction → RawData → RawData
+
+  -- comparisons joined by `/\`
+  pub data Conjunction : Type 0 where
+    single : Comparison → Conjunction
+    and : Comparison → Conjunction → Conjunction
+
+  -- "`==` takes two data .., doesn't chain"
+  pub data Comparison : Type 0 where
+    plain : Negation → Comparison
+    equal : Negation → Negation → Comparison
+
+  pub data Negation : Type 0 where
+    atom : Atom → Negation
+    not : Negation → Negation
+
+  -- "Data is a numeral, a variable, or a function name with bracketed data." "Brackets in data are allowed"
+  pub data Atom : Type 0 where
+    value : ℕ → Atom
+    variable : Name → Atom
+    apply : Name → RawDatas → Atom
+    group : RawData → Atom
 
   -- "Bracketed data .. hold at least one, with commas between."
   pub data RawDatas : Type 0 where

@@ -5,7 +5,7 @@ use mathlib.Core.Option.{Option, none, some}
 use Prim.Native.Nat.{ℕ, _+_, _*_}
 use lib.Dec.{eqb}
 use lib.ListN.{getD, getElem?}
-use Rattle.pcrl.specs.Sheet.{Data, val, var, app, Datas, nil, cons, Proc, delta, atom, alt, cond, sum, seq, call, Sig, size, func}
+use Rattle.pcrl.specs.Sheet.{Data, val, var, app, Datas, nil, cons, Proc, delta, atom, alt, cond, sum, seq, call, Sig, size, function-at}
 
 module _ (S : Sig) where
   -- the place of some values among all of these sorts, "last argument fastest"; n is the place of those before
@@ -15,7 +15,7 @@ module _ (S : Sig) where
   place n (D ∷ Ds) (v ∷ vs) = place (n * size S D + v) Ds vs
 
   unfoldable pub apply : ℕ → List ℕ → ℕ
-  apply f vs = getD (func S f .values) (place 0 (func S f .takes) vs) 0
+  apply f vs = getD (function-at S f .values) (place 0 (function-at S f .takes) vs) 0
 
   -- a data term's value, with values for the variables 0, 1, ..
   unfoldable mutual

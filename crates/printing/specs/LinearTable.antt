@@ -9,7 +9,8 @@ use Rattle.pcrl.specs.Sheet.{val, Process, no-process, Sheet, params, right}
 use Rattle.pcrl.specs.Values.{eval}
 use Rattle.pcrl.specs.Sorts.{RightlySorted}
 use Rattle.pcrl.specs.Circles.{at-head, Member, direct, further, NoCircle, guarded}
-use Rattle.pcrl.specs.Parts.{tabulate, NewPart, all-new-parts, first-new, Kind, written, kind}
+use Rattle.pcrl.specs.Lists.{tabulate}
+use Rattle.pcrl.specs.Parts.{NewPart, all-new-parts, first-new, Kind, written, kind}
 use Rattle.pcrl.specs.Table.{Summand, Equation, Table, no-equation}
 use Rattle.pcrl.specs.Heads.{heads, fuel, equation-of, table-of}
 use Rattle.laws.specs.Lists.{map-twice, getD-map}
@@ -52,7 +53,7 @@ module _ (U : Table) (plain : PlainTable U) where
       let p : PlainEquation U q = every-at (PlainEquation U) (U .equations) no-equation e (plain .equations) w in
       let c = first-new (length (H .procs)) (H .procs) e in
       let of-process : Process → Equation = λ r. record { params = r .params; summands = heads H (fuel H) (own (length (r .params))) (length (r .params)) c (r .right) } in
-      ap of-process (process-at e w) ∙ ap (λ (hs : List Summand). record { params = q .params; summands = hs }) (heads-linear _ U (length (q .params)) c (q .summands) (p .summands))
+      ap of-process (process-at e w) ∙ ap (λ (hs : List Summand). record { params = q .params; summands = hs }) (heads-linear _ U (q .params) c (q .summands) (p .summands))
 
   all-equations : tabulate (length (H .procs) + length (all-new-parts (H .procs))) (λ e. equation-of H (kind H e) e) ≡ U .equations
   unfolding linear-sheet

@@ -50,7 +50,7 @@ words-printable = (omega arith, (omega arith, (omega arith, (omega arith, (omega
 
 marks-printable : Every Printable marks
 unfolding Every marks Printable
-marks-printable = omega arith
+marks-printable = (omega arith, (omega arith, (omega arith, (omega arith, (omega arith, (omega arith, omega arith))))))
 
 write-printable : (t : Token) → SpelledToken t → Printable (write t)
 unfolding write SpelledToken SpelledName Printable

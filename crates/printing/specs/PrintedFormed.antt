@@ -7,12 +7,12 @@ use lib.Dec.{T}
 use lib.ListN.{length-map}
 use Rattle.pcrl.specs.Limits.{max-size}
 use Rattle.pcrl.specs.Tests.{Between, Every}
-use Rattle.pcrl.specs.Tree.{RawData}
+use Rattle.pcrl.specs.Tree.{RawData, Atom}
 use Rattle.pcrl.specs.Grammar.{no-variable, no-variables, none-in}
 use Rattle.pcrl.specs.Sorts.{volume}
 use Rattle.pcrl.specs.Table.{Table}
 use Rattle.pcrl.specs.Right.{RightSizes, AreSorts, RightFunc, RightAction, RightSig}
-use Rattle.pcrl.specs.Printer.{listed, in-brackets, sort-name, func-line-of, act-line-of, proc-line-of, init-line-of, printed}
+use Rattle.pcrl.specs.Printer.{atom-shown, as-data, listed, in-brackets, sort-name, func-line-of, act-line-of, proc-line-of, init-line-of, printed}
 use Rattle.laws.specs.Every.{every-at, every-map}
 use Rattle.grammar.specs.Formed.{FormedFunc, FormedAct, Formed}
 use Rattle.printing.specs.Plain.{PlainTable}
@@ -25,12 +25,15 @@ some-value sizes [] h k = omega arith
 some-value sizes (D ∷ Ds) h k = mul-pos (every-at (Between 1 max-size) sizes 0 D h (k .0) .0) (some-value sizes Ds h (k .1))
 
 -- values are no variables
-values-closed : (v : ℕ) (vs : List ℕ) → T (no-variables (listed (RawData.value v) (map RawData.value vs)))
-unfolding listed no-variable
+abbrev value-data : ℕ → RawData
+value-data v = as-data (atom-shown (Atom.value v))
+
+values-closed : (v : ℕ) (vs : List ℕ) → T (no-variables (listed (value-data v) (map value-data vs)))
+unfolding listed as-data no-variable
 values-closed v [] = tt
 values-closed v (w ∷ vs) = values-closed w vs
 
-start-closed : (vs : List ℕ) → T (none-in (in-brackets (map RawData.value vs)))
+start-closed : (vs : List ℕ) → T (none-in (in-brackets (map value-data vs)))
 unfolding in-brackets none-in
 start-closed [] = tt
 start-closed (v ∷ vs) = values-closed v vs

@@ -1,30 +1,30 @@
 -- All tokens of a right table's printed sheet are spelled right; only a name may be too long.
 use mathlib.Core.Path.{_≡_, refl}
-use mathlib.Core.List.{List, [], _∷_, map}
+use mathlib.Core.List.{List, [], _∷_, _++_, map}
 use mathlib.Core.Bool.{Bool, true, false}
 use Prim.Native.Nat.{ℕ, zero, suc, _+_, _<_, _≤_}
 use native.Mathlib.Omega.{arith}
 use native.Mathlib.Decide.{ℕ-discrete}
 use lib.Dec.{T}
-use lib.ListN.{length, getD, drop, length-drop}
+use lib.ListN.{length, getD, drop, length-append, length-drop}
 use Rattle.pcrl.specs.Text.{bytes, byte}
 use Rattle.pcrl.specs.Limits.{max-numeral, max-size}
 use Rattle.pcrl.specs.Tests.{negated, same?, among, Between, Every}
 use Rattle.pcrl.specs.Bytes.{letter}
 use Rattle.pcrl.specs.Tokens.{words}
-use Rattle.pcrl.specs.Tree.{Name, Conditional, Sequence, Part}
-use Rattle.pcrl.specs.Sheet.{Data, val, var, app, Datas, nil, cons, Act, tau, action, Action, no-action}
+use Rattle.pcrl.specs.Tree.{Name, Atom, Conditional, Sequence, Part}
+use Rattle.pcrl.specs.Sheet.{Data, val, var, app, Datas, nil, cons, list-of, Act, tau, action, Action, no-action, Operation, operation}
 use Rattle.pcrl.specs.Table.{Summand, Equation, Table}
 use Rattle.pcrl.specs.Right.{RightSizes, RightFunc, free-name, RightName, RightAction, RightSig}
 use Rattle.pcrl.specs.Print.{print-choice, print-proc, print-sheet}
-use Rattle.pcrl.specs.Printer.{side, sort-name, func-name, proc-name, var-name, raw-data, raw-datas, raw-act, raw-call, raw-sequence, raw-conditional, raw-sums, raw-summand, sort-line-of, func-line-of, act-line-of, param-of, proc-line-of, init-line-of, printed}
+use Rattle.pcrl.specs.Printer.{as-data, atom-shown, side, sort-name, func-name, proc-name, var-name, shown, all-shown, raw-data, raw-act, raw-call, raw-sequence, raw-conditional, raw-sums, raw-summand, sort-line-of, func-line-of, act-line-of, param-of, proc-line-of, init-line-of, printed}
 use Rattle.laws.specs.Tests.{both-pass}
 use Rattle.laws.specs.Every.{every-at, every-weaken, every-drop, every-map}
 use Rattle.codec.specs.StreamLaws.{small-size}
 use Rattle.printing.specs.Indexed.{SpelledName, indexed-spelled}
-use Rattle.printing.specs.Plain.{Plain, PlainAll, PlainAct, PlainTerm, PlainCond, PlainCall, PlainSummand, PlainEquation, PlainTable}
+use Rattle.printing.specs.Plain.{PlainUse, Plain, PlainAll, PlainAct, PlainTerm, PlainCond, PlainCall, PlainSummand, PlainEquation, PlainTable}
 use Rattle.printing.specs.NumberedLaws.{every-numbered}
-use Rattle.printing.specs.PrintedTokens.{Spelled, SpelledData, SpelledPart, SpelledSequence, SpelledConditional, value-spelled, variable-spelled, given-spelled, applied-spelled, tau-spelled, named-spelled, then-spelled, wanting-spelled, side-spelled, sum-spelled, right-spelled, sort-spelled, func-spelled, act-spelled, proc-spelled, init-spelled, sheet-spelled}
+use Rattle.printing.specs.PrintedTokens.{Spelled, SpelledData, SpelledShown, SpelledPart, SpelledSequence, SpelledConditional, value-spelled, variable-spelled, SpelledUse, operation-spelled, given-spelled, tau-spelled, named-spelled, then-spelled, wanting-spelled, side-spelled, sum-spelled, right-spelled, sort-spelled, func-spelled, act-spelled, proc-spelled, init-spelled, sheet-spelled}
 
 -- "valid by the token rule"
 right-name-spelled : (n : Name) → RightName n → SpelledName n
@@ -60,37 +60,50 @@ module _ (T : Table) (plain : PlainTable T) where
   proc-name-spelled : (e : ℕ) → e < length (T .equations) → SpelledName (proc-name acts e)
   proc-name-spelled e h = indexed-spelled acts (byte "p") e tt (let k = plain .few-equations in omega arith)
 
-  -- terms over m variables
-  module _ (m : ℕ) (few : m ≤ max-numeral) where
+  use-spelled : (Γ : List ℕ) (o : Operation) (ds : List Data) → PlainUse (T .sig) Γ o ds → SpelledUse (func-name acts) o
+  unfolding PlainUse SpelledUse
+  use-spelled Γ (Operation.written f) ds h = func-name-spelled f (h .0)
+  use-spelled Γ Operation.not ds h = tt
+  use-spelled Γ Operation.and ds h = tt
+  use-spelled Γ Operation.or ds h = tt
+  use-spelled Γ (Operation.equal D) ds h = tt
+  use-spelled Γ Operation.unsorted ds h = tt
+
+  -- terms over variables of the sorts Γ
+  module _ (Γ : List ℕ) (few : length Γ ≤ max-numeral) where
     mutual
-      unfolding Plain raw-data Every
+      unfolding Plain shown Every
 
-      data-spelled : (d : Data) → PlainTerm T m d → SpelledData (raw-data acts d)
-      data-spelled (val v) h = value-spelled v h
-      data-spelled (var i) h = variable-spelled (var-name acts i) (var-name-spelled i (omega arith))
-      data-spelled (app f ds) h = applied-spelled (func-name acts f) (raw-datas acts ds) (func-name-spelled f (h .0)) (datas-spelled ds (h .1 .1))
+      data-shown-spelled : (d : Data) → PlainTerm T Γ d → SpelledShown (shown acts d)
+      data-shown-spelled (val v) h = value-spelled v h
+      data-shown-spelled (var i) h = variable-spelled (var-name acts i) (var-name-spelled i (omega arith))
+      data-shown-spelled (app f ds) h = operation-spelled (func-name acts) (operation f) (all-shown acts ds) (use-spelled Γ (operation f) (list-of ds) (h .0)) (datas-shown-spelled ds (h .1))
 
-      datas-spelled : (ds : Datas) → PlainAll (length (T .sig .funcs)) m ds → Every SpelledData (raw-datas acts ds)
-      datas-spelled nil h = tt
-      datas-spelled (cons d ds) h = (data-spelled d (h .0), datas-spelled ds (h .1))
+      datas-shown-spelled : (ds : Datas) → PlainAll (T .sig) Γ ds → Every SpelledShown (all-shown acts ds)
+      datas-shown-spelled nil h = tt
+      datas-shown-spelled (cons d ds) h = (data-shown-spelled d (h .0), datas-shown-spelled ds (h .1))
 
-    terms-spelled : (ds : List Data) → Every (PlainTerm T m) ds → Every SpelledData (map (raw-data acts) ds)
+    data-spelled : (d : Data) → PlainTerm T Γ d → SpelledData (raw-data acts d)
+    unfolding raw-data
+    data-spelled d h = data-shown-spelled d h .anywhere
+
+    terms-spelled : (ds : List Data) → Every (PlainTerm T Γ) ds → Every SpelledData (map (raw-data acts) ds)
     terms-spelled ds h = every-map _ SpelledData (raw-data acts) data-spelled ds h
 
-    raw-act-spelled : (a : Act) (ds : List Data) → PlainAct (T .sig) a ds → Every (PlainTerm T m) ds → SpelledPart (raw-act acts a ds)
+    raw-act-spelled : (a : Act) (ds : List Data) → PlainAct (T .sig) a ds → Every (PlainTerm T Γ) ds → SpelledPart (raw-act acts a ds)
     unfolding raw-act PlainAct RightSig RightAction
     raw-act-spelled tau ds h k = tau-spelled
     raw-act-spelled (action a) ds h k =
         named-spelled (getD acts a no-action .name) (map (raw-data acts) ds) (right-name-spelled _ (every-at _ acts no-action a (plain .signature .1 .1 .0 .1) h .0)) (terms-spelled ds k)
 
-    sequence-spelled : (p : Part) (cs : List (ℕ × List Data)) → SpelledPart p → Every (PlainCall T m) cs → SpelledSequence (raw-sequence acts p cs)
+    sequence-spelled : (p : Part) (cs : List (ℕ × List Data)) → SpelledPart p → Every (PlainCall T Γ) cs → SpelledSequence (raw-sequence acts p cs)
     unfolding raw-sequence raw-call Every print-choice
     sequence-spelled p [] h k = h
     sequence-spelled p (c ∷ cs) h k =
         then-spelled p (raw-sequence acts (raw-call acts c) cs) h
         (sequence-spelled (raw-call acts c) cs (named-spelled (proc-name acts (c .0)) (map (raw-data acts) (c .1)) (proc-name-spelled (c .0) (k .0 .0)) (terms-spelled (c .1) (k .0 .1))) (k .1))
 
-    conditional-spelled : (cs : List (ℕ × Data)) (p : Sequence) → Every (PlainCond T m) cs → SpelledSequence p
+    conditional-spelled : (cs : List (ℕ × Data)) (p : Sequence) → Every (PlainCond T Γ) cs → SpelledSequence p
         → SpelledConditional (raw-conditional acts cs p)
     unfolding raw-conditional Every print-choice
     conditional-spelled [] p h k = k
@@ -104,14 +117,16 @@ module _ (T : Table) (plain : PlainTable T) where
   sums-spelled n (D ∷ Ds) c l h k =
       sum-spelled (var-name acts n) (sort-name acts D) _ (var-name-spelled n (omega arith)) (sort-name-spelled D (h .0)) (sums-spelled _ Ds c (omega arith) (h .1) k)
 
-  summand-spelled : (n : ℕ) (h : Summand) → PlainSummand T n h → SpelledConditional (raw-summand acts n h)
+  summand-spelled : (Δ : List ℕ) (h : Summand) → PlainSummand T Δ h → SpelledConditional (raw-summand acts (length Δ) h)
   unfolding raw-summand
-  summand-spelled n h p =
-      let m = n + length (h .vars) in
-      let l : m ≤ max-numeral = let k = p .few in omega arith in
-      sums-spelled n (h .vars) _ l (p .vars)
-      (conditional-spelled m l (h .conds) _ (p .conds)
-      (sequence-spelled m l (raw-act acts (h .act) (h .terms)) (h .calls) (raw-act-spelled m l (h .act) (h .terms) (p .act) (p .terms)) (p .calls)))
+  summand-spelled Δ h p =
+      let Γ = Δ ++ h .vars in
+      let few = p .few in
+      let n = length-append Δ (h .vars) in
+      let l : length Γ ≤ max-numeral = omega arith in
+      sums-spelled (length Δ) (h .vars) _ (omega arith) (p .vars)
+      (conditional-spelled Γ l (h .conds) _ (p .conds)
+      (sequence-spelled Γ l (raw-act acts (h .act) (h .terms)) (h .calls) (raw-act-spelled Γ l (h .act) (h .terms) (p .act) (p .terms)) (p .calls)))
 
   proc-line-spelled : (e : ℕ) (q : Equation) → e < length (T .equations) → PlainEquation T q → Spelled (print-proc (proc-line-of acts e q))
   unfolding proc-line-of param-of
@@ -119,7 +134,7 @@ module _ (T : Table) (plain : PlainTable T) where
       let few = p .few in
       proc-spelled (proc-line-of acts e q) (proc-name-spelled e w)
       (every-numbered _ _ (param-of acts) 0 (q .params) (λ k D v s. (var-name-spelled k (omega arith), sort-name-spelled D s)) (p .params))
-      (right-spelled _ (every-map _ SpelledConditional (raw-summand acts (length (q .params))) (summand-spelled (length (q .params))) (q .summands) (p .summands)))
+      (right-spelled _ (every-map _ SpelledConditional (raw-summand acts (length (q .params))) (summand-spelled (q .params)) (q .summands) (p .summands)))
 
   -- ALL TOKENS OF THE PRINTED SHEET ARE SPELLED RIGHT.
   pub printed-spelled : Spelled (print-sheet (printed T))
@@ -138,4 +153,4 @@ module _ (T : Table) (plain : PlainTable T) where
       (sig .1 .0 .1))
       (every-map (RightAction sorts) _ (act-line-of acts) (λ a r. act-spelled (act-line-of acts a) (right-name-spelled (a .name) (r .0)) (all-sorts-spelled (a .takes) (r .1 .1))) acts (sig .1 .1 .0 .1))
       (every-numbered (PlainEquation T) _ (proc-line-of acts) 0 (T .equations) (λ e q w p. proc-line-spelled e q (omega arith) p) (plain .equations))
-      (init-spelled (init-line-of acts (T .start)) (proc-name-spelled (T .start .0) (plain .start)) (given-spelled _ (every-map _ SpelledData _ value-spelled (T .start .1) (plain .values))))
+      (init-spelled (init-line-of acts (T .start)) (proc-name-spelled (T .start .0) (plain .start)) (given-spelled _ (every-map _ SpelledData (λ v. as-data (atom-shown (Atom.value v))) (λ v h. value-spelled v h .anywhere) (T .start .1) (plain .values))))

@@ -1,18 +1,22 @@
 -- Every token of a printed sheet is spelled right, if its names are: by a law for each form of the tree.
-use mathlib.Core.List.{List, [], _∷_, _++_}
+use mathlib.Core.List.{List, [], _∷_, _++_, map}
 use Prim.Native.Nat.{ℕ, zero, suc, _≤_}
 use Prim.Native.String.{String}
 use native.Mathlib.Decide.{ℕ-discrete}
+use native.Mathlib.Omega.{arith}
 use Rattle.pcrl.specs.Limits.{max-numeral}
 use Rattle.pcrl.specs.Tests.{same?, among, Every}
 use Rattle.pcrl.specs.Tokens.{Token, the, words, marks}
-use Rattle.pcrl.specs.Tree.{Name, RawData, Choice, Conditional, Sequence, Part, SortLine, FuncLine, ActLine, ProcLine, InitLine, RawSheet}
-use Rattle.pcrl.specs.Print.{bracketed, joined, print-data, print-datas, print-given, print-choice, print-conditional, print-sequence, print-part, line, print-lines, print-sorts, print-values, print-sort, print-func, print-takes, print-act, print-param, print-params, print-proc, print-init, print-sheet}
-use Rattle.pcrl.specs.Printer.{listed, in-brackets, applied, side, wanting, choice-of, right-of}
-use Rattle.laws.specs.Every.{every-append, every-weaken}
+use Rattle.pcrl.specs.Tree.{Name, RawData, Atom, Choice, Conditional, Sequence, Part, SortLine, FuncLine, ActLine, ProcLine, InitLine, RawSheet}
+use Rattle.pcrl.specs.Print.{bracketed, joined, print-data, print-conjunction, print-comparison, print-negation, print-atom, print-datas, print-given, print-choice, print-conditional, print-sequence, print-part, line, print-lines, print-sorts, print-values, print-sort, print-func, print-takes, print-act, print-param, print-params, print-proc, print-init, print-sheet}
+use Rattle.pcrl.specs.Sheet.{Operation}
+use Rattle.pcrl.specs.Printer.{Shown, atom-shown, as-data, as-conjunction, as-comparison, as-negation, listed, in-brackets, applied, operand, shown-by, side, wanting, choice-of, right-of}
+use Rattle.laws.specs.Every.{every-append, every-weaken, every-getD, every-map}
+use Rattle.grammar.specs.PrintLaws.{or-behind-prints, and-behind-prints, applied-given}
 use Rattle.printing.specs.Indexed.{SpelledName}
 use Rattle.printing.specs.SpelledTokens.{SpelledToken}
 use Rattle.printing.specs.NumberedLaws.{every-all}
+use Rattle.printing.specs.ShownLaws.{Property, Has, Everywhere, everywhere}
 
 abbrev pub Spelled : List Token → Type 0
 Spelled ts = Every SpelledToken ts
@@ -41,14 +45,6 @@ joined-spelled s w t (a ∷ b ∷ l) h = then-sign s (w a) (joined s w (b ∷ l)
 abbrev pub SpelledData : RawData → Type 0
 SpelledData d = Spelled (print-data d)
 
-pub value-spelled : (v : ℕ) → v ≤ max-numeral → SpelledData (RawData.value v)
-unfolding print-data Every SpelledToken
-value-spelled v h = (h, tt)
-
-pub variable-spelled : (x : Name) → SpelledName x → SpelledData (RawData.variable x)
-unfolding print-data Every SpelledToken
-variable-spelled x h = (h, tt)
-
 listed-spelled : (d : RawData) (ds : List RawData) → SpelledData d → Every SpelledData ds → Spelled (print-datas (listed d ds))
 unfolding listed print-data Every
 listed-spelled d [] h k = h
@@ -59,10 +55,60 @@ unfolding in-brackets print-given Every
 given-spelled [] h = tt
 given-spelled (d ∷ ds) h = in-brackets-spelled (print-datas (listed d ds)) (listed-spelled d ds (h .0) (h .1))
 
-pub applied-spelled : (x : Name) (ds : List RawData) → SpelledName x → Every SpelledData ds → SpelledData (applied x (in-brackets ds))
-unfolding in-brackets applied print-data Every SpelledToken
-applied-spelled x [] n h = (n, tt)
-applied-spelled x (d ∷ ds) n h = (n, in-brackets-spelled (print-datas (listed d ds)) (listed-spelled d ds (h .0) (h .1)))
+-- at each place
+abbrev spelled : Property
+spelled = record {
+  data-has = λ d. Spelled (print-data d);
+  conjunction-has = λ c. Spelled (print-conjunction c);
+  comparison-has = λ c. Spelled (print-comparison c);
+  negation-has = λ a. Spelled (print-negation a);
+  atom-has = λ a. Spelled (print-atom a);
+}
+
+abbrev pub SpelledShown : Shown → Type 0
+SpelledShown s = Everywhere spelled s
+
+shown-spelled : (s : Shown) → Has spelled s → SpelledShown s
+unfolding print-data
+shown-spelled = everywhere spelled (record { to-data = λ c h. h; to-conjunction = λ c h. h; to-comparison = λ a h. h; to-negation = λ a h. h; to-brackets = λ d h. in-brackets-spelled (print-data d) h })
+
+pub value-spelled : (v : ℕ) → v ≤ max-numeral → SpelledShown (atom-shown (Atom.value v))
+unfolding Has print-data Every SpelledToken
+value-spelled v h = shown-spelled (atom-shown (Atom.value v)) (h, tt)
+
+pub variable-spelled : (x : Name) → SpelledName x → SpelledShown (atom-shown (Atom.variable x))
+unfolding Has print-data Every SpelledToken
+variable-spelled x h = shown-spelled (atom-shown (Atom.variable x)) (h, tt)
+
+operand-spelled : (i : ℕ) (ss : List Shown) → Every SpelledShown ss → SpelledShown (operand i ss)
+unfolding operand
+operand-spelled i ss h = every-getD SpelledShown ss (atom-shown (Atom.value 0)) i h (value-spelled 0 (omega arith))
+
+-- the name of a written function
+unfoldable pub SpelledUse : (ℕ → Name) → Operation → Type 0
+SpelledUse f (Operation.written g) = SpelledName (f g)
+SpelledUse f Operation.not = Unit {0}
+SpelledUse f Operation.and = Unit {0}
+SpelledUse f Operation.or = Unit {0}
+SpelledUse f (Operation.equal D) = Unit {0}
+SpelledUse f Operation.unsorted = Unit {0}
+
+pub operation-spelled : (f : ℕ → Name) (o : Operation) (ss : List Shown) → SpelledUse f o → Every SpelledShown ss → SpelledShown (shown-by f o ss)
+unfolding SpelledUse shown-by Has print-data Every SpelledToken among words marks same? ℕ-discrete
+operation-spelled f (Operation.written g) ss n h =
+    let given = given-spelled (map as-data ss) (every-map SpelledShown SpelledData as-data (λ s k. k .anywhere) ss h) in
+    shown-spelled (atom-shown (applied (f g) (in-brackets (map as-data ss)))) (rw (applied-given (f g) (in-brackets (map as-data ss))) (n, given))
+operation-spelled f Operation.not ss n h = shown-spelled _ (tt, operand-spelled 0 ss h .in-negation)
+operation-spelled f (Operation.equal D) ss n h = shown-spelled _ (then-sign "==" (print-negation (as-negation (operand 0 ss))) (print-negation (as-negation (operand 1 ss))) tt (operand-spelled 0 ss h .in-negation) (operand-spelled 1 ss h .in-negation))
+operation-spelled f Operation.and ss n h =
+    let c = as-conjunction (operand 0 ss) in
+    let e = as-comparison (operand 1 ss) in
+    shown-spelled _ (rw (and-behind-prints c e) (then-sign "/\\" (print-conjunction c) (print-comparison e) tt (operand-spelled 0 ss h .in-conjunction) (operand-spelled 1 ss h .in-comparison)))
+operation-spelled f Operation.or ss n h =
+    let d = as-data (operand 0 ss) in
+    let e = as-conjunction (operand 1 ss) in
+    shown-spelled _ (rw (or-behind-prints d e) (then-sign "\\/" (print-data d) (print-conjunction e) tt (operand-spelled 0 ss h .anywhere) (operand-spelled 1 ss h .in-conjunction)))
+operation-spelled f Operation.unsorted ss n h = operand-spelled 0 ss h
 
 -- CHOICES
 

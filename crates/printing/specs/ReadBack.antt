@@ -28,9 +28,11 @@ use Rattle.printing.specs.Plain.{PlainTable, right-plain}
 use Rattle.printing.specs.PrintedSpelled.{printed-spelled}
 use Rattle.printing.specs.PrintedFormed.{printed-formed}
 use Rattle.printing.specs.ResolvedSheet.{printed-resolves}
+use Rattle.printing.specs.Sided.{retold-table, SidedTable, table-retold}
 use Rattle.printing.specs.Linear.{linear-sheet}
 use Rattle.printing.specs.LinearTable.{linear-table, linear-guarded}
 use Rattle.printing.specs.RightWithin.{right-within}
+use Rattle.printing.specs.SortedSided.{sorted-sided}
 
 -- The tree of the text is the printed tree,
 pub text-tree : (U : Table) → PlainTable U → (H : Sheet) (r : Resolved (table-text U) H) → r .raw ≡ printed U
@@ -39,9 +41,16 @@ text-tree U plain H r =
     let same = spelled-tokens (print-sheet (printed U)) (r .found) (printed-spelled U plain) (r .all-tokens) in
     Option·some-injective (r .raw) (printed U) (sym (r .form) ∙ ap parse same ∙ parse-print (printed U) (printed-formed U plain))
 
--- and so the sheet of the text is the linear sheet.
+-- and so the sheet of the text is the linear sheet of the retold table. As the sheet is rightly sorted, no `==` of the table stands over two values,
+retold-text : (U : Table) → PlainTable U → (H : Sheet) → Resolved (table-text U) H → H ≡ linear-sheet (retold-table U)
+retold-text U plain H r = Option·some-injective H (linear-sheet (retold-table U)) (sym (r .resolved) ∙ ap resolve (text-tree U plain H r) ∙ printed-resolves U plain)
+
+pub text-sided : (U : Table) → PlainTable U → (H : Sheet) → Resolved (table-text U) H → SidedTable U
+text-sided U plain H r = sorted-sided U (subst RightlySorted (retold-text U plain H r) (r .rightly-sorted))
+
+-- and the table is retold as it is.
 text-sheet : (U : Table) → PlainTable U → (H : Sheet) → Resolved (table-text U) H → H ≡ linear-sheet U
-text-sheet U plain H r = Option·some-injective H (linear-sheet U) (sym (r .resolved) ∙ ap resolve (text-tree U plain H r) ∙ printed-resolves U plain)
+text-sheet U plain H r = retold-text U plain H r ∙ ap linear-sheet (table-retold U (text-sided U plain H r))
 
 -- THE TEXT OF A TABLE IS READ BACK AS THE TABLE.
 pub printed-sheet : (U : Table) → RightTable U → (H : Sheet) → sorted-read (table-text U) ≡ accepted H → (sheet-read (table-text U) ≡ accepted H) × (table-of H ≡ U) × Within U

@@ -1,4 +1,4 @@
--- The printed sheet of a right table always resolves, and to the linear sheet of the table: no name of it is taken twice or missing.
+-- The printed sheet of a right table always resolves, and to the linear sheet of what the table is retold as: no name of it is taken twice or missing.
 use mathlib.Core.Path.{_≡_, refl, ap, sym, subst, _∙_}
 use mathlib.Core.List.{List, [], _∷_, map, map-id}
 use mathlib.Core.Option.{Option, some}
@@ -8,12 +8,12 @@ use lib.ListN.{length, getD, drop}
 use Rattle.pcrl.specs.Limits.{max-numeral}
 use Rattle.pcrl.specs.Tests.{distinct, Every, Each}
 use Rattle.pcrl.specs.Maybe.{for-each}
-use Rattle.pcrl.specs.Tree.{Name, RawData, Conditional, SortLine}
-use Rattle.pcrl.specs.Sheet.{val, Func, Action, Proc}
-use Rattle.pcrl.specs.Names.{declared, new-variable, number-of, resolve-given, resolve-choice, resolve-conditional, sorts-of, resolve-func, resolve-act, resolve-params, resolve-proc, resolve-init, sizes-of, resolve}
+use Rattle.pcrl.specs.Tree.{Name, RawData, Atom, Conditional, SortLine}
+use Rattle.pcrl.specs.Sheet.{val, Func, Action, Proc, Sig}
+use Rattle.pcrl.specs.Names.{Names, declared, new-variable, number-of, resolve-given, resolve-choice, resolve-conditional, sorts-of, resolve-func, resolve-act, resolve-params, resolve-proc, resolve-init, sizes-of, resolve-terms, resolve}
 use Rattle.pcrl.specs.Table.{Equation, Table}
 use Rattle.pcrl.specs.Right.{RightSizes, RightFunc, RightAction, RightSig}
-use Rattle.pcrl.specs.Printer.{numbered, in-brackets, choice-of, right-of, sort-name, var-name, raw-data, raw-summand, sort-line-of, func-line-of, act-line-of, param-of, proc-line-of, init-line-of, printed}
+use Rattle.pcrl.specs.Printer.{numbered, atom-shown, as-data, in-brackets, choice-of, right-of, sort-name, var-name, shown, raw-data, raw-summand, sort-line-of, func-line-of, act-line-of, param-of, proc-line-of, init-line-of, printed}
 use Rattle.laws.specs.Lists.{map-twice}
 use Rattle.laws.specs.Tests.{is-true}
 use Rattle.laws.specs.Each.{each-of-every}
@@ -23,7 +23,9 @@ use Rattle.printing.specs.NumberedLaws.{shown-numbered}
 use Rattle.printing.specs.Lookups.{in-turn, in-turn-snoc}
 use Rattle.printing.specs.PrintedNames.{N, sort-found, proc-found, variables, var-new, declared-distinct}
 use Rattle.printing.specs.Linear.{linear-summand, joined, linear-right, linear-process, linear-sheet}
-use Rattle.printing.specs.ResolvedSummands.{summand-becomes, terms-given}
+use Rattle.printing.specs.Sided.{retold, retold-summand, retold-equation, retold-table}
+use Rattle.printing.specs.ResolvedData.{terms-given}
+use Rattle.printing.specs.ResolvedSummands.{summand-becomes}
 
 -- a value for each element
 for-each-all : {A B C : Type 0} (P : A → Type 0) (f : B → Option C) (g : A → B) (h : A → C) → ((a : A) → P a → f (g a) ≡ some (h a)) → (l : List A) → Every P l
@@ -84,64 +86,83 @@ module _ (U : Table) (plain : PlainTable U) where
       )
       (ap (λ (m : ℕ). some (variables U plain m, D ∷ Ds)) e)
 
-  module _ (scope : List Name) where
-    choice-becomes : (c : Conditional) (cs : List Conditional) (p : Proc) (ps : List Proc) → resolve-conditional (N U plain) scope c ≡ some p
-        → Each (λ c p. resolve-conditional (N U plain) scope c ≡ some p) cs ps → resolve-choice (N U plain) scope (choice-of c cs) ≡ some (joined p ps)
+  abbrev S : Sig
+  S = U .sig
+
+  abbrev names : Names
+  names = N U plain
+
+  module _ (scope : List Name) (Γ : List ℕ) where
+    choice-becomes : (c : Conditional) (cs : List Conditional) (p : Proc) (ps : List Proc) → resolve-conditional names S scope Γ c ≡ some p
+        → Each (λ c p. resolve-conditional names S scope Γ c ≡ some p) cs ps → resolve-choice names S scope Γ (choice-of c cs) ≡ some (joined p ps)
     unfolding choice-of joined resolve-choice Each
     choice-becomes c [] p [] h k = h
     choice-becomes c [] p (q ∷ ps) h k = absurd k
     choice-becomes c (d ∷ cs) p [] h k = absurd k
     choice-becomes c (d ∷ cs) p (q ∷ ps) h k = rw (h, choice-becomes d cs q ps (k .0) (k .1))
 
-    right-becomes : (cs : List Conditional) (ps : List Proc) → Each (λ c p. resolve-conditional (N U plain) scope c ≡ some p) cs ps
-        → resolve-choice (N U plain) scope (right-of cs) ≡ some (linear-right ps)
+    right-becomes : (cs : List Conditional) (ps : List Proc) → Each (λ c p. resolve-conditional names S scope Γ c ≡ some p) cs ps
+        → resolve-choice names S scope Γ (right-of cs) ≡ some (linear-right ps)
     unfolding right-of linear-right resolve-choice Each
     right-becomes [] [] h = refl
     right-becomes [] (p ∷ ps) h = absurd h
     right-becomes (c ∷ cs) [] h = absurd h
     right-becomes (c ∷ cs) (p ∷ ps) h = choice-becomes c cs p ps (h .0) (h .1)
 
-  proc-becomes : (e : ℕ) (q : Equation) → PlainEquation U q → resolve-proc (N U plain) (proc-line-of acts e q) ≡ some (linear-process q)
-  unfolding resolve-proc proc-line-of linear-process in-turn
+  proc-becomes : (e : ℕ) (q : Equation) → PlainEquation U q → resolve-proc names S (proc-line-of acts e q) ≡ some (linear-process (retold-equation q))
+  unfolding resolve-proc proc-line-of linear-process retold-equation in-turn
   proc-becomes e q p =
       let n = length (q .params) in
       let z : 0 + n ≡ n = omega arith in
       let few = p .few in
-      let ps : resolve-params (N U plain) [] (numbered (param-of acts) 0 (q .params)) ≡ some (variables U plain n, q .params) =
-      subst (λ (m : ℕ). resolve-params (N U plain) [] (numbered (param-of acts) 0 (q .params)) ≡ some (variables U plain m, q .params)) z (params-become 0 (q .params) (omega arith) (p .params)) in
+      let ps : resolve-params names [] (numbered (param-of acts) 0 (q .params)) ≡ some (variables U plain n, q .params) =
+      subst (λ (m : ℕ). resolve-params names [] (numbered (param-of acts) 0 (q .params)) ≡ some (variables U plain m, q .params)) z (params-become 0 (q .params) (omega arith) (p .params)) in
+      let hs : map (linear-summand n) (map retold-summand (q .summands)) ≡ map (λ h. linear-summand n (retold-summand h)) (q .summands) =
+      map-twice (linear-summand n) retold-summand (λ h. linear-summand n (retold-summand h)) (λ h. refl) (q .summands) in
       rw (
         ps,
-        right-becomes (variables U plain n) (map (raw-summand acts n) (q .summands)) (map (linear-summand n) (q .summands))
-            (each-of-every _ (raw-summand acts n) (linear-summand n) (q .summands) (every-weaken _ _ (summand-becomes U plain n) (q .summands) (p .summands))),
+        hs,
+        right-becomes (variables U plain n) (q .params) (map (raw-summand acts n) (q .summands)) (map (λ h. linear-summand n (retold-summand h)) (q .summands))
+            (each-of-every _ (raw-summand acts n) (λ h. linear-summand n (retold-summand h)) (q .summands) (every-weaken _ _ (summand-becomes U plain (q .params)) (q .summands) (p .summands))),
       )
 
   -- INIT
 
-  init-becomes : resolve-init (N U plain) (init-line-of acts (U .start)) ≡ some (U .start .0, map val (U .start .1))
-  unfolding resolve-init init-line-of raw-data in-turn Plain
+  init-becomes : resolve-init names S (init-line-of acts (U .start)) ≡ some (U .start .0, map val (U .start .1))
+  unfolding resolve-init init-line-of raw-data shown in-turn Plain retold
   init-becomes =
       let vs = U .start .1 in
-      let e : map (raw-data acts) (map val vs) ≡ map RawData.value vs = map-twice (raw-data acts) val RawData.value (λ v. refl) vs in
-      let g : resolve-given (N U plain) [] (in-brackets (map RawData.value vs)) ≡ some (map val vs) =
-      subst (λ (es : List RawData). resolve-given (N U plain) [] (in-brackets es) ≡ some (map val vs)) e
-      (terms-given U plain 0 (omega arith) (map val vs) (every-map _ _ val plain-value vs (plain .values))) in
+      let value-data : ℕ → RawData = λ v. as-data (atom-shown (Atom.value v)) in
+      let e : map (raw-data acts) (map val vs) ≡ map value-data vs = map-twice (raw-data acts) val value-data (λ v. refl) vs in
+      let f : map retold (map val vs) ≡ map val vs = map-twice retold val val (λ v. refl) vs in
+      let g : resolve-given names S [] [] (in-brackets (map value-data vs)) ≡ some (map val vs) =
+      subst (λ (es : List RawData). resolve-given names S [] [] (in-brackets es) ≡ some (map val vs)) e
+      (terms-given U plain [] (omega arith) (map val vs) (every-map _ _ val plain-value vs (plain .values)) ∙ ap some f) in
       rw (proc-found U plain (U .start .0) (plain .start), g)
     where
-      plain-value : (v : ℕ) → v ≤ max-numeral → Plain (length (U .sig .funcs)) 0 (val v)
+      plain-value : (v : ℕ) → v ≤ max-numeral → Plain S [] (val v)
       plain-value v h = h
 
-  -- THE PRINTED SHEET RESOLVES TO THE LINEAR SHEET.
-  pub printed-resolves : resolve (printed U) ≡ some (linear-sheet U)
-  unfolding resolve linear-sheet printed RightSig
+  terms-become : resolve-terms (printed U) S ≡ some (linear-sheet (retold-table U))
+  unfolding resolve-terms linear-sheet retold-table printed
+  terms-become =
+      rw (
+        for-each-numbered (PlainEquation U) (resolve-proc names S) (proc-line-of acts) (λ q. linear-process (retold-equation q)) proc-becomes 0 (U .equations) (plain .equations),
+        init-becomes,
+        map-twice linear-process retold-equation (λ q. linear-process (retold-equation q)) (λ q. refl) (U .equations),
+      )
+
+  -- THE PRINTED SHEET RESOLVES TO THE LINEAR SHEET OF THE RETOLD TABLE.
+  pub printed-resolves : resolve (printed U) ≡ some (linear-sheet (retold-table U))
+  unfolding resolve printed RightSig
   printed-resolves =
       let sig = plain .signature in
       rw (
-        is-true (distinct (declared (N U plain))) (declared-distinct U plain),
-        for-each-numbered (RightFunc (U .sig .sorts)) (resolve-func (N U plain)) (func-line-of acts) (λ g. g) func-becomes 0 (U .sig .funcs) (sig .1 .0 .1),
-        for-each-all (RightAction (U .sig .sorts)) (resolve-act (N U plain)) (act-line-of acts) (λ a. a) act-becomes acts (sig .1 .1 .0 .1),
-        for-each-numbered (PlainEquation U) (resolve-proc (N U plain)) (proc-line-of acts) linear-process proc-becomes 0 (U .equations) (plain .equations),
-        init-becomes,
+        is-true (distinct (declared names)) (declared-distinct U plain),
+        for-each-numbered (RightFunc (U .sig .sorts)) (resolve-func names) (func-line-of acts) (λ g. g) func-becomes 0 (U .sig .funcs) (sig .1 .0 .1),
+        for-each-all (RightAction (U .sig .sorts)) (resolve-act names) (act-line-of acts) (λ a. a) act-becomes acts (sig .1 .1 .0 .1),
         sizes-become,
         map-id (U .sig .funcs),
         map-id acts,
       )
+      terms-become

@@ -1,11 +1,12 @@
 -- Which tables have a text: question 17 fails exactly for those whose text is too long, has a name that is too long or too many open brackets, or
--- that have more equations than a sheet may have processes. All other questions pass.
+-- that have more equations than a sheet may have processes or an `==` over two values. All other questions pass.
 use mathlib.Core.Path.{_≡_, refl, ap, sym, subst, _∙_}
 use mathlib.Core.List.{List}
 use mathlib.Core.Logic.{_↔_}
-use mathlib.Core.Option.{none, Option·none-ne-some}
+use mathlib.Core.Option.{none, some, Option·none-ne-some}
 use Prim.Native.Nat.{_≤_}
 use native.Mathlib.Omega.{arith}
+use lib.Dec.{T}
 use lib.ListN.{length, drop, length-drop, length-map}
 use Rattle.pcrl.specs.Limits.{max-size, max-processes}
 use Rattle.pcrl.specs.Result.{Result, refused, accepted, passed}
@@ -32,9 +33,12 @@ use Rattle.printing.specs.PrintedSpelled.{printed-spelled}
 use Rattle.printing.specs.PrintedFormed.{printed-formed}
 use Rattle.printing.specs.PrintableText.{text-printable}
 use Rattle.printing.specs.ResolvedSheet.{printed-resolves}
+use Rattle.printing.specs.Sided.{SidedTable, table-retold}
 use Rattle.printing.specs.Linear.{linear-sheet}
 use Rattle.printing.specs.LinearSorted.{linear-sorted}
-use Rattle.printing.specs.ReadBack.{text-tree}
+use Rattle.printing.specs.ReadBack.{text-tree, text-sided}
+use Rattle.printing.specs.Watched.{apart}
+use Rattle.printing.specs.WatchedSheet.{tokens-sided}
 
 -- what a table must have to be printed
 pub record Fits (U : Table) : Type 0 where
@@ -46,6 +50,8 @@ pub record Fits (U : Table) : Type 0 where
   pub shallow : Shallow (print-sheet (printed U))
   -- "16 processes"
   pub few : length (U .equations) ≤ max-processes
+  -- "`==` .. refuses two numerals": none stands over two values
+  pub no-two-values : SidedTable U
 
 -- question 6: all other counts are those of a right table
 counted-printed : (U : Table) → PlainTable U → length (U .equations) ≤ max-processes → Counted (printed U)
@@ -93,7 +99,7 @@ fits-passes U right fits =
       raw = printed U;
       form = parse-print (printed U) (printed-formed U plain);
       counted = counted-printed U plain (fits .few);
-      resolved = printed-resolves U plain;
+      resolved = printed-resolves U plain ∙ ap (λ (W : Table). some (linear-sheet W)) (table-retold U (fits .no-two-values));
       rightly-sorted = linear-sorted U right;
     })
 
@@ -109,26 +115,43 @@ passes-fits U right H e =
     let c : Counted (printed U) = subst Counted (text-tree U plain H r) (r .counted) in
     let p = length-numbered (proc-line-of (U .sig .acts)) 0 (U .equations) in
     let few = c .1 .1 .1 .1 .0 in
-    record { short = r .short; names = every-weaken _ _ valid-short ts valid; shallow = subst Shallow same (r .shallow); few = omega arith }
+    record { short = r .short; names = every-weaken _ _ valid-short ts valid; shallow = subst Shallow same (r .shallow); few = omega arith; no-two-values = text-sided U plain H r }
 
--- A TABLE OF FEW EQUATIONS WHOSE TEXT PASSES QUESTIONS 1 TO 4 FITS,
-pub tokens-fit : (U : Table) → RightTable U → (ts : List Token) → tokens-read (table-text U) ≡ accepted ts → length (U .equations) ≤ max-processes → Fits U
+-- what questions 1 to 4 say of a table's text: its tokens are those of the printed sheet
+record TokensRead (U : Table) (ts : List Token) : Type 0 where
+  are : ts ≡ print-sheet (printed U)
+  short : Short (table-text U)
+  names : Every ShortName (print-sheet (printed U))
+  shallow : Shallow (print-sheet (printed U))
+
+tokens-as-printed : (U : Table) → RightTable U → (ts : List Token) → tokens-read (table-text U) ≡ accepted ts → TokensRead U ts
 unfolding table-text tokens-read
-tokens-fit U right ts e few =
+tokens-as-printed U right ts e =
     let us = print-sheet (printed U) in
     let spelled = printed-spelled U (right-plain U right) in
     past-question 1 (short? (render us)) _ ts e (λ h₁ e₁.
     past-question 2 (printable? (render us)) _ ts e₁ (λ h₂ e₂.
     past-question-of 3 (tokens (render us)) _ ts e₂ (λ vs h₃ e₃.
     past-question 4 (shallow? vs) _ ts e₃ (λ h₄ e₄.
-    record { short = h₁; names = every-weaken _ _ valid-short us (spelled-valid us vs spelled h₃); shallow = subst Shallow (spelled-tokens us vs spelled h₃) h₄; few = few }))))
+    let same = spelled-tokens us vs spelled h₃ in
+    let given : ts ≡ vs = cc in
+    record { are = given ∙ same; short = h₁; names = every-weaken _ _ valid-short us (spelled-valid us vs spelled h₃); shallow = subst Shallow same h₄ }))))
 
--- and the text of one that fits passes them.
-pub fits-tokens : (U : Table) → RightTable U → Fits U → (ts : List Token) × (tokens-read (table-text U) ≡ accepted ts)
+-- A TABLE OF FEW EQUATIONS FITS WHOSE TEXT PASSES QUESTIONS 1 TO 4, WITH NO `==` BETWEEN TWO NUMERALS AMONG ITS TOKENS,
+pub tokens-fit : (U : Table) → RightTable U → (ts : List Token) → tokens-read (table-text U) ≡ accepted ts → T (apart ts) → length (U .equations) ≤ max-processes → Fits U
+tokens-fit U right ts e h few =
+    let r = tokens-as-printed U right ts e in
+    let sided = tokens-sided U (right-plain U right) .0 (subst (λ (us : List Token). T (apart us)) (r .are) h) in
+    record { short = r .short; names = r .names; shallow = r .shallow; few = few; no-two-values = sided }
+
+-- and of one that fits they pass, and there is none.
+pub fits-tokens : (U : Table) → RightTable U → Fits U → (ts : List Token) × ((tokens-read (table-text U) ≡ accepted ts) × T (apart ts))
 unfolding sorted-read tree-read
 fits-tokens U right fits =
     past-answer (tree-read (table-text U)) _ (linear-sheet U) (fits-passes U right fits) (λ R e₅ e.
-    past-answer (tokens-read (table-text U)) _ R e₅ (λ ts e₄ e. (ts, e₄)))
+    past-answer (tokens-read (table-text U)) _ R e₅ (λ ts e₄ e.
+    let same = tokens-as-printed U right ts e₄ .are in
+    (ts, (e₄, subst (λ (us : List Token). T (apart us)) (sym same) (tokens-sided U (right-plain U right) .1 (fits .no-two-values))))))
 
 -- QUESTION 17 FAILS EXACTLY FOR THE TABLES THAT DO NOT FIT.
 pub seventeen-exactly : (U : Table) → RightTable U → (passed (sorted-read (table-text U)) ≡ none) ↔ ¬ (Fits U)

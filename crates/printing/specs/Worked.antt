@@ -1,10 +1,12 @@
--- One table, worked to the end: its text, byte for byte, and that it is right and its text passes. So the theorems' premises can be met.
+-- Tables worked to the end, one of them with operators: the text, byte for byte, and that the table is right and its text passes. So the theorems'
+-- premises can be met. And one whose text is refused.
 use mathlib.Core.Path.{_≡_, refl}
 use mathlib.Core.List.{[], _∷_}
+use Prim.Native.Nat.{ℕ, _+_}
 use Rattle.pcrl.specs.Text.{bytes}
 use Rattle.pcrl.specs.Result.{refusal}
 use Rattle.pcrl.specs.Reader.{found}
-use Rattle.pcrl.specs.Sheet.{val, var, app, nil, cons, tau, action}
+use Rattle.pcrl.specs.Sheet.{Data, val, var, app, nil, cons, tau, action, not-number, and-number, or-number, first-equal}
 use Rattle.pcrl.specs.Table.{Table}
 use Rattle.pcrl.specs.Stream.{encode}
 use Rattle.pcrl.specs.Right.{RightTable}
@@ -55,3 +57,74 @@ worked-right = encode-decode (encode worked) worked [] worked-decoded .1
 pub worked-passes : refusal (sorted-read (table-text worked)) ≡ 0
 unfolding definitions
 worked-passes = refl
+
+-- OPERATORS: "the printer writes the fewest brackets that read back the same"
+
+abbrev two : ℕ → Data → Data → Data
+two f x y = app f (cons x (cons y nil))
+
+-- Bool is sort 0
+abbrev equal : ℕ → Data → Data → Data
+equal D x y = two (first-equal + D) x y
+
+abbrev not : Data → Data
+not x = app not-number (cons x nil)
+
+-- `\/` below `/\`, `==` below `!` and below `==`, and both that group to the left on either side
+abbrev operators : Table
+operators = record {
+  sig = record { sorts = 2 ∷ 3 ∷ []; funcs = []; acts = record { name = bytes "a"; takes = 0 ∷ [] } ∷ [] };
+  equations =
+      record {
+        params = 1 ∷ 0 ∷ [];
+        summands =
+            record {
+              vars = [];
+              conds = (1, two and-number (two or-number (not (equal 1 (var 0) (val 2))) (var 1)) (equal 0 (equal 0 (var 1) (val 0)) (not (not (var 1))))) ∷ [];
+              act = action 0;
+              terms = two or-number (two or-number (var 1) (two and-number (var 1) (val 1))) (two or-number (var 1) (val 0)) ∷ [];
+              calls = (0, val 2 ∷ two and-number (two and-number (var 1) (equal 1 (val 0) (var 0))) (two and-number (var 1) (val 1)) ∷ []) ∷ [];
+            }
+            ∷ [];
+      }
+      ∷ [];
+  start = (0, 2 ∷ 1 ∷ []);
+}
+
+pub operators-text : table-text operators ≡ bytes "sort s1 3;act a:Bool;proc p0(v0:s1,v1:Bool)=a(v1\\/v1/\\1\\/(v1\\/0)).p0(2,v1/\\0==v0/\\(v1/\\1))<|(!(v0==2)\\/v1)/\\(v1==0)==!!v1|>delta;init p0(2,1);"
+unfolding definitions
+operators-text = refl
+
+operators-decoded : decode (encode operators) ≡ found operators []
+unfolding definitions
+operators-decoded = refl
+
+pub operators-right : RightTable operators
+operators-right = encode-decode (encode operators) operators [] operators-decoded .1
+
+pub operators-pass : refusal (sorted-read (table-text operators)) ≡ 0
+unfolding definitions
+operators-pass = refl
+
+-- "`==` .. refuses two numerals"
+abbrev compared : Table
+compared = record {
+  sig = record { sorts = 2 ∷ []; funcs = []; acts = [] };
+  equations = record { params = []; summands = record { vars = []; conds = (1, equal 0 (val 1) (val 1)) ∷ []; act = tau; terms = []; calls = [] } ∷ [] } ∷ [];
+  start = (0, []);
+}
+
+compared-decoded : decode (encode compared) ≡ found compared []
+unfolding definitions
+compared-decoded = refl
+
+pub compared-right : RightTable compared
+compared-right = encode-decode (encode compared) compared [] compared-decoded .1
+
+pub compared-text : table-text compared ≡ bytes "proc p0=tau<|1==1|>delta;init p0;"
+unfolding definitions
+compared-text = refl
+
+pub compared-refused : refusal (sorted-read (table-text compared)) ≡ 8
+unfolding definitions
+compared-refused = refl

@@ -2,30 +2,32 @@
 use mathlib.Core.Path.{_≡_, refl, sym, ap, subst, _∙_}
 use mathlib.Core.List.{List, [], _∷_, _++_, map, append-assoc, append-nil}
 use mathlib.Core.Bool.{Bool, true, false}
-use Prim.Native.Nat.{ℕ, zero, suc, _≤_}
+use Prim.Native.Nat.{ℕ, zero, suc, _+_, _/_, _%_, _≤_, _<_}
 use Prim.Native.String.{String}
 use native.Mathlib.Omega.{arith}
 use native.Mathlib.Decide.{ℕ-discrete}
-use lib.Dec.{T}
-use lib.ListN.{length, drop, getD, replicate}
+use lib.Dec.{T, eqb, ltb}
+use borrow.Author.Tests.{ltb-true}
+use lib.ListN.{length, drop, getD}
 use Rattle.pcrl.specs.Limits.{max-size}
-use Rattle.pcrl.specs.Text.{bytes, byte, decimal}
+use Rattle.pcrl.specs.Text.{bytes, byte, digits, decimal}
 use Rattle.pcrl.specs.Tests.{or, same?, among, Every, Each}
 use Rattle.pcrl.specs.Bytes.{letter, digit, name-byte}
-use Rattle.pcrl.specs.Tokens.{Token, name, numeral, sign, the, words}
+use Rattle.pcrl.specs.Tokens.{Token, name, numeral, the, words}
 use Rattle.pcrl.specs.Reader.{all}
-use Rattle.pcrl.specs.Tree.{RawData, SortLine, FuncLine, ActLine, ProcLine}
+use Rattle.pcrl.specs.Tree.{RawData, Atom}
 use Rattle.pcrl.specs.Sheet.{Func, Action}
 use Rattle.pcrl.specs.Table.{Equation, Table}
-use Rattle.pcrl.specs.Print.{bracketed, joined, print-data, print-given, line, print-lines, print-sorts, print-values, print-sort, print-func, print-takes, print-act, print-param, print-params, print-proc, print-init, print-sheet}
+use Rattle.pcrl.specs.Print.{bracketed, joined, print-data, line, print-lines, print-sorts, print-values, print-sort, print-func, print-takes, print-act, print-param, print-params, print-proc, print-init, print-sheet}
 use Rattle.pcrl.specs.Render.{blank-byte, write, render}
-use Rattle.pcrl.specs.Printer.{numbered, in-brackets, letters, indexed, sort-name, func-name, proc-name, var-name, sort-line-of, func-line-of, act-line-of, param-of, proc-line-of, init-line-of, printed, table-text}
-use Rattle.laws.specs.Tests.{is-true}
-use Rattle.laws.specs.Every.{every-of-all, every-drop}
+use Rattle.pcrl.specs.Printer.{numbered, atom-shown, as-data, letters, indexed, sort-name, func-name, proc-name, var-name, sort-line-of, func-line-of, act-line-of, param-of, proc-line-of, init-line-of, printed, table-text}
+use Rattle.laws.specs.Tests.{is-true, eqb-other}
+use Rattle.laws.specs.Every.{every-of-all, every-append, every-drop, every-getD, every-weaken}
 use Rattle.grammar.specs.Spelled.{Spelled, spelled}
-use Rattle.rendering.specs.Rendering.{Marked, name-before}
-use Rattle.rendering.specs.Pieces.{Renders, RendersAll, all-bytes, nothing, token, joins, mark, closed, before-mark-too, word, nothing-all, joins-all}
-use Rattle.rendering.specs.TermPieces.{AsTexts, as-bytes, bracketed-renders, named-renders, right-renders}
+use Rattle.rendering.specs.Rendering.{Avoids, Marked, Unequal, name-before}
+use Rattle.rendering.specs.Pieces.{Renders, RendersAll, all-bytes, nothing, token, joins, mark, closed, equated, word, nothing-all, joins-all}
+use Rattle.rendering.specs.DataPieces.{bracketed-renders, named-renders}
+use Rattle.rendering.specs.TermPieces.{right-renders, right-unequal}
 use Rattle.rendering.specs.Texts.{joined-text, bracketed-text, takes-text, sort-line-text, func-line-text, taken-text, act-line-text, param-text, proc-line-text, init-line-text, concat, sheet-text}
 
 -- R at each place of two lists that are made of one
@@ -40,8 +42,8 @@ each-numbered R f g h i [] = tt
 each-numbered R f g h i (a ∷ l) = (h i a, each-numbered R f g h (suc i) l)
 
 -- pieces with a mark between any two
-pub joined-renders : {A : Type 0} (s : String) (w : A → List Token) → among (bytes s) words ≡ false → name-byte (getD (bytes s) 0 0) ≡ false → (l : List A) (ts : List (List ℕ)) → Each (λ a t. Renders (w a) t) l ts → Renders (joined s w l) (joined-text (bytes s) ts)
-unfolding Each joined joined-text Marked write
+pub joined-renders : {A : Type 0} (s : String) (w : A → List Token) → among (bytes s) (bytes "=" ∷ words) ≡ false → name-byte (getD (bytes s) 0 0) ≡ false → (l : List A) (ts : List (List ℕ)) → Each (λ a t. Renders (w a) t) l ts → Renders (joined s w l) (joined-text (bytes s) ts)
+unfolding Each joined joined-text Avoids write
 joined-renders s w e k [] [] g = nothing
 joined-renders s w e k [] (t ∷ ts) g = absurd g
 joined-renders s w e k (a ∷ l) [] g = absurd g
@@ -54,6 +56,12 @@ joined-renders s w e k (a ∷ b ∷ l) (t ∷ u ∷ ts) g = joins (g .0) k (mark
 pub line-renders : (s : String) (n : List ℕ) (ts : List Token) (t : List ℕ) → among (bytes s) words ≡ true → name-byte (getD n 0 0) ≡ true → Renders (name n ∷ ts) t → RendersAll (line s (name n ∷ ts)) (bytes s ++ (blank-byte ∷ (t ++ bytes ";")))
 unfolding line among words same? ℕ-discrete
 line-renders s n ts t e k f = word (bytes s) n e k (closed f (bytes ";") refl refl)
+
+-- the same with `=` in it
+pub equation-renders : (s : String) (n : List ℕ) (ts us : List Token) (t u : List ℕ) → among (bytes s) words ≡ true → name-byte (getD n 0 0) ≡ true → Renders (name n ∷ ts) t → Renders us u → Unequal us
+    → RendersAll (line s (name n ∷ (ts ++ (the "=" ∷ us)))) (bytes s ++ (blank-byte ∷ (t ++ (bytes "=" ++ (u ++ bytes ";")))))
+unfolding line
+equation-renders s n ts us t u e k f g h = word (bytes s) n e k (equated f g h)
 
 -- lines one behind another
 pub lines-render : {A B : Type 0} (P : A → Type 0) (s : String) (w : B → List Token) (f : ℕ → A → B) (g : ℕ → A → List ℕ) → ((i : ℕ) (a : A) → P a → RendersAll (line s (w (f i a))) (g i a)) → (i : ℕ) (l : List A) → Every P l → RendersAll (print-lines s w (numbered f i l)) (concat (numbered g i l))
@@ -85,12 +93,30 @@ size-spelled n h = by (decimal n) (s .0) (s .1 .0)
     by [] e g = absurd (omega arith)
     by (b ∷ l) e g = in-name b (e .0)
 
+-- no digit is `=`
+digits-below : (f n : ℕ) → Every (λ b. b < byte "=") (digits f n)
+unfolding Every digits
+digits-below zero n = tt
+digits-below (suc f) n = by (ltb n 10) refl (digits-below f (n / 10))
+  where
+    by : (c : Bool) → ltb n 10 ≡ c → Every (λ b. b < byte "=") (digits f (n / 10)) → Every (λ b. b < byte "=") (elim c [ true ↦ (byte "0" + n) ∷ [] | false ↦ digits f (n / 10) ++ ((byte "0" + n % 10) ∷ []) ])
+    by true e h = (omega (arith, ltb-true n 10 e), tt)
+    by false e h = every-append _ (digits f (n / 10)) _ h (omega arith, tt)
+
+pub decimal-unequal : (v : ℕ) → eqb (getD (decimal v) 0 0) (byte "=") ≡ false
+unfolding decimal
+decimal-unequal v = let z = every-getD _ (decimal v) 0 0 (digits-below (suc v) v) (omega arith) in eqb-other (getD (decimal v) 0 0) (byte "=") (λ e. omega arith)
+
 -- a name and a numeral, with a blank between
 pub sized-renders : (x : List ℕ) (n : ℕ) → n ≤ max-size → Renders (name x ∷ numeral n ∷ []) (x ++ (blank-byte ∷ decimal n))
 unfolding write
 sized-renders x n h = record {
-  so = λ us m. name-before x n us (size-spelled n h) ∙ ap (λ (l : List ℕ). x ++ (blank-byte ∷ l)) (token (numeral n) .so us m) ∙ sym (append-assoc x (blank-byte ∷ decimal n) (render us));
+  so = λ us m. name-before x n us (size-spelled n h) ∙ ap (λ (l : List ℕ). x ++ (blank-byte ∷ l)) (token (numeral n) tt .so us m) ∙ sym (append-assoc x (blank-byte ∷ decimal n) (render us));
 }
+
+-- nor is any byte of a name
+name-unequal : (b : ℕ) → name-byte b ≡ true → eqb b (byte "=") ≡ false
+name-unequal b e = eqb-other b (byte "=") (λ f. let z : name-byte (byte "=") ≡ true = rw f at e in let y : _≡_ {A = ℕ} 0 1 = cc in omega arith)
 
 module _ (acts : List Action) where
   -- a letter stands first
@@ -109,7 +135,7 @@ module _ (acts : List Action) where
 
   takes-render : (Ds : List ℕ) → Renders (print-sorts (map (sort-name acts) Ds)) (takes-text acts Ds)
   unfolding print-sorts takes-text among words same? ℕ-discrete write
-  takes-render Ds = joined-renders "#" (λ D. name D ∷ []) refl refl (map (sort-name acts) Ds) (map (sort-name acts) Ds) (each-mapped _ (sort-name acts) (sort-name acts) (λ D. token (name (sort-name acts D))) Ds)
+  takes-render Ds = joined-renders "#" (λ D. name D ∷ []) refl refl (map (sort-name acts) Ds) (map (sort-name acts) Ds) (each-mapped _ (sort-name acts) (sort-name acts) (λ D. token (name (sort-name acts D)) tt) Ds)
 
   values-render : (vs : List ℕ) → Renders (print-values vs) (joined-text (bytes ",") (map decimal vs))
   unfolding print-values among words same? ℕ-discrete write Each
@@ -117,17 +143,27 @@ module _ (acts : List Action) where
     where
       each : (vs : List ℕ) → Each (λ v t. Renders (numeral v ∷ []) t) vs (map decimal vs)
       each [] = tt
-      each (v ∷ vs) = (token (numeral v), each vs)
+      each (v ∷ vs) = (token (numeral v) tt, each vs)
+
+  values-unequal : (vs : List ℕ) → Unequal (print-values vs)
+  unfolding print-values joined Avoids write
+  values-unequal [] = tt
+  values-unequal (v ∷ []) = decimal-unequal v
+  values-unequal (v ∷ w ∷ vs) = decimal-unequal v
 
   func-line-renders : (f : ℕ) (g : Func) → RendersAll (line "func" (print-func (func-line-of acts f g))) (func-line-text acts f g)
-  unfolding print-func func-line-of func-line-text among words same? ℕ-discrete Marked write
+  unfolding print-func func-line-of func-line-text among words same? ℕ-discrete Avoids write
   func-line-renders f g =
-      all-bytes (simp append-assoc)
-      (line-renders "func" (func-name acts f) _ _ refl (letter-first (byte "f") f refl)
-      (joins (token (name (func-name acts f))) refl (mark (bytes ":") refl (joins (takes-render (g .takes)) refl (mark (bytes "->") refl (joins (token (name (sort-name acts (g .gives)))) refl (mark (bytes "=") refl (values-render (g .values)))))))))
+      let front = print-sorts (map (sort-name acts) (g .takes)) in
+      let gives = the "->" ∷ name (sort-name acts (g .gives)) ∷ [] in
+      subst (λ (l : List Token). RendersAll (line "func" (name (func-name acts f) ∷ the ":" ∷ l)) (func-line-text acts f g)) (append-assoc front gives (the "=" ∷ print-values (g .values)))
+      (all-bytes (simp append-assoc)
+      (equation-renders "func" (func-name acts f) (the ":" ∷ (front ++ gives)) (print-values (g .values)) _ _ refl (letter-first (byte "f") f refl)
+      (joins (token (name (func-name acts f)) tt) refl (mark (bytes ":") refl (joins (takes-render (g .takes)) refl (mark (bytes "->") refl (token (name (sort-name acts (g .gives))) tt)))))
+      (values-render (g .values)) (values-unequal (g .values))))
 
   taken-marked : (Ds : List ℕ) → Marked (print-takes (map (sort-name acts) Ds))
-  unfolding print-takes Marked write
+  unfolding print-takes Avoids write
   taken-marked [] = tt
   taken-marked (D ∷ Ds) = refl
 
@@ -139,35 +175,36 @@ module _ (acts : List Action) where
   act-line-renders : (a : Action) → name-byte (getD (a .name) 0 0) ≡ true → RendersAll (line "act" (print-act (act-line-of acts a))) (act-line-text acts a)
   unfolding print-act act-line-of act-line-text among words same? ℕ-discrete write
   act-line-renders a k =
-      all-bytes (simp append-assoc) (line-renders "act" (a .name) _ _ refl k (joins (token (name (a .name))) (taken-marked (a .takes)) (taken-renders (a .takes))))
+      all-bytes (simp append-assoc) (line-renders "act" (a .name) _ _ refl k (joins (token (name (a .name)) tt) (taken-marked (a .takes)) (taken-renders (a .takes))))
 
   params-render : (Ds : List ℕ) → Renders (print-params (numbered (param-of acts) 0 Ds)) (bracketed-text (numbered (param-text acts) 0 Ds))
-  unfolding print-params bracketed-text numbered print-param param-of param-text among words same? ℕ-discrete Marked write
+  unfolding print-params bracketed-text numbered print-param param-of param-text among words same? ℕ-discrete Avoids write
   params-render [] = nothing
   params-render (D ∷ Ds) = bracketed-renders (joined-renders "," print-param refl refl _ _ (each-numbered _ (param-of acts) (param-text acts) one 0 (D ∷ Ds)))
     where
       one : (i D : ℕ) → Renders (print-param (param-of acts i D)) (param-text acts i D)
-      one i D = joins (token (name (var-name acts i))) refl (mark (bytes ":") refl (token (name (sort-name acts D))))
+      one i D = joins (token (name (var-name acts i)) tt) refl (mark (bytes ":") refl (token (name (sort-name acts D)) tt))
 
-  head-marked : (Ds : List ℕ) (ts : List Token) → Marked (print-params (numbered (param-of acts) 0 Ds) ++ (the "=" ∷ ts))
-  unfolding print-params numbered bracketed Marked write
-  head-marked [] ts = refl
-  head-marked (D ∷ Ds) ts = refl
+  params-marked : (Ds : List ℕ) → Marked (print-params (numbered (param-of acts) 0 Ds))
+  unfolding print-params numbered bracketed Avoids write
+  params-marked [] = tt
+  params-marked (D ∷ Ds) = refl
 
-  proc-line-renders : (e : ℕ) (q : Equation) → RendersAll (line "proc" (print-proc (proc-line-of acts e q))) (proc-line-text acts e q)
-  unfolding print-proc proc-line-of proc-line-text among words same? ℕ-discrete Marked write
-  proc-line-renders e q =
+  proc-line-renders : Every (λ (a : Action). name-byte (getD (a .name) 0 0) ≡ true) acts → (e : ℕ) (q : Equation) → RendersAll (line "proc" (print-proc (proc-line-of acts e q))) (proc-line-text acts e q)
+  unfolding print-proc proc-line-of proc-line-text among words same? ℕ-discrete Avoids write
+  proc-line-renders h e q =
       all-bytes (simp append-assoc)
-      (line-renders "proc" (proc-name acts e) _ _ refl (letter-first (byte "p") e refl)
-      (joins (token (name (proc-name acts e))) (head-marked (q .params) _) (joins (params-render (q .params)) refl (mark (bytes "=") refl (right-renders acts (length (q .params)) (q .summands))))))
+      (equation-renders "proc" (proc-name acts e) (print-params (numbered (param-of acts) 0 (q .params))) _ _ _ refl (letter-first (byte "p") e refl)
+      (joins (token (name (proc-name acts e)) tt) (params-marked (q .params)) (params-render (q .params)))
+      (right-renders acts (length (q .params)) (q .summands)) (right-unequal acts (every-weaken _ _ (λ (a : Action). name-unequal (getD (a .name) 0 0)) acts h) (length (q .params)) (q .summands)))
 
   init-line-renders : (s : ℕ × List ℕ) → RendersAll (line "init" (print-init (init-line-of acts s))) (init-line-text acts s)
-  unfolding print-init init-line-of init-line-text among words same? ℕ-discrete print-data write
+  unfolding print-init init-line-of init-line-text among words same? ℕ-discrete as-data print-data write
   init-line-renders s =
-      all-bytes (simp append-assoc) (line-renders "init" (proc-name acts (s .0)) _ _ refl (letter-first (byte "p") (s .0) refl) (named-renders (proc-name acts (s .0)) (map RawData.value (s .1)) (map decimal (s .1)) (each-mapped _ RawData.value decimal value (s .1))))
+      all-bytes (simp append-assoc) (line-renders "init" (proc-name acts (s .0)) _ _ refl (letter-first (byte "p") (s .0) refl) (named-renders (proc-name acts (s .0)) (map value-data (s .1)) (map decimal (s .1)) (each-mapped _ value-data decimal (λ v. token (numeral v) tt) (s .1))))
     where
-      value : (v : ℕ) → Renders (print-data (RawData.value v)) (decimal v)
-      value v = token (numeral v)
+      value-data : ℕ → RawData
+      value-data v = as-data (atom-shown (Atom.value v))
 
 -- What the text asks of a table: sizes of at most 16, and action names that begin with a letter, a digit or an underscore. A right table has it.
 pub record Spellable (T : Table) : Type 0 where
@@ -182,6 +219,6 @@ text-is T h =
     let sorts = lines-render (λ n. n ≤ max-size) "sort" print-sort (sort-line-of acts) (sort-line-text acts) (sort-line-renders acts) 1 (drop 1 (T .sig .sorts)) (every-drop _ 1 (T .sig .sorts) (h .sizes)) in
     let funcs = lines-render (λ (g : Func). Unit {0}) "func" print-func (func-line-of acts) (func-line-text acts) (λ f g _. func-line-renders acts f g) 0 (T .sig .funcs) (every-of-all _ (λ g. tt) (T .sig .funcs)) in
     let actions = lines-render-plain (λ (a : Action). name-byte (getD (a .name) 0 0) ≡ true) "act" print-act (act-line-of acts) (act-line-text acts) (act-line-renders acts) acts (h .names) in
-    let procs = lines-render (λ (q : Equation). Unit {0}) "proc" print-proc (proc-line-of acts) (proc-line-text acts) (λ e q _. proc-line-renders acts e q) 0 (T .equations) (every-of-all _ (λ q. tt) (T .equations)) in
+    let procs = lines-render (λ (q : Equation). Unit {0}) "proc" print-proc (proc-line-of acts) (proc-line-text acts) (λ e q _. proc-line-renders acts (h .names) e q) 0 (T .equations) (every-of-all _ (λ q. tt) (T .equations)) in
     let all-lines = joins-all sorts (joins-all funcs (joins-all actions (joins-all procs (init-line-renders acts (T .start))))) in
     ap render (sym (append-nil (print-sheet (printed T)))) ∙ all-lines .so [] ∙ append-nil (sheet-text T)

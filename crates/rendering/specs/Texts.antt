@@ -1,10 +1,12 @@
 -- The printed text of a table, piece by piece: what each function of the printer writes. (That they make `table-text`: proofs, Rendering.)
 use mathlib.Core.List.{List, [], _∷_, _++_, map}
+use mathlib.Core.Bool.{true, false}
 use Prim.Native.Nat.{ℕ, zero, suc}
+use lib.Dec.{ltb}
 use lib.ListN.{length, drop, getD, replicate}
 use Rattle.pcrl.specs.Text.{bytes, byte, decimal}
 use Rattle.pcrl.specs.Reader.{all}
-use Rattle.pcrl.specs.Sheet.{Data, val, var, app, Datas, nil, cons, Act, tau, action, Func, Action, no-action}
+use Rattle.pcrl.specs.Sheet.{Data, val, var, app, Datas, nil, cons, Act, tau, action, Func, Action, no-action, Operation, operation}
 use Rattle.pcrl.specs.Table.{Summand, Equation, Table}
 use Rattle.pcrl.specs.Printer.{numbered, sort-name, func-name, proc-name, var-name}
 
@@ -28,16 +30,50 @@ unfoldable pub close-text : {A : Type 0} → List A → List ℕ
 close-text [] = []
 close-text (c ∷ cs) = bytes ")"
 
-module _ (acts : List Action) where
-  unfoldable mutual
-    pub data-text : Data → List ℕ
-    data-text (val v) = decimal v
-    data-text (var i) = var-name acts i
-    data-text (app f ds) = func-name acts f ++ bracketed-text (datas-texts ds)
+-- Forms of data and the places where they stand, from loosest to tightest; a negation's place takes an atom too.
+abbrev pub any-data : ℕ
+any-data = 0
 
-    pub datas-texts : Datas → List (List ℕ)
-    datas-texts nil = []
-    datas-texts (cons d ds) = data-text d ∷ datas-texts ds
+abbrev pub a-conjunction : ℕ
+a-conjunction = 1
+
+abbrev pub a-comparison : ℕ
+a-comparison = 2
+
+abbrev pub a-negation : ℕ
+a-negation = 3
+
+-- in brackets where the form is looser than its place
+unfoldable pub placed : ℕ → ℕ → List ℕ → List ℕ
+placed form place t = elim (ltb form place) [ true ↦ bytes "(" ++ (t ++ bytes ")") | false ↦ t ]
+
+-- the text of an operand, by its number, at a place
+unfoldable pub operand-text : ℕ → List (ℕ → List ℕ) → ℕ → List ℕ
+operand-text i ts = getD ts i (λ place. decimal 0)
+
+-- a function with operands of these texts, at a place: f names it if it is a written one
+unfoldable pub operation-text : (ℕ → List ℕ) → Operation → List (ℕ → List ℕ) → ℕ → List ℕ
+operation-text f (Operation.written g) ts place = f g ++ bracketed-text (map (λ t. t any-data) ts)
+operation-text f Operation.not ts place = bytes "!" ++ operand-text 0 ts a-negation
+operation-text f (Operation.equal D) ts place = placed a-comparison place (operand-text 0 ts a-negation ++ (bytes "==" ++ operand-text 1 ts a-negation))
+operation-text f Operation.and ts place = placed a-conjunction place (operand-text 0 ts a-conjunction ++ (bytes "/\\" ++ operand-text 1 ts a-comparison))
+operation-text f Operation.or ts place = placed any-data place (operand-text 0 ts any-data ++ (bytes "\\/" ++ operand-text 1 ts a-conjunction))
+operation-text f Operation.unsorted ts place = operand-text 0 ts place
+
+module _ (acts : List Action) where
+  -- data at a place
+  unfoldable mutual
+    pub text-at : Data → ℕ → List ℕ
+    text-at (val v) place = decimal v
+    text-at (var i) place = var-name acts i
+    text-at (app f ds) place = operation-text (func-name acts) (operation f) (texts-at ds) place
+
+    pub texts-at : Datas → List (ℕ → List ℕ)
+    texts-at nil = []
+    texts-at (cons d ds) = (λ place. text-at d place) ∷ texts-at ds
+
+  unfoldable pub data-text : Data → List ℕ
+  data-text d = text-at d any-data
 
   abbrev pub given-text : List Data → List ℕ
   given-text ds = bracketed-text (map data-text ds)

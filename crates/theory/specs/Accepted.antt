@@ -116,7 +116,7 @@ module _ (R : RawSheet) (H : Sheet) (r : Resolved R H) where
       (λ p a s. record { few = a .0; sorts = a .1 .0; numbered = a .1 .1; sorted = s }) (H .procs)
       (each-every _ (λ (l : ProcLine). length (l .params) ≤ frame-width) _
       (λ l p e w.
-      let k = process-from (names-of R) l p e in
+      let k = process-from (names-of R) (H .sig) l p e in
       let n = k .arity in
       (omega arith, (are-sorts (p .params) (k .sorts), k .numbered)))
       (R .procs) (H .procs) (r .procs) (c .1 .1 .1 .1 .1))

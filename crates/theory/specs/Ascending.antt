@@ -9,7 +9,7 @@ use native.Mathlib.Omega.{arith}
 use native.Mathlib.Decide.{decLt}
 use lib.ListN.{getElem?}
 use Rattle.pcrl.specs.Reader.{all}
-use Rattle.pcrl.specs.Parts.{tabulate}
+use Rattle.pcrl.specs.Lists.{tabulate}
 use Rattle.pcrl.specs.Steps.{here, there, if-met}
 use Rattle.laws.specs.Any.{any-cases, any-none, any-of-map, In, any-of-all, any-found, any-of-tabulate, place-in}
 use Rattle.theory.specs.Listing.{any-of-if-met}

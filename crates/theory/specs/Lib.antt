@@ -8,6 +8,7 @@ pub mod Numbering
 pub mod Accepted
 pub mod SortLaws
 pub mod ValueSorts
+pub mod OperatorValues
 pub mod Scopes
 pub mod TableSorts
 pub mod AtHead

@@ -7,7 +7,7 @@ use native.Mathlib.Omega.{arith}
 use lib.ListN.{getElem?}
 use Rattle.pcrl.specs.Tests.{Each}
 use Rattle.pcrl.specs.Reader.{all}
-use Rattle.pcrl.specs.Parts.{tabulate}
+use Rattle.pcrl.specs.Lists.{tabulate}
 use Rattle.pcrl.specs.Sheet.{Sig, size}
 use Rattle.pcrl.specs.Label.{Label}
 use Rattle.pcrl.specs.Table.{Summand, Table, equation}

@@ -8,7 +8,7 @@ use Prim.Native.Nat.{ℕ, zero, suc, _+_, _<_}
 use native.Mathlib.Omega.{arith}
 use lib.ListN.{length, getElem?, getD, length-append, length-map}
 use Rattle.pcrl.specs.Reader.{all}
-use Rattle.pcrl.specs.Parts.{tabulate}
+use Rattle.pcrl.specs.Lists.{tabulate}
 use Rattle.pcrl.specs.Sheet.{tau, Sig, size}
 use Rattle.pcrl.specs.Label.{Label}
 use Rattle.pcrl.specs.Table.{Summand, Table, equation}

@@ -8,9 +8,9 @@ use lib.Dec.{T}
 use lib.ListN.{length, length-append}
 use Rattle.pcrl.specs.Tests.{distinct, Every, Each}
 use Rattle.pcrl.specs.Tree.{Name, FuncLine, ActLine, ProcLine, RawSheet}
-use Rattle.pcrl.specs.Sheet.{Func, Action, Process, Sheet}
+use Rattle.pcrl.specs.Sheet.{Func, Action, Sig, Process, Sheet}
 use Rattle.pcrl.specs.Maybe.{for-each}
-use Rattle.pcrl.specs.Names.{Names, names-of, number-of, declared, new-variable, sorts-of, resolve-func, resolve-act, resolve-params, resolve-proc, resolve-init, sizes-of, resolve}
+use Rattle.pcrl.specs.Names.{Names, names-of, number-of, declared, new-variable, sorts-of, resolve-func, resolve-act, resolve-params, resolve-proc, resolve-init, sizes-of, resolve-terms, resolve}
 use Rattle.laws.specs.Optional.{first-given, test-passed, each-given}
 use Rattle.laws.specs.Numbers.{number-below, sorts-declared}
 
@@ -20,26 +20,27 @@ pub record Resolved (R : RawSheet) (H : Sheet) : Type 0 where
   pub sizes : H .sig .sorts ≡ sizes-of R
   pub funcs : Each (λ (l : FuncLine) (g : Func). resolve-func (names-of R) l ≡ some g) (R .funcs) (H .sig .funcs)
   pub acts : Each (λ (l : ActLine) (a : Action). resolve-act (names-of R) l ≡ some a) (R .acts) (H .sig .acts)
-  pub procs : Each (λ (l : ProcLine) (p : Process). resolve-proc (names-of R) l ≡ some p) (R .procs) (H .procs)
-  pub start : resolve-init (names-of R) (R .start) ≡ some (H .start)
+  pub procs : Each (λ (l : ProcLine) (p : Process). resolve-proc (names-of R) (H .sig) l ≡ some p) (R .procs) (H .procs)
+  pub start : resolve-init (names-of R) (H .sig) (R .start) ≡ some (H .start)
 
 -- A resolved sheet is resolved line by line.
 pub resolved-lines : (R : RawSheet) (H : Sheet) → resolve R ≡ some H → Resolved R H
-unfolding resolve
+unfolding resolve resolve-terms
 resolved-lines R H e =
     let (t, e₁) = test-passed (distinct (declared (names-of R))) _ H e in
     first-given (for-each (resolve-func (names-of R)) (R .funcs)) _ H e₁ (λ fs h₂ e₂.
     first-given (for-each (resolve-act (names-of R)) (R .acts)) _ H e₂ (λ acts h₃ e₃.
-    first-given (for-each (resolve-proc (names-of R)) (R .procs)) _ H e₃ (λ ps h₄ e₄.
-    first-given (resolve-init (names-of R) (R .start)) _ H e₄ (λ s h₅ e₅.
-    let K : Sheet = record { sig = record { sorts = sizes-of R; funcs = fs; acts = acts }; procs = ps; start = s } in
+    let S : Sig = record { sorts = sizes-of R; funcs = fs; acts = acts } in
+    first-given (for-each (resolve-proc (names-of R) S) (R .procs)) _ H e₃ (λ ps h₄ e₄.
+    first-given (resolve-init (names-of R) S (R .start)) _ H e₄ (λ s h₅ e₅.
+    let K : Sheet = record { sig = S; procs = ps; start = s } in
     let z : K ≡ H = cc in
     subst (Resolved R) z (record {
       new-names = t;
       sizes = refl;
       funcs = each-given (resolve-func (names-of R)) (R .funcs) fs h₂;
       acts = each-given (resolve-act (names-of R)) (R .acts) acts h₃;
-      procs = each-given (resolve-proc (names-of R)) (R .procs) ps h₄;
+      procs = each-given (resolve-proc (names-of R) S) (R .procs) ps h₄;
       start = h₅;
     })))))
 

@@ -7,7 +7,7 @@ use Prim.Native.Nat.{ℕ, zero, suc, _<_}
 use native.Mathlib.Omega.{arith}
 use lib.ListN.{length, getElem?}
 use Rattle.pcrl.specs.Tests.{Every, Each}
-use Rattle.pcrl.specs.Sheet.{Data, val, var, app, Datas, nil, cons, Sig, size, func}
+use Rattle.pcrl.specs.Sheet.{Data, val, var, app, Datas, nil, cons, Sig, size, function-at}
 use Rattle.pcrl.specs.Sorts.{Scope, HasSort, HaveSorts, Arguments}
 use Rattle.pcrl.specs.Values.{put-data, put-datas}
 use Rattle.pcrl.specs.Parts.{marked, as-params}
@@ -22,7 +22,7 @@ module _ (S : Sig) (Γ Δ : Scope) (θ : ℕ → Data) (h : (i D : ℕ) → Γ i
     pub put-sort : (d : Data) (D : ℕ) → HasSort S Γ d D → HasSort S Δ (put-data θ d) D
     put-sort (val v) D k = k
     put-sort (var i) D k = h i D k
-    put-sort (app f ds) D k = (k .0, (k .1 .0, put-sorts ds (func S f .takes) (k .1 .1)))
+    put-sort (app f ds) D k = (k .0, (k .1 .0, put-sorts ds (function-at S f .takes) (k .1 .1)))
 
     pub put-sorts : (ds : Datas) (Ds : List ℕ) → HaveSorts S Γ ds Ds → HaveSorts S Δ (put-datas θ ds) Ds
     put-sorts nil [] k = tt
@@ -45,7 +45,7 @@ module _ (S : Sig) (Γ Δ : Scope) (h : (i D : ℕ) → Γ i ≡ some D → Δ i
     pub wider-sort : (d : Data) (D : ℕ) → HasSort S Γ d D → HasSort S Δ d D
     wider-sort (val v) D k = k
     wider-sort (var i) D k = h i D k
-    wider-sort (app f ds) D k = (k .0, (k .1 .0, wider-sorts ds (func S f .takes) (k .1 .1)))
+    wider-sort (app f ds) D k = (k .0, (k .1 .0, wider-sorts ds (function-at S f .takes) (k .1 .1)))
 
     pub wider-sorts : (ds : Datas) (Ds : List ℕ) → HaveSorts S Γ ds Ds → HaveSorts S Δ ds Ds
     wider-sorts nil [] k = tt

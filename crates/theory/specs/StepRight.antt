@@ -12,7 +12,7 @@ use Rattle.pcrl.specs.Label.{Label}
 use Rattle.pcrl.specs.Table.{Summand, Equation, Table, no-equation, equation, params-of, summands-of}
 use Rattle.pcrl.specs.Stack.{Frame, Stack, InSorts, used, padded, RightFrame, RightStack}
 use Rattle.pcrl.specs.Steps.{call-frame, outcome, StackStep}
-use Rattle.pcrl.specs.Right.{RightFunc, RightSig, RightCall, RightSummand, RightSummands, RightEquations, RightStart, RightTable}
+use Rattle.pcrl.specs.Right.{RightSizes, RightFunc, RightSig, RightCall, RightSummand, RightSummands, RightEquations, RightStart, RightTable}
 use Rattle.pcrl.specs.Answers.{start-stack}
 use Rattle.laws.specs.Every.{every-map, every-append}
 use Rattle.laws.specs.Each.{each-append, each-at, each-flip, each-length}
@@ -30,6 +30,10 @@ module _ (T : Table) (right : RightTable T) where
   funcs-right : Every (RightFunc (T .sig .sorts)) (T .sig .funcs)
   unfolding RightTable RightSig
   funcs-right = right .0 .0 .1 .0 .1
+
+  sizes-right : RightSizes (T .sig .sorts)
+  unfolding RightTable RightSig
+  sizes-right = right .0 .0 .0
 
   -- the summands of each equation are right
   pub summands-right : (e : ℕ) → e < length (T .equations) → Every (RightSummand (T .sig) (params-of (T .equations)) (equation T e .params)) (equation T e .summands)
@@ -58,7 +62,7 @@ module _ (T : Table) (right : RightTable T) where
         let n = params-length T in
         every-map _ (RightFrame width T) (call-frame width (T .sig) vs)
         (λ c k. frame-right (c .0) (map (eval (T .sig) vs) (c .1)) (omega arith)
-        (values-in (T .sig) funcs-right Γ vs i (c .1) (equation T (c .0) .params) (each-flip _ _ (λ D d z. z .0) (equation T (c .0) .params) (c .1) (rw (params-at T (c .0)) at (k .1)))))
+        (values-in (T .sig) sizes-right funcs-right Γ vs i (c .1) (equation T (c .0) .params) (each-flip _ _ (λ D d z. z .0) (equation T (c .0) .params) (c .1) (rw (params-at T (c .0)) at (k .1)))))
         cs h
 
     -- A STEP KEEPS A STACK RIGHT, whatever the width of frames.

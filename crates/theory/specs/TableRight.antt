@@ -86,7 +86,7 @@ module _ (H : Sheet) (ok : Standing H) (within : Within (table-of H)) where
   start-right =
       let k = H .start .0 in
       let (i, e) = process-equation H k (ok .start .0) in
-      (i, rw (params-at T k, e) (values-in (H .sig) (ok .signature .1 .0 .1) [] [] tt (H .start .1) (params H k) (ok .start .1)))
+      (i, rw (params-at T k, e) (values-in (H .sig) (ok .signature .0) (ok .signature .1 .0 .1) [] [] tt (H .start .1) (params H k) (ok .start .1)))
 
   all-right : RightTable T
   unfolding RightTable RightEquations RightEquation Within table-of params-of summands-of

@@ -7,12 +7,13 @@ use native.Mathlib.Nat.{mul-assoc, mul-le-mul-right}
 use native.Mathlib.Omega.{arith}
 use lib.ListN.{length, getD, getElem?}
 use Rattle.pcrl.specs.Tests.{Every, Each}
-use Rattle.pcrl.specs.Sheet.{Data, val, var, app, Datas, nil, cons, no-func, Sig, size, func}
-use Rattle.pcrl.specs.Sorts.{HasSort, HaveSorts, Arguments, volume}
+use Rattle.pcrl.specs.Sheet.{Data, val, var, app, Datas, nil, cons, Sig, size, function-at}
+use Rattle.pcrl.specs.Sorts.{IsFunc, HasSort, HaveSorts, Arguments, volume}
 use Rattle.pcrl.specs.Values.{place, apply, eval, evals}
 use Rattle.pcrl.specs.Stack.{InSorts}
-use Rattle.pcrl.specs.Right.{RightFunc}
+use Rattle.pcrl.specs.Right.{RightSizes, RightFunc}
 use Rattle.laws.specs.Every.{every-at}
+use Rattle.laws.specs.Operations.{right-function}
 
 module _ (S : Sig) where
   -- values of some sorts have a place below the number of all values of those sorts; n of m places come before
@@ -35,13 +36,13 @@ module _ (S : Sig) where
   sort-at (E ∷ Γ) (v ∷ e) h zero D k = let z : E ≡ D = cc in rw (← z) (h .0)
   sort-at (E ∷ Γ) (v ∷ e) h (suc i) D k = sort-at Γ e (h .1) i D k
 
-  module _ (right-funcs : Every (RightFunc (S .sorts)) (S .funcs)) where
+  module _ (right-sizes : RightSizes (S .sorts)) (right-funcs : Every (RightFunc (S .sorts)) (S .funcs)) where
     -- a function's value for values in its sorts
-    pub apply-in : (f : ℕ) (vs : List ℕ) → f < length (S .funcs) → InSorts S (func S f .takes) vs → apply S f vs < size S (func S f .gives)
-    unfolding apply func size RightFunc
+    pub apply-in : (f : ℕ) (vs : List ℕ) → IsFunc S f → InSorts S (function-at S f .takes) vs → apply S f vs < size S (function-at S f .gives)
+    unfolding apply size RightFunc
     apply-in f vs w h =
-        let g = func S f in
-        let r = every-at (RightFunc (S .sorts)) (S .funcs) no-func f right-funcs w in
+        let g = function-at S f in
+        let r = right-function S right-sizes right-funcs f w in
         let i : place S 0 (g .takes) vs < 1 * volume (S .sorts) (g .takes) = place-below 0 1 (g .takes) vs (omega arith) h in
         let l : length (g .values) ≡ volume (S .sorts) (g .takes) = r .1 .1 .0 in
         every-at _ (g .values) 0 (place S 0 (g .takes) vs) (r .1 .1 .1) (omega arith)
@@ -54,7 +55,7 @@ module _ (S : Sig) where
         pub eval-in : (d : Data) (D : ℕ) → HasSort S (getElem? Γ) d D → eval S e d < size S D
         eval-in (val v) D k = k
         eval-in (var i) D k = sort-at Γ e h i D k
-        eval-in (app f ds) D k = subst (λ (E : ℕ). apply S f (evals S e ds) < size S E) (k .1 .0) (apply-in f (evals S e ds) (k .0) (evals-in ds (func S f .takes) (k .1 .1)))
+        eval-in (app f ds) D k = subst (λ (E : ℕ). apply S f (evals S e ds) < size S E) (k .1 .0) (apply-in f (evals S e ds) (k .0) (evals-in ds (function-at S f .takes) (k .1 .1)))
 
         pub evals-in : (ds : Datas) (Ds : List ℕ) → HaveSorts S (getElem? Γ) ds Ds → InSorts S Ds (evals S e ds)
         evals-in nil [] k = tt

@@ -1,0 +1,60 @@
+-- How many bytes a term has: at most three for two nodes, less a half, since `==` has a byte more and two terms behind it.
+use mathlib.Core.Path.{_≡_}
+use mathlib.Core.List.{List, [], _∷_, _++_}
+use Prim.Native.Nat.{ℕ, _+_, _*_, _≤_}
+use native.Mathlib.Omega.{arith}
+use lib.ListN.{length, getElem?, length-append}
+use Rattle.pcrl.specs.Limits.{max-nodes}
+use Rattle.pcrl.specs.Sheet.{Data, val, var, app, Datas, nil, cons, list-of, Operation, operation, Sig, function, function-at}
+use Rattle.pcrl.specs.Sorts.{IsOperation, IsFunc, HasSort, HaveSorts}
+use Rattle.pcrl.specs.Table.{nodes, nodes-all}
+use Rattle.pcrl.specs.Stream.{codes, encode-data, encode-datas}
+use Rattle.pcrl.specs.Right.{RightTerm}
+
+-- the most bytes of a term within its limits
+abbrev pub max-term : ℕ
+max-term = 46
+
+module _ (S : Sig) (Γ : List ℕ) where
+  as-many : (ds : Datas) (Ds : List ℕ) → HaveSorts S (getElem? Γ) ds Ds → length (list-of ds) ≡ length Ds
+  unfolding HasSort list-of
+  as-many nil [] h = omega arith
+  as-many nil (D ∷ Ds) h = absurd h
+  as-many (cons d ds) [] h = absurd h
+  as-many (cons d ds) (D ∷ Ds) h = let e = as-many ds Ds (h .1) in omega arith
+
+  -- a code of two bytes has two terms behind it
+  code-length : (o : Operation) → IsOperation S o → 2 * length (codes o) ≤ 2 + length (function S o .takes)
+  unfolding IsOperation codes function
+  code-length (Operation.written f) h = omega arith
+  code-length Operation.not h = omega arith
+  code-length Operation.and h = omega arith
+  code-length Operation.or h = omega arith
+  code-length (Operation.equal D) h = omega arith
+  code-length Operation.unsorted h = absurd h
+
+  mutual
+    unfolding HasSort encode-data nodes list-of function-at
+
+    pub data-length : (d : Data) (D : ℕ) → HasSort S (getElem? Γ) d D → 2 * length (encode-data d) + 1 ≤ 3 * nodes d
+    data-length (val v) D h = omega arith
+    data-length (var i) D h = omega arith
+    data-length (app f ds) D h =
+        let a = code-length (operation f) (h .0) in
+        let b = as-many ds (function-at S f .takes) (h .1 .1) in
+        let c = datas-length ds (function-at S f .takes) (h .1 .1) in
+        let e = length-append (codes (operation f)) (encode-datas ds) in
+        omega arith
+
+    pub datas-length : (ds : Datas) (Ds : List ℕ) → HaveSorts S (getElem? Γ) ds Ds → 2 * length (encode-datas ds) + length (list-of ds) ≤ 3 * nodes-all ds
+    datas-length nil Ds h = omega arith
+    datas-length (cons d ds) [] h = absurd h
+    datas-length (cons d ds) (D ∷ Ds) h =
+        let a = data-length d D (h .0) in
+        let b = datas-length ds Ds (h .1) in
+        let e = length-append (encode-data d) (encode-datas ds) in
+        omega arith
+
+  -- A RIGHT TERM HAS AT MOST 46 BYTES.
+  pub term-length : (D : ℕ) (d : Data) → RightTerm S Γ D d → length (encode-data d) ≤ max-term
+  term-length D d h = let a = data-length d D (h .0) in let b = h .1 in omega arith
