@@ -2,7 +2,7 @@
 use mathlib.Core.List.{List, [], _∷_, _++_}
 use Prim.Native.Nat.{ℕ}
 use Rattle.pcrl.specs.Tests.{Each, Every}
-use Rattle.pcrl.specs.Sheet.{Data, val, var, app, Datas, nil, cons, list-of, Sig, func}
+use Rattle.pcrl.specs.Sheet.{Data, val, var, app, Datas, nil, cons, list-of, Sig, function-at}
 use Rattle.pcrl.specs.Sorts.{Scope, HasSort, HaveSorts, Arguments}
 use Rattle.nodes.specs.Scoped.{ScopedData, ScopedArguments}
 use Rattle.nodes.specs.Nodes.{data-kids}
@@ -15,7 +15,7 @@ module _ (S : Sig) (Γ : Scope) where
     pub sort-fits : (d : Data) (D : ℕ) → HasSort S Γ d D → Fits S Γ d D × Inside S Γ d
     sort-fits (val v) D h = (h, tt)
     sort-fits (var i) D h = (h, tt)
-    sort-fits (app f ds) D h = let k = sorts-fit ds (func S f .takes) (h .1 .1) in ((h .0, h .1 .0), ((h .0, k .0), k .1))
+    sort-fits (app f ds) D h = let k = sorts-fit ds (function-at S f .takes) (h .1 .1) in ((h .0, h .1 .0), ((h .0, k .0), k .1))
 
     sorts-fit : (ds : Datas) (Ds : List ℕ) → HaveSorts S Γ ds Ds → Each (Fits S Γ) (list-of ds) Ds × InsideAll S Γ ds
     sorts-fit nil [] h = (tt, tt)
@@ -29,7 +29,7 @@ module _ (S : Sig) (Γ : Scope) where
     pub fits-sort : (d : Data) (D : ℕ) → Fits S Γ d D → Inside S Γ d → HasSort S Γ d D
     fits-sort (val v) D h i = h
     fits-sort (var x) D h i = h
-    fits-sort (app f ds) D h i = (h .0, (h .1, fit-sorts ds (func S f .takes) (i .0 .1) (i .1)))
+    fits-sort (app f ds) D h i = (h .0, (h .1, fit-sorts ds (function-at S f .takes) (i .0 .1) (i .1)))
 
     fit-sorts : (ds : Datas) (Ds : List ℕ) → Each (Fits S Γ) (list-of ds) Ds → InsideAll S Γ ds → HaveSorts S Γ ds Ds
     fit-sorts nil [] h i = tt

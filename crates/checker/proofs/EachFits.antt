@@ -10,8 +10,10 @@ use lib.Dec.{ltb, eqb}
 use lib.ListN.{length, drop, getD, drop-of-length-le, List·getD-eq-default}
 use lib.Seq.{drop-cons}
 use Rattle.pcrl.specs.Tests.{Each, Every}
-use Rattle.pcrl.specs.Sheet.{Data, val, var, app, Sig, size, func}
+use Rattle.pcrl.specs.Sheet.{Data, val, var, app, Func, Sig, size, func, function-at}
+use Rattle.pcrl.specs.Sorts.{Bool-sort, IsFunc}
 use Rattle.laws.specs.Each.{each-length}
+use Rattle.laws.specs.Operations.{written-function}
 use Rattle.laws.specs.Says.{Says, said-yes, said-no, says-as, says-both, says-lt, says-eq}
 use Rattle.nodes.specs.declared.Outline.{Outline}
 use Rattle.nodes.specs.declared.Datum.{Datum}
@@ -21,9 +23,11 @@ use Rattle.nodes.specs.Scoped.{ScopedData}
 use Rattle.nodes.specs.Held.{SortsAt, func-width}
 use Rattle.nodes.specs.Views.{DataViews, SkipsData}
 use Rattle.nodes.proofs.Data.{datas-inside}
+use Rattle.checker.specs.declared.operators.Operator.{Operator}
 use Rattle.checker.specs.Fits.{Fits}
 use Rattle.checker.specs.Known.{KnownSizes, Around}
-use Rattle.checker.specs.Sorts.{FitsAt, EachFitsAt}
+use Rattle.checker.specs.Sorts.{OperatorSays, FitsAt, EachFitsAt}
+use Rattle.checker.proofs.Operations.{written-there}
 
 -- ---- sizes
 pub size-inside : (S : Sig) (sizes : List ℕ) (m D : ℕ) → KnownSizes S sizes m → D < m → getD sizes D 0 ≡ size S D
@@ -58,22 +62,51 @@ module _ (cells scope sizes funcs : List ℕ) (n : Outline) (at sort : ℕ) wher
         says-as (eqb z sort) (λ h. q ∙ ap some h) (λ h. let y : some z ≡ some sort = sym q ∙ h in cc) (says-eq z sort)
     fits-variable t z hz w (app f es) ds rest sc e = absurd (omega (arith, vw (app f es) ds rest e .tag-is))
 
-    pub fits-none : (x .tag ≡ value-tag → ⊥) → (x .tag ≡ variable-tag → ⊥) → n .funcs ≤ x .number → FitsAt cells scope sizes funcs n at sort false
-    unfolding Fits data-tag data-number
-    fits-none a b h w (val v) ds rest sc e = absurd (a (vw (val v) ds rest e .tag-is))
-    fits-none a b h w (var i) ds rest sc e = absurd (b (vw (var i) ds rest e .tag-is))
-    fits-none a b h w (app f es) ds rest sc e = λ k. let z = k .0 in absurd (omega (arith, vw (app f es) ds rest e .number-is, w .known .func-count))
+    module _ (no-value : x .tag ≡ value-tag → ⊥) (no-variable : x .tag ≡ variable-tag → ⊥) where
+      pub fits-function : x .number < n .funcs → (z : ℕ) → z ≡ getD funcs (func-width * x .number + 3) 0 → FitsAt cells scope sizes funcs n at sort (eqb z sort)
+      unfolding Fits data-tag data-number
+      fits-function h z hz w (val v) ds rest sc e = absurd (no-value (vw (val v) ds rest e .tag-is))
+      fits-function h z hz w (var i) ds rest sc e = absurd (no-variable (vw (var i) ds rest e .tag-is))
+      fits-function h z hz w (app f es) ds rest sc e =
+          let o = vw (app f es) ds rest e in
+          let c = w .known .func-count in
+          let few = w .known .few-funcs in
+          let is : x .number ≡ f = o .number-is in
+          let g : func (w .sig) f ≡ function-at (w .sig) f = sym (written-function (w .sig) f (omega arith)) in
+          let q : z ≡ function-at (w .sig) f .gives =
+          hz ∙ w .known .gives-at (x .number) h ∙ ap (λ (k : ℕ). func (w .sig) k .gives) is ∙ ap (λ (k : Func). k .gives) g in
+          says-both (eqb z sort) (function-at (w .sig) f .gives ≡ sort) (written-there (w .sig) f (omega arith) (omega arith))
+          (subst (λ (k : ℕ). Says (eqb z sort) (k ≡ sort)) q (says-eq z sort))
 
-    pub fits-function : (x .tag ≡ value-tag → ⊥) → (x .tag ≡ variable-tag → ⊥) → x .number < n .funcs → (z : ℕ) → z ≡ getD funcs (func-width * x .number + 3) 0
-        → FitsAt cells scope sizes funcs n at sort (eqb z sort)
-    unfolding Fits data-tag data-number
-    fits-function a b h z hz w (val v) ds rest sc e = absurd (a (vw (val v) ds rest e .tag-is))
-    fits-function a b h z hz w (var i) ds rest sc e = absurd (b (vw (var i) ds rest e .tag-is))
-    fits-function a b h z hz w (app f es) ds rest sc e =
-        let o = vw (app f es) ds rest e in
-        let c = w .known .func-count in
-        let q : z ≡ func (w .sig) f .gives = hz ∙ w .known .gives-at (x .number) h ∙ ap (λ (k : ℕ). func (w .sig) k .gives) (o .number-is) in
-        says-both (eqb z sort) (func (w .sig) f .gives ≡ sort) (omega (arith, o .number-is)) (subst (λ (k : ℕ). Says (eqb z sort) (k ≡ sort)) q (says-eq z sort))
+      module _ (h : n .funcs ≤ x .number) (r : Operator) (operator : OperatorSays (x .number) (n .sorts) r) where
+        pub fits-none : r .there ≡ false → FitsAt cells scope sizes funcs n at sort false
+        unfolding Fits data-tag data-number
+        fits-none z w (val v) ds rest sc e = absurd (no-value (vw (val v) ds rest e .tag-is))
+        fits-none z w (var i) ds rest sc e = absurd (no-variable (vw (var i) ds rest e .tag-is))
+        fits-none z w (app f es) ds rest sc e = λ k.
+            let c = w .known .func-count in
+            said-no (r .there) (operator (w .sig) (w .known .sizes-are .sort-count) (omega arith) .is-there) z
+            (subst (IsFunc (w .sig)) (sym (vw (app f es) ds rest e .number-is)) (k .0))
+
+        pub fits-operator : r .there ≡ true → FitsAt cells scope sizes funcs n at sort (eqb sort Bool-sort)
+        unfolding Fits data-tag data-number
+        fits-operator z w (val v) ds rest sc e = absurd (no-value (vw (val v) ds rest e .tag-is))
+        fits-operator z w (var i) ds rest sc e = absurd (no-variable (vw (var i) ds rest e .tag-is))
+        fits-operator z w (app f es) ds rest sc e =
+            let c = w .known .func-count in
+            let o = operator (w .sig) (w .known .sizes-are .sort-count) (omega arith) in
+            let g = o .gives-Bool in
+            subst (λ (k : ℕ). Says (eqb sort Bool-sort) (IsFunc (w .sig) k × (function-at (w .sig) k .gives ≡ sort))) (vw (app f es) ds rest e .number-is)
+            (says-both (eqb sort Bool-sort) (function-at (w .sig) (x .number) .gives ≡ sort) (said-yes (r .there) (o .is-there) z)
+            (says-as (eqb sort Bool-sort) (λ k. g ∙ sym k) (λ k. sym k ∙ g) (says-eq sort Bool-sort)))
+
+-- the place after one term
+pub after-one : (cells : List ℕ) (p p′ : ℕ) → SkipsData cells p 1 p′ → (x : Data) (es : List Data) (rest : List ℕ)
+    → drop p cells ≡ enc-datas (x ∷ es) ++ rest → drop p′ cells ≡ enc-datas es ++ rest
+unfolding enc-datas
+after-one cells p p′ sk x es rest e =
+    sk (x ∷ []) (enc-datas es ++ rest) refl
+    (e ∙ append-assoc (enc-data x) (enc-datas es) rest ∙ ap (λ (m : List ℕ). m ++ (enc-datas es ++ rest)) (sym (append-nil (enc-data x))))
 
 -- ---- a row of sorts
 module _ (cells scope sizes funcs : List ℕ) (n : Outline) (at count : ℕ) (row : List ℕ) (start : ℕ) where
@@ -118,7 +151,7 @@ module _ (cells scope sizes funcs : List ℕ) (n : Outline) (at count : ℕ) (ro
               (subst (Each (Fits (w .sig) (w .vars)) (x ∷ es)) (next-sort Ds s inside sort is) f .0)
 
       pub each-step : r ≡ true → (p′ : ℕ) → SkipsData cells p 1 p′ → EachLeft p′ (i + 1)
-      unfolding Each Every enc-datas
+      unfolding Each Every
       each-step z p′ sk w ds Ds rest sc l s e = let v = left w ds Ds rest sc l s e in go (v .0) (v .1) (v .2) (v .3) (v .4) (v .5)
         where
           F : Data → ℕ → Type 0
@@ -134,7 +167,7 @@ module _ (cells scope sizes funcs : List ℕ) (n : Outline) (at count : ℕ) (ro
               let h = said-yes r (fit w x es rest (c .0) b) z in (
                 es,
                 omega arith,
-                sk (x ∷ []) (enc-datas es ++ rest) refl (b ∙ append-assoc (enc-data x) (enc-datas es) rest ∙ ap (λ (m : List ℕ). m ++ (enc-datas es ++ rest)) (sym (append-nil (enc-data x)))),
+                after-one cells p p′ sk x es rest b,
                 c .1,
                 λ k. f (subst (Each F (x ∷ es)) (sym q) (h, k)),
                 λ k. subst (Each F (x ∷ es)) q (g k) .1,

@@ -2,7 +2,10 @@ pub mod Sets
 pub mod Heads
 pub mod Rounds
 pub mod DataSorts
+pub mod Operations
 pub mod EachFits
+pub mod EveryFits
+pub mod Runs
 pub mod AllFit
 pub mod NodeSorts
 pub mod TermSorts

@@ -39,6 +39,7 @@ known-of H sizes funcs values places acts procs cells starts n h p = record {
   data-known = record {
     sizes-are = known-sizes (H .sig) sizes funcs values places acts n h;
     func-count = h .func-count;
+    few-funcs = h .few-funcs;
     takes-at = λ f l. h .func-at f l .takes;
     gives-at = λ f l. h .func-at f l .gives;
   };

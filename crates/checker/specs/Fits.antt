@@ -1,25 +1,25 @@
 -- The sort of a data term node by node: its first node fits the sort of its place, and in every node the arguments' first nodes fit theirs.
 -- So each node is checked by itself, and no walk keeps a stack of expected sorts.
 use mathlib.Core.Path.{_≡_}
+use mathlib.Core.List.{List, _++_}
 use mathlib.Core.Option.{some}
 use Prim.Native.Nat.{ℕ, _<_}
-use lib.ListN.{length}
-use Rattle.pcrl.specs.Tests.{Each}
-use Rattle.pcrl.specs.Sheet.{Data, val, var, app, Datas, nil, cons, list-of, Sig, size, func}
-use Rattle.pcrl.specs.Sorts.{Scope}
+use Rattle.pcrl.specs.Tests.{Each, Every}
+use Rattle.pcrl.specs.Sheet.{Data, val, var, app, Datas, nil, cons, list-of, Sig, size, function-at}
+use Rattle.pcrl.specs.Sorts.{Scope, Bool-sort, IsFunc}
 
 module _ (S : Sig) (Γ : Scope) where
   -- the first node has the sort D
   unfoldable pub Fits : Data → ℕ → Type 0
   Fits (val v) D = v < size S D
   Fits (var i) D = Γ i ≡ some D
-  Fits (app f ds) D = (f < length (S .funcs)) × (func S f .gives ≡ D)
+  Fits (app f ds) D = IsFunc S f × (function-at S f .gives ≡ D)
 
   -- the arguments of the first node fit
   unfoldable pub ArgumentsFit : Data → Type 0
   ArgumentsFit (val v) = Unit {0}
   ArgumentsFit (var i) = Unit {0}
-  ArgumentsFit (app f ds) = (f < length (S .funcs)) × Each Fits (list-of ds) (func S f .takes)
+  ArgumentsFit (app f ds) = IsFunc S f × Each Fits (list-of ds) (function-at S f .takes)
 
   -- the arguments of every node fit
   unfoldable mutual
@@ -31,3 +31,7 @@ module _ (S : Sig) (Γ : Scope) where
     pub InsideAll : Datas → Type 0
     InsideAll nil = Unit {0}
     InsideAll (cons d ds) = Inside d × InsideAll ds
+
+  -- data terms xs that fit Bool, before others ds
+  abbrev pub BoolsBefore : List Data → List Data → Type 0
+  BoolsBefore ds xs = Every (λ d. Fits d Bool-sort) xs × Every Inside (xs ++ ds)

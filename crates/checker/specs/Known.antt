@@ -2,8 +2,9 @@
 use mathlib.Core.Path.{_≡_}
 use mathlib.Core.List.{List}
 use mathlib.Core.Option.{some}
-use Prim.Native.Nat.{ℕ, _+_, _*_, _<_}
+use Prim.Native.Nat.{ℕ, _+_, _*_, _<_, _≤_}
 use lib.ListN.{length, getD}
+use Rattle.pcrl.specs.Limits.{max-functions}
 use Rattle.pcrl.specs.Sheet.{Sig, Sheet, no-action, no-process, func}
 use Rattle.pcrl.specs.Sorts.{Scope}
 use Rattle.nodes.specs.declared.Outline.{Outline}
@@ -18,6 +19,8 @@ pub record KnownSizes (S : Sig) (sizes : List ℕ) (m : ℕ) : Type 0 where
 pub record KnownData (S : Sig) (sizes funcs : List ℕ) (n : Outline) : Type 0 where
   pub sizes-are : KnownSizes S sizes (n .sorts)
   pub func-count : n .funcs ≡ length (S .funcs)
+  -- so that every number below is that of a written function
+  pub few-funcs : n .funcs ≤ max-functions
   pub takes-at : (f : ℕ) → f < n .funcs → SortsAt (func S f .takes) funcs (func-width * f)
   pub gives-at : (f : ℕ) → f < n .funcs → getD funcs (func-width * f + 3) 0 ≡ func S f .gives
 

@@ -1,27 +1,50 @@
 -- What the code of question 8 says, function by function: for every term whose cells stand at a place.
 use mathlib.Core.Path.{_≡_}
 use mathlib.Core.List.{List, _∷_, _++_}
-use mathlib.Core.Bool.{Bool}
+use mathlib.Core.Bool.{Bool, true}
 use Prim.Native.Nat.{ℕ, _+_, _<_, _≤_}
-use lib.ListN.{length, drop, getElem?, set}
+use lib.ListN.{length, drop, getElem?, set, replicate}
 use Rattle.pcrl.specs.Limits.{frame-width, max-arity}
 use Rattle.pcrl.specs.Tests.{Each, Every}
-use Rattle.pcrl.specs.Sheet.{Data, Act, Proc, delta, atom, alt, cond, sum, seq, call, Func, Sig, Process, Sheet, takes-of, params}
-use Rattle.pcrl.specs.Sorts.{Scope, Bool-sort, HasSort, Arguments, IsAct, Sorted, volume, Complete, RightlySorted}
+use Rattle.pcrl.specs.Sheet.{Data, Act, Proc, delta, atom, alt, cond, sum, seq, call, Func, Sig, Process, Sheet, function-at, takes-of, params}
+use Rattle.pcrl.specs.Sorts.{Scope, Bool-sort, IsFunc, HasSort, Arguments, IsAct, Sorted, volume, Complete, RightlySorted}
 use Rattle.laws.specs.Says.{Says}
 use Rattle.nodes.specs.declared.Outline.{Outline}
 use Rattle.nodes.specs.declared.Datum.{Datum}
 use Rattle.nodes.specs.declared.Node.{Node}
-use Rattle.nodes.specs.Layout.{enc-datas, Item, enc}
+use Rattle.nodes.specs.Layout.{function-tag, enc-datas, Item, enc}
 use Rattle.nodes.specs.Scoped.{max-scope, ScopedData, Scoped}
 use Rattle.nodes.specs.Held.{SortsAt, FuncAt, HeldSig, HeldProcs, Held}
 use Rattle.nodes.specs.Views.{OpenedData, Opened}
-use Rattle.checker.specs.Fits.{Fits, ArgumentsFit, Inside}
+use Rattle.checker.specs.declared.operators.Operator.{Operator}
+use Rattle.checker.specs.Fits.{Fits, ArgumentsFit, Inside, BoolsBefore}
 use Rattle.checker.specs.Known.{KnownSizes, KnownSheet, InScope, Around}
 
 -- where a row starts is below this: a row's number is at most a cell
 abbrev pub start-limit : ℕ
 start-limit = 1048576
+
+-- what function f is: is it there, how many data does it take, all of one sort? It gives Bool.
+pub record Operates (S : Sig) (f : ℕ) (r : Operator) : Type 0 where
+  pub is-there : Says (r .there) (IsFunc S f)
+  pub takes-are : function-at S f .takes ≡ replicate (r .count) (r .sort)
+  pub gives-Bool : function-at S f .gives ≡ Bool-sort
+
+-- a number that is no written function's, where there are m sorts
+abbrev pub OperatorSays : ℕ → ℕ → Operator → Type 0
+OperatorSays f m r = (S : Sig) → m ≡ length (S .sorts) → length (S .funcs) ≤ f → Operates S f r
+
+-- a node that takes r Bools, if any, has as many arguments
+abbrev pub TakesBools : Datum → ℕ → Type 0
+TakesBools d r =
+    0 < r → (d .tag ≡ function-tag) × (d .kids ≡ r) × ((S : Sig) → Operates S (d .number) (record { there = true; count = r; sort = Bool-sort }))
+
+-- Where count data terms stand at one place and k at another, and then the same ones: the first fit Bool if and only if the others do.
+abbrev pub BoolsAt : List ℕ → ℕ → ℕ → ℕ → ℕ → Type 0
+BoolsAt cells at count p k =
+    (S : Sig) (Γ : Scope) (m : ℕ) (xs ds : List Data) (rest : List ℕ) → Every (ScopedData m) xs → length xs ≡ count → drop at cells ≡ enc-datas (xs ++ ds) ++ rest
+    → (ys : List Data) × (length ys ≡ k) × (drop p cells ≡ enc-datas (ys ++ ds) ++ rest) × Every (ScopedData m) ys
+    × (BoolsBefore S Γ ds ys → BoolsBefore S Γ ds xs) × (BoolsBefore S Γ ds xs → BoolsBefore S Γ ds ys)
 
 module _ (cells scope sizes funcs : List ℕ) (n : Outline) where
   -- the first node of the data term at a place
@@ -35,6 +58,12 @@ module _ (cells scope sizes funcs : List ℕ) (n : Outline) where
   EachFitsAt at count row start r =
       (w : Around scope sizes funcs n) (ds : List Data) (Ds rest : List ℕ) → Every (ScopedData (w .level)) ds → length ds ≡ count → SortsAt Ds row start → drop at cells ≡ enc-datas ds ++ rest
       → Says r (Each (Fits (w .sig) (w .vars)) ds Ds)
+
+  -- the first nodes of data terms, against one sort
+  abbrev pub EveryFitsAt : ℕ → ℕ → ℕ → Bool → Type 0
+  EveryFitsAt at count sort r =
+      (w : Around scope sizes funcs n) (ds : List Data) (rest : List ℕ) → Every (ScopedData (w .level)) ds → length ds ≡ count → drop at cells ≡ enc-datas ds ++ rest
+      → Says r (Every (λ d. Fits (w .sig) (w .vars) d sort) ds)
 
   -- the arguments of one node
   abbrev pub ArgumentsFitAt : Datum → Bool → Type 0

@@ -1,11 +1,15 @@
 // Data terms and their sorts. A data term is rightly sorted where each of its nodes is: a node's own arguments are looked at
 // from the node, so no walk needs a stack.
 ghost use mathlib.Core.Path.{_≡_};
-ghost use Prim.Native.Nat.{_<_};
+ghost use Prim.Native.Nat.{_≤_, _<_};
 ghost use Rattle.pcrl.specs.Sheet.{Sig, size};
-ghost use Rattle.nodes.specs.Layout.{cell-limit, byte-limit};
+ghost use Rattle.nodes.specs.Layout.{cell-limit, byte-limit, function-tag};
 ghost use Rattle.checker.specs.Known.{KnownSizes};
-ghost use Rattle.checker.specs.Sorts.{start-limit, FitsAt, EachFitsAt, ArgumentsFitAt, AllFitAt, ArgumentsAt};
+ghost use Rattle.checker.specs.Sorts.{start-limit, FitsAt, EachFitsAt, EveryFitsAt, ArgumentsFitAt, AllFitAt, ArgumentsAt};
+use crate::operators::BOOL_SORT;
+use crate::operators::bools;
+use crate::operators::operator_of;
+use crate::operators::run_of;
 use nodes::Datum;
 use nodes::FUNC_ROW;
 use nodes::FUNCTION;
@@ -47,10 +51,14 @@ pub fn fits(
     if d.tag == VARIABLE {
         return cell(scope, d.number) == sort;
     }
-    if d.number >= n.funcs {
+    if d.number < n.funcs {
+        return byte(funcs, FUNC_ROW * d.number + 3) == sort;
+    }
+    let o = operator_of(d.number, n.sorts);
+    if !o.there {
         return false;
     }
-    byte(funcs, FUNC_ROW * d.number + 3) == sort
+    sort == BOOL_SORT
 }
 
 // Do as many data terms as a row has sorts fit these sorts, one by one?
@@ -84,6 +92,53 @@ pub fn each_fits(
     true
 }
 
+// Do data terms fit one sort, each of them?
+pub fn every_fits(
+    cells: &[u16],
+    at: usize,
+    count: usize,
+    sort: usize,
+    scope: &[u16],
+    sizes: &[u8],
+    funcs: &[u8],
+    n: Outline,
+) -> bool
+    ensures { λ r. ⌜ EveryFitsAt (now (cells .entry)) (now (scope .entry)) (now (sizes .entry)) (now (funcs .entry)) n at count sort r ⌝ }
+{
+    let mut p = at;
+    let mut need = count;
+    while need > 0 {
+        if !fits(cells, p, sort, scope, sizes, funcs, n) {
+            return false;
+        }
+        p = skip_data(cells, p, 1);
+        need -= 1;
+    }
+    true
+}
+
+// Do the arguments of a node fit whose function is not written?
+pub fn operator_fits(
+    cells: &[u16],
+    d: Datum,
+    scope: &[u16],
+    sizes: &[u8],
+    funcs: &[u8],
+    n: Outline,
+) -> bool
+    requires { ⌜ (d .tag ≡ function-tag) × (n .funcs ≤ d .number) ⌝ }
+    ensures { λ r. ⌜ ArgumentsFitAt (now (cells .entry)) (now (scope .entry)) (now (sizes .entry)) (now (funcs .entry)) n d r ⌝ }
+{
+    let o = operator_of(d.number, n.sorts);
+    if !o.there {
+        return false;
+    }
+    if d.kids != o.count {
+        return false;
+    }
+    every_fits(cells, d.next, d.kids, o.sort, scope, sizes, funcs, n)
+}
+
 // Do the arguments of one node of a data term fit?
 pub fn arguments_fit(
     cells: &[u16],
@@ -100,7 +155,7 @@ pub fn arguments_fit(
         return true;
     }
     if d.number >= n.funcs {
-        return false;
+        return operator_fits(cells, d, scope, sizes, funcs, n);
     }
     each_fits(
         cells,
@@ -138,6 +193,16 @@ pub fn all_fit(
             return false;
         }
         let d = data_at(cells, p);
+        let takes = bools(d);
+        if takes > 0 {
+            let r = run_of(cells, d.next, takes);
+            if !every_fits(cells, r.next, r.count, BOOL_SORT, scope, sizes, funcs, n) {
+                return false;
+            }
+            need = need - 1 + r.count;
+            p = r.next;
+            continue;
+        }
         if !arguments_fit(cells, d, scope, sizes, funcs, n) {
             return false;
         }

@@ -2,5 +2,6 @@
 pub mod arguments;
 pub mod circles;
 pub mod functions;
+pub mod operators;
 pub mod sorts;
 pub mod terms;

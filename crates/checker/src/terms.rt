@@ -9,6 +9,7 @@ ghost use Rattle.checker.specs.Sorts.{AtomSays, CallSays, CondSays, Node
 use crate::arguments::all_fit;
 use crate::arguments::arguments_right;
 use crate::arguments::fits;
+use crate::operators::BOOL_SORT;
 use nodes::ACT_ROW;
 use nodes::ATOM;
 use nodes::CALL;
@@ -19,8 +20,6 @@ use nodes::PROC_ROW;
 use nodes::SUM;
 use nodes::cell;
 use nodes::node_at;
-
-const BOOL_SORT: usize = 0;
 
 pub const SCOPE: usize = 32;
 

@@ -80,7 +80,7 @@ differ-no v w t e = go (same? v w) t
 -- the cells of the marks and words
 abbrev pub sign-cells : List ℕ
 sign-cells =
-    40 ∷ 41 ∷ 44 ∷ 59 ∷ 58 ∷ 35 ∷ 61 ∷ 43 ∷ 46 ∷ 128 ∷ 129 ∷ 130 ∷ 160 ∷ 161 ∷ 162 ∷ 163 ∷ 164 ∷ 165 ∷ 166 ∷ 167 ∷ []
+    40 ∷ 41 ∷ 44 ∷ 59 ∷ 58 ∷ 35 ∷ 61 ∷ 43 ∷ 46 ∷ 33 ∷ 128 ∷ 129 ∷ 130 ∷ 131 ∷ 132 ∷ 133 ∷ 160 ∷ 161 ∷ 162 ∷ 163 ∷ 164 ∷ 165 ∷ 166 ∷ 167 ∷ []
 
 -- no other cell below 256 is written like k
 abbrev only : ℕ → Bool

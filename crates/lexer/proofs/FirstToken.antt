@@ -1,5 +1,5 @@
 -- The token that bytes begin with, by the class of the first byte. What a class says of a byte is a test that antt computes over all bytes.
-use mathlib.Core.Path.{_≡_, refl, sym, ap, _∙_, subst}
+use mathlib.Core.Path.{_≡_, refl, sym, ap, _∙_, subst, subst⁻¹}
 use mathlib.Core.Logic.{⊎-elim}
 use mathlib.Core.Bool.{Bool, true, false}
 use mathlib.Core.List.{List, [], _∷_}
@@ -18,7 +18,7 @@ use Rattle.lexer.specs.Classes.{class-of, one-of, sign-cell}
 use Rattle.lexer.specs.Cells.{first-long-mark, long-marks, cell-token, Reads, Fits}
 use Rattle.lexer.proofs.Match.{all-from, from-all, or-no}
 use Rattle.lexer.proofs.Runs.{drop-at}
-use Rattle.lexer.proofs.Signs.{sign-cell-none, Found, Missing, look-up, unlike, lone, no-mark, lone-mark, pair-mark, no-pair-mark, no-pair-end}
+use Rattle.lexer.proofs.Signs.{sign-cell-none, starting, no-sign-starting, Found, Missing, look-up, unlike, lone, no-mark, lone-mark, pair-mark, no-pair-mark, no-pair-end}
 use Rattle.lexer.proofs.Cells.{cell-mark, cell-long-mark}
 use Rattle.lexer.proofs.Reading.{reads-none, reads-some}
 
@@ -104,36 +104,40 @@ module _ (s : List ℕ) (at : ℕ) (h : at < length s) (byte : getD s at 0 < 256
       reads-none s (first-token (getD s at 0) (drop (at + 1) s)) (record { cell = 0; len = 1 }) (f ∙ no-mark (getD s at 0) (drop (at + 1) s) marks t) refl
 
 -- ---- marks of two bytes
-pub no-pair : (a b : ℕ) → (a ≡ 45 → b ≡ 62 → ⊥) → (a ≡ 60 → b ≡ 124 → ⊥) → (a ≡ 124 → b ≡ 62 → ⊥) → 0 ≡ sign-cell first-long-mark long-marks (a ∷ b ∷ [])
+pub no-pair : (a b : ℕ) → (a ≡ 45 → b ≡ 62 → ⊥) → (a ≡ 60 → b ≡ 124 → ⊥) → (a ≡ 124 → b ≡ 62 → ⊥)
+    → (a ≡ 61 → b ≡ 61 → ⊥) → (a ≡ 47 → b ≡ 92 → ⊥) → (a ≡ 92 → b ≡ 47 → ⊥) → 0 ≡ sign-cell first-long-mark long-marks (a ∷ b ∷ [])
 unfolding long-marks Every
-no-pair a b n₁ n₂ n₃ = sym (sign-cell-none first-long-mark long-marks (a ∷ b ∷ []) (λ e. n₁ (first e) (next e), (λ e. n₂ (first e) (next e), (λ e. n₃ (first e) (next e), tt))))
+no-pair a b n₁ n₂ n₃ n₄ n₅ n₆ =
+    sym (sign-cell-none first-long-mark long-marks (a ∷ b ∷ []) (other n₁, (other n₂, (other n₃, (other n₄, (other n₅, (other n₆, tt)))))))
   where
-    first : {k j : ℕ} → a ∷ b ∷ [] ≡ k ∷ j ∷ [] → a ≡ k
-    first e = cc
+    other : {k j : ℕ} → (a ≡ k → b ≡ j → ⊥) → a ∷ b ∷ [] ≡ k ∷ j ∷ [] → ⊥
+    other n e = n (cc) (cc)
 
-    next : {k j : ℕ} → a ∷ b ∷ [] ≡ k ∷ j ∷ [] → b ≡ j
-    next e = cc
+-- one mark begins with k, and b is not its second byte
+pub no-pair-from : (a b k j : ℕ) → starting k long-marks ≡ (k ∷ j ∷ []) ∷ [] → a ≡ k → (b ≡ j → ⊥) → 0 ≡ sign-cell first-long-mark long-marks (a ∷ b ∷ [])
+unfolding Every
+no-pair-from a b k j q e n = no-sign-starting (a ∷ b ∷ []) k e first-long-mark long-marks (subst⁻¹ (Every (λ v. a ∷ b ∷ [] ≡ v → ⊥)) q (λ p. n (cc), tt))
 
 no-second : (a : ℕ) → sign-cell first-long-mark long-marks (a ∷ 0 ∷ []) ≡ 0
-no-second a = sym (no-pair a 0 (λ p q. omega arith) (λ p q. omega arith) (λ p q. omega arith))
+no-second a = sym (no-pair a 0 (λ p q. omega arith) (λ p q. omega arith) (λ p q. omega arith) (λ p q. omega arith) (λ p q. omega arith) (λ p q. omega arith))
 
-module _ (a : ℕ) (u : T (unlike a (drop 3 marks))) where
-  pair-missing : (l : List ℕ) → Missing first-long-mark long-marks (a ∷ getD l 0 0 ∷ []) → mark-of marks (a ∷ l) ≡ none
+-- the marks of one byte
+abbrev short-marks : List (List ℕ)
+short-marks = drop 6 marks
+
+module _ (a : ℕ) where
+  pair-missing : (l : List ℕ) → Missing first-long-mark long-marks (a ∷ getD l 0 0 ∷ []) → mark-of marks (a ∷ l) ≡ mark-of short-marks (a ∷ l)
   unfolding marks long-marks
-  pair-missing [] m = no-pair-end a long-marks (drop 3 marks) tt ∙ no-mark a [] (drop 3 marks) u
-  pair-missing (x ∷ l) m = no-pair-mark a x l long-marks (drop 3 marks) tt (m .unknown) ∙ no-mark a (x ∷ l) (drop 3 marks) u
+  pair-missing [] m = no-pair-end a long-marks short-marks tt
+  pair-missing (x ∷ l) m = no-pair-mark a x l long-marks short-marks tt (m .unknown)
 
   pair-found : (l : List ℕ) → Found first-long-mark long-marks (a ∷ getD l 0 0 ∷ []) → mark-of marks (a ∷ l) ≡ some (sign (a ∷ getD l 0 0 ∷ []), 2)
   unfolding marks long-marks
   pair-found [] f = absurd (let q = f .cell in let z = no-second a in omega arith)
-  pair-found (x ∷ l) f = pair-mark a x l long-marks (drop 3 marks) tt (f .known)
+  pair-found (x ∷ l) f = pair-mark a x l long-marks short-marks tt (f .known)
 
--- the marks of two bytes at a place where the first byte of one stands
-module _ (s : List ℕ) (at m : ℕ) (h : at < length s) (byte : getD s at 0 < 256) (e : class-of (getD s at 0) ≡ 6) (f : m ≡ sign-cell first-long-mark long-marks (getD s at 0 ∷ getD s (at + 1) 0 ∷ [])) where
-  others : T (unlike (getD s at 0) (drop 3 marks))
-  unfolding class-of marks
-  others = by-class 6 (λ b. unlike b (drop 3 marks)) tt (getD s at 0) byte e
-
+-- the marks of two bytes, and `=`, at a place where the first byte of one stands
+module _ (s : List ℕ) (at m : ℕ) (h : at < length s) (f : m ≡ sign-cell first-long-mark long-marks (getD s at 0 ∷ getD s (at + 1) 0 ∷ [])) where
   second : getD (drop (at + 1) s) 0 0 ≡ getD s (at + 1) 0
   second = getD-drop (at + 1) s 0 0 ∙ ap (λ (j : ℕ). getD s j 0) (add-zero (at + 1))
 
@@ -143,18 +147,35 @@ module _ (s : List ℕ) (at m : ℕ) (h : at < length s) (byte : getD s at 0 < 2
   at-place : (x : Option Lexeme) → mark-of marks (getD s at 0 ∷ drop (at + 1) s) ≡ x → mark-of marks (drop at s) ≡ x
   at-place x q = ap (mark-of marks) (drop-at s at h) ∙ q
 
-  pub reads-no-pair : m ≡ 0 → Reads s (mark-of marks (drop at s)) (record { cell = 0; len = 1 })
-  reads-no-pair z =
-      ⊎-elim (λ q. absurd (let c = q .cell in let i = cell-is in omega arith))
-      (λ q. reads-none s (mark-of marks (drop at s)) (record { cell = 0; len = 1 }) (at-place none (pair-missing (getD s at 0) others (drop (at + 1) s) q)) refl)
-      (look-up first-long-mark long-marks (getD s at 0 ∷ getD (drop (at + 1) s) 0 0 ∷ []))
+  module _ (z : m ≡ 0) where
+    one-byte : mark-of marks (drop at s) ≡ mark-of short-marks (getD s at 0 ∷ drop (at + 1) s)
+    one-byte =
+        ⊎-elim (λ q. absurd (let c = q .cell in let i = cell-is in omega arith))
+        (λ q. at-place _ (pair-missing (getD s at 0) (drop (at + 1) s) q))
+        (look-up first-long-mark long-marks (getD s at 0 ∷ getD (drop (at + 1) s) 0 0 ∷ []))
+
+    pub reads-no-pair : getD s at 0 < 256 → class-of (getD s at 0) ≡ 6 → (getD s at 0 ≡ 61 → ⊥) → Reads s (mark-of marks (drop at s)) (record { cell = 0; len = 1 })
+    unfolding class-of marks
+    reads-no-pair byte e n =
+        let other : T (unlike (getD s at 0) short-marks) = or-no (eqb (getD s at 0) 61) (unlike (getD s at 0) short-marks) (λ t. n (eqb→eq (getD s at 0) 61 t))
+        (by-class 6 (λ b. or (eqb b 61) (unlike b short-marks)) tt (getD s at 0) byte e) in
+        reads-none s (mark-of marks (drop at s)) (record { cell = 0; len = 1 }) (one-byte ∙ no-mark (getD s at 0) (drop (at + 1) s) short-marks other) refl
+
+    pub reads-equals : getD s at 0 ≡ 61 → Reads s (mark-of marks (drop at s)) (record { cell = 61; len = 1 })
+    unfolding marks
+    reads-equals q =
+        reads-some s (mark-of marks (drop at s)) (record { cell = 61; len = 1 }) (sign (61 ∷ [])) 1
+        (one-byte ∙ ap (λ (b : ℕ). mark-of short-marks (b ∷ drop (at + 1) s)) q ∙ lone-mark 61 (drop (at + 1) s) short-marks tt)
+        (λ i. omega arith)
+        (cell-mark s 61 (omega arith))
+        refl
 
   module _ (z : m ≡ 0 → ⊥) where
     reads-found : Found first-long-mark long-marks (getD s at 0 ∷ getD (drop (at + 1) s) 0 0 ∷ []) → Reads s (mark-of marks (drop at s)) (record { cell = m; len = 2 })
     unfolding long-marks
     reads-found q =
         reads-some s (mark-of marks (drop at s)) (record { cell = m; len = 2 }) (sign (getD s at 0 ∷ getD (drop (at + 1) s) 0 0 ∷ [])) 2
-        (at-place _ (pair-found (getD s at 0) others (drop (at + 1) s) q))
+        (at-place _ (pair-found (getD s at 0) (drop (at + 1) s) q))
         z
         (ap (cell-token s) (cell-is ∙ q .cell) ∙ cell-long-mark s (q .place) (omega (arith, q .inside)) ∙ ap sign (q .here))
         refl

@@ -105,8 +105,11 @@ module _ (w : List ℕ) (b : ℕ) (first : getD w 0 0 ≡ b) where
   starting-none [] h = tt
   starting-none (v ∷ vs) h = starting-step v vs (eqb b (getD v 0 0)) refl h (starting-none vs)
 
+  pub no-sign-starting : (c : ℕ) (vs : List (List ℕ)) → Every (λ v. w ≡ v → ⊥) (starting b vs) → 0 ≡ sign-cell c vs w
+  no-sign-starting c vs h = sym (sign-cell-none c vs w (starting-none vs h))
+
   pub no-word-starting : Every (λ v. w ≡ v → ⊥) (starting b words) → 0 ≡ sign-cell first-word words w
-  no-word-starting h = sym (sign-cell-none first-word words w (starting-none words h))
+  no-word-starting = no-sign-starting first-word words
 
 -- ---- the mark that bytes begin with
 mark-miss : (m : List ℕ) (ms : List (List ℕ)) (s : List ℕ) → (m ≡ take (length m) s → ⊥) → mark-of (m ∷ ms) s ≡ mark-of ms s

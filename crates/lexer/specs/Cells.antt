@@ -1,4 +1,4 @@
--- Tokens as cells, one number a token: a mark of one byte is its byte; -> <| |> are 128 to 130; the words 160 to 167;
+-- Tokens as cells, one number a token: a mark of one byte is its byte; -> <| |> == /\ \/ are 128 to 133; the words 160 to 167;
 -- a numeral is 256 + its value; a name is 1024 + the place of its first byte in the sheet.
 use mathlib.Core.Path.{_≡_}
 use mathlib.Core.Logic.{_≢_}
@@ -29,7 +29,7 @@ abbrev pub first-name : ℕ
 first-name = 1024
 
 unfoldable pub long-marks : List (List ℕ)
-long-marks = map bytes ("->" ∷ "<|" ∷ "|>" ∷ [])
+long-marks = map bytes ("->" ∷ "<|" ∷ "|>" ∷ "==" ∷ "/\\" ∷ "\\/" ∷ [])
 
 -- the mark or word of a cell below 256
 unfoldable pub written : ℕ → List ℕ

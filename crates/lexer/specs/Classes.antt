@@ -15,13 +15,13 @@ abbrev pub one-of : List ℕ → ℕ → Bool
 one-of [] b = false
 one-of (k ∷ ks) b = or (eqb b k) (one-of ks b)
 
--- a mark by itself
+-- a mark by itself, and the first byte of no longer one
 abbrev pub alone : ℕ → Bool
-alone = one-of (byte "(" ∷ byte ")" ∷ byte "," ∷ byte ";" ∷ byte ":" ∷ byte "#" ∷ byte "=" ∷ byte "+" ∷ byte "." ∷ [])
+alone = one-of (byte "(" ∷ byte ")" ∷ byte "," ∷ byte ";" ∷ byte ":" ∷ byte "#" ∷ byte "+" ∷ byte "." ∷ byte "!" ∷ [])
 
--- the first byte of a mark of two
+-- the first byte of a mark of two; `=` is a mark by itself too
 abbrev pub leads : ℕ → Bool
-leads = one-of (byte "-" ∷ byte "<" ∷ byte "|" ∷ [])
+leads = one-of (byte "-" ∷ byte "<" ∷ byte "|" ∷ byte "=" ∷ byte "/" ∷ byte "\\" ∷ [])
 
 -- the class by the first test that passes: 1 separator, 2 digit, 3 letter, 4 underscore, 5 a mark, 6 the first byte of a mark of two, 0 none of these
 abbrev pub class-by : Bool → Bool → Bool → Bool → Bool → Bool → ℕ

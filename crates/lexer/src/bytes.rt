@@ -23,7 +23,7 @@ pub const MARK: u8 = 5;
 
 pub const LEAD: u8 = 6;
 
-// The class of a byte, 0 for one that no token has; LEAD is the first byte of a mark of two.
+// The class of a byte, 0 for any other; LEAD is the first byte of a mark of two, of which `=` is a mark by itself too.
 pub fn class(b: u8) -> u8
     ensures { λ r. ⌜ r ≡ class-of b ⌝ }
 {
@@ -32,8 +32,8 @@ pub fn class(b: u8) -> u8
         b'0'..=b'9' => DIGIT,
         b'A'..=b'Z' | b'a'..=b'z' => LETTER,
         b'_' => UNDERSCORE,
-        b'(' | b')' | b',' | b';' | b':' | b'#' | b'=' | b'+' | b'.' => MARK,
-        b'-' | b'<' | b'|' => LEAD,
+        b'(' | b')' | b',' | b';' | b':' | b'#' | b'+' | b'.' | b'!' => MARK,
+        b'-' | b'<' | b'|' | b'=' | b'/' | b'\\' => LEAD,
         _ => 0,
     }
 }

@@ -21,6 +21,8 @@ const MAX_BYTES: usize = 4096;
 // Cells: 0 for no token, its byte for a mark of one byte.
 pub const NO_TOKEN: u16 = 0;
 
+pub const BANG: u16 = 33;
+
 pub const HASH: u16 = 35;
 
 pub const OPEN: u16 = 40;
@@ -39,12 +41,18 @@ pub const SEMICOLON: u16 = 59;
 
 pub const EQUALS: u16 = 61;
 
-// marks of two bytes: `->`, `<|`, `|>`
+// marks of two bytes: `->`, `<|`, `|>`, `==`, `/\`, `\/`
 pub const ARROW: u16 = 128;
 
 pub const IF: u16 = 129;
 
 pub const ELSE: u16 = 130;
+
+pub const SAME: u16 = 131;
+
+pub const AND: u16 = 132;
+
+pub const OR: u16 = 133;
 
 // words
 pub const SORT: u16 = 160;

@@ -1,24 +1,30 @@
 // One token, by the class of its first byte.
 ghost use mathlib.Core.Path.{_≡_};
+ghost use mathlib.Core.Logic.{_≢_};
 ghost use mathlib.Core.List.{List, [], _∷_};
 ghost use Prim.Native.Nat.{ℕ, _+_, _-_, _≤_, _<_};
 ghost use lib.ListN.{length, drop, getD};
+ghost use Rattle.pcrl.specs.Text.{byte};
 ghost use Rattle.pcrl.specs.Limits.{max-bytes};
 ghost use Rattle.pcrl.specs.Bytes as B;
 ghost use Rattle.pcrl.specs.Tokens as T;
 ghost use Rattle.lexer.specs.Classes.{class-of, Classed, sign-cell, capped};
 ghost use Rattle.lexer.specs.Cells.{first-word, first-long-mark, long-marks, Reads, Fits};
 use crate::ACT;
+use crate::AND;
 use crate::ARROW;
 use crate::DELTA;
 use crate::ELSE;
+use crate::EQUALS;
 use crate::FIRST_NAME;
 use crate::FIRST_NUMERAL;
 use crate::FUNC;
 use crate::IF;
 use crate::INIT;
 use crate::NO_TOKEN;
+use crate::OR;
 use crate::PROC;
+use crate::SAME;
 use crate::SORT;
 use crate::SUM;
 use crate::TAU;
@@ -144,25 +150,48 @@ fn numeral_at(classes: &[u8], s: &[u8], at: usize) -> Taken
     }
 }
 
-// The cell of the mark of two bytes, or 0.
+// The cell of the mark of two bytes that does not begin with `=`, or 0.
 fn long_mark(a: u8, b: u8) -> u16
+    requires { ⌜ a ≢ byte "=" ⌝ }
     ensures { λ r. ⌜ r ≡ sign-cell first-long-mark long-marks (a ∷ b ∷ []) ⌝ }
 {
     match a {
         b'-' => if b == b'>' { ARROW } else { NO_TOKEN },
         b'<' => if b == b'|' { IF } else { NO_TOKEN },
         b'|' => if b == b'>' { ELSE } else { NO_TOKEN },
+        b'/' => if b == b'\\' { AND } else { NO_TOKEN },
+        b'\\' => if b == b'/' { OR } else { NO_TOKEN },
         _ => NO_TOKEN,
     }
 }
 
-// The mark of two bytes at `at`, where its first byte stands.
+// `==` or `=` at `at`, where `=` stands: the only byte that begins a mark of two and is one by itself.
+fn equals_at(s: &[u8], at: usize) -> Taken
+    requires { ⌜ (at < length (now s)) × (getD (now s) at 0 ≡ byte "=") ⌝ }
+    ensures { λ r. ⌜ Fits (length (now (s .entry))) at r ⌝ }
+    ensures { λ r. ⌜ Reads (now (s .entry)) (T.mark-of T.marks (drop at (now (s .entry)))) r ⌝ }
+{
+    if byte_at(s, at + 1) == b'=' {
+        Taken { cell: SAME, len: 2 }
+    } else {
+        Taken {
+            cell: EQUALS,
+            len: 1,
+        }
+    }
+}
+
+// The mark at `at`, where the first byte of a mark of two stands.
 fn long_mark_at(s: &[u8], at: usize) -> Taken
     requires { ⌜ (at < length (now s)) × (class-of (getD (now s) at 0) ≡ 6) ⌝ }
     ensures { λ r. ⌜ Fits (length (now (s .entry))) at r ⌝ }
     ensures { λ r. ⌜ Reads (now (s .entry)) (T.mark-of T.marks (drop at (now (s .entry)))) r ⌝ }
 {
-    let m = long_mark(byte_at(s, at), byte_at(s, at + 1));
+    let a = byte_at(s, at);
+    if a == b'=' {
+        return equals_at(s, at);
+    }
+    let m = long_mark(a, byte_at(s, at + 1));
     if m == NO_TOKEN {
         Taken {
             cell: NO_TOKEN,

@@ -12,45 +12,55 @@ use Rattle.pcrl.specs.Bytes.{name-byte}
 use Rattle.pcrl.specs.Tokens.{name, numeral, sign, front}
 use Rattle.pcrl.specs.Tree.{Name}
 use Rattle.lexer.specs.Cells.{first-numeral, first-name, written, cell-token}
-use Rattle.parser.specs.Cells.{Symbol, tag, token, first-token, symbol-of}
+use Rattle.parser.specs.Cells.{Symbol, tag, token, ors, ands, first-token, first-ors, first-ands, symbol-of}
 use Rattle.names.specs.NameCells.{name-at}
 use Rattle.names.specs.Standing.{symbols}
 
--- a cell's symbol by its two tests
-abbrev by-tests : List ℕ → ℕ → Bool → Bool → Bool → Symbol
-by-tests s c t n m =
+-- what a cell is by the tests below the counts of operands
+abbrev or-operands : ℕ → Bool → Bool → Symbol → Symbol
+or-operands c o a x = elim o [ true ↦ x | false ↦ elim a [ true ↦ ors (c - first-ors) | false ↦ ands (c - first-ands) ] ]
+
+-- a cell's symbol by its tests
+abbrev by-tests : List ℕ → ℕ → Bool → Bool → Bool → Bool → Bool → Symbol
+by-tests s c t o a n m =
     elim t [
       | true ↦ tag c
-      | false ↦ token (elim n [ true ↦ sign (written c) | false ↦ elim m [ true ↦ numeral (c - first-numeral) | false ↦ name (front name-byte (drop (c - first-name) s)) ] ])
+      | false ↦ or-operands c o a (token (elim n [ true ↦ sign (written c) | false ↦ elim m [ true ↦ numeral (c - first-numeral) | false ↦ name (front name-byte (drop (c - first-name) s)) ] ]))
     ]
 
 pub tag-cell : (s : List ℕ) (c t : ℕ) → symbol-of s c ≡ tag t → c ≡ t
 unfolding symbol-of
-tag-cell s c t = go (ltb c first-token)
+tag-cell s c t = go (ltb c first-token) (ltb c first-ors) (ltb c first-ands)
   where
-    go : (b : Bool) → elim b [ true ↦ tag c | false ↦ token (cell-token s c) ] ≡ tag t → c ≡ t
-    go true e = cc
-    go false e = cc
+    go : (b o a : Bool) → elim b [ true ↦ tag c | false ↦ or-operands c o a (token (cell-token s c)) ] ≡ tag t → c ≡ t
+    go true o a e = cc
+    go false true a e = cc
+    go false false true e = cc
+    go false false false e = cc
 
 pub numeral-cell : (s : List ℕ) (c v : ℕ) → symbol-of s c ≡ token (numeral v) → c ≡ first-numeral + v
 unfolding symbol-of cell-token
-numeral-cell s c v = go (ltb c first-token) (ltb c first-numeral) (ltb c first-name) refl
+numeral-cell s c v = go (ltb c first-token) (ltb c first-ors) (ltb c first-ands) (ltb c first-numeral) (ltb c first-name) refl
   where
-    go : (t n m : Bool) → ltb c first-numeral ≡ n → by-tests s c t n m ≡ token (numeral v) → c ≡ first-numeral + v
-    go true n m h e = cc
-    go false true m h e = cc
-    go false false true h e = let z : c - first-numeral ≡ v = cc in let l = ltb-false c first-numeral h in omega arith
-    go false false false h e = cc
+    go : (t o a n m : Bool) → ltb c first-numeral ≡ n → by-tests s c t o a n m ≡ token (numeral v) → c ≡ first-numeral + v
+    go true o a n m h e = cc
+    go false true a true m h e = cc
+    go false true a false true h e = let z : c - first-numeral ≡ v = cc in let l = ltb-false c first-numeral h in omega arith
+    go false true a false false h e = cc
+    go false false true n m h e = cc
+    go false false false n m h e = cc
 
 pub name-of-cell : (s : List ℕ) (c : ℕ) (x : Name) → symbol-of s c ≡ token (name x) → name-at s c ≡ x
 unfolding symbol-of cell-token name-at
-name-of-cell s c x = go (ltb c first-token) (ltb c first-numeral) (ltb c first-name)
+name-of-cell s c x = go (ltb c first-token) (ltb c first-ors) (ltb c first-ands) (ltb c first-numeral) (ltb c first-name)
   where
-    go : (t n m : Bool) → by-tests s c t n m ≡ token (name x) → front name-byte (drop (c - first-name) s) ≡ x
-    go true n m e = cc
-    go false true m e = cc
-    go false false true e = cc
-    go false false false e = cc
+    go : (t o a n m : Bool) → by-tests s c t o a n m ≡ token (name x) → front name-byte (drop (c - first-name) s) ≡ x
+    go true o a n m e = cc
+    go false true a true m e = cc
+    go false true a false true e = cc
+    go false true a false false e = cc
+    go false false true n m e = cc
+    go false false false n m e = cc
 
 -- the symbol at the front is that of the cell there
 first-symbol : {A : Type 0} (f : ℕ → A) (cells : List ℕ) (p : ℕ) (x : A) (rest : List A) → drop p (map f cells) ≡ x ∷ rest

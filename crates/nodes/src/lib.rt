@@ -15,6 +15,15 @@ pub const VARIABLE: usize = 1;
 
 pub const FUNCTION: usize = 2;
 
+// The numbers of operators among those of functions, as in Sheet; `==` at the sort D is EQUAL + D.
+pub const NOT: usize = 32;
+
+pub const AND: usize = 34;
+
+pub const OR: usize = 35;
+
+pub const EQUAL: usize = 256;
+
 pub const DELTA: usize = 0;
 
 pub const SUM: usize = 1;

@@ -1,4 +1,4 @@
--- The readers of data terms, lists of data and calls: one law for each way through a reader.
+-- The readers of comparisons, negations, atoms, lists of data and calls: one law for each way through a reader.
 use mathlib.Core.Path.{_≡_, refl, sym, ap, _∙_, subst}
 use mathlib.Core.List.{List}
 use mathlib.Core.Option.{none, some}
@@ -7,59 +7,109 @@ use native.Mathlib.Omega.{arith}
 use lib.ListN.{length, getD}
 use Rattle.pcrl.specs.Reader.{found, bind}
 use Rattle.pcrl.specs.Tree.{Part}
-use Rattle.pcrl.specs.Grammar.{a-name, data-term, data-list, data-given}
-use Rattle.parser.specs.Cells.{symbol-of, enc-name, enc-data, enc-datas, enc-call, enc-part}
+use Rattle.pcrl.specs.Grammar.{a-name, data-term, comparison, negation, atom, data-list, data-given}
+use Rattle.parser.specs.Cells.{symbol-of, enc-name, enc-data, enc-comparison, enc-negation, enc-atom, enc-datas, enc-call, enc-part}
 use Rattle.parser.specs.Call.{call}
 use Rattle.parser.specs.Reading.{rest, left, Ahead, Put, Expected, Reads, took}
-use Rattle.parser.proofs.Signs.{open-sign, close-sign, comma-sign}
+use Rattle.parser.proofs.Signs.{bang-sign, open-sign, close-sign, comma-sign, same-sign}
 use Rattle.parser.proofs.Writing.{writes-cell, writes-then, writes-instead}
 use Rattle.parser.proofs.Reading.{live, on-next, on-other, bind-assoc, reads-bind, reads-next, reads-other, reads-expect}
-use Rattle.parser.proofs.Words.{symbol-name, symbol-numeral, reads-at-name, reads-at-no-name, reads-on-numeral, reads-past-numeral, reads-before-numeral}
+use Rattle.parser.proofs.Words.{symbol-numeral, writes-name, reads-at-name, reads-at-no-name, reads-on-numeral, reads-past-numeral, reads-before-numeral}
 
--- ---- a data term
+-- ---- a comparison
+module _ (s toks : List ℕ) (at : ℕ) {w w₁ at₂ w₂ : ℕ} {o o₁ o₂ : List ℕ} (p : Put o w 25 w₁ o₁) (a : Ahead (length toks) at at₂)
+    (h : (f : ℕ) → 5 * left toks at + 1 < f → Reads s toks enc-negation w₁ o₁ at₂ w₂ o₂ (negation f (rest s toks at))) where
+  pub comparison-alone : (getD toks at₂ 0 ≡ 131 → ⊥) → (f : ℕ) → 5 * left toks at + 2 < f → Reads s toks enc-comparison w o at₂ w₂ o₂ (comparison f (rest s toks at))
+  unfolding comparison enc-comparison symbol-of
+  comparison-alone n zero l = absurd (omega arith)
+  comparison-alone n (suc f) l = reads-bind _ (h f (omega arith)) (λ x. x) (λ c i u. reads-other same-sign at₂ _ _ n (took i (writes-then (writes-cell p refl) u)))
+
+  pub comparison-equal : getD toks at₂ 0 ≡ 131 → {w₃ at₄ w₄ : ℕ} {o₃ o₄ : List ℕ} → Put o₂ w 26 w₃ o₃
+      → ((f : ℕ) → 5 * left toks (at₂ + 1) + 1 < f → Reads s toks enc-negation w₂ o₃ at₄ w₄ o₄ (negation f (rest s toks (at₂ + 1))))
+      → (f : ℕ) → 5 * left toks at + 2 < f → Reads s toks enc-comparison w o at₄ w₄ o₄ (comparison f (rest s toks at))
+  unfolding comparison enc-comparison symbol-of
+  comparison-equal m q hs zero l = absurd (omega arith)
+  comparison-equal m q hs (suc f) l =
+      let v = live toks at₂ (omega arith) in
+      reads-bind _ (h f (omega arith)) (λ x. absurd (omega arith))
+      (λ c i u. reads-next same-sign at₂ _ _ m
+      (reads-bind _ (hs f (omega arith)) (λ x. x) (λ d j v. took j (writes-then (writes-instead (writes-then (writes-cell p refl) u) q refl) v))))
+
+-- ---- a negation
 module _ (s toks : List ℕ) (at : ℕ) {w : ℕ} {o : List ℕ} where
-  pub term-none : {end w′ : ℕ} {o′ : List ℕ} → getD toks at 0 < 256 → length toks < end → (f : ℕ) → 2 * left toks at < f → Reads s toks enc-data w o end w′ o′ (data-term f (rest s toks at))
-  unfolding data-term
-  term-none h l zero k = absurd (omega arith)
-  term-none h l (suc f) k = reads-before-numeral s toks at _ _ h (reads-at-no-name s toks at _ (omega arith) l)
+  pub negation-atom : (getD toks at 0 ≡ 33 → ⊥) → {at₂ w₂ : ℕ} {o₂ : List ℕ} → ((f : ℕ) → 5 * left toks at < f → Reads s toks enc-atom w o at₂ w₂ o₂ (atom f (rest s toks at)))
+      → (f : ℕ) → 5 * left toks at + 1 < f → Reads s toks enc-negation w o at₂ w₂ o₂ (negation f (rest s toks at))
+  unfolding negation enc-negation
+  negation-atom n h zero l = absurd (omega arith)
+  negation-atom n h (suc f) l = reads-other bang-sign at _ _ n (reads-bind _ (h f (omega arith)) (λ x. x) (λ a i u. took i u))
+
+  pub negation-not : getD toks at 0 ≡ 33 → {w₁ : ℕ} {o₁ : List ℕ} → Put o w 27 w₁ o₁ → {at₂ w₂ : ℕ} {o₂ : List ℕ}
+      → ((f : ℕ) → 5 * left toks (at + 1) + 1 < f → Reads s toks enc-negation w₁ o₁ at₂ w₂ o₂ (negation f (rest s toks (at + 1))))
+      → (f : ℕ) → 5 * left toks at + 1 < f → Reads s toks enc-negation w o at₂ w₂ o₂ (negation f (rest s toks at))
+  unfolding negation enc-negation symbol-of
+  negation-not m p h zero l = absurd (omega arith)
+  negation-not m p h (suc f) l =
+      let v = live toks at (omega arith) in
+      reads-next bang-sign at _ _ m (reads-bind _ (h f (omega arith)) (λ x. x) (λ a i u. took i (writes-then (writes-cell p refl) u)))
+
+-- ---- an atom
+module _ (s toks : List ℕ) (at : ℕ) {w : ℕ} {o : List ℕ} where
+  pub atom-nest : getD toks at 0 ≡ 40 → {w₁ at₂ w₂ e : ℕ} {o₁ o₂ : List ℕ} → Put o w 28 w₁ o₁ → Ahead (length toks) (at + 1) at₂
+      → ((f : ℕ) → 5 * left toks (at + 1) + 4 < f → Reads s toks enc-data w₁ o₁ at₂ w₂ o₂ (data-term f (rest s toks (at + 1))))
+      → Ahead (length toks) at₂ e → Expected toks at₂ 41 e → (f : ℕ) → 5 * left toks at < f → Reads s toks enc-atom w o e w₂ o₂ (atom f (rest s toks at))
+  unfolding atom enc-atom symbol-of
+  atom-nest m p a h b x zero k = absurd (omega arith)
+  atom-nest m {at₂ = at₂} p a h b x (suc f) k =
+      let l = live toks at (omega arith) in
+      reads-before-numeral s toks at _ _ (omega arith)
+      (reads-next open-sign at _ _ m
+      (reads-bind _ (h f (omega arith)) (λ l. omega arith)
+      (λ d i u. reads-expect close-sign at₂ x _ (λ l. l) (λ j. took j (writes-then (writes-cell p refl) u)))))
+
+  pub atom-none : (getD toks at 0 ≡ 40 → ⊥) → {end w′ : ℕ} {o′ : List ℕ} → getD toks at 0 < 256 → length toks < end → (f : ℕ) → 5 * left toks at < f → Reads s toks enc-atom w o end w′ o′ (atom f (rest s toks at))
+  unfolding atom
+  atom-none n h l zero k = absurd (omega arith)
+  atom-none n h l (suc f) k = reads-before-numeral s toks at _ _ h (reads-other open-sign at _ _ n (reads-at-no-name s toks at _ (omega arith) l))
 
   module _ {v w₁ w₂ : ℕ} {o₁ o₂ : List ℕ} (e : v ≡ getD toks at 0) (q : Put o₁ w₁ v w₂ o₂) where
-    pub term-value : Put o w 1 w₁ o₁ → 256 ≤ getD toks at 0 → getD toks at 0 < 1024 → (f : ℕ) → 2 * left toks at < f → Reads s toks enc-data w o (at + 1) w₂ o₂ (data-term f (rest s toks at))
-    unfolding data-term enc-data symbol-of
-    term-value p g h zero k = absurd (omega arith)
-    term-value p g h (suc f) k =
+    pub atom-value : Put o w 1 w₁ o₁ → 256 ≤ getD toks at 0 → getD toks at 0 < 1024 → (f : ℕ) → 5 * left toks at < f → Reads s toks enc-atom w o (at + 1) w₂ o₂ (atom f (rest s toks at))
+    unfolding atom enc-atom symbol-of
+    atom-value p g h zero k = absurd (omega arith)
+    atom-value p g h (suc f) k =
         let l = live toks at (omega arith) in
         reads-on-numeral s toks at _ _ g h
         (took (omega arith) (writes-then (writes-cell p refl) (writes-cell q (ap (symbol-of s) e ∙ symbol-numeral s (getD toks at 0) g h))))
 
     module _ (p : Put o w 2 w₁ o₁) (h : 1024 ≤ getD toks at 0) where
-      pub term-variable : (getD toks (at + 1) 0 ≡ 40 → ⊥) → (f : ℕ) → 2 * left toks at < f → Reads s toks enc-data w o (at + 1) w₂ o₂ (data-term f (rest s toks at))
-      unfolding data-term enc-data symbol-of
-      term-variable n zero k = absurd (omega arith)
-      term-variable n (suc f) k =
+      pub atom-variable : (getD toks (at + 1) 0 ≡ 40 → ⊥) → (f : ℕ) → 5 * left toks at < f → Reads s toks enc-atom w o (at + 1) w₂ o₂ (atom f (rest s toks at))
+      unfolding atom enc-atom symbol-of
+      atom-variable n zero k = absurd (omega arith)
+      atom-variable n (suc f) k =
           let l = live toks at (omega arith) in
           reads-past-numeral s toks at _ _ h
+          (reads-other open-sign at _ _ (λ x. omega arith)
           (reads-at-name s toks at _ h
-          (reads-other open-sign (at + 1) _ _ n (took (omega arith) (writes-then (writes-cell p refl) (writes-cell q (ap (symbol-of s) e ∙ symbol-name s (getD toks at 0) h))))))
+          (reads-other open-sign (at + 1) _ _ n (took (omega arith) (writes-then (writes-cell p refl) (writes-name at q e h))))))
 
-      pub term-apply : getD toks (at + 1) 0 ≡ 40 → {w₃ at₄ w₄ : ℕ} {o₃ o₄ : List ℕ} → Put o₂ w 3 w₃ o₃
-          → ((f : ℕ) → 2 * left toks (at + 1 + 1) + 1 < f → Reads s toks enc-datas w₂ o₃ at₄ w₄ o₄ (data-list f (rest s toks (at + 1 + 1))))
-          → (f : ℕ) → 2 * left toks at < f → Reads s toks enc-data w o at₄ w₄ o₄ (data-term f (rest s toks at))
-      unfolding data-term enc-data symbol-of
-      term-apply m {w₃} {at₄} {w₄} {o₃} {o₄} r hs zero k = absurd (omega arith)
-      term-apply m {w₃} {at₄} {w₄} {o₃} {o₄} r hs (suc f) k =
+      pub atom-apply : getD toks (at + 1) 0 ≡ 40 → {w₃ at₄ w₄ : ℕ} {o₃ o₄ : List ℕ} → Put o₂ w 3 w₃ o₃
+          → ((f : ℕ) → 5 * left toks (at + 1 + 1) + 5 < f → Reads s toks enc-datas w₂ o₃ at₄ w₄ o₄ (data-list f (rest s toks (at + 1 + 1))))
+          → (f : ℕ) → 5 * left toks at < f → Reads s toks enc-atom w o at₄ w₄ o₄ (atom f (rest s toks at))
+      unfolding atom enc-atom symbol-of
+      atom-apply m {w₃} {at₄} {w₄} {o₃} {o₄} r hs zero k = absurd (omega arith)
+      atom-apply m {w₃} {at₄} {w₄} {o₃} {o₄} r hs (suc f) k =
           let l = live toks (at + 1) (omega arith) in
           reads-past-numeral s toks at _ _ h
+          (reads-other open-sign at _ _ (λ x. omega arith)
           (reads-at-name s toks at _ h
           (reads-next open-sign (at + 1) _ _ m
           (reads-bind _ (hs f (omega arith)) (λ x. x)
-          (λ ds i u. took i (writes-then (writes-instead (writes-then (writes-cell p refl) (writes-cell q (ap (symbol-of s) e ∙ symbol-name s (getD toks at 0) h))) r refl) u)))))
+          (λ ds i u. took i (writes-then (writes-instead (writes-then (writes-cell p refl) (writes-name at q e h)) r refl) u))))))
 
 -- ---- bracketed data, behind the opening bracket
 module _ (s toks : List ℕ) (at : ℕ) {w w₁ at₂ w₂ : ℕ} {o o₁ o₂ : List ℕ} (p : Put o w 4 w₁ o₁) (a : Ahead (length toks) at at₂)
-    (h : (f : ℕ) → 2 * left toks at < f → Reads s toks enc-data w₁ o₁ at₂ w₂ o₂ (data-term f (rest s toks at))) where
+    (h : (f : ℕ) → 5 * left toks at + 4 < f → Reads s toks enc-data w₁ o₁ at₂ w₂ o₂ (data-term f (rest s toks at))) where
   pub list-one : (getD toks at₂ 0 ≡ 44 → ⊥) → {e : ℕ} → Ahead (length toks) at₂ e → Expected toks at₂ 41 e
-      → (f : ℕ) → 2 * left toks at + 1 < f → Reads s toks enc-datas w o e w₂ o₂ (data-list f (rest s toks at))
+      → (f : ℕ) → 5 * left toks at + 5 < f → Reads s toks enc-datas w o e w₂ o₂ (data-list f (rest s toks at))
   unfolding data-list enc-datas symbol-of
   list-one n b x zero k = absurd (omega arith)
   list-one n b x (suc f) k =
@@ -67,8 +117,8 @@ module _ (s toks : List ℕ) (at : ℕ) {w w₁ at₂ w₂ : ℕ} {o o₁ o₂ :
       (λ d i u. reads-other comma-sign at₂ _ _ n (reads-expect close-sign at₂ x _ (λ l. l) (λ j. took j (writes-then (writes-cell p refl) u))))
 
   pub list-more : getD toks at₂ 0 ≡ 44 → {w₃ at₄ w₄ : ℕ} {o₃ o₄ : List ℕ} → Put o₂ w 5 w₃ o₃
-      → ((f : ℕ) → 2 * left toks (at₂ + 1) + 1 < f → Reads s toks enc-datas w₂ o₃ at₄ w₄ o₄ (data-list f (rest s toks (at₂ + 1))))
-      → (f : ℕ) → 2 * left toks at + 1 < f → Reads s toks enc-datas w o at₄ w₄ o₄ (data-list f (rest s toks at))
+      → ((f : ℕ) → 5 * left toks (at₂ + 1) + 5 < f → Reads s toks enc-datas w₂ o₃ at₄ w₄ o₄ (data-list f (rest s toks (at₂ + 1))))
+      → (f : ℕ) → 5 * left toks at + 5 < f → Reads s toks enc-datas w o at₄ w₄ o₄ (data-list f (rest s toks at))
   unfolding data-list enc-datas symbol-of
   list-more m q hs zero k = absurd (omega arith)
   list-more m q hs (suc f) k =
@@ -96,8 +146,8 @@ module _ (s toks : List ℕ) (at : ℕ) {w w₁ at₂ w₂ : ℕ} {o o₁ o₂ :
       (λ x i u. subst (λ g. Reads s toks enc-part w o at₂ w₂ o₂ (bind g (λ ds us. found (Part.named x ds) us))) (sym (given-none s toks at₂ f n)) (took i (writes-then (writes-cell p refl) u)))
 
   pub call-given : getD toks at₂ 0 ≡ 40 → {w₃ at₄ w₄ : ℕ} {o₃ o₄ : List ℕ} → Put o₂ w 15 w₃ o₃
-      → ((f : ℕ) → 2 * left toks (at₂ + 1) + 1 < f → Reads s toks enc-datas w₂ o₃ at₄ w₄ o₄ (data-list f (rest s toks (at₂ + 1))))
-      → (f : ℕ) → 2 * left toks at < f → Reads s toks enc-part w o at₄ w₄ o₄ (call f (rest s toks at))
+      → ((f : ℕ) → 5 * left toks (at₂ + 1) + 5 < f → Reads s toks enc-datas w₂ o₃ at₄ w₄ o₄ (data-list f (rest s toks (at₂ + 1))))
+      → (f : ℕ) → 5 * left toks at < f → Reads s toks enc-part w o at₄ w₄ o₄ (call f (rest s toks at))
   unfolding bind enc-part enc-call symbol-of
   call-given m {w₃} {at₄} {w₄} {o₃} {o₄} q hs f k =
       let l = live toks at₂ (omega arith) in

@@ -12,9 +12,9 @@ use native.Mathlib.Decide.{ℕ-discrete, decLt}
 use Rattle.pcrl.specs.Text.{bytes}
 use Rattle.pcrl.specs.Tests.{and, same?}
 use Rattle.pcrl.specs.Tokens.{Token, sign, the, is?}
-use Rattle.pcrl.specs.Tree.{RawData, RawDatas}
-use Rattle.pcrl.specs.Grammar.{no-variable, no-variables, none-in}
-use Rattle.pcrl.specs.Print.{bracketed, print-data, print-datas, print-given}
+use Rattle.pcrl.specs.Tree.{RawData, Conjunction, Comparison, Negation, Atom, RawDatas}
+use Rattle.pcrl.specs.Grammar.{no-variable, none-in-conjunction, none-in-comparison, none-in-negation, none-in-atom, no-variables, none-in}
+use Rattle.pcrl.specs.Print.{bracketed, print-data, print-conjunction, print-comparison, print-negation, print-atom, print-datas, print-given}
 use Rattle.lexer.specs.Cells.{cell-token}
 use Rattle.parser.specs.Call.{opens, called, all-called}
 use Rattle.parser.specs.Reading.{rest}
@@ -34,31 +34,68 @@ bracket-opens : (ts : List Token) → opens (the "(" ∷ ts) ≡ true
 unfolding opens is? same? ℕ-discrete
 bracket-opens ts = refl
 
-comma-shuts : (ts : List Token) → opens (the "," ∷ ts) ≡ false
+-- a sign that opens nothing
+abbrev Shuts : List ℕ → Type 0
+Shuts w = (ts : List Token) → opens (sign w ∷ ts) ≡ false
+
+comma-shuts : Shuts (bytes ",")
 unfolding opens is? same? ℕ-discrete
 comma-shuts ts = refl
 
-bracket-shuts : (ts : List Token) → opens (the ")" ∷ ts) ≡ false
+bracket-shuts : Shuts (bytes ")")
 unfolding opens is? same? ℕ-discrete
 bracket-shuts ts = refl
+
+or-shuts : Shuts (bytes "\\/")
+unfolding opens is? same? ℕ-discrete
+or-shuts ts = refl
+
+and-shuts : Shuts (bytes "/\\")
+unfolding opens is? same? ℕ-discrete
+and-shuts ts = refl
+
+same-shuts : Shuts (bytes "==")
+unfolding opens is? same? ℕ-discrete
+same-shuts ts = refl
+
+-- two of which each is followed by a sign that opens nothing
+two-called : (x y : List Token) (p q : Bool) (v w : List ℕ) (r us : List Token)
+    → ((k : List Token) → all-called (x ++ (sign v ∷ k)) us ≡ and p (all-called k us)) → all-called (y ++ (sign w ∷ r)) us ≡ and q (all-called r us)
+    → all-called ((x ++ (sign v ∷ y)) ++ (sign w ∷ r)) us ≡ and (and p q) (all-called r us)
+two-called x y p q v w r us a b =
+    ap (λ ts. all-called ts us) (append-assoc x (sign v ∷ y) (sign w ∷ r)) ∙ a (y ++ (sign w ∷ r)) ∙ ap (and p) b ∙ sym (and-assoc p q (all-called r us))
 
 -- Data before a sign that opens nothing: a name in it lacks a bracket just where a variable stands.
 mutual
   unfolding all-called called print-data no-variable bracketed
 
-  data-called : (d : RawData) (w : List ℕ) (r us : List Token) → ((ts : List Token) → opens (sign w ∷ ts) ≡ false) → all-called (print-data d ++ (sign w ∷ r)) us ≡ and (no-variable d) (all-called r us)
-  data-called (RawData.value v) w r us e = refl
-  data-called (RawData.variable x) w r us e = ap (λ b. and b (all-called r us)) (e (r ++ us))
-  data-called (RawData.apply x ds) w r us e =
+  data-called : (d : RawData) (w : List ℕ) (r us : List Token) → Shuts w → all-called (print-data d ++ (sign w ∷ r)) us ≡ and (no-variable d) (all-called r us)
+  data-called (RawData.only c) w r us e = conjunction-called c w r us e
+  data-called (RawData.or c d) w r us e = two-called (print-conjunction c) (print-data d) (none-in-conjunction c) (no-variable d) (bytes "\\/") w r us (λ k. conjunction-called c (bytes "\\/") k us or-shuts) (data-called d w r us e)
+
+  conjunction-called : (c : Conjunction) (w : List ℕ) (r us : List Token) → Shuts w → all-called (print-conjunction c ++ (sign w ∷ r)) us ≡ and (none-in-conjunction c) (all-called r us)
+  conjunction-called (Conjunction.single c) w r us e = comparison-called c w r us e
+  conjunction-called (Conjunction.and c d) w r us e = two-called (print-comparison c) (print-conjunction d) (none-in-comparison c) (none-in-conjunction d) (bytes "/\\") w r us (λ k. comparison-called c (bytes "/\\") k us and-shuts) (conjunction-called d w r us e)
+
+  comparison-called : (c : Comparison) (w : List ℕ) (r us : List Token) → Shuts w → all-called (print-comparison c ++ (sign w ∷ r)) us ≡ and (none-in-comparison c) (all-called r us)
+  comparison-called (Comparison.plain a) w r us e = negation-called a w r us e
+  comparison-called (Comparison.equal a b) w r us e = two-called (print-negation a) (print-negation b) (none-in-negation a) (none-in-negation b) (bytes "==") w r us (λ k. negation-called a (bytes "==") k us same-shuts) (negation-called b w r us e)
+
+  negation-called : (a : Negation) (w : List ℕ) (r us : List Token) → Shuts w → all-called (print-negation a ++ (sign w ∷ r)) us ≡ and (none-in-negation a) (all-called r us)
+  negation-called (Negation.atom a) w r us e = atom-called a w r us e
+  negation-called (Negation.not a) w r us e = negation-called a w r us e
+
+  atom-called : (a : Atom) (w : List ℕ) (r us : List Token) → Shuts w → all-called (print-atom a ++ (sign w ∷ r)) us ≡ and (none-in-atom a) (all-called r us)
+  atom-called (Atom.value v) w r us e = refl
+  atom-called (Atom.variable x) w r us e = ap (λ b. and b (all-called r us)) (e (r ++ us))
+  atom-called (Atom.apply x ds) w r us e =
       ap (λ b. and b (all-called ((print-datas ds ++ (the ")" ∷ [])) ++ (sign w ∷ r)) us)) (bracket-opens (((print-datas ds ++ (the ")" ∷ [])) ++ (sign w ∷ r)) ++ us))
       ∙ ap (λ ts. all-called ts us) (append-assoc (print-datas ds) (the ")" ∷ []) (sign w ∷ r)) ∙ datas-called ds (bytes ")") (sign w ∷ r) us bracket-shuts
+  atom-called (Atom.group d) w r us e = ap (λ ts. all-called ts us) (append-assoc (print-data d) (the ")" ∷ []) (sign w ∷ r)) ∙ data-called d (bytes ")") (sign w ∷ r) us bracket-shuts
 
-  datas-called : (ds : RawDatas) (w : List ℕ) (r us : List Token) → ((ts : List Token) → opens (sign w ∷ ts) ≡ false) → all-called (print-datas ds ++ (sign w ∷ r)) us ≡ and (no-variables ds) (all-called r us)
+  datas-called : (ds : RawDatas) (w : List ℕ) (r us : List Token) → Shuts w → all-called (print-datas ds ++ (sign w ∷ r)) us ≡ and (no-variables ds) (all-called r us)
   datas-called (RawDatas.one d) w r us e = data-called d w r us e
-  datas-called (RawDatas.more d ds) w r us e =
-      ap (λ ts. all-called ts us) (append-assoc (print-data d) (the "," ∷ print-datas ds) (sign w ∷ r))
-      ∙ data-called d (bytes ",") (print-datas ds ++ (sign w ∷ r)) us comma-shuts
-      ∙ ap (and (no-variable d)) (datas-called ds w r us e) ∙ sym (and-assoc (no-variable d) (no-variables ds) (all-called r us))
+  datas-called (RawDatas.more d ds) w r us e = two-called (print-data d) (print-datas ds) (no-variable d) (no-variables ds) (bytes ",") w r us (λ k. data-called d (bytes ",") k us comma-shuts) (datas-called ds w r us e)
 
 -- Of the tokens behind a call's name
 pub given-called : (ds : Option RawDatas) (us : List Token) → all-called (print-given ds) us ≡ none-in ds

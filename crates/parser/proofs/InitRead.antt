@@ -28,7 +28,7 @@ init-of x ds = record { name = x; data-given = ds }
 -- what an answer says of the definition's reader
 Inverted : (s toks : List ℕ) {A : Type 0} (enc : A → List Symbol) (w : ℕ) (o : List ℕ) (at w′ : ℕ) (o′ : List ℕ) → Got Token A → Type 0
 Inverted s toks enc w o at w′ o′ missing = length toks < at
-Inverted s toks enc w o at w′ o′ (found a ts) = (at ≤ length toks) × (ts ≡ rest s toks at) × Writes s (enc a) w o w′ o′
+Inverted s toks enc w o at w′ o′ (found a ts) = (at ≤ length toks) × (ts ≡ rest s toks at) × Writes s toks (enc a) w o w′ o′
 
 inverted : {s toks : List ℕ} {A : Type 0} {enc : A → List Symbol} {w : ℕ} {o : List ℕ} {at w′ : ℕ} {o′ : List ℕ} {g : Got Token A} → Reads s toks enc w o at w′ o′ g → Inverted s toks enc w o at w′ o′ g
 unfolding Inverted
@@ -59,7 +59,7 @@ behind-name s toks at x us e = by (decLt at (length toks))
 -- a call was read and its tokens stand there, or none was
 data Seen (s toks : List ℕ) (at f w : ℕ) (o : List ℕ) (at′ w′ : ℕ) (o′ : List ℕ) : Type 0 where
   gone : length toks < at′ → init-line f (rest s toks at) ≡ missing → Seen s toks at f w o at′ w′ o′
-  got : (x : Name) (ds : Option RawDatas) → at′ ≤ length toks → Writes s (enc-call x ds) w o w′ o′ → rest s toks (at + 1) ≡ print-given ds ++ rest s toks at′
+  got : (x : Name) (ds : Option RawDatas) → at′ ≤ length toks → Writes s toks (enc-call x ds) w o w′ o′ → rest s toks (at + 1) ≡ print-given ds ++ rest s toks at′
       → (none-in ds ≡ true → init-line f (rest s toks at) ≡ found (init-of x ds) (rest s toks at′)) → (none-in ds ≡ false → init-line f (rest s toks at) ≡ missing)
       → Seen s toks at f w o at′ w′ o′
 
@@ -91,8 +91,8 @@ module _ (s toks : List ℕ) (at f w : ℕ) (o : List ℕ) (at′ w′ : ℕ) (o
 
 -- ---- what the reader of the init line answers
 module _ (s toks : List ℕ) (at : ℕ) {w w₁ at₂ w₂ : ℕ} {o o₁ o₂ : List ℕ} (p : Put o w 24 w₁ o₁)
-    (h : (f : ℕ) → 2 * left toks at < f → Reads s toks enc-part w₁ o₁ at₂ w₂ o₂ (call f (rest s toks at))) where
-  pub init-lost : length toks < at₂ → (f : ℕ) → 2 * length toks < f → Reads s toks enc-init w o at₂ w₂ o₂ (init-line f (rest s toks at))
+    (h : (f : ℕ) → 5 * left toks at < f → Reads s toks enc-part w₁ o₁ at₂ w₂ o₂ (call f (rest s toks at))) where
+  pub init-lost : length toks < at₂ → (f : ℕ) → 5 * length toks < f → Reads s toks enc-init w o at₂ w₂ o₂ (init-line f (rest s toks at))
   init-lost l f k = by (seen s toks at f w₁ o₁ at₂ w₂ o₂ (h f (omega arith)))
     where
       by : Seen s toks at f w₁ o₁ at₂ w₂ o₂ → Reads s toks enc-init w o at₂ w₂ o₂ (init-line f (rest s toks at))
@@ -100,7 +100,7 @@ module _ (s toks : List ℕ) (at : ℕ) {w w₁ at₂ w₂ : ℕ} {o o₁ o₂ :
       by (got x ds i u r y n) = absurd (omega arith)
 
   module _ (i₂ : at₂ ≤ length toks) {b : Bool} (c : (ts : List Token) → rest s toks (at + 1) ≡ ts ++ rest s toks at₂ → b ≡ all-called ts (rest s toks at₂)) where
-    pub init-read : b ≡ true → (f : ℕ) → 2 * length toks < f → Reads s toks enc-init w o at₂ w₂ o₂ (init-line f (rest s toks at))
+    pub init-read : b ≡ true → (f : ℕ) → 5 * length toks < f → Reads s toks enc-init w o at₂ w₂ o₂ (init-line f (rest s toks at))
     unfolding enc-init symbol-of
     init-read t f k = by (seen s toks at f w₁ o₁ at₂ w₂ o₂ (h f (omega arith)))
       where
@@ -109,7 +109,7 @@ module _ (s toks : List ℕ) (at : ℕ) {w w₁ at₂ w₂ : ℕ} {o o₁ o₂ :
         by (got x ds i u r y n) =
             subst (λ g. Reads s toks enc-init w o at₂ w₂ o₂ g) (sym (y (sym (given-called ds (rest s toks at₂)) ∙ sym (c (print-given ds) r) ∙ t))) (took i (writes-then (writes-cell p refl) u))
 
-    pub init-refused : b ≡ false → {end w′ : ℕ} {o′ : List ℕ} → length toks < end → (f : ℕ) → 2 * length toks < f → Reads s toks enc-init w o end w′ o′ (init-line f (rest s toks at))
+    pub init-refused : b ≡ false → {end w′ : ℕ} {o′ : List ℕ} → length toks < end → (f : ℕ) → 5 * length toks < f → Reads s toks enc-init w o end w′ o′ (init-line f (rest s toks at))
     init-refused t {end} {w′} {o′} l f k = by (seen s toks at f w₁ o₁ at₂ w₂ o₂ (h f (omega arith)))
       where
         by : Seen s toks at f w₁ o₁ at₂ w₂ o₂ → Reads s toks enc-init w o end w′ o′ (init-line f (rest s toks at))

@@ -3,6 +3,7 @@ mod Writing
 mod Reading
 mod Going
 mod Words
+mod Operands
 mod DataLaws
 mod ProcessLaws
 mod LineLaws

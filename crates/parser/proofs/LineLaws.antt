@@ -128,8 +128,8 @@ pub proc-read : (s toks : List ℕ) (at : ℕ) {w w₁ at₂ w₂ at₃ w₃ at�
     → Reads s toks enc-name w₁ o₁ at₂ w₂ o₂ (a-name (rest s toks at))
     → Onward (length toks) at₂ at₃ → (at₂ ≤ length toks → (f : ℕ) → left toks at₂ < f → Reads s toks (enc-items enc-param) w₂ o₂ at₃ w₃ o₃ (params f (rest s toks at₂)))
     → Ahead (length toks) at₃ at₄ → Expected toks at₃ 61 at₄
-    → Ahead (length toks) at₄ at₅ → ((f : ℕ) → 4 * left toks at₄ + 3 < f → Reads s toks enc-choice w₃ o₃ at₅ w₅ o₅ (choice f (rest s toks at₄)))
-    → (f : ℕ) → 4 * length toks + 3 < f → Reads s toks enc-proc w o at₅ w₅ o₅ (proc-line f (rest s toks at))
+    → Ahead (length toks) at₄ at₅ → ((f : ℕ) → 5 * left toks at₄ + 4 < f → Reads s toks enc-choice w₃ o₃ at₅ w₅ o₅ (choice f (rest s toks at₄)))
+    → (f : ℕ) → 5 * length toks + 4 < f → Reads s toks enc-proc w o at₅ w₅ o₅ (proc-line f (rest s toks at))
 unfolding proc-line enc-proc symbol-of
 proc-read s toks at {at₂ = at₂} {at₃ = at₃} p h₂ a₃ h₃ a₄ x₄ a₅ h₅ f l =
     reads-bind _ h₂ (λ l. omega arith)

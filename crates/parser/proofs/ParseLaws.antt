@@ -15,7 +15,7 @@ use Rattle.pcrl.specs.Print.{print-sheet}
 use Rattle.grammar.specs.Parsed.{print-sheet-of}
 use Rattle.lexer.specs.Cells.{cell-token}
 use Rattle.parser.specs.Cells.{enc-sheet}
-use Rattle.parser.specs.Reading.{rest, Writes}
+use Rattle.parser.specs.Reading.{rest, Few, Writes}
 use Rattle.parser.specs.Parses.{Tree, Parses}
 use Rattle.parser.specs.declared.Lines.{Lines}
 use Rattle.parser.specs.declared.Parsed.{Parsed}
@@ -27,17 +27,17 @@ use Rattle.parser.proofs.SheetLaws.{Settled, Sheeted, gone, full}
 abbrev tokens-of : List ℕ → List ℕ → List Token
 tokens-of s toks = map (cell-token s) toks
 
-module _ (s toks : List ℕ) (o : List ℕ) (L : Lines) (end w′ : ℕ) (o′ : List ℕ) (room : 3 * length toks ≤ length o) (big : length o < 65536) where
+module _ (s toks : List ℕ) (o : List ℕ) (L : Lines) (end w′ : ℕ) (o′ : List ℕ) (room : 3 * length toks ≤ length o) (big : length o < 65536) (few : Few toks) where
   abbrev answer : Parsed
   answer = record { ok = eqb end (length toks); used = w′; lines = L }
 
-  tree : (n : ℕ) (R : RawSheet) → end ≡ length toks → Writes s (enc-sheet R) 0 o w′ o′ → (length (enc-sheet R) ≤ length o → length o < 65536 → Settled R L) → sheet n (tokens-of s toks) ≡ found R [] → Tree s R answer o′
+  tree : (n : ℕ) (R : RawSheet) → end ≡ length toks → Writes s toks (enc-sheet R) 0 o w′ o′ → (Few toks → length (enc-sheet R) ≤ length o → length o < 65536 → Settled R L) → sheet n (tokens-of s toks) ≡ found R [] → Tree s R answer o′
   tree n R e u st q =
       let l = length-map toks (cell-token s) in
       let p : length (print-sheet R) ≡ length (tokens-of s toks) = ap length (print-sheet-of n (tokens-of s toks) R q .0) in
       let m = sheet-room R in
-      let y = u .with-room (omega arith) in
-      let z = st (omega arith) big in
+      let y = u .with-room few (omega arith) in
+      let z = st few (omega arith) big in
       let k = y .next in
       let v = y .same in
       record {
@@ -53,14 +53,14 @@ module _ (s toks : List ℕ) (o : List ℕ) (L : Lines) (end w′ : ℕ) (o′ :
       }
 
   -- THE PARSER ANSWERS AS `parse` DOES.
-  pub parses : Sheeted s toks o L end w′ o′ (sheet (4 * length (tokens-of s toks) + 4) (rest s toks 0)) → Parses (parse (tokens-of s toks)) s answer o′
+  pub parses : Sheeted s toks o L end w′ o′ (sheet (5 * length (tokens-of s toks) + 5) (rest s toks 0)) → Parses (parse (tokens-of s toks)) s answer o′
   unfolding parse Parses rest whole
-  parses h = by (sheet (4 * length (tokens-of s toks) + 4) (tokens-of s toks)) refl h
+  parses h = by (sheet (5 * length (tokens-of s toks) + 5) (tokens-of s toks)) refl h
     where
       n : ℕ
-      n = 4 * length (tokens-of s toks) + 4
+      n = 5 * length (tokens-of s toks) + 5
 
-      ended : (R : RawSheet) → end ≤ length toks → Writes s (enc-sheet R) 0 o w′ o′ → (length (enc-sheet R) ≤ length o → length o < 65536 → Settled R L) → sheet n (tokens-of s toks) ≡ found R (rest s toks end)
+      ended : (R : RawSheet) → end ≤ length toks → Writes s toks (enc-sheet R) 0 o w′ o′ → (Few toks → length (enc-sheet R) ≤ length o → length o < 65536 → Settled R L) → sheet n (tokens-of s toks) ≡ found R (rest s toks end)
           → Dec (end < length toks) → Parses (whole (found R (rest s toks end))) s answer o′
       ended R i u st q (yes l) = subst (λ ts. Parses (whole (found R ts)) s answer o′) (sym (rest-next s toks end l)) (ne-eqb end (length toks) (λ e. omega arith))
       ended R i u st q (no l) =

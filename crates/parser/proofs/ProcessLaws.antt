@@ -3,7 +3,7 @@ use mathlib.Core.Path.{_≡_, refl, subst}
 use mathlib.Core.List.{List}
 use Prim.Native.Nat.{ℕ, zero, suc, _+_, _*_, _<_}
 use native.Mathlib.Omega.{arith}
-use lib.ListN.{length, getD, List·getD-eq-default}
+use lib.ListN.{length, getD}
 use Rattle.pcrl.specs.Tokens.{Token}
 use Rattle.pcrl.specs.Reader.{Got, found, bind}
 use Rattle.pcrl.specs.Tree.{Name, Part}
@@ -14,19 +14,18 @@ use Rattle.parser.specs.Reading.{rest, left, Ahead, Put, Expected, Reads
 use Rattle.parser.proofs.Signs.{open-sign, close-sign, plus-sign, comma-sign, dot-sign, colon-sign, if-sign, else-sign, sum-sign, delta-sign, tau-sign}
 use Rattle.parser.proofs.Writing.{writes-cell, writes-then, writes-instead}
 use Rattle.parser.proofs.Reading.{live, bind-assoc, reads-bind, reads-next, reads-other, reads-expect}
-use Rattle.parser.proofs.Words.{reads-at-no-name}
 
 -- ---- a choice
 module _ (s toks : List ℕ) (at : ℕ) {w w₁ at₂ w₂ : ℕ} {o o₁ o₂ : List ℕ} (p : Put o w 6 w₁ o₁) (a : Ahead (length toks) at at₂)
-    (h : (f : ℕ) → 4 * left toks at + 2 < f → Reads s toks enc-conditional w₁ o₁ at₂ w₂ o₂ (conditional f (rest s toks at))) where
-  pub choice-only : (getD toks at₂ 0 ≡ 43 → ⊥) → (f : ℕ) → 4 * left toks at + 3 < f → Reads s toks enc-choice w o at₂ w₂ o₂ (choice f (rest s toks at))
+    (h : (f : ℕ) → 5 * left toks at + 3 < f → Reads s toks enc-conditional w₁ o₁ at₂ w₂ o₂ (conditional f (rest s toks at))) where
+  pub choice-only : (getD toks at₂ 0 ≡ 43 → ⊥) → (f : ℕ) → 5 * left toks at + 4 < f → Reads s toks enc-choice w o at₂ w₂ o₂ (choice f (rest s toks at))
   unfolding choice enc-choice symbol-of
   choice-only n zero l = absurd (omega arith)
   choice-only n (suc f) l = reads-bind _ (h f (omega arith)) (λ x. x) (λ c i u. reads-other plus-sign at₂ _ _ n (took i (writes-then (writes-cell p refl) u)))
 
   pub choice-plus : getD toks at₂ 0 ≡ 43 → {w₃ at₄ w₄ : ℕ} {o₃ o₄ : List ℕ} → Put o₂ w 7 w₃ o₃
-      → ((f : ℕ) → 4 * left toks (at₂ + 1) + 3 < f → Reads s toks enc-choice w₂ o₃ at₄ w₄ o₄ (choice f (rest s toks (at₂ + 1))))
-      → (f : ℕ) → 4 * left toks at + 3 < f → Reads s toks enc-choice w o at₄ w₄ o₄ (choice f (rest s toks at))
+      → ((f : ℕ) → 5 * left toks (at₂ + 1) + 4 < f → Reads s toks enc-choice w₂ o₃ at₄ w₄ o₄ (choice f (rest s toks (at₂ + 1))))
+      → (f : ℕ) → 5 * left toks at + 4 < f → Reads s toks enc-choice w o at₄ w₄ o₄ (choice f (rest s toks at))
   unfolding choice enc-choice symbol-of
   choice-plus m q hs zero l = absurd (omega arith)
   choice-plus m q hs (suc f) l =
@@ -37,17 +36,17 @@ module _ (s toks : List ℕ) (at : ℕ) {w w₁ at₂ w₂ : ℕ} {o o₁ o₂ :
 
 -- ---- a conditional
 module _ (s toks : List ℕ) (at : ℕ) {w w₁ at₂ w₂ : ℕ} {o o₁ o₂ : List ℕ} (p : Put o w 8 w₁ o₁) (a : Ahead (length toks) at at₂)
-    (h : (f : ℕ) → 4 * left toks at + 1 < f → Reads s toks enc-sequence w₁ o₁ at₂ w₂ o₂ (sequence f (rest s toks at))) where
-  pub conditional-plain : (getD toks at₂ 0 ≡ 129 → ⊥) → (f : ℕ) → 4 * left toks at + 2 < f → Reads s toks enc-conditional w o at₂ w₂ o₂ (conditional f (rest s toks at))
+    (h : (f : ℕ) → 5 * left toks at + 2 < f → Reads s toks enc-sequence w₁ o₁ at₂ w₂ o₂ (sequence f (rest s toks at))) where
+  pub conditional-plain : (getD toks at₂ 0 ≡ 129 → ⊥) → (f : ℕ) → 5 * left toks at + 3 < f → Reads s toks enc-conditional w o at₂ w₂ o₂ (conditional f (rest s toks at))
   unfolding conditional enc-conditional symbol-of
   conditional-plain n zero l = absurd (omega arith)
   conditional-plain n (suc f) l = reads-bind _ (h f (omega arith)) (λ x. x) (λ c i u. reads-other if-sign at₂ _ _ n (took i (writes-then (writes-cell p refl) u)))
 
   pub conditional-cond : getD toks at₂ 0 ≡ 129 → {w₃ at₄ w₄ at₅ at₆ w₆ : ℕ} {o₃ o₄ o₆ : List ℕ} → Put o₂ w 9 w₃ o₃
-      → Ahead (length toks) (at₂ + 1) at₄ → ((f : ℕ) → 2 * left toks (at₂ + 1) < f → Reads s toks enc-data w₂ o₃ at₄ w₄ o₄ (data-term f (rest s toks (at₂ + 1))))
+      → Ahead (length toks) (at₂ + 1) at₄ → ((f : ℕ) → 5 * left toks (at₂ + 1) + 4 < f → Reads s toks enc-data w₂ o₃ at₄ w₄ o₄ (data-term f (rest s toks (at₂ + 1))))
       → Ahead (length toks) at₄ at₅ → Expected toks at₄ 130 at₅
-      → Ahead (length toks) at₅ at₆ → ((f : ℕ) → 4 * left toks at₅ + 1 < f → Reads s toks enc-sequence w₄ o₄ at₆ w₆ o₆ (sequence f (rest s toks at₅)))
-      → (f : ℕ) → 4 * left toks at + 2 < f → Reads s toks enc-conditional w o at₆ w₆ o₆ (conditional f (rest s toks at))
+      → Ahead (length toks) at₅ at₆ → ((f : ℕ) → 5 * left toks at₅ + 2 < f → Reads s toks enc-sequence w₄ o₄ at₆ w₆ o₆ (sequence f (rest s toks at₅)))
+      → (f : ℕ) → 5 * left toks at + 3 < f → Reads s toks enc-conditional w o at₆ w₆ o₆ (conditional f (rest s toks at))
   unfolding conditional enc-conditional symbol-of
   conditional-cond m q a₄ hd a₅ x a₆ hs zero l = absurd (omega arith)
   conditional-cond m {w₃} {at₄} {w₄} {at₅} q a₄ hd a₅ x a₆ hs (suc f) l =
@@ -61,15 +60,15 @@ module _ (s toks : List ℕ) (at : ℕ) {w w₁ at₂ w₂ : ℕ} {o o₁ o₂ :
 
 -- ---- a sequence
 module _ (s toks : List ℕ) (at : ℕ) {w w₁ at₂ w₂ : ℕ} {o o₁ o₂ : List ℕ} (p : Put o w 10 w₁ o₁) (a : Ahead (length toks) at at₂)
-    (h : (f : ℕ) → 4 * left toks at < f → Reads s toks enc-part w₁ o₁ at₂ w₂ o₂ (part f (rest s toks at))) where
-  pub sequence-last : (getD toks at₂ 0 ≡ 46 → ⊥) → (f : ℕ) → 4 * left toks at + 1 < f → Reads s toks enc-sequence w o at₂ w₂ o₂ (sequence f (rest s toks at))
+    (h : (f : ℕ) → 5 * left toks at + 1 < f → Reads s toks enc-part w₁ o₁ at₂ w₂ o₂ (part f (rest s toks at))) where
+  pub sequence-last : (getD toks at₂ 0 ≡ 46 → ⊥) → (f : ℕ) → 5 * left toks at + 2 < f → Reads s toks enc-sequence w o at₂ w₂ o₂ (sequence f (rest s toks at))
   unfolding sequence enc-sequence symbol-of
   sequence-last n zero l = absurd (omega arith)
   sequence-last n (suc f) l = reads-bind _ (h f (omega arith)) (λ x. x) (λ c i u. reads-other dot-sign at₂ _ _ n (took i (writes-then (writes-cell p refl) u)))
 
   pub sequence-then : getD toks at₂ 0 ≡ 46 → {w₃ at₄ w₄ : ℕ} {o₃ o₄ : List ℕ} → Put o₂ w 11 w₃ o₃
-      → ((f : ℕ) → 4 * left toks (at₂ + 1) + 1 < f → Reads s toks enc-sequence w₂ o₃ at₄ w₄ o₄ (sequence f (rest s toks (at₂ + 1))))
-      → (f : ℕ) → 4 * left toks at + 1 < f → Reads s toks enc-sequence w o at₄ w₄ o₄ (sequence f (rest s toks at))
+      → ((f : ℕ) → 5 * left toks (at₂ + 1) + 2 < f → Reads s toks enc-sequence w₂ o₃ at₄ w₄ o₄ (sequence f (rest s toks (at₂ + 1))))
+      → (f : ℕ) → 5 * left toks at + 2 < f → Reads s toks enc-sequence w o at₄ w₄ o₄ (sequence f (rest s toks at))
   unfolding sequence enc-sequence symbol-of
   sequence-then m q hs zero l = absurd (omega arith)
   sequence-then m q hs (suc f) l =
@@ -97,13 +96,13 @@ head-read s toks at {at₁ = at₁} {at₂ = at₂} {at₃ = at₃} {at₄ = at�
     (λ k. reads-bind _ h₄ (λ l. omega arith) (λ D m z. reads-expect comma-sign at₄ x₅ _ (λ l. l) (λ n. took n (writes-then u z))))))
 
 module _ (s toks : List ℕ) (at : ℕ) {w : ℕ} {o : List ℕ} where
-  pub part-delta : {w₁ : ℕ} {o₁ : List ℕ} → Put o w 12 w₁ o₁ → getD toks at 0 ≡ 166 → (f : ℕ) → 4 * left toks at < f → Reads s toks enc-part w o (at + 1) w₁ o₁ (part f (rest s toks at))
+  pub part-delta : {w₁ : ℕ} {o₁ : List ℕ} → Put o w 12 w₁ o₁ → getD toks at 0 ≡ 166 → (f : ℕ) → 5 * left toks at + 1 < f → Reads s toks enc-part w o (at + 1) w₁ o₁ (part f (rest s toks at))
   unfolding part enc-part symbol-of
   part-delta p m zero l = absurd (omega arith)
   part-delta p m (suc f) l = let v = live toks at (omega arith) in reads-next delta-sign at _ _ m (took (omega arith) (writes-cell p refl))
 
   module _ (n₁ : getD toks at 0 ≡ 166 → ⊥) where
-    pub part-tau : {w₁ : ℕ} {o₁ : List ℕ} → Put o w 13 w₁ o₁ → getD toks at 0 ≡ 167 → (f : ℕ) → 4 * left toks at < f → Reads s toks enc-part w o (at + 1) w₁ o₁ (part f (rest s toks at))
+    pub part-tau : {w₁ : ℕ} {o₁ : List ℕ} → Put o w 13 w₁ o₁ → getD toks at 0 ≡ 167 → (f : ℕ) → 5 * left toks at + 1 < f → Reads s toks enc-part w o (at + 1) w₁ o₁ (part f (rest s toks at))
     unfolding part enc-part symbol-of
     part-tau p m zero l = absurd (omega arith)
     part-tau p m (suc f) l = let v = live toks at (omega arith) in reads-other delta-sign at _ _ n₁ (reads-next tau-sign at _ _ m (took (omega arith) (writes-cell p refl)))
@@ -111,9 +110,9 @@ module _ (s toks : List ℕ) (at : ℕ) {w : ℕ} {o : List ℕ} where
     module _ (n₂ : getD toks at 0 ≡ 167 → ⊥) where
       pub part-sum : {w₁ at₂ w₂ at₃ w₃ at₄ : ℕ} {o₁ o₂ o₃ : List ℕ} → Put o w 16 w₁ o₁ → getD toks at 0 ≡ 165
           → Ahead (length toks) (at + 1) at₂ → Reads s toks enc-param w₁ o₁ at₂ w₂ o₂ (sum-head (rest s toks (at + 1)))
-          → Ahead (length toks) at₂ at₃ → ((f : ℕ) → 4 * left toks at₂ + 3 < f → Reads s toks enc-choice w₂ o₂ at₃ w₃ o₃ (choice f (rest s toks at₂)))
+          → Ahead (length toks) at₂ at₃ → ((f : ℕ) → 5 * left toks at₂ + 4 < f → Reads s toks enc-choice w₂ o₂ at₃ w₃ o₃ (choice f (rest s toks at₂)))
           → Ahead (length toks) at₃ at₄ → Expected toks at₃ 41 at₄
-          → (f : ℕ) → 4 * left toks at < f → Reads s toks enc-part w o at₄ w₃ o₃ (part f (rest s toks at))
+          → (f : ℕ) → 5 * left toks at + 1 < f → Reads s toks enc-part w o at₄ w₃ o₃ (part f (rest s toks at))
       unfolding part enc-part symbol-of
       part-sum p m a₂ h a₃ hs a₄ x zero l = absurd (omega arith)
       part-sum {w₁} {at₂} {w₂} {at₃} {w₃} {at₄} {o₁} {o₂} {o₃} p m a₂ h a₃ hs a₄ x (suc f) l =
@@ -129,9 +128,9 @@ module _ (s toks : List ℕ) (at : ℕ) {w : ℕ} {o : List ℕ} where
 
       module _ (n₃ : getD toks at 0 ≡ 165 → ⊥) where
         pub part-group : {w₁ at₂ w₂ at₃ : ℕ} {o₁ o₂ : List ℕ} → Put o w 17 w₁ o₁ → getD toks at 0 ≡ 40
-            → Ahead (length toks) (at + 1) at₂ → ((f : ℕ) → 4 * left toks (at + 1) + 3 < f → Reads s toks enc-choice w₁ o₁ at₂ w₂ o₂ (choice f (rest s toks (at + 1))))
+            → Ahead (length toks) (at + 1) at₂ → ((f : ℕ) → 5 * left toks (at + 1) + 4 < f → Reads s toks enc-choice w₁ o₁ at₂ w₂ o₂ (choice f (rest s toks (at + 1))))
             → Ahead (length toks) at₂ at₃ → Expected toks at₂ 41 at₃
-            → (f : ℕ) → 4 * left toks at < f → Reads s toks enc-part w o at₃ w₂ o₂ (part f (rest s toks at))
+            → (f : ℕ) → 5 * left toks at + 1 < f → Reads s toks enc-part w o at₃ w₂ o₂ (part f (rest s toks at))
         unfolding part enc-part symbol-of
         part-group p m a₂ hs a₃ x zero l = absurd (omega arith)
         part-group {at₂ = at₂} p m a₂ hs a₃ x (suc f) l =
@@ -143,12 +142,8 @@ module _ (s toks : List ℕ) (at : ℕ) {w : ℕ} {o : List ℕ} where
             (reads-bind _ (hs f (omega arith)) (λ l. omega arith)
             (λ q j z. reads-expect close-sign at₂ x _ (λ l. l) (λ k. took k (writes-then (writes-cell p refl) z)))))))
 
-        pub part-named : (getD toks at 0 ≡ 40 → ⊥) → {at₂ w₂ : ℕ} {o₂ : List ℕ} → ((f : ℕ) → 2 * left toks at < f → Reads s toks enc-part w o at₂ w₂ o₂ (call f (rest s toks at)))
-            → Ahead (length toks) at at₂ → (f : ℕ) → 4 * left toks at < f → Reads s toks enc-part w o at₂ w₂ o₂ (part f (rest s toks at))
+        pub part-named : (getD toks at 0 ≡ 40 → ⊥) → {at₂ w₂ : ℕ} {o₂ : List ℕ} → ((f : ℕ) → 5 * left toks at < f → Reads s toks enc-part w o at₂ w₂ o₂ (call f (rest s toks at)))
+            → (f : ℕ) → 5 * left toks at + 1 < f → Reads s toks enc-part w o at₂ w₂ o₂ (part f (rest s toks at))
         unfolding part
-        part-named n₄ h a zero l = absurd (omega arith)
-        part-named n₄ h a (suc zero) l =
-            let z = List·getD-eq-default toks 0 {n = at} (omega arith) in
-            reads-other delta-sign at _ _ n₁ (reads-other tau-sign at _ _ n₂ (reads-other sum-sign at _ _ n₃ (reads-other open-sign at _ _ n₄ (reads-at-no-name s toks at _ (omega arith) (omega arith)))))
-        part-named n₄ h a (suc (suc f)) l =
-            reads-other delta-sign at _ _ n₁ (reads-other tau-sign at _ _ n₂ (reads-other sum-sign at _ _ n₃ (reads-other open-sign at _ _ n₄ (h (suc f) (omega arith)))))
+        part-named n₄ h zero l = absurd (omega arith)
+        part-named n₄ h (suc f) l = reads-other delta-sign at _ _ n₁ (reads-other tau-sign at _ _ n₂ (reads-other sum-sign at _ _ n₃ (reads-other open-sign at _ _ n₄ (h f (omega arith)))))

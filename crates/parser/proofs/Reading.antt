@@ -79,7 +79,7 @@ bind-assoc (found a ts) k l = refl
 -- any claim on what is read: one reader, and then another
 module _ (s toks : List ℕ) {B : Type 0} (G : Got Token B → Type 0) where
   pub then-reads : {A : Type 0} {encA : A → List Symbol} {P : Got Token A} (k : A → List Token → Got Token B) {w : ℕ} {o : List ℕ} {at w₁ : ℕ} {o₁ : List ℕ}
-      → Reads s toks encA w o at w₁ o₁ P → (length toks < at → G missing) → ((a : A) → at ≤ length toks → Writes s (encA a) w o w₁ o₁ → G (k a (rest s toks at))) → G (bind P k)
+      → Reads s toks encA w o at w₁ o₁ P → (length toks < at → G missing) → ((a : A) → at ≤ length toks → Writes s toks (encA a) w o w₁ o₁ → G (k a (rest s toks at))) → G (bind P k)
   unfolding bind
   then-reads k (lost l) f g = f l
   then-reads k (took {a} i u) f g = g a i u
@@ -98,7 +98,7 @@ module _ {s toks : List ℕ} {B : Type 0} {enc : B → List Symbol} {w₀ : ℕ}
   -- one reader, and then another
   pub reads-bind : {A : Type 0} {encA : A → List Symbol} {P : Got Token A} (k : A → List Token → Got Token B) {w : ℕ} {o : List ℕ} {at w₁ : ℕ} {o₁ : List ℕ}
       → Reads s toks encA w o at w₁ o₁ P → (length toks < at → length toks < end)
-      → ((a : A) → at ≤ length toks → Writes s (encA a) w o w₁ o₁ → Reads s toks enc w₀ o₀ end w′ o′ (k a (rest s toks at))) → Reads s toks enc w₀ o₀ end w′ o′ (bind P k)
+      → ((a : A) → at ≤ length toks → Writes s toks (encA a) w o w₁ o₁ → Reads s toks enc w₀ o₀ end w′ o′ (k a (rest s toks at))) → Reads s toks enc w₀ o₀ end w′ o′ (bind P k)
   reads-bind k h f g = then-reads s toks (λ x. Reads s toks enc w₀ o₀ end w′ o′ x) k h (λ l. lost (f l)) g
 
   -- a sign stands next

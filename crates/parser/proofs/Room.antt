@@ -7,21 +7,38 @@ use native.Mathlib.Omega.{arith}
 use lib.ListN.{length, length-append}
 use Rattle.pcrl.specs.Tokens.{Token, name, numeral, the}
 use Rattle.pcrl.specs.Reader.{all}
-use Rattle.pcrl.specs.Tree.{Name, RawData, RawDatas, Choice, Conditional, Sequence, Part, SortLine, FuncLine, ActLine, ProcLine, InitLine, RawSheet}
-use Rattle.pcrl.specs.Print.{bracketed, joined, print-data, print-datas, print-given, print-choice, print-conditional, print-sequence, print-part, line, print-lines, print-sorts, print-values, print-sort, print-func, print-takes, print-act, print-param, print-params, print-proc, print-init, print-sheet}
-use Rattle.parser.specs.Cells.{Symbol, enc-name, enc-numeral, enc-param, enc-data, enc-datas, enc-call, enc-choice, enc-conditional, enc-sequence, enc-part, enc-items, enc-sort, enc-func, enc-act, enc-proc, enc-init, enc-sheet}
+use Rattle.pcrl.specs.Tree.{Name, RawData, Conjunction, Comparison, Negation, Atom, RawDatas, Choice, Conditional, Sequence, Part, SortLine, FuncLine, ActLine, ProcLine, InitLine, RawSheet}
+use Rattle.pcrl.specs.Print.{bracketed, joined, print-data, print-conjunction, print-comparison, print-negation, print-atom, print-datas, print-given, print-choice, print-conditional, print-sequence, print-part, line, print-lines, print-sorts, print-values, print-sort, print-func, print-takes, print-act, print-param, print-params, print-proc, print-init, print-sheet}
+use Rattle.parser.specs.Cells.{Symbol, enc-name, enc-numeral, enc-param, enc-data, enc-conjunction, enc-ors, enc-ands, enc-comparison, enc-negation, enc-atom, enc-datas, enc-call, enc-choice, enc-conditional, enc-sequence, enc-part, enc-items, enc-sort, enc-func, enc-act, enc-proc, enc-init, enc-sheet}
 
 mutual
-  unfolding enc-data print-data bracketed
+  unfolding enc-ors print-data bracketed
 
-  data-room : (d : RawData) → length (enc-data d) + 1 ≤ 3 * length (print-data d)
-  data-room (RawData.value v) = omega arith
-  data-room (RawData.variable x) = omega arith
-  data-room (RawData.apply x ds) = omega (arith, datas-room ds, length-append (print-datas ds) (the ")" ∷ []))
+  ors-room : (d : RawData) → length (enc-ors d) ≤ 3 * length (print-data d) + 1
+  ors-room (RawData.only c) = omega (arith, ands-room c)
+  ors-room (RawData.or c d) = omega (arith, ands-room c, ors-room d, length-append (enc-conjunction c) (enc-ors d), length-append (print-conjunction c) (the "\\/" ∷ print-data d))
 
-  datas-room : (ds : RawDatas) → length (enc-datas ds) ≤ 3 * length (print-datas ds)
-  datas-room (RawDatas.one d) = omega (arith, data-room d)
-  datas-room (RawDatas.more d ds) = omega (arith, data-room d, datas-room ds, length-append (enc-data d) (enc-datas ds), length-append (print-data d) (the "," ∷ print-datas ds))
+  ands-room : (c : Conjunction) → length (enc-ands c) ≤ 3 * length (print-conjunction c)
+  ands-room (Conjunction.single c) = comparison-room c
+  ands-room (Conjunction.and c d) = omega (arith, comparison-room c, ands-room d, length-append (enc-comparison c) (enc-ands d), length-append (print-comparison c) (the "/\\" ∷ print-conjunction d))
+
+  comparison-room : (c : Comparison) → length (enc-comparison c) ≤ 3 * length (print-comparison c)
+  comparison-room (Comparison.plain a) = omega (arith, negation-room a)
+  comparison-room (Comparison.equal a b) = omega (arith, negation-room a, negation-room b, length-append (enc-negation a) (enc-negation b), length-append (print-negation a) (the "==" ∷ print-negation b))
+
+  negation-room : (a : Negation) → length (enc-negation a) + 1 ≤ 3 * length (print-negation a)
+  negation-room (Negation.atom a) = atom-room a
+  negation-room (Negation.not a) = omega (arith, negation-room a)
+
+  atom-room : (a : Atom) → length (enc-atom a) + 1 ≤ 3 * length (print-atom a)
+  atom-room (Atom.value v) = omega arith
+  atom-room (Atom.variable x) = omega arith
+  atom-room (Atom.apply x ds) = omega (arith, datas-room ds, length-append (print-datas ds) (the ")" ∷ []))
+  atom-room (Atom.group d) = omega (arith, ors-room d, length-append (print-data d) (the ")" ∷ []))
+
+  datas-room : (ds : RawDatas) → length (enc-datas ds) ≤ 3 * length (print-datas ds) + 3
+  datas-room (RawDatas.one d) = omega (arith, ors-room d)
+  datas-room (RawDatas.more d ds) = omega (arith, ors-room d, datas-room ds, length-append (enc-data d) (enc-datas ds), length-append (print-data d) (the "," ∷ print-datas ds))
 
 call-room : (x : Name) (ds : Option RawDatas) → length (enc-call x ds) + 1 ≤ 3 * suc (length (print-given ds))
 unfolding enc-call print-given bracketed
@@ -41,7 +58,7 @@ mutual
       omega (
         arith,
         sequence-room p,
-        data-room c,
+        ors-room c,
         sequence-room q,
         length-append (enc-sequence p) (enc-data c ++ enc-sequence q),
         length-append (enc-data c) (enc-sequence q),

@@ -12,7 +12,7 @@ use Rattle.pcrl.specs.Tokens.{Token}
 use Rattle.pcrl.specs.Reader.{Got, missing, found, bind, Reader, all}
 use Rattle.pcrl.specs.Grammar.{lines}
 use Rattle.parser.specs.Cells.{Symbol}
-use Rattle.parser.specs.Reading.{rest, left, Ahead, Onward, Put, Writes, Expected, Reads}
+use Rattle.parser.specs.Reading.{rest, left, Ahead, Onward, Put, Few, Writes, Expected, Reads}
 use Rattle.parser.specs.Runs.{Placed, Ran, lost, took}
 use Rattle.parser.specs.Kinds.{kind-of, sort-kind, func-kind, act-kind, proc-kind}
 use Rattle.parser.specs.declared.Run.{Run}
@@ -87,24 +87,24 @@ module _ {c : ℕ} {word : String} (S : Sign c word) {A : Type 0} {enc : A → L
   run-none i m zero l = absurd (omega arith)
   run-none i m (suc f) l =
       subst (λ g. Ran s toks enc w o n p (record { at = at; w = w; count = n }) o p g) (sym (on-other S s toks at _ _ m))
-      (took i writes-nothing (omega arith) (λ room big. record { kept = λ j k. refl; new = λ j k. absurd (omega arith) }))
+      (took i writes-nothing (omega arith) (λ few room big. record { kept = λ j k. refl; new = λ j k. absurd (omega arith) }))
 
   module _ {v w₁ : ℕ} {p₁ : List ℕ} (e : getD toks at 0 ≡ c) (sv : w < 65536 → v ≡ w) (q : Put p n v w₁ p₁) {at₂ w₂ : ℕ} {o₂ : List ℕ} (h : Reads s toks enc w o at₂ w₂ o₂ (line (rest s toks (at + 1))))
       {at₃ : ℕ} (a₃ : Ahead (length toks) at₂ at₃) (x : Expected toks at₂ 59 at₃) (b : at < at₃) {r : Run} {o₃ p₃ : List ℕ} (a₄ : Onward (length toks) at₃ (r .at))
       (hs : at₃ ≤ length toks → (f : ℕ) → left toks at₃ < f → Ran s toks enc w₂ o₂ (n + 1) p₁ r o₃ p₃ (lines word line f (rest s toks at₃))) where
     -- a line before the others
-    run-cons : (l : A) → Writes s (enc l) w o w₂ o₂ → (g : Got Token (List A)) → Ran s toks enc w₂ o₂ (n + 1) p₁ r o₃ p₃ g → Ran s toks enc w o n p r o₃ p₃ (bind g (λ ls ts. found (l ∷ ls) ts))
+    run-cons : (l : A) → Writes s toks (enc l) w o w₂ o₂ → (g : Got Token (List A)) → Ran s toks enc w₂ o₂ (n + 1) p₁ r o₃ p₃ g → Ran s toks enc w o n p r o₃ p₃ (bind g (λ ls ts. found (l ∷ ls) ts))
     unfolding bind all
     run-cons l u missing (lost m) = lost m
     run-cons l u (found ls ts) (took i z k pl) = took {ls = l ∷ ls} i (writes-then u z) (omega arith) placed
       where
-        placed : w + length (enc l ++ all enc ls) ≤ length o → length o < 65536 → Placed enc (l ∷ ls) w n p p₃
-        placed room big =
+        placed : Few toks → w + length (enc l ++ all enc ls) ≤ length o → length o < 65536 → Placed enc (l ∷ ls) w n p p₃
+        placed few room big =
             let y = length-append (enc l) (all enc ls) in
-            let a = u .with-room (omega arith) in
+            let a = u .with-room few (omega arith) in
             let a₁ = a .same in
             let a₂ = a .next in
-            placed-one (subst (λ p. Placed enc ls w₂ (n + 1) p p₃) (q .cells ∙ ap (set p n) (sv (omega arith))) (pl (omega arith) (omega arith))) (a .next)
+            placed-one (subst (λ p. Placed enc ls w₂ (n + 1) p p₃) (q .cells ∙ ap (set p n) (sv (omega arith))) (pl few (omega arith) (omega arith))) (a .next)
 
     pub run-more : (f : ℕ) → left toks at < f → Ran s toks enc w o n p r o₃ p₃ (lines word line f (rest s toks at))
     unfolding lines

@@ -10,7 +10,7 @@ use Rattle.pcrl.specs.Reader.{Got, missing, found, bind, test, keep, all}
 use Rattle.pcrl.specs.Tree.{RawSheet}
 use Rattle.pcrl.specs.Grammar.{sort-line, func-line, act-line, proc-line, init-line, lines, sheet}
 use Rattle.parser.specs.Cells.{Symbol, enc-sort, enc-func, enc-act, enc-proc, enc-init, enc-sheet}
-use Rattle.parser.specs.Reading.{rest, Ahead, Onward, Writes, Expected, Reads}
+use Rattle.parser.specs.Reading.{rest, Ahead, Onward, Few, Writes, Expected, Reads}
 use Rattle.parser.specs.Runs.{Placed, Ran, lost, took}
 use Rattle.parser.specs.Parses.{Stands, Kept}
 use Rattle.parser.specs.declared.Run.{Run}
@@ -23,7 +23,7 @@ use Rattle.parser.proofs.Places.{stands-behind, kept-behind}
 -- a run of lines, and then another reader
 module _ (s toks : List ℕ) {B : Type 0} (G : Got Token B → Type 0) {A : Type 0} {enc : A → List Symbol} (k : List A → List Token → Got Token B) {w : ℕ} {o : List ℕ} {n : ℕ} {p : List ℕ} {r : Run} {o′ p′ : List ℕ} where
   then-run : {P : Got Token (List A)} → Ran s toks enc w o n p r o′ p′ P → (length toks < r .at → G missing)
-      → ((ls : List A) → r .at ≤ length toks → Writes s (all enc ls) w o (r .w) o′ → r .count ≡ n + length ls → (w + length (all enc ls) ≤ length o → length o < 65536 → Placed enc ls w n p p′) → G (k ls (rest s toks (r .at))))
+      → ((ls : List A) → r .at ≤ length toks → Writes s toks (all enc ls) w o (r .w) o′ → r .count ≡ n + length ls → (Few toks → w + length (all enc ls) ≤ length o → length o < 65536 → Placed enc ls w n p p′) → G (k ls (rest s toks (r .at))))
       → G (bind P k)
   unfolding bind
   then-run (lost l) f g = f l
@@ -49,7 +49,7 @@ pub record Settled (R : RawSheet) (L : Lines) : Type 0 where
 
 pub data Sheeted (s toks o : List ℕ) (L : Lines) (next w′ : ℕ) (o′ : List ℕ) : Got Token RawSheet → Type 0 where
   gone : length toks < next → Sheeted s toks o L next w′ o′ missing
-  full : {R : RawSheet} → next ≤ length toks → Writes s (enc-sheet R) 0 o w′ o′ → (length (enc-sheet R) ≤ length o → length o < 65536 → Settled R L) → Sheeted s toks o L next w′ o′ (found R (rest s toks next))
+  full : {R : RawSheet} → next ≤ length toks → Writes s toks (enc-sheet R) 0 o w′ o′ → (Few toks → length (enc-sheet R) ≤ length o → length o < 65536 → Settled R L) → Sheeted s toks o L next w′ o′ (found R (rest s toks next))
 
 -- the counts of four runs and their places
 abbrev pub gathered : Run → Run → Run → Run → List ℕ → List ℕ → List ℕ → List ℕ → ℕ → Lines
@@ -60,18 +60,18 @@ on-lost : {n at next : ℕ} → Onward n at next → n < at → n < next
 on-lost a l = omega arith
 
 -- the pieces of a sheet, each written behind the one before
-module _ (R : RawSheet) (a b c d : Run) {s o o₁ o₂ o₃ o₄ o₅ p₁ p₂ p₃ p₄ q₁ q₂ q₃ q₄ : List ℕ} {w₇ i : ℕ} (u₁ : Writes s (all enc-sort (R .sorts)) 0 o (a .w) o₁) (u₂ : Writes s (all enc-func (R .funcs)) (a .w) o₁ (b .w) o₂) (u₃ : Writes s (all enc-act (R .acts)) (b .w) o₂ (c .w) o₃)
-    (u₄ : Writes s (all enc-proc (R .procs)) (c .w) o₃ (d .w) o₄) (u₅ : Writes s (enc-init (R .start)) (d .w) o₄ w₇ o₅)
+module _ (R : RawSheet) (a b c d : Run) {s toks o o₁ o₂ o₃ o₄ o₅ p₁ p₂ p₃ p₄ q₁ q₂ q₃ q₄ : List ℕ} {w₇ i : ℕ} (u₁ : Writes s toks (all enc-sort (R .sorts)) 0 o (a .w) o₁) (u₂ : Writes s toks (all enc-func (R .funcs)) (a .w) o₁ (b .w) o₂) (u₃ : Writes s toks (all enc-act (R .acts)) (b .w) o₂ (c .w) o₃)
+    (u₄ : Writes s toks (all enc-proc (R .procs)) (c .w) o₃ (d .w) o₄) (u₅ : Writes s toks (enc-init (R .start)) (d .w) o₄ w₇ o₅)
     (k₁ : a .count ≡ 0 + length (R .sorts)) (k₂ : b .count ≡ 0 + length (R .funcs)) (k₃ : c .count ≡ 0 + length (R .acts)) (k₄ : d .count ≡ 0 + length (R .procs))
     (l₁ : length q₁ ≤ length p₁) (l₂ : length q₂ ≤ length p₂) (l₃ : length q₃ ≤ length p₃) (l₄ : length q₄ ≤ length p₄)
-    (f₁ : 0 + length (all enc-sort (R .sorts)) ≤ length o → length o < 65536 → Placed enc-sort (R .sorts) 0 0 p₁ q₁)
-    (f₂ : a .w + length (all enc-func (R .funcs)) ≤ length o₁ → length o₁ < 65536 → Placed enc-func (R .funcs) (a .w) 0 p₂ q₂)
-    (f₃ : b .w + length (all enc-act (R .acts)) ≤ length o₂ → length o₂ < 65536 → Placed enc-act (R .acts) (b .w) 0 p₃ q₃)
-    (f₄ : c .w + length (all enc-proc (R .procs)) ≤ length o₃ → length o₃ < 65536 → Placed enc-proc (R .procs) (c .w) 0 p₄ q₄)
+    (f₁ : Few toks → 0 + length (all enc-sort (R .sorts)) ≤ length o → length o < 65536 → Placed enc-sort (R .sorts) 0 0 p₁ q₁)
+    (f₂ : Few toks → a .w + length (all enc-func (R .funcs)) ≤ length o₁ → length o₁ < 65536 → Placed enc-func (R .funcs) (a .w) 0 p₂ q₂)
+    (f₃ : Few toks → b .w + length (all enc-act (R .acts)) ≤ length o₂ → length o₂ < 65536 → Placed enc-act (R .acts) (b .w) 0 p₃ q₃)
+    (f₄ : Few toks → c .w + length (all enc-proc (R .procs)) ≤ length o₃ → length o₃ < 65536 → Placed enc-proc (R .procs) (c .w) 0 p₄ q₄)
     (iv : d .w < 65536 → i ≡ d .w) where
-  settled : length (enc-sheet R) ≤ length o → length o < 65536 → Settled R (gathered a b c d q₁ q₂ q₃ q₄ i)
+  settled : Few toks → length (enc-sheet R) ≤ length o → length o < 65536 → Settled R (gathered a b c d q₁ q₂ q₃ q₄ i)
   unfolding enc-sheet
-  settled room big =
+  settled few room big =
       let S = all enc-sort (R .sorts) in
       let F = all enc-func (R .funcs) in
       let A = all enc-act (R .acts) in
@@ -81,16 +81,16 @@ module _ (R : RawSheet) (a b c d : Run) {s o o₁ o₂ o₃ o₄ o₅ p₁ p₂ 
       let n₂ = length-append F (A ++ (P ++ I)) in
       let n₃ = length-append A (P ++ I) in
       let n₄ = length-append P I in
-      let y₁ = u₁ .with-room (omega arith) in
+      let y₁ = u₁ .with-room few (omega arith) in
       let s₁ = y₁ .same in
       let w₁ = y₁ .next in
-      let y₂ = u₂ .with-room (omega arith) in
+      let y₂ = u₂ .with-room few (omega arith) in
       let s₂ = y₂ .same in
       let w₂ = y₂ .next in
-      let y₃ = u₃ .with-room (omega arith) in
+      let y₃ = u₃ .with-room few (omega arith) in
       let s₃ = y₃ .same in
       let w₃ = y₃ .next in
-      let y₄ = u₄ .with-room (omega arith) in
+      let y₄ = u₄ .with-room few (omega arith) in
       let s₄ = y₄ .same in
       let w₄ = y₄ .next in
       let m₂ = length-append S F in
@@ -100,10 +100,10 @@ module _ (R : RawSheet) (a b c d : Run) {s o o₁ o₂ o₃ o₄ o₅ p₁ p₂ 
       let e₄ = e₃ ∙ sym (append-assoc (S ++ F) A (P ++ I)) in
       let e₅ = e₄ ∙ sym (append-assoc ((S ++ F) ++ A) P I) ∙ ap (λ l. (((S ++ F) ++ A) ++ P) ++ l) (sym (append-nil I)) in
       record {
-        sorts = kept-behind [] (F ++ (A ++ (P ++ I))) refl refl (omega arith) l₁ (f₁ (omega arith) (omega arith));
-        funcs = kept-behind S (A ++ (P ++ I)) refl (omega arith) (omega arith) l₂ (f₂ (omega arith) (omega arith));
-        acts = kept-behind (S ++ F) (P ++ I) e₃ (omega arith) (omega arith) l₃ (f₃ (omega arith) (omega arith));
-        procs = kept-behind ((S ++ F) ++ A) I e₄ (omega arith) (omega arith) l₄ (f₄ (omega arith) (omega arith));
+        sorts = kept-behind [] (F ++ (A ++ (P ++ I))) refl refl (omega arith) l₁ (f₁ few (omega arith) (omega arith));
+        funcs = kept-behind S (A ++ (P ++ I)) refl (omega arith) (omega arith) l₂ (f₂ few (omega arith) (omega arith));
+        acts = kept-behind (S ++ F) (P ++ I) e₃ (omega arith) (omega arith) l₃ (f₃ few (omega arith) (omega arith));
+        procs = kept-behind ((S ++ F) ++ A) I e₄ (omega arith) (omega arith) l₄ (f₄ few (omega arith) (omega arith));
         init = stands-behind (((S ++ F) ++ A) ++ P) I [] i e₅ (iv (omega arith) ∙ omega arith);
       }
 

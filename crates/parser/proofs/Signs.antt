@@ -21,6 +21,10 @@ sign-of t c g l e o =
     let is : (s : List ℕ) → cell-token s c ≡ the t = λ s. cell-sign s c l ∙ ap sign e in
     record { some = g; is = is; only = λ s x f. sign-once s x c o (f ∙ sym (is s)) }
 
+pub bang-sign : Sign 33 "!"
+unfolding written long-marks words
+bang-sign = sign-of "!" 33 (lit< tt) (lit< tt) refl tt
+
 pub hash-sign : Sign 35 "#"
 unfolding written long-marks words
 hash-sign = sign-of "#" 35 (lit< tt) (lit< tt) refl tt
@@ -68,6 +72,18 @@ if-sign = sign-of "<|" 129 (lit< tt) (lit< tt) refl tt
 pub else-sign : Sign 130 "|>"
 unfolding written long-marks words
 else-sign = sign-of "|>" 130 (lit< tt) (lit< tt) refl tt
+
+pub same-sign : Sign 131 "=="
+unfolding written long-marks words
+same-sign = sign-of "==" 131 (lit< tt) (lit< tt) refl tt
+
+pub and-sign : Sign 132 "/\\"
+unfolding written long-marks words
+and-sign = sign-of "/\\" 132 (lit< tt) (lit< tt) refl tt
+
+pub or-sign : Sign 133 "\\/"
+unfolding written long-marks words
+or-sign = sign-of "\\/" 133 (lit< tt) (lit< tt) refl tt
 
 pub sort-sign : Sign 160 "sort"
 unfolding written long-marks words

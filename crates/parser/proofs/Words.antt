@@ -4,7 +4,7 @@ use mathlib.Core.List.{List, _∷_}
 use Prim.Native.Nat.{ℕ, _+_, _-_, _≤_, _<_}
 use native.Mathlib.Decide.{decLt}
 use native.Mathlib.Omega.{arith}
-use borrow.Author.Tests.{le-ltb}
+use borrow.Author.Tests.{le-ltb, lt-ltb}
 use lib.ListN.{length, drop, getD}
 use Rattle.pcrl.specs.Bytes.{name-byte}
 use Rattle.pcrl.specs.Tokens.{Token, name, numeral, sign, front}
@@ -12,25 +12,48 @@ use Rattle.pcrl.specs.Tree.{Name}
 use Rattle.pcrl.specs.Reader.{Got, missing, found, bind}
 use Rattle.pcrl.specs.Grammar.{a-name, a-numeral, on-numeral}
 use Rattle.lexer.specs.Cells.{written, cell-token}
-use Rattle.parser.specs.Cells.{Symbol, token, symbol-of, enc-name, enc-numeral}
-use Rattle.parser.specs.Reading.{rest, Put, Reads, lost, took}
+use Rattle.parser.specs.Cells.{Symbol, token, ors, ands, first-ors, first-ands, symbol-of, enc-name, enc-numeral}
+use Rattle.parser.specs.Reading.{rest, Put, Few, Writes, Reads, lost, took}
 use Rattle.lexer.proofs.Cells.{cell-sign, numeral-cell, name-cell}
-use Rattle.parser.proofs.Writing.{writes-cell}
+use Rattle.parser.proofs.Writing.{writes-cell, writes-known}
 use Rattle.parser.proofs.Reading.{live, rest-next, rest-past}
 
 -- the name of a cell
 abbrev pub name-at : List ℕ → ℕ → Name
 name-at s x = front name-byte (drop (x - 1024) s)
 
-symbol-token : (s : List ℕ) (x : ℕ) → 32 ≤ x → symbol-of s x ≡ token (cell-token s x)
+symbol-token : (s : List ℕ) (x : ℕ) → 32 ≤ x → x < first-ors → symbol-of s x ≡ token (cell-token s x)
 unfolding symbol-of
-symbol-token s x h = rw (le-ltb x 32 h, symbol-of)
+symbol-token s x h l = rw (le-ltb x 32 h, lt-ltb x first-ors l, symbol-of)
 
-pub symbol-name : (s : List ℕ) (x : ℕ) → 1024 ≤ x → symbol-of s x ≡ token (name (name-at s x))
-symbol-name s x h = symbol-token s x (omega arith) ∙ ap token (name-cell s x h)
+pub symbol-name : (s : List ℕ) (x : ℕ) → 1024 ≤ x → x < first-ors → symbol-of s x ≡ token (name (name-at s x))
+symbol-name s x h l = symbol-token s x (omega arith) l ∙ ap token (name-cell s x h)
+
+-- counts
+pub symbol-ors : (s : List ℕ) (n : ℕ) → n < first-ors → symbol-of s (first-ors + n) ≡ ors n
+unfolding symbol-of
+symbol-ors s n l =
+    let a : 32 ≤ first-ors + n = omega arith in
+    let b : first-ors ≤ first-ors + n = omega arith in
+    let c : first-ors + n < first-ands = omega arith in
+    let e : first-ors + n - first-ors ≡ n = omega arith in
+    rw (le-ltb _ _ a, le-ltb _ _ b, lt-ltb _ _ c, symbol-of) (ap ors e)
+
+pub symbol-ands : (s : List ℕ) (n : ℕ) → symbol-of s (first-ands + n) ≡ ands n
+unfolding symbol-of
+symbol-ands s n =
+    let a : 32 ≤ first-ands + n = omega arith in
+    let b : first-ors ≤ first-ands + n = omega arith in
+    let c : first-ands ≤ first-ands + n = omega arith in
+    let e : first-ands + n - first-ands ≡ n = omega arith in
+    rw (le-ltb _ _ a, le-ltb _ _ b, le-ltb _ _ c, symbol-of) (ap ands e)
 
 pub symbol-numeral : (s : List ℕ) (x : ℕ) → 256 ≤ x → x < 1024 → symbol-of s x ≡ token (numeral (x - 256))
-symbol-numeral s x g h = symbol-token s x (omega arith) ∙ ap token (numeral-cell s x g h)
+symbol-numeral s x g h = symbol-token s x (omega arith) (omega arith) ∙ ap token (numeral-cell s x g h)
+
+-- the cell of a name
+pub writes-name : {s toks : List ℕ} (at : ℕ) {v w w′ : ℕ} {o o′ : List ℕ} → Put o w v w′ o′ → v ≡ getD toks at 0 → 1024 ≤ getD toks at 0 → Writes s toks (enc-name (name-at s (getD toks at 0))) w o w′ o′
+writes-name {s} {toks} at p e h = writes-known p (λ few. ap (symbol-of s) e ∙ symbol-name s (getD toks at 0) h (few .low at))
 
 module _ (s toks : List ℕ) (at : ℕ) where
   rest-name : 1024 ≤ getD toks at 0 → rest s toks at ≡ name (name-at s (getD toks at 0)) ∷ rest s toks (at + 1)
@@ -114,7 +137,7 @@ module _ (s toks : List ℕ) (at : ℕ) {w v w′ : ℕ} {o o′ : List ℕ} (p 
   pub reads-name : 1024 ≤ getD toks at 0 → Reads s toks enc-name w o (at + 1) w′ o′ (a-name (rest s toks at))
   reads-name h =
       let l = live toks at (omega arith) in
-      subst (λ g. Reads s toks enc-name w o (at + 1) w′ o′ g) (sym (name-next s toks at h)) (took (omega arith) (writes-cell p (ap (symbol-of s) e ∙ symbol-name s (getD toks at 0) h)))
+      subst (λ g. Reads s toks enc-name w o (at + 1) w′ o′ g) (sym (name-next s toks at h)) (took (omega arith) (writes-name at p e h))
 
   pub reads-numeral : 256 ≤ getD toks at 0 → getD toks at 0 < 1024 → Reads s toks enc-numeral w o (at + 1) w′ o′ (a-numeral (rest s toks at))
   reads-numeral g h =

@@ -1,26 +1,39 @@
--- The tree of a sheet as cells in prefix order: a cell below 32 is a tag, one for each of the tree's constructors,
--- and any other cell is a token's cell, a name or a numeral.
+-- The tree of a sheet as cells in prefix order: a cell below 32 is a tag, one for each of the tree's constructors but those of lists of operands;
+-- one from 8192 on says how many operands of `\/` or `/\` stand behind it; any other cell is a token's, a name or a numeral.
 use mathlib.Core.List.{List, [], _∷_, _++_}
 use mathlib.Core.Bool.{true, false}
 use mathlib.Core.Option.{Option, none, some}
-use Prim.Native.Nat.{ℕ}
+use Prim.Native.Nat.{ℕ, suc, _-_}
 use lib.Dec.{ltb}
 use Rattle.pcrl.specs.Tokens.{Token, name, numeral}
 use Rattle.pcrl.specs.Reader.{all}
-use Rattle.pcrl.specs.Tree.{Name, RawData, RawDatas, Choice, Conditional, Sequence, Part, SortLine, FuncLine, ActLine, ProcLine, InitLine, RawSheet}
+use Rattle.pcrl.specs.Tree.{Name, RawData, Conjunction, Comparison, Negation, Atom, RawDatas, Choice, Conditional, Sequence, Part, SortLine, FuncLine, ActLine, ProcLine, InitLine, RawSheet}
 use Rattle.lexer.specs.Cells.{cell-token}
 
 pub data Symbol : Type 0 where
   tag : ℕ → Symbol
   token : Token → Symbol
+  -- one operand, and so many more joined to it
+  ors ands : ℕ → Symbol
 
 -- where the tokens' cells begin
 abbrev pub first-token : ℕ
 first-token = 32
 
+-- where the counts of operands begin
+abbrev pub first-ors : ℕ
+first-ors = 8192
+
+abbrev pub first-ands : ℕ
+first-ands = 16384
+
 -- what a cell stands for, where s are the sheet's bytes
 unfoldable pub symbol-of : List ℕ → ℕ → Symbol
-symbol-of s c = elim (ltb c first-token) [ true ↦ tag c | false ↦ token (cell-token s c) ]
+symbol-of s c =
+    elim (ltb c first-token) [
+      | true ↦ tag c
+      | false ↦ elim (ltb c first-ors) [ true ↦ token (cell-token s c) | false ↦ elim (ltb c first-ands) [ true ↦ ors (c - first-ors) | false ↦ ands (c - first-ands) ] ]
+    ]
 
 abbrev pub value-tag : ℕ
 value-tag = 1
@@ -94,21 +107,66 @@ proc-tag = 23
 abbrev pub init-tag : ℕ
 init-tag = 24
 
+abbrev pub alone-tag : ℕ
+alone-tag = 25
+
+abbrev pub equal-tag : ℕ
+equal-tag = 26
+
+abbrev pub not-tag : ℕ
+not-tag = 27
+
+abbrev pub nest-tag : ℕ
+nest-tag = 28
+
 abbrev pub enc-name : Name → List Symbol
 enc-name x = token (name x) ∷ []
 
 abbrev pub enc-numeral : ℕ → List Symbol
 enc-numeral v = token (numeral v) ∷ []
 
+-- how many operands stand behind the first
+unfoldable pub more-ors : RawData → ℕ
+more-ors (RawData.only c) = 0
+more-ors (RawData.or c d) = suc (more-ors d)
+
+unfoldable pub more-ands : Conjunction → ℕ
+more-ands (Conjunction.single c) = 0
+more-ands (Conjunction.and c d) = suc (more-ands d)
+
 unfoldable mutual
-  pub enc-data : RawData → List Symbol
-  enc-data (RawData.value v) = tag value-tag ∷ enc-numeral v
-  enc-data (RawData.variable x) = tag variable-tag ∷ enc-name x
-  enc-data (RawData.apply x ds) = tag apply-tag ∷ token (name x) ∷ enc-datas ds
+  -- the operands of `\/`, one behind another
+  pub enc-ors : RawData → List Symbol
+  enc-ors (RawData.only c) = ands (more-ands c) ∷ enc-ands c
+  enc-ors (RawData.or c d) = (ands (more-ands c) ∷ enc-ands c) ++ enc-ors d
+
+  pub enc-ands : Conjunction → List Symbol
+  enc-ands (Conjunction.single c) = enc-comparison c
+  enc-ands (Conjunction.and c d) = enc-comparison c ++ enc-ands d
+
+  pub enc-comparison : Comparison → List Symbol
+  enc-comparison (Comparison.plain a) = tag alone-tag ∷ enc-negation a
+  enc-comparison (Comparison.equal a b) = tag equal-tag ∷ (enc-negation a ++ enc-negation b)
+
+  pub enc-negation : Negation → List Symbol
+  enc-negation (Negation.atom a) = enc-atom a
+  enc-negation (Negation.not a) = tag not-tag ∷ enc-negation a
+
+  pub enc-atom : Atom → List Symbol
+  enc-atom (Atom.value v) = tag value-tag ∷ enc-numeral v
+  enc-atom (Atom.variable x) = tag variable-tag ∷ enc-name x
+  enc-atom (Atom.apply x ds) = tag apply-tag ∷ token (name x) ∷ enc-datas ds
+  enc-atom (Atom.group d) = tag nest-tag ∷ ors (more-ors d) ∷ enc-ors d
 
   pub enc-datas : RawDatas → List Symbol
-  enc-datas (RawDatas.one d) = tag one-tag ∷ enc-data d
-  enc-datas (RawDatas.more d ds) = tag more-tag ∷ (enc-data d ++ enc-datas ds)
+  enc-datas (RawDatas.one d) = tag one-tag ∷ ors (more-ors d) ∷ enc-ors d
+  enc-datas (RawDatas.more d ds) = tag more-tag ∷ ((ors (more-ors d) ∷ enc-ors d) ++ enc-datas ds)
+
+abbrev pub enc-data : RawData → List Symbol
+enc-data d = ors (more-ors d) ∷ enc-ors d
+
+abbrev pub enc-conjunction : Conjunction → List Symbol
+enc-conjunction c = ands (more-ands c) ∷ enc-ands c
 
 -- a name, with or without bracketed data
 unfoldable pub enc-call : Name → Option RawDatas → List Symbol

@@ -6,7 +6,7 @@ use lib.ListN.{length, take, getD}
 use Rattle.pcrl.specs.Tokens.{Token}
 use Rattle.pcrl.specs.Reader.{Got, missing, found, all}
 use Rattle.parser.specs.Cells.{Symbol}
-use Rattle.parser.specs.Reading.{rest, Writes}
+use Rattle.parser.specs.Reading.{rest, Few, Writes}
 use Rattle.parser.specs.declared.Run.{Run}
 
 -- From the n-th on, as far as there are places, they say where each of the lines begins, the first at w.
@@ -17,6 +17,6 @@ pub record Placed {A : Type 0} (enc : A → List Symbol) (ls : List A) (w n : �
 -- n lines were counted before; p and p′ are the places before and after. A place is a cell, so it is below 65,536.
 pub data Ran (s toks : List ℕ) {A : Type 0} (enc : A → List Symbol) (w : ℕ) (o : List ℕ) (n : ℕ) (p : List ℕ) (r : Run) (o′ p′ : List ℕ) : Got Token (List A) → Type 0 where
   lost : length toks < r .at → Ran s toks enc w o n p r o′ p′ missing
-  took : {ls : List A} → r .at ≤ length toks → Writes s (all enc ls) w o (r .w) o′ → r .count ≡ n + length ls
-      → (w + length (all enc ls) ≤ length o → length o < 65536 → Placed enc ls w n p p′)
+  took : {ls : List A} → r .at ≤ length toks → Writes s toks (all enc ls) w o (r .w) o′ → r .count ≡ n + length ls
+      → (Few toks → w + length (all enc ls) ≤ length o → length o < 65536 → Placed enc ls w n p p′)
       → Ran s toks enc w o n p r o′ p′ (found ls (rest s toks (r .at)))

@@ -1,9 +1,9 @@
 // One token read, one cell written. No reader asks for room: a cell past the end is not written.
 ghost use mathlib.Core.Path.{_≡_};
-ghost use Prim.Native.Nat.{_+_, _<_};
+ghost use Prim.Native.Nat.{_+_, _≤_, _<_};
 ghost use lib.ListN.{length, getD};
 ghost use Rattle.pcrl.specs.Grammar.{a-name, a-numeral};
-ghost use Rattle.parser.specs.Cells.{enc-name, enc-numeral};
+ghost use Rattle.parser.specs.Cells.{first-ors, first-ands, enc-name, enc-numeral};
 ghost use Rattle.parser.specs.Reading.{Ahead, Put, Expected, Read};
 use crate::Step;
 
@@ -85,4 +85,15 @@ pub fn short(w: usize) -> u16
     ensures { λ r. ⌜ (w < 65536 → r ≡ w) ⌝ }
 {
     if w < 65536 { w as u16 } else { 0 }
+}
+
+// Counts are below this, so that those of both kinds are told apart.
+const COUNTS: usize = 8192;
+
+// The cell of a count: so many operands stand behind the first.
+pub fn counted(first: u16, n: usize) -> u16
+    requires { ⌜ first ≤ first-ands ⌝ }
+    ensures { λ r. ⌜ (n < first-ors → r ≡ first + n) ⌝ }
+{
+    if n < COUNTS { first + n as u16 } else { first }
 }

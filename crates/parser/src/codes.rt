@@ -1,4 +1,4 @@
-// The tags of the tree's cells (specs/Cells.antt). Other cells are tokens, as the lexer writes them.
+// The tags and counts of the tree's cells (specs/Cells.antt). Other cells are tokens, as the lexer writes them.
 pub const VALUE_TAG: u16 = 1;
 
 pub const VARIABLE_TAG: u16 = 2;
@@ -46,3 +46,16 @@ pub const ACT_TAG: u16 = 22;
 pub const PROC_TAG: u16 = 23;
 
 pub const INIT_TAG: u16 = 24;
+
+pub const ALONE_TAG: u16 = 25;
+
+pub const EQUAL_TAG: u16 = 26;
+
+pub const NOT_TAG: u16 = 27;
+
+pub const NEST_TAG: u16 = 28;
+
+// Where the counts of operands begin: of `\/`, and of `/\`.
+pub const FIRST_ORS: u16 = 8192;
+
+pub const FIRST_ANDS: u16 = 16384;

@@ -4,6 +4,7 @@ ghost use Prim.Native.Nat.{ℕ, _*_, _≤_, _<_};
 ghost use lib.ListN.{length};
 ghost use Rattle.pcrl.specs.Grammar.{parse};
 ghost use Rattle.lexer.specs.Cells.{cell-token};
+ghost use Rattle.parser.specs.Reading.{Few};
 ghost use Rattle.parser.specs.Parses.{Parses};
 
 pub mod codes; // the numbers of tags
@@ -52,7 +53,7 @@ pub struct Parsed {
 
 // 5: "The form above?" Three cells a token are room enough.
 pub fn parse(toks: &[u16], out: &mut [u16]) -> Parsed
-    requires { ⌜ (3 * length (now toks) ≤ length (now out)) × (length (now out) < 65536) ⌝ }
+    requires { ⌜ (3 * length (now toks) ≤ length (now out)) × (length (now out) < 65536) × Few (now toks) ⌝ }
     ensures { λ r. ⌜ ((s : List ℕ) → Parses (parse (map (cell-token s) (now (toks .entry)))) s r (now (out .exit))) ⌝ }
 {
     let mut sorts = [0u16; 8];

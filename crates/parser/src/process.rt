@@ -17,7 +17,7 @@ use crate::data::named;
 // "A choice is conditionals joined by `+`."
 pub fn choice(toks: &[u16], at: usize, out: &mut [u16], w: usize) -> Step
     ensures ahead { λ r. ⌜ Ahead (length (now (toks .entry))) at (r .at) ⌝ }
-    ensures read { λ r. ⌜ Read (4 * left (now (toks .entry)) at + 3) enc-choice choice (now (toks .entry)) at w (now (out .entry)) r (now (out .exit)) ⌝ }
+    ensures read { λ r. ⌜ Read (5 * left (now (toks .entry)) at + 4) enc-choice choice (now (toks .entry)) at w (now (out .entry)) r (now (out .exit)) ⌝ }
 {
     let mut from = at;
     let mut v = w;
@@ -36,7 +36,7 @@ pub fn choice(toks: &[u16], at: usize, out: &mut [u16], w: usize) -> Step
 // "A conditional is a sequence, or sequence `<|` data `|>` sequence (yes part first)."
 fn conditional(toks: &[u16], at: usize, out: &mut [u16], w: usize) -> Step
     ensures ahead { λ r. ⌜ Ahead (length (now (toks .entry))) at (r .at) ⌝ }
-    ensures read { λ r. ⌜ Read (4 * left (now (toks .entry)) at + 2) enc-conditional conditional (now (toks .entry)) at w (now (out .entry)) r (now (out .exit)) ⌝ }
+    ensures read { λ r. ⌜ Read (5 * left (now (toks .entry)) at + 3) enc-conditional conditional (now (toks .entry)) at w (now (out .entry)) r (now (out .exit)) ⌝ }
 {
     let v = put(out, w, codes::PLAIN_TAG);
     let a = sequence(toks, at, out, v);
@@ -52,7 +52,7 @@ fn conditional(toks: &[u16], at: usize, out: &mut [u16], w: usize) -> Step
 // "A sequence is parts joined by `.`."
 fn sequence(toks: &[u16], at: usize, out: &mut [u16], w: usize) -> Step
     ensures ahead { λ r. ⌜ Ahead (length (now (toks .entry))) at (r .at) ⌝ }
-    ensures read { λ r. ⌜ Read (4 * left (now (toks .entry)) at + 1) enc-sequence sequence (now (toks .entry)) at w (now (out .entry)) r (now (out .exit)) ⌝ }
+    ensures read { λ r. ⌜ Read (5 * left (now (toks .entry)) at + 2) enc-sequence sequence (now (toks .entry)) at w (now (out .entry)) r (now (out .exit)) ⌝ }
 {
     let mut from = at;
     let mut v = w;
@@ -71,7 +71,7 @@ fn sequence(toks: &[u16], at: usize, out: &mut [u16], w: usize) -> Step
 // "A part is delta, tau, a name with or without bracketed data, `sum(v:sort, choice)`, or a bracketed choice."
 fn part(toks: &[u16], at: usize, out: &mut [u16], w: usize) -> Step
     ensures ahead { λ r. ⌜ Ahead (length (now (toks .entry))) at (r .at) ⌝ }
-    ensures read { λ r. ⌜ Read (4 * left (now (toks .entry)) at) enc-part part (now (toks .entry)) at w (now (out .entry)) r (now (out .exit)) ⌝ }
+    ensures read { λ r. ⌜ Read (5 * left (now (toks .entry)) at + 1) enc-part part (now (toks .entry)) at w (now (out .entry)) r (now (out .exit)) ⌝ }
 {
     let t = peek(toks, at);
     if t == lexer::DELTA {

@@ -149,7 +149,7 @@ fn params(toks: &[u16], at: usize, out: &mut [u16], w: usize) -> Step
 // "`proc` name, or name with bracketed `v:sort` by commas, `=` a choice"
 fn proc_line(toks: &[u16], at: usize, out: &mut [u16], w: usize) -> Step
     ensures ahead { λ r. ⌜ Ahead (length (now (toks .entry))) at (r .at) ⌝ }
-    ensures read { λ r. ⌜ Read (4 * length (now (toks .entry)) + 3) enc-proc proc-line (now (toks .entry)) at w (now (out .entry)) r (now (out .exit)) ⌝ }
+    ensures read { λ r. ⌜ Read (5 * length (now (toks .entry)) + 4) enc-proc proc-line (now (toks .entry)) at w (now (out .entry)) r (now (out .exit)) ⌝ }
 {
     let v = put(out, w, codes::PROC_TAG);
     let x = name(toks, at, out, v);
@@ -186,7 +186,7 @@ fn all_called(toks: &[u16], from: usize, to: usize) -> bool
 // "`init` a call, with no name in its data that lacks brackets"
 pub fn init_line(toks: &[u16], at: usize, out: &mut [u16], w: usize) -> Step
     ensures ahead { λ r. ⌜ Ahead (length (now (toks .entry))) at (r .at) ⌝ }
-    ensures read { λ r. ⌜ Read (2 * length (now (toks .entry))) enc-init init-line (now (toks .entry)) at w (now (out .entry)) r (now (out .exit)) ⌝ }
+    ensures read { λ r. ⌜ Read (5 * length (now (toks .entry))) enc-init init-line (now (toks .entry)) at w (now (out .entry)) r (now (out .exit)) ⌝ }
 {
     let v = put(out, w, codes::INIT_TAG);
     let a = named(toks, at, out, v);
@@ -202,7 +202,7 @@ pub fn init_line(toks: &[u16], at: usize, out: &mut [u16], w: usize) -> Step
 // A line of the kind that the word begins, behind the word.
 fn line(word: u16, toks: &[u16], at: usize, out: &mut [u16], w: usize) -> Step
     ensures ahead { λ r. ⌜ Ahead (length (now (toks .entry))) at (r .at) ⌝ }
-    ensures read { λ r. ⌜ Read (4 * length (now (toks .entry)) + 3) (kind-of word .enc) (kind-of word .reader) (now (toks .entry)) at w (now (out .entry)) r (now (out .exit)) ⌝ }
+    ensures read { λ r. ⌜ Read (5 * length (now (toks .entry)) + 4) (kind-of word .enc) (kind-of word .reader) (now (toks .entry)) at w (now (out .entry)) r (now (out .exit)) ⌝ }
 {
     if word == lexer::SORT {
         return sort_line(toks, at, out, w);
@@ -228,7 +228,7 @@ pub fn lines_of(
 ) -> Run
     requires { ⌜ (n ≤ at) × (160 ≤ word) × (word ≤ 163) ⌝ }
     ensures onward { λ r. ⌜ Onward (length (now (toks .entry))) at (r .at) ⌝ }
-    ensures read { λ r. ⌜ (at ≤ length (now (toks .entry)) → (s : List ℕ) (f g : ℕ) → 4 * length (now (toks .entry)) + 3 < f → left (now (toks .entry)) at < g → Ran s (now (toks .entry)) (kind-of word .enc) w (now (out .entry)) n (now (places .entry)) r (now (out .exit)) (now (places .exit)) (G.lines (kind-of word .word) (kind-of word .reader f) g (rest s (now (toks .entry)) at))) ⌝ }
+    ensures read { λ r. ⌜ (at ≤ length (now (toks .entry)) → (s : List ℕ) (f g : ℕ) → 5 * length (now (toks .entry)) + 4 < f → left (now (toks .entry)) at < g → Ran s (now (toks .entry)) (kind-of word .enc) w (now (out .entry)) n (now (places .entry)) r (now (out .exit)) (now (places .exit)) (G.lines (kind-of word .word) (kind-of word .reader f) g (rest s (now (toks .entry)) at))) ⌝ }
 {
     let mut from = at;
     let mut v = w;

@@ -9,9 +9,10 @@ use borrow.Author.Tests.{le-leb, lt-leb}
 use lib.Dec.{leb}
 use lib.ListN.{length, drop, getD}
 use Rattle.pcrl.specs.Maybe.{_>>=_}
+use Rattle.pcrl.specs.Tests.{Every}
 use Rattle.pcrl.specs.Tokens.{name}
 use Rattle.pcrl.specs.Tree.{Name, RawDatas, InitLine}
-use Rattle.pcrl.specs.Sheet.{Data, Proc}
+use Rattle.pcrl.specs.Sheet.{Data, Proc, Sig}
 use Rattle.pcrl.specs.Names.{Names, number-of, resolve-given, resolve-init}
 use Rattle.parser.specs.Cells.{Symbol, tag, init-tag, enc-call, enc-init}
 use Rattle.nodes.specs.Layout.{enc-datas, enc}
@@ -23,6 +24,7 @@ use Rattle.names.proofs.Symbols.{name-of-cell}
 use Rattle.resolver.specs.declared.Step.{Step}
 use Rattle.resolver.specs.declared.Resolved.{Resolved}
 use Rattle.resolver.specs.Raw.{choice, enc-term, resolve-term, term-depth}
+use Rattle.resolver.specs.Sorting.{scope-sorts, scope-results, Gives, KnownSorts}
 use Rattle.resolver.specs.Writing.{Writes}
 use Rattle.resolver.specs.Resolving.{Outcome, lost, took, given-cells, term-cells, ResolvesGiven, ResolvesTerm, Answers, ResolvesRight, called, ResolvesInit}
 use Rattle.resolver.proofs.Symbols.{next, pair}
@@ -47,9 +49,14 @@ answered raw ys rest w o a o′ (some p) h = by h refl
 pub right-answered : (s raw names : List ℕ) (kinds : Kinds) (scope : List ℕ) (n at w : ℕ) (o : List ℕ) (a : Step) (o′ : List ℕ) → ResolvesTerm s raw names kinds scope n at false w o a o′
     → ResolvesRight s raw names kinds scope n at w o (record { ok = leb (a .at) (length raw); next = a .at; w = a .w }) o′
 unfolding enc-term term-depth term-cells resolve-term
-right-answered s raw names kinds scope n at w o a o′ f N t rest dec e d = answered raw (symbols s raw) rest w o a o′ _ (f N (choice t) rest dec e d)
+right-answered s raw names kinds scope n at w o a o′ f N S t rest dec so e d = answered raw (symbols s raw) rest w o a o′ _ (f N S (choice t) rest dec so e d)
 
-module _ (s raw names : List ℕ) (kinds : Kinds) (at w : ℕ) (o : List ℕ) (c k : ℕ) (ec : c ≡ getD raw (at + 2) 0)
+-- where nothing is in scope
+none-sorted : (kinds : Kinds) (scope : List ℕ) (S : Sig) → Gives kinds (scope-results scope) S → KnownSorts kinds scope 0 S
+unfolding scope-sorts Every
+none-sorted kinds scope S g = record { results = g; sorts-small = tt }
+
+module _ (s raw names : List ℕ) (kinds : Kinds) (scope : List ℕ) (at w : ℕ) (o : List ℕ) (c k : ℕ) (ec : c ≡ getD raw (at + 2) 0)
     (found : k ≡ or-count (kinds .procs) (number-of (name-at s c) (procs-in s names kinds))) where
   -- the name behind init's tag
   init-name : (N : Names) (l : InitLine) (rest : List Symbol) → drop at (symbols s raw) ≡ enc-init l ++ rest → name-at s c ≡ l .name
@@ -64,22 +71,22 @@ module _ (s raw names : List ℕ) (kinds : Kinds) (at w : ℕ) (o : List ℕ) (c
           let q : at + 2 ≡ at + 1 + 1 = omega arith in
           ap (λ i. name-at s (getD raw i 0)) q ∙ name-of-cell s (getD raw (at + 1 + 1) 0) (l .name) (pair s raw (at + 1) 15 (name (l .name)) _ d .token-cell)
 
-  pub init-unknown : kinds .procs ≤ k → (r : Resolved) (o′ : List ℕ) → r .ok ≡ false → ResolvesInit s raw names kinds at w o r o′
+  pub init-unknown : kinds .procs ≤ k → (r : Resolved) (o′ : List ℕ) → r .ok ≡ false → ResolvesInit s raw names kinds scope at w o r o′
   unfolding resolve-init Answers
-  init-unknown h r o′ z N l rest f p e =
+  init-unknown h r o′ z N S l rest gi f p e =
       let u = unknown (name-at s c) (procs-in s names kinds) k (kinds .procs) (procs-most s names kinds) found h in
       let y = init-name N l rest e in
       let v : number-of (l .name) (N .procs) ≡ none = ap (number-of (l .name)) p ∙ ap (λ (x : Name). number-of x (procs-in s names kinds)) (sym y) ∙ u in
       rw v z
 
-  pub init-answered : k < kinds .procs → (number : ℕ) → number ≡ k → (scope : List ℕ) (a : Step) (o′ : List ℕ) → ResolvesGiven s raw names kinds scope 0 (at + 1) 8 number w o a o′
-      → ResolvesInit s raw names kinds at w o (record { ok = leb (a .at) (length raw); next = a .at; w = a .w }) o′
-  unfolding resolve-init enc-init given-cells scope-at enc
-  init-answered h number en scope a o′ g N l rest f p e =
+  pub init-answered : k < kinds .procs → (number : ℕ) → number ≡ k → (a : Step) (o′ : List ℕ) → ResolvesGiven s raw names kinds scope 0 (at + 1) 8 number w o a o′
+      → ResolvesInit s raw names kinds scope at w o (record { ok = leb (a .at) (length raw); next = a .at; w = a .w }) o′
+  unfolding resolve-init enc-init given-cells scope-at scope-sorts enc
+  init-answered h number en a o′ g N S l rest gi f p e =
       let u = known (name-at s c) (procs-in s names kinds) k (kinds .procs) (procs-most s names kinds) found h in
       let y = init-name N l rest e in
       let v : number-of (l .name) (N .procs) ≡ some k = ap (number-of (l .name)) p ∙ ap (λ (x : Name). number-of x (procs-in s names kinds)) (sym y) ∙ u in
-      rw v (by (resolve-given N [] (l .data-given)) (g N (l .name) (l .data-given) rest f (next s raw at (tag init-tag) (enc-call (l .name) (l .data-given) ++ rest) e .behind)))
+      rw v (by (resolve-given N S [] [] (l .data-given)) (g N S (l .name) (l .data-given) rest f (none-sorted kinds scope S gi) (next s raw at (tag init-tag) (enc-call (l .name) (l .data-given) ++ rest) e .behind)))
     where
       same : (q : Option (List Data)) → (_>>=_ q (λ es. some (8 ∷ number ∷ length es ∷ enc-datas es))) ≡ (_>>=_ (called (_>>=_ q (λ ds. some (k, ds)))) (λ t. some (enc false t)))
       same none = refl

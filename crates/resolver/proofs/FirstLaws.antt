@@ -13,6 +13,7 @@ use Rattle.names.specs.Standing.{symbols}
 use Rattle.resolver.specs.declared.Step.{Step}
 use Rattle.resolver.specs.declared.Fork.{Fork}
 use Rattle.resolver.specs.Raw.{enc-term}
+use Rattle.resolver.specs.Sorting.{scope-sorts}
 use Rattle.resolver.specs.Writing.{Writes}
 use Rattle.resolver.specs.Resolving.{Outcome, lost, took, term-cells, _⊕_, Forks, ResolvesFirst, ResolvesTerm}
 use Rattle.resolver.proofs.Writing.{writes-then}
@@ -34,13 +35,13 @@ module _ (s raw names : List ℕ) (kinds : Kinds) (scope : List ℕ) (n at : ℕ
       on H (took {e = i} z d ws₁) = became (sym (then-last i j)) (took z d (subst (λ (x : ℕ). Writes (i ++ j) w o x o₂) same (writes-then ws₁ ws)))
 
   pub first-read : ResolvesFirst s raw names kinds scope n at after w o r o₂
-  first-read N t rest dec e d k =
-      let x = forks N t rest (dec .funcs-are) e k in
+  first-read N S t rest dec so e d k =
+      let x = forks N S t rest (dec .funcs-are) so e k in
       let y = x .first-depth in
       record {
         second = x .second;
-        head = x .head ⊕ term-cells N (scope-at s scope n) (f .left) (x .first);
+        head = x .head ⊕ term-cells N S (scope-at s scope n) (scope-sorts scope n) (f .left) (x .first);
         second-depth = x .second-depth;
         cells = x .cells ∙ three-assoc (x .head) _ _;
-        outcome = joined (x .between) (enc-term (x .second) ++ rest) (x .head) _ (resolves N (x .first) (x .between) dec (x .first-at) (omega arith)) (x .outcome);
+        outcome = joined (x .between) (enc-term (x .second) ++ rest) (x .head) _ (resolves N S (x .first) (x .between) dec so (x .first-at) (omega arith)) (x .outcome);
       }

@@ -8,6 +8,7 @@ use native.Mathlib.Omega.{arith}
 use lib.Dec.{eqb}
 use lib.ListN.{length, drop, getD, length-append, length-drop, length-map}
 use Rattle.pcrl.specs.Tree.{Name, RawData, Choice, Conditional, Sequence, Part}
+use Rattle.pcrl.specs.Sheet.{Sig}
 use Rattle.pcrl.specs.Names.{Names, resolve-choice}
 use Rattle.parser.specs.Cells.{Symbol, tag, symbol-of, plus-tag, cond-tag, then-tag, enc-choice}
 use Rattle.parser.specs.Cells.{enc-data as raw-data}
@@ -17,6 +18,7 @@ use Rattle.names.specs.declared.Kinds.{Kinds}
 use Rattle.names.specs.Standing.{symbols}
 use Rattle.resolver.specs.declared.Step.{Step}
 use Rattle.resolver.specs.Raw.{Term, choice, conditional, sequence, part, enc-term, resolve-term, sum-depth, term-depth, tokens-of, kids-of, Skips}
+use Rattle.resolver.specs.Sorting.{scope-sorts}
 use Rattle.resolver.specs.Writing.{Writes}
 use Rattle.resolver.specs.Resolving.{Outcome, lost, took, data-cells, term-cells, _⊕_, ResolvesData, ResolvesConstant, Forked, Forks}
 use Rattle.resolver.proofs.Writing.{writes-then}
@@ -46,9 +48,9 @@ module _ (raw : List ℕ) (at : ℕ) (after : Bool) (w : ℕ) (o : List ℕ) whe
     pub delta-took : k ≡ 12 → (first w′ : ℕ) (o′ : List ℕ) → first ≡ after-mark * one-if after + delta-kind → Writes (first ∷ 0 ∷ 0 ∷ []) w o w′ o′
         → ResolvesConstant raw at after w o (record { at = at + 1; w = w′ }) o′
     unfolding kids-of tokens-of enc-term enc-choice term-cells resolve-term resolve-choice enc
-    delta-took ek first w′ o′ ef ws s N scope t rest e ht hk = let v = seen s raw at t rest e in by t (v .tag-of) (v .view) (v .cell) e
+    delta-took ek first w′ o′ ef ws s N S scope Γ t rest e ht hk = let v = seen s raw at t rest e in by t (v .tag-of) (v .view) (v .cell) e
       where
-        by : (t : Term) (m : ℕ) → View t m → getD raw at 0 ≡ m → drop at (symbols s raw) ≡ enc-term t ++ rest → Outcome raw (symbols s raw) rest w o (at + 1) w′ o′ (term-cells N scope after t)
+        by : (t : Term) (m : ℕ) → View t m → getD raw at 0 ≡ m → drop at (symbols s raw) ≡ enc-term t ++ rest → Outcome raw (symbols s raw) rest w o (at + 1) w′ o′ (term-cells N S scope Γ after t)
         by t m (single t′ u m′ v) q e = let z = single-kids (v .is) in let y = ap kids-of q in absurd (omega arith)
         by t m (plus c d) q e = absurd (omega arith)
         by t m (cond p c q₁) q e = absurd (omega arith)
@@ -62,9 +64,9 @@ module _ (raw : List ℕ) (at : ℕ) (after : Bool) (w : ℕ) (o : List ℕ) whe
     pub tau-took : k ≡ 13 → (first w′ : ℕ) (o′ : List ℕ) → first ≡ after-mark * one-if after + atom-kind → Writes (first ∷ 0 ∷ 0 ∷ []) w o w′ o′
         → ResolvesConstant raw at after w o (record { at = at + 1; w = w′ }) o′
     unfolding kids-of tokens-of enc-term enc-choice term-cells resolve-term resolve-choice enc act-number enc-datas
-    tau-took ek first w′ o′ ef ws s N scope t rest e ht hk = let v = seen s raw at t rest e in by t (v .tag-of) (v .view) (v .cell) e
+    tau-took ek first w′ o′ ef ws s N S scope Γ t rest e ht hk = let v = seen s raw at t rest e in by t (v .tag-of) (v .view) (v .cell) e
       where
-        by : (t : Term) (m : ℕ) → View t m → getD raw at 0 ≡ m → drop at (symbols s raw) ≡ enc-term t ++ rest → Outcome raw (symbols s raw) rest w o (at + 1) w′ o′ (term-cells N scope after t)
+        by : (t : Term) (m : ℕ) → View t m → getD raw at 0 ≡ m → drop at (symbols s raw) ≡ enc-term t ++ rest → Outcome raw (symbols s raw) rest w o (at + 1) w′ o′ (term-cells N S scope Γ after t)
         by t m (single t′ u m′ v) q e = let z = single-kids (v .is) in let y = ap kids-of q in absurd (omega arith)
         by t m (plus c d) q e = absurd (omega arith)
         by t m (cond p c q₁) q e = absurd (omega arith)
@@ -77,7 +79,7 @@ module _ (raw : List ℕ) (at : ℕ) (after : Bool) (w : ℕ) (o : List ℕ) whe
 
   pub constant-lost : (getD raw at 0 ≡ 12 → ⊥) → (getD raw at 0 ≡ 13 → ⊥) → (r : Step) (o′ : List ℕ) → ResolvesConstant raw at after w o r o′
   unfolding kids-of tokens-of
-  constant-lost n₁ n₂ r o′ s N scope t rest e ht hk = let v = seen s raw at t rest e in absurd (by t (v .tag-of) (v .view) (v .cell))
+  constant-lost n₁ n₂ r o′ s N S scope Γ t rest e ht hk = let v = seen s raw at t rest e in absurd (by t (v .tag-of) (v .view) (v .cell))
     where
       by : (t : Term) (m : ℕ) → View t m → getD raw at 0 ≡ m → ⊥
       by t m (single t′ u m′ v) q = let z = single-kids (v .is) in let y = ap kids-of q in omega arith
@@ -116,11 +118,11 @@ further s raw p p₁ l l₁ h h₁ e e₁ =
 
 module _ (s raw names : List ℕ) (kinds : Kinds) (scope : List ℕ) (n at : ℕ) (after : Bool) (w : ℕ) (o : List ℕ) where
   -- the second part stands behind the first
-  together : (N : Names) (t first second : Term) (rest : List Symbol) (k : ℕ) (e : List ℕ) (w′ : ℕ) (o′ : List ℕ) (left right : Bool)
+  together : (N : Names) (S : Sig) (t first second : Term) (rest : List Symbol) (k : ℕ) (e : List ℕ) (w′ : ℕ) (o′ : List ℕ) (left right : Bool)
       → drop at (symbols s raw) ≡ tag k ∷ ((enc-term first ++ enc-term second) ++ rest) → term-depth first ≤ term-depth t → term-depth second ≤ term-depth t → eqb (getD raw at 0) then-tag ≡ right
-      → term-cells N (scope-at s scope n) after t ≡ some e ⊕ (term-cells N (scope-at s scope n) left first ⊕ term-cells N (scope-at s scope n) right second) → Writes e w o w′ o′
-      → Forked s raw N (scope-at s scope n) at after t rest w o (record { at = at; w = w′; left = left }) o′
-  together N t first second rest k e w′ o′ left right d d₁ d₂ r q ws =
+      → term-cells N S (scope-at s scope n) (scope-sorts scope n) after t ≡ some e ⊕ (term-cells N S (scope-at s scope n) (scope-sorts scope n) left first ⊕ term-cells N S (scope-at s scope n) (scope-sorts scope n) right second) → Writes e w o w′ o′
+      → Forked s raw N S (scope-at s scope n) (scope-sorts scope n) at after t rest w o (record { at = at; w = w′; left = left }) o′
+  together N S t first second rest k e w′ o′ left right d d₁ d₂ r q ws =
       record {
         first = first;
         second = second;
@@ -129,31 +131,31 @@ module _ (s raw names : List ℕ) (kinds : Kinds) (scope : List ℕ) (n at : ℕ
         first-at = next s raw at (tag k) _ d .behind ∙ append-assoc (enc-term first) (enc-term second) rest;
         first-depth = d₁;
         second-depth = d₂;
-        cells = q ∙ ap (λ (b : Bool). some e ⊕ (term-cells N (scope-at s scope n) left first ⊕ term-cells N (scope-at s scope n) b second)) (sym r);
+        cells = q ∙ ap (λ (b : Bool). some e ⊕ (term-cells N S (scope-at s scope n) (scope-sorts scope n) left first ⊕ term-cells N S (scope-at s scope n) (scope-sorts scope n) b second)) (sym r);
         outcome = λ p p′ h z x y. let i : p′ ≡ p = omega arith in took (omega arith) (ap (λ (u : ℕ). drop u (symbols s raw)) i ∙ x) ws;
       }
 
   module _ (w′ : ℕ) (o′ : List ℕ) where
     pub fork-then : getD raw at 0 ≡ then-tag → Writes (seq-kind ∷ 0 ∷ 0 ∷ []) w o w′ o′ → Forks s raw names kinds scope n at after w o (record { at = at; w = w′; left = after }) o′
     unfolding enc-term enc-choice term-depth sum-depth
-    fork-then k ws N t rest f e hk = let v = seen s raw at t rest e in by t (v .tag-of) (two-parts raw at hk t (v .tag-of) (v .view) (v .cell)) (v .cell) e
+    fork-then k ws N S t rest f so e hk = let v = seen s raw at t rest e in by t (v .tag-of) (two-parts raw at hk t (v .tag-of) (v .view) (v .cell)) (v .cell) e
       where
-        by : (t : Term) (m : ℕ) → TwoParts t m → getD raw at 0 ≡ m → drop at (symbols s raw) ≡ enc-term t ++ rest → Forked s raw N (scope-at s scope n) at after t rest w o (record { at = at; w = w′; left = after }) o′
+        by : (t : Term) (m : ℕ) → TwoParts t m → getD raw at 0 ≡ m → drop at (symbols s raw) ≡ enc-term t ++ rest → Forked s raw N S (scope-at s scope n) (scope-sorts scope n) at after t rest w o (record { at = at; w = w′; left = after }) o′
         by t m (by-then a b) q e =
-            together N t (part a) (sequence b) rest then-tag (seq-kind ∷ 0 ∷ 0 ∷ []) w′ o′ after true e (omega arith) (omega arith) (ap (λ (i : ℕ). eqb i then-tag) k) (then-cells N (scope-at s scope n) after a b) ws
+            together N S t (part a) (sequence b) rest then-tag (seq-kind ∷ 0 ∷ 0 ∷ []) w′ o′ after true e (omega arith) (omega arith) (ap (λ (i : ℕ). eqb i then-tag) k) (then-cells N S (scope-at s scope n) (scope-sorts scope n) after a b) ws
         by t m (by-plus a b) q e = absurd (omega arith)
         by t m (by-cond a c b) q e = absurd (omega arith)
 
     pub fork-plus : getD raw at 0 ≡ plus-tag → (first : ℕ) → first ≡ after-mark * one-if after + alt-kind → Writes (first ∷ 0 ∷ 0 ∷ []) w o w′ o′
         → Forks s raw names kinds scope n at after w o (record { at = at; w = w′; left = false }) o′
     unfolding enc-term enc-choice term-depth sum-depth
-    fork-plus k first ef ws N t rest f e hk = let v = seen s raw at t rest e in by t (v .tag-of) (two-parts raw at hk t (v .tag-of) (v .view) (v .cell)) (v .cell) e
+    fork-plus k first ef ws N S t rest f so e hk = let v = seen s raw at t rest e in by t (v .tag-of) (two-parts raw at hk t (v .tag-of) (v .view) (v .cell)) (v .cell) e
       where
-        by : (t : Term) (m : ℕ) → TwoParts t m → getD raw at 0 ≡ m → drop at (symbols s raw) ≡ enc-term t ++ rest → Forked s raw N (scope-at s scope n) at after t rest w o (record { at = at; w = w′; left = false }) o′
+        by : (t : Term) (m : ℕ) → TwoParts t m → getD raw at 0 ≡ m → drop at (symbols s raw) ≡ enc-term t ++ rest → Forked s raw N S (scope-at s scope n) (scope-sorts scope n) at after t rest w o (record { at = at; w = w′; left = false }) o′
         by t m (by-plus a b) q e =
-            together N t (conditional a) (choice b) rest plus-tag (first ∷ 0 ∷ 0 ∷ []) w′ o′ false false e (omega arith) (omega arith) (ap (λ (i : ℕ). eqb i then-tag) k)
-            (plus-cells N (scope-at s scope n) after a b
-            ∙ ap (λ (y : ℕ). some (y ∷ 0 ∷ 0 ∷ []) ⊕ (term-cells N (scope-at s scope n) false (conditional a) ⊕ term-cells N (scope-at s scope n) false (choice b))) (sym ef)) ws
+            together N S t (conditional a) (choice b) rest plus-tag (first ∷ 0 ∷ 0 ∷ []) w′ o′ false false e (omega arith) (omega arith) (ap (λ (i : ℕ). eqb i then-tag) k)
+            (plus-cells N S (scope-at s scope n) (scope-sorts scope n) after a b
+            ∙ ap (λ (y : ℕ). some (y ∷ 0 ∷ 0 ∷ []) ⊕ (term-cells N S (scope-at s scope n) (scope-sorts scope n) false (conditional a) ⊕ term-cells N S (scope-at s scope n) (scope-sorts scope n) false (choice b))) (sym ef)) ws
         by t m (by-then a b) q e = absurd (omega arith)
         by t m (by-cond a c b) q e = absurd (omega arith)
 
@@ -161,10 +163,13 @@ module _ (s raw names : List ℕ) (kinds : Kinds) (scope : List ℕ) (n at : ℕ
       → (first w₁ : ℕ) (o₁ : List ℕ) → first ≡ after-mark * one-if after + cond-kind → Writes (first ∷ 0 ∷ 1 ∷ []) w o w₁ o₁
       → (r : Step) (o′ : List ℕ) → ResolvesData s raw names kinds scope n p w₁ o₁ r o′ → Forks s raw names kinds scope n at after w o (record { at = r .at; w = r .w; left = false }) o′
   unfolding enc-term enc-choice term-depth sum-depth
-  fork-cond n₁ n₂ p skips first w₁ o₁ ef ws r o′ condition N t rest f e hk = let v = seen s raw at t rest e in by t (v .tag-of) (two-parts raw at hk t (v .tag-of) (v .view) (v .cell)) (v .cell) e
+  fork-cond n₁ n₂ p skips first w₁ o₁ ef ws r o′ condition N S t rest f so e hk = let v = seen s raw at t rest e in by t (v .tag-of) (two-parts raw at hk t (v .tag-of) (v .view) (v .cell)) (v .cell) e
     where
       σ : List Name
       σ = scope-at s scope n
+
+      Γ : List ℕ
+      Γ = scope-sorts scope n
 
       -- the second part stands behind the condition, and that behind the first
       behind : (c l : List Symbol) (X : Option (List ℕ)) → Outcome raw (symbols s raw) l w₁ o₁ (r .at) (r .w) o′ X → (p₁ p₂ : ℕ) → p₁ ≤ length raw → drop p₁ (symbols s raw) ≡ c ++ l → p₂ ≡ max p₁ (r .at)
@@ -175,22 +180,22 @@ module _ (s raw names : List ℕ) (kinds : Kinds) (scope : List ℕ) (n at : ℕ
           let i : p₂ ≡ r .at = omega arith in
           became (sym (then-last (first ∷ 0 ∷ 1 ∷ []) g)) (took (omega arith) (ap (λ (u : ℕ). drop u (symbols s raw)) i ∙ d) (writes-then ws ws₁))
 
-      by : (t : Term) (m : ℕ) → TwoParts t m → getD raw at 0 ≡ m → drop at (symbols s raw) ≡ enc-term t ++ rest → Forked s raw N σ at after t rest w o (record { at = r .at; w = r .w; left = false }) o′
+      by : (t : Term) (m : ℕ) → TwoParts t m → getD raw at 0 ≡ m → drop at (symbols s raw) ≡ enc-term t ++ rest → Forked s raw N S σ Γ at after t rest w o (record { at = r .at; w = r .w; left = false }) o′
       by t m (by-plus a b) q e = absurd (n₂ q)
       by t m (by-then a b) q e = absurd (n₁ q)
       by t m (by-cond a c b) q e =
           let d : drop (at + 1) (symbols s raw) ≡ enc-term (sequence a) ++ (raw-data c ++ (enc-term (sequence b) ++ rest)) = next s raw at (tag cond-tag) _ e .behind ∙ simp append-assoc in
-          let g = condition N c (enc-term (sequence b) ++ rest) f (skips s (sequence a) (raw-data c ++ (enc-term (sequence b) ++ rest)) d) in
+          let g = condition N S c (enc-term (sequence b) ++ rest) f so (skips s (sequence a) (raw-data c ++ (enc-term (sequence b) ++ rest)) d) in
           record {
             first = sequence a;
             second = sequence b;
             between = raw-data c ++ (enc-term (sequence b) ++ rest);
-            head = some (first ∷ 0 ∷ 1 ∷ []) ⊕ data-cells N σ c;
+            head = some (first ∷ 0 ∷ 1 ∷ []) ⊕ data-cells N S σ Γ c;
             first-at = d;
             first-depth = omega arith;
             second-depth = omega arith;
-            cells = cond-cells N σ after a c b
-                ∙ ap (λ (y : ℕ). (some (y ∷ 0 ∷ 1 ∷ []) ⊕ data-cells N σ c) ⊕ (term-cells N σ false (sequence a) ⊕ term-cells N σ false (sequence b))) (sym ef)
-                ∙ ap (λ (y : ℕ). (some (first ∷ 0 ∷ 1 ∷ []) ⊕ data-cells N σ c) ⊕ (term-cells N σ false (sequence a) ⊕ term-cells N σ (eqb y then-tag) (sequence b))) (sym q);
-            outcome = λ p₁ p₂ z h x y. behind (raw-data c) (enc-term (sequence b) ++ rest) (data-cells N σ c) g p₁ p₂ h x y;
+            cells = cond-cells N S σ Γ after a c b
+                ∙ ap (λ (y : ℕ). (some (y ∷ 0 ∷ 1 ∷ []) ⊕ data-cells N S σ Γ c) ⊕ (term-cells N S σ Γ false (sequence a) ⊕ term-cells N S σ Γ false (sequence b))) (sym ef)
+                ∙ ap (λ (y : ℕ). (some (first ∷ 0 ∷ 1 ∷ []) ⊕ data-cells N S σ Γ c) ⊕ (term-cells N S σ Γ false (sequence a) ⊕ term-cells N S σ Γ (eqb y then-tag) (sequence b))) (sym q);
+            outcome = λ p₁ p₂ z h x y. behind (raw-data c) (enc-term (sequence b) ++ rest) (data-cells N S σ Γ c) g p₁ p₂ h x y;
           }

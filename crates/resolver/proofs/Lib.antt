@@ -1,9 +1,12 @@
 pub mod Writing
 pub mod Symbols
-pub mod Items
 pub mod Lookup
 pub mod DataCells
+pub mod Operands
+pub mod Items
+pub mod OwnSort
 pub mod DataLaws
+pub mod OperatorLaws
 pub mod GivenLaws
 pub mod ProcessCells
 pub mod Terms

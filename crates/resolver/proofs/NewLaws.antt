@@ -6,8 +6,8 @@ use mathlib.Core.Option.{none, some}
 use Prim.Native.Nat.{ℕ, suc, _+_, _*_, _≤_, _<_}
 use native.Mathlib.Omega.{arith}
 use native.Mathlib.Numerals.{add-one}
-use lib.ListN.{length, take, drop, getD, set}
-use lib.Seq.{take-suc-set}
+use lib.ListN.{length, take, drop, getD, set, length-drop}
+use lib.Seq.{take-suc-set, take-set-le, drop-set-lt, drop-set-add}
 use Rattle.pcrl.specs.Text.{bytes}
 use Rattle.pcrl.specs.Tests.{and, negated, among}
 use Rattle.pcrl.specs.Tokens.{name}
@@ -15,6 +15,7 @@ use Rattle.pcrl.specs.Tree.{Name}
 use Rattle.pcrl.specs.Names.{Names, number-of, declared, new-variable}
 use Rattle.parser.specs.Cells.{Symbol, tag, token, sum-tag}
 use Rattle.parser.specs.Reading.{Put}
+use Rattle.nodes.specs.Scoped.{max-scope}
 use Rattle.nodes.specs.Layout.{after-mark, one-if, sum-kind, variable-tag}
 use Rattle.names.specs.NameCells.{or-count, name-at, scope-at}
 use Rattle.names.specs.NameKinds.{total-of, sorts-in}
@@ -24,7 +25,8 @@ use Rattle.names.proofs.KindLaws.{kinds-joined}
 use Rattle.names.proofs.Symbols.{name-of-cell}
 use Rattle.resolver.specs.declared.Step.{Step}
 use Rattle.resolver.specs.Writing.{Writes}
-use Rattle.resolver.specs.Resolving.{lost, took, Declared, binder-cells, Binds}
+use Rattle.resolver.specs.Sorting.{first-sort, first-result, scope-cells, scope-sorts, scope-results, ScopeKept}
+use Rattle.resolver.specs.Resolving.{lost, took, Declared, binder-cells, sort-found, Binds}
 use Rattle.resolver.proofs.Writing.{writes-then, writes-cell}
 use Rattle.resolver.proofs.Symbols.{next, pair}
 use Rattle.resolver.proofs.Lookup.{known, unknown, sorts-most, scope-many}
@@ -42,13 +44,40 @@ says-new s names kinds scope n x m r em e N D =
     e ∙ ap (λ (l : List Name). and (negated (among (name-at s x) l)) (negated (among (name-at s x) (scope-at s scope n)))) (sym all)
 
 -- ---- the sum that binds the variable
-pub pushed : (s scope : List ℕ) (n c : ℕ) → n < length scope → scope-at s (set scope n c) (n + 1) ≡ scope-at s scope n ++ (name-at s c ∷ [])
-unfolding scope-at
-pushed s scope n c h = ap (map (name-at s)) (ap (λ k. take k (set scope n c)) (add-one n) ∙ take-suc-set scope n c h) ∙ map-last (name-at s) (take n scope) c
-  where
-    map-last : (f : ℕ → Name) (l : List ℕ) (a : ℕ) → map f (l ++ (a ∷ [])) ≡ map f l ++ (f a ∷ [])
-    map-last f [] a = refl
-    map-last f (x ∷ l) a = ap (λ k. f x ∷ k) (map-last f l a)
+map-last : (f : ℕ → Name) (l : List ℕ) (a : ℕ) → map f (l ++ (a ∷ [])) ≡ map f l ++ (f a ∷ [])
+map-last f [] a = refl
+map-last f (x ∷ l) a = ap (λ k. f x ∷ k) (map-last f l a)
+
+-- its name's cell stands behind those in scope, its sort behind theirs
+module _ (scope : List ℕ) (n c E : ℕ) (h : n < max-scope) (many : length scope ≡ scope-cells) where
+  pub pushed : (s : List ℕ) → scope-at s (set (set scope n c) (first-sort + n) E) (n + 1) ≡ scope-at s scope n ++ (name-at s c ∷ [])
+  unfolding scope-at
+  pushed s =
+      ap (map (name-at s)) (take-set-le (n + 1) (set scope n c) (first-sort + n) E (omega arith) ∙ ap (λ k. take k (set scope n c)) (add-one n) ∙ take-suc-set scope n c (omega arith))
+      ∙ map-last (name-at s) (take n scope) c
+
+  pub sorts-pushed : scope-sorts (set (set scope n c) (first-sort + n) E) (n + 1) ≡ scope-sorts scope n ++ (E ∷ [])
+  unfolding scope-sorts
+  sorts-pushed =
+      ap (take (n + 1)) (drop-set-add first-sort (set scope n c) n E ∙ ap (λ l. set l n E) (drop-set-lt first-sort scope n c (omega arith)))
+      ∙ ap (λ k. take k (set (drop first-sort scope) n E)) (add-one n) ∙ take-suc-set (drop first-sort scope) n E (omega (arith, length-drop first-sort scope))
+
+  pub push-kept : ScopeKept n scope (set (set scope n c) (first-sort + n) E)
+  unfolding scope-sorts scope-results
+  push-kept = record {
+    names-kept = take-set-le n (set scope n c) (first-sort + n) E (omega arith) ∙ take-set-le n scope n c (omega arith);
+    sorts-kept = ap (take n) (drop-set-add first-sort (set scope n c) n E ∙ ap (λ l. set l n E) (drop-set-lt first-sort scope n c (omega arith))) ∙ take-set-le n (drop first-sort scope) n E (omega arith);
+    results-kept = drop-set-lt first-result (set scope n c) (first-sort + n) E (omega arith) ∙ drop-set-lt first-result scope n c (omega arith);
+  }
+
+-- both as they were read
+pub both-pushed : (s raw names : List ℕ) (kinds : Kinds) (scope : List ℕ) (n at x c d i : ℕ) → x ≡ getD raw (at + 1) 0 → c ≡ getD raw (at + 2) 0 → i ≡ sort-found s names kinds c → d ≡ i
+    → set (set scope n x) (first-sort + n) d ≡ set (set scope n (getD raw (at + 1) 0)) (first-sort + n) (sort-found s names kinds (getD raw (at + 2) 0))
+both-pushed s raw names kinds scope n at x c d i ex ec ei ed =
+    ap (λ (y : ℕ). set (set scope n y) (first-sort + n) d) ex ∙ ap (set (set scope n (getD raw (at + 1) 0)) (first-sort + n)) (ed ∙ ei ∙ ap (sort-found s names kinds) ec)
+
+pub nothing-changed : (n : ℕ) (scope : List ℕ) → ScopeKept n scope scope
+nothing-changed n scope = record { names-kept = refl; sorts-kept = refl; results-kept = refl }
 
 -- the two names behind a sum's tag
 pub record TwoNames (s raw : List ℕ) (at : ℕ) (x D : Name) (rest : List Symbol) : Type 0 where
@@ -71,13 +100,13 @@ two-names s raw at x D rest e =
     }
 
 module _ (s raw names : List ℕ) (kinds : Kinds) (scope : List ℕ) (n at : ℕ) (after : Bool) (w : ℕ) (o : List ℕ) (few : n ≤ length scope) where
-  pub binder-full : (r : Step) (o′ : List ℕ) → length scope ≤ n → Binds s raw names kinds scope n at after w o r o′
-  binder-full r o′ h N x D rest dec e l = absurd (omega arith)
+  pub binder-full : (r : Step) (o′ : List ℕ) → max-scope ≤ n → Binds s raw names kinds scope n at after w o r o′
+  binder-full r o′ h N S x D rest dec e l = absurd (omega arith)
 
   module _ (c : ℕ) (ec : c ≡ getD raw (at + 1) 0) (new : Bool) (says : SaysNew s names kinds scope n c new) where
     pub binder-old : new ≡ false → (r : Step) (o′ : List ℕ) → length raw < r .at → Binds s raw names kinds scope n at after w o r o′
     unfolding binder-cells
-    binder-old b r o′ z N x D rest dec e l =
+    binder-old b r o′ z N S x D rest dec e l =
         let t = two-names s raw at x D rest e in
         let q : new-variable N (scope-at s scope n) x ≡ false = ap (new-variable N (scope-at s scope n)) (sym (ap (name-at s) ec ∙ t .variable)) ∙ sym (says N dec) ∙ b in
         became (sym (rw q refl)) (lost z)
@@ -85,7 +114,7 @@ module _ (s raw names : List ℕ) (kinds : Kinds) (scope : List ℕ) (n at : ℕ
     module _ (b : new ≡ true) (c₂ : ℕ) (ec₂ : c₂ ≡ getD raw (at + 2) 0) (i : ℕ) (si : i ≡ or-count (suc (kinds .sorts)) (number-of (name-at s c₂) (sorts-in s names kinds))) where
       pub binder-no-sort : kinds .sorts < i → (r : Step) (o′ : List ℕ) → length raw < r .at → Binds s raw names kinds scope n at after w o r o′
       unfolding binder-cells
-      binder-no-sort h r o′ z N x D rest dec e l =
+      binder-no-sort h r o′ z N S x D rest dec e l =
           let t = two-names s raw at x D rest e in
           let q : new-variable N (scope-at s scope n) x ≡ true = ap (new-variable N (scope-at s scope n)) (sym (ap (name-at s) ec ∙ t .variable)) ∙ sym (says N dec) ∙ b in
           let u = unknown (name-at s c₂) (sorts-in s names kinds) i (suc (kinds .sorts)) (sorts-most s names kinds) si (omega arith) in
@@ -95,7 +124,7 @@ module _ (s raw names : List ℕ) (kinds : Kinds) (scope : List ℕ) (n at : ℕ
       pub binder-took : i ≤ kinds .sorts → (first d v v₁ w′ : ℕ) (o₁ o′ : List ℕ) → first ≡ after-mark * one-if after + sum-kind → d ≡ i → v ≡ 4 * n + 1 → Writes (first ∷ d ∷ 1 ∷ []) w o v₁ o₁ → Put o₁ v₁ v w′ o′
           → Binds s raw names kinds scope n at after w o (record { at = at + 3; w = w′ }) o′
       unfolding binder-cells
-      binder-took h first d v v₁ w′ o₁ o′ ef ed ev ws put N x D rest dec e l =
+      binder-took h first d v v₁ w′ o₁ o′ ef ed ev ws put N S x D rest dec e l =
           let t = two-names s raw at x D rest e in
           let q : new-variable N (scope-at s scope n) x ≡ true = ap (new-variable N (scope-at s scope n)) (sym (ap (name-at s) ec ∙ t .variable)) ∙ sym (says N dec) ∙ b in
           let u = known (name-at s c₂) (sorts-in s names kinds) i (suc (kinds .sorts)) (sorts-most s names kinds) si (omega arith) in

@@ -7,17 +7,17 @@ use Prim.Native.Nat.{ℕ, _+_, _*_}
 use lib.ListN.{length}
 use Rattle.pcrl.specs.Maybe.{_>>=_, _>>_, provided}
 use Rattle.pcrl.specs.Tree.{Name, RawData, RawDatas, Choice, Conditional, Sequence, Part}
-use Rattle.pcrl.specs.Sheet.{Data, Proc}
+use Rattle.pcrl.specs.Sheet.{Data, Proc, Sig}
 use Rattle.pcrl.specs.Names.{Names, number-of, new-variable, named, resolve-data, resolve-given, resolve-choice, resolve-conditional, resolve-sequence, resolve-part}
 use Rattle.nodes.specs.Layout.{enc-data, enc-datas, after-mark, one-if, atom-kind, alt-kind, cond-kind, call-kind, seq-kind, act-number, enc}
 use Rattle.resolver.specs.Raw.{choice, conditional, sequence, part, resolve-term}
 use Rattle.resolver.specs.Resolving.{data-cells, given-cells, term-cells, binder-cells, _⊕_}
 
-module _ (N : Names) (scope : List Name) (after : Bool) where
+module _ (N : Names) (S : Sig) (scope : List Name) (Γ : List ℕ) (after : Bool) where
   pub plus-cells : (c : Conditional) (d : Choice)
-      → term-cells N scope after (choice (Choice.plus c d)) ≡ some ((after-mark * one-if after + alt-kind) ∷ 0 ∷ 0 ∷ []) ⊕ (term-cells N scope false (conditional c) ⊕ term-cells N scope false (choice d))
+      → term-cells N S scope Γ after (choice (Choice.plus c d)) ≡ some ((after-mark * one-if after + alt-kind) ∷ 0 ∷ 0 ∷ []) ⊕ (term-cells N S scope Γ false (conditional c) ⊕ term-cells N S scope Γ false (choice d))
   unfolding term-cells resolve-term resolve-choice enc _⊕_
-  plus-cells c d = by (resolve-conditional N scope c) (resolve-choice N scope d)
+  plus-cells c d = by (resolve-conditional N S scope Γ c) (resolve-choice N S scope Γ d)
     where
       by : (p q : Option Proc) → (_>>=_ (_>>=_ p (λ a. _>>=_ q (λ b. some (Proc.alt a b)))) (λ a. some (enc after a)))
           ≡ some ((after-mark * one-if after + alt-kind) ∷ 0 ∷ 0 ∷ []) ⊕ ((_>>=_ p (λ a. some (enc false a))) ⊕ (_>>=_ q (λ a. some (enc false a))))
@@ -26,9 +26,9 @@ module _ (N : Names) (scope : List Name) (after : Bool) where
       by (some a) (some b) = refl
 
   pub then-cells : (p : Part) (q : Sequence)
-      → term-cells N scope after (sequence (Sequence.then p q)) ≡ some (seq-kind ∷ 0 ∷ 0 ∷ []) ⊕ (term-cells N scope after (part p) ⊕ term-cells N scope true (sequence q))
+      → term-cells N S scope Γ after (sequence (Sequence.then p q)) ≡ some (seq-kind ∷ 0 ∷ 0 ∷ []) ⊕ (term-cells N S scope Γ after (part p) ⊕ term-cells N S scope Γ true (sequence q))
   unfolding term-cells resolve-term resolve-choice enc _⊕_
-  then-cells p q = by (resolve-part N scope p) (resolve-sequence N scope q)
+  then-cells p q = by (resolve-part N S scope Γ p) (resolve-sequence N S scope Γ q)
     where
       by : (p q : Option Proc) → (_>>=_ (_>>=_ p (λ a. _>>=_ q (λ b. some (Proc.seq a b)))) (λ a. some (enc after a)))
           ≡ some (seq-kind ∷ 0 ∷ 0 ∷ []) ⊕ ((_>>=_ p (λ a. some (enc after a))) ⊕ (_>>=_ q (λ a. some (enc true a))))
@@ -38,10 +38,10 @@ module _ (N : Names) (scope : List Name) (after : Bool) where
 
   -- the condition stands before the parts
   pub cond-cells : (p : Sequence) (c : RawData) (q : Sequence)
-      → term-cells N scope after (conditional (Conditional.cond p c q))
-      ≡ (some ((after-mark * one-if after + cond-kind) ∷ 0 ∷ 1 ∷ []) ⊕ data-cells N scope c) ⊕ (term-cells N scope false (sequence p) ⊕ term-cells N scope false (sequence q))
+      → term-cells N S scope Γ after (conditional (Conditional.cond p c q))
+      ≡ (some ((after-mark * one-if after + cond-kind) ∷ 0 ∷ 1 ∷ []) ⊕ data-cells N S scope Γ c) ⊕ (term-cells N S scope Γ false (sequence p) ⊕ term-cells N S scope Γ false (sequence q))
   unfolding term-cells data-cells resolve-term resolve-choice enc _⊕_
-  cond-cells p c q = by (resolve-sequence N scope p) (resolve-data N scope c) (resolve-sequence N scope q)
+  cond-cells p c q = by (resolve-sequence N S scope Γ p) (resolve-data N S scope Γ c) (resolve-sequence N S scope Γ q)
     where
       by : (p : Option Proc) (c : Option Data) (q : Option Proc)
           → (_>>=_ (_>>=_ p (λ a. _>>=_ c (λ d. _>>=_ q (λ b. some (Proc.cond d a b))))) (λ a. some (enc after a)))
@@ -52,43 +52,59 @@ module _ (N : Names) (scope : List Name) (after : Bool) where
       by (some a) (some d) none = refl
       by (some a) (some d) (some b) = refl
 
-  pub sum-cells : (v D : Name) (p : Choice)
-      → term-cells N scope after (part (Part.sum v D p)) ≡ binder-cells N scope after v D ⊕ term-cells N (scope ++ (v ∷ [])) false (choice p)
+  -- the variable comes into scope with its sort
+  pub sum-cells : (v D : Name) (p : Choice) (E : ℕ) → number-of D (N .sorts) ≡ some E
+      → term-cells N S scope Γ after (part (Part.sum v D p)) ≡ binder-cells N S scope Γ after v D ⊕ term-cells N S (scope ++ (v ∷ [])) (Γ ++ (E ∷ [])) false (choice p)
   unfolding term-cells binder-cells resolve-term resolve-choice enc enc-data _⊕_
-  sum-cells v D p = by (new-variable N scope v) (number-of D (N .sorts)) (resolve-choice N (scope ++ (v ∷ [])) p)
+  sum-cells v D p E e = rw e (by (new-variable N scope v) (resolve-choice N S (scope ++ (v ∷ [])) (Γ ++ (E ∷ [])) p))
     where
-      by : (b : Bool) (E : Option ℕ) (q : Option Proc)
-          → (_>>=_ (_>>_ (provided b) (_>>=_ E (λ E. _>>=_ q (λ q. some (Proc.sum (length scope) E q))))) (λ a. some (enc after a)))
-          ≡ (_>>_ (provided b) (_>>=_ E (λ E. some ((after-mark * one-if after + 1) ∷ E ∷ 1 ∷ (4 * length scope + 1) ∷ [])))) ⊕ (_>>=_ q (λ a. some (enc false a)))
-      by false E q = refl
-      by true none q = refl
-      by true (some E) none = refl
-      by true (some E) (some q) = refl
+      by : (b : Bool) (q : Option Proc)
+          → (_>>=_ (_>>_ (provided b) (_>>=_ q (λ q. some (Proc.sum (length scope) E q)))) (λ a. some (enc after a)))
+          ≡ (_>>_ (provided b) (some ((after-mark * one-if after + 1) ∷ E ∷ 1 ∷ (4 * length scope + 1) ∷ []))) ⊕ (_>>=_ q (λ a. some (enc false a)))
+      by false q = refl
+      by true none = refl
+      by true (some q) = refl
+
+  pub sum-unsorted : (v D : Name) (p : Choice) → number-of D (N .sorts) ≡ none → term-cells N S scope Γ after (part (Part.sum v D p)) ≡ none
+  unfolding term-cells resolve-term resolve-choice
+  sum-unsorted v D p e = rw e (by (new-variable N scope v) none refl)
+    where
+      by : (b : Bool) (q : Option Proc) → q ≡ none → (_>>=_ (_>>_ (provided b) q) (λ a. some (enc after a))) ≡ none
+      by false q z = refl
+      by true q z = rw z refl
+
+  pub binder-unsorted : (v D : Name) → number-of D (N .sorts) ≡ none → binder-cells N S scope Γ after v D ≡ none
+  unfolding binder-cells
+  binder-unsorted v D e = rw e (by (new-variable N scope v))
+    where
+      by : (b : Bool) → _≡_ {A = Option (List ℕ)} (_>>_ (provided b) none) none
+      by false = refl
+      by true = refl
 
   pub action-cells : (x : Name) (ds : Option RawDatas) (i : ℕ) → number-of x (N .acts) ≡ some i
-      → term-cells N scope after (part (Part.named x ds)) ≡ given-cells N scope (after-mark * one-if after + atom-kind) (i + 1) ds
+      → term-cells N S scope Γ after (part (Part.named x ds)) ≡ given-cells N S scope Γ (after-mark * one-if after + atom-kind) (i + 1) ds
   unfolding term-cells given-cells resolve-term resolve-choice named enc act-number
-  action-cells x ds i e = rw e (by (resolve-given N scope ds))
+  action-cells x ds i e = rw e (by (resolve-given N S scope Γ ds))
     where
-      by : (o : Option (List Data)) → (_>>=_ (_>>=_ o (λ es. named N (some i) (number-of x (N .procs)) es)) (λ a. some (enc after a)))
+      by : (o : Option (List Data)) → (_>>=_ (_>>=_ o (λ es. named N S (some i) (number-of x (N .procs)) es)) (λ a. some (enc after a)))
           ≡ (_>>=_ o (λ es. some ((after-mark * one-if after + atom-kind) ∷ (i + 1) ∷ length es ∷ enc-datas es)))
       by none = refl
       by (some es) = refl
 
   pub process-cells : (x : Name) (ds : Option RawDatas) (k : ℕ) → number-of x (N .acts) ≡ none → number-of x (N .procs) ≡ some k
-      → term-cells N scope after (part (Part.named x ds)) ≡ given-cells N scope call-kind k ds
+      → term-cells N S scope Γ after (part (Part.named x ds)) ≡ given-cells N S scope Γ call-kind k ds
   unfolding term-cells given-cells resolve-term resolve-choice named enc
-  process-cells x ds k e f = rw (e, f) (by (resolve-given N scope ds))
+  process-cells x ds k e f = rw (e, f) (by (resolve-given N S scope Γ ds))
     where
-      by : (o : Option (List Data)) → (_>>=_ (_>>=_ o (λ es. named N none (some k) es)) (λ a. some (enc after a)))
+      by : (o : Option (List Data)) → (_>>=_ (_>>=_ o (λ es. named N S none (some k) es)) (λ a. some (enc after a)))
           ≡ (_>>=_ o (λ es. some (call-kind ∷ k ∷ length es ∷ enc-datas es)))
       by none = refl
       by (some es) = refl
 
-  pub unnamed-cells : (x : Name) (ds : Option RawDatas) → number-of x (N .acts) ≡ none → number-of x (N .procs) ≡ none → term-cells N scope after (part (Part.named x ds)) ≡ none
+  pub unnamed-cells : (x : Name) (ds : Option RawDatas) → number-of x (N .acts) ≡ none → number-of x (N .procs) ≡ none → term-cells N S scope Γ after (part (Part.named x ds)) ≡ none
   unfolding term-cells resolve-term resolve-choice named
-  unnamed-cells x ds e f = rw (e, f) (by (resolve-given N scope ds))
+  unnamed-cells x ds e f = rw (e, f) (by (resolve-given N S scope Γ ds))
     where
-      by : (o : Option (List Data)) → _≡_ {A = Option (List ℕ)} (_>>=_ (_>>=_ o (λ es. named N none none es)) (λ a. some (enc after a))) none
+      by : (o : Option (List Data)) → _≡_ {A = Option (List ℕ)} (_>>=_ (_>>=_ o (λ es. named N S none none es)) (λ a. some (enc after a))) none
       by none = refl
       by (some es) = refl

@@ -13,7 +13,7 @@ use lib.Seq.{drop-cons}
 use Rattle.pcrl.specs.Tokens.{Token, name, numeral, sign}
 use Rattle.laws.specs.Lists.{map-drop}
 use Rattle.lexer.specs.Cells.{cell-token, written, first-name, first-numeral}
-use Rattle.parser.specs.Cells.{Symbol, tag, token, symbol-of}
+use Rattle.parser.specs.Cells.{Symbol, tag, token, ors, ands, first-token, first-ors, first-ands, symbol-of}
 use Rattle.names.specs.NameCells.{name-at}
 use Rattle.names.specs.Standing.{symbols}
 use Rattle.names.proofs.Symbols.{tag-cell}
@@ -38,13 +38,44 @@ next s raw at y l e = by (decLt at (length raw))
         let q : _≡_ {A = ℕ} 0 1 = cc in
         absurd (omega arith)
 
+-- a cell by the tests of what it is
+abbrev by-tests : ℕ → Symbol → Bool → Bool → Bool → Symbol
+by-tests c x t o a = elim t [ true ↦ tag c | false ↦ elim o [ true ↦ x | false ↦ elim a [ true ↦ ors (c - first-ors) | false ↦ ands (c - first-ands) ] ] ]
+
 token-is : (s : List ℕ) (c : ℕ) (t : Token) → symbol-of s c ≡ token t → cell-token s c ≡ t
 unfolding symbol-of
-token-is s c t = by (ltb c 32)
+token-is s c t = by (ltb c first-token) (ltb c first-ors) (ltb c first-ands)
   where
-    by : (b : Bool) → elim b as (λ (x : Bool). Symbol) [ true ↦ tag c | false ↦ token (cell-token s c) ] ≡ token t → cell-token s c ≡ t
-    by true e = let z : _≡_ {A = ℕ} 0 1 = cc in absurd (omega arith)
-    by false e = cc
+    by : (b o a : Bool) → by-tests c (token (cell-token s c)) b o a ≡ token t → cell-token s c ≡ t
+    by true o a e = let z : _≡_ {A = ℕ} 0 1 = cc in absurd (omega arith)
+    by false true a e = cc
+    by false false true e = let z : _≡_ {A = ℕ} 0 1 = cc in absurd (omega arith)
+    by false false false e = let z : _≡_ {A = ℕ} 0 1 = cc in absurd (omega arith)
+
+-- a count of operands
+pub record CountCell (c first k : ℕ) : Type 0 where
+  pub least : first ≤ c
+  pub count : k ≡ c - first
+
+pub ors-is : (s : List ℕ) (c k : ℕ) → symbol-of s c ≡ ors k → CountCell c first-ors k × (c < first-ands)
+unfolding symbol-of
+ors-is s c k = by (ltb c first-token) (ltb c first-ors) refl (ltb c first-ands) refl
+  where
+    by : (b o : Bool) → ltb c first-ors ≡ o → (a : Bool) → ltb c first-ands ≡ a → by-tests c (token (cell-token s c)) b o a ≡ ors k → CountCell c first-ors k × (c < first-ands)
+    by true o p a q e = let z : _≡_ {A = ℕ} 0 1 = cc in absurd (omega arith)
+    by false true p a q e = let z : _≡_ {A = ℕ} 0 1 = cc in absurd (omega arith)
+    by false false p true q e = (record { least = ltb-false c first-ors p; count = cc }, ltb-true c first-ands q)
+    by false false p false q e = let z : _≡_ {A = ℕ} 0 1 = cc in absurd (omega arith)
+
+pub ands-is : (s : List ℕ) (c k : ℕ) → symbol-of s c ≡ ands k → CountCell c first-ands k
+unfolding symbol-of
+ands-is s c k = by (ltb c first-token) (ltb c first-ors) (ltb c first-ands) refl
+  where
+    by : (b o a : Bool) → ltb c first-ands ≡ a → by-tests c (token (cell-token s c)) b o a ≡ ands k → CountCell c first-ands k
+    by true o a q e = let z : _≡_ {A = ℕ} 0 1 = cc in absurd (omega arith)
+    by false true a q e = let z : _≡_ {A = ℕ} 0 1 = cc in absurd (omega arith)
+    by false false true q e = let z : _≡_ {A = ℕ} 0 1 = cc in absurd (omega arith)
+    by false false false q e = record { least = ltb-false c first-ands q; count = cc }
 
 pub record NumeralCell (c v : ℕ) : Type 0 where
   pub least : first-numeral ≤ c

@@ -6,6 +6,7 @@ use mathlib.Core.Option.{none, some}
 use Prim.Native.Nat.{ℕ, _<_}
 use lib.ListN.{length, drop, getD}
 use Rattle.pcrl.specs.Tree.{Name, RawData, RawDatas, Choice, Conditional, Sequence, Part}
+use Rattle.pcrl.specs.Sheet.{Sig}
 use Rattle.pcrl.specs.Names.{Names, resolve-choice}
 use Rattle.parser.specs.Cells.{Symbol, tag, enc-call, enc-choice}
 use Rattle.names.specs.Standing.{symbols}
@@ -26,7 +27,7 @@ pub record Single (t u : Term) (k : ℕ) : Type 0 where
   pub is : SingleTag k
   pub opened : enc-term t ≡ tag k ∷ enc-term u
   pub depth : term-depth t ≡ term-depth u
-  pub cells : (N : Names) (scope : List Name) (after : Bool) → term-cells N scope after t ≡ term-cells N scope after u
+  pub cells : (N : Names) (S : Sig) (scope : List Name) (Γ : List ℕ) (after : Bool) → term-cells N S scope Γ after t ≡ term-cells N S scope Γ after u
 
 pub data View : Term → ℕ → Type 0 where
   single : (t u : Term) (k : ℕ) → Single t u k → View t k
@@ -55,13 +56,13 @@ record First (t : Term) : Type 0 where
 first : (t : Term) → First t
 unfolding enc-term enc-choice enc-call term-depth sum-depth term-cells resolve-term resolve-choice
 first (choice (Choice.only c)) =
-    record { tag-of = 6; rest = _; view = single (choice (Choice.only c)) (conditional c) 6 (record { is = only-tag; opened = refl; depth = refl; cells = λ N σ a. refl }); opened = refl }
+    record { tag-of = 6; rest = _; view = single (choice (Choice.only c)) (conditional c) 6 (record { is = only-tag; opened = refl; depth = refl; cells = λ N S σ Γ a. refl }); opened = refl }
 first (choice (Choice.plus c d)) = record { tag-of = 7; rest = _; view = plus c d; opened = refl }
 first (conditional (Conditional.plain p)) =
-    record { tag-of = 8; rest = _; view = single (conditional (Conditional.plain p)) (sequence p) 8 (record { is = plain-tag; opened = refl; depth = refl; cells = λ N σ a. refl }); opened = refl }
+    record { tag-of = 8; rest = _; view = single (conditional (Conditional.plain p)) (sequence p) 8 (record { is = plain-tag; opened = refl; depth = refl; cells = λ N S σ Γ a. refl }); opened = refl }
 first (conditional (Conditional.cond p c q)) = record { tag-of = 9; rest = _; view = cond p c q; opened = refl }
 first (sequence (Sequence.last p)) =
-    record { tag-of = 10; rest = _; view = single (sequence (Sequence.last p)) (part p) 10 (record { is = last-tag; opened = refl; depth = refl; cells = λ N σ a. refl }); opened = refl }
+    record { tag-of = 10; rest = _; view = single (sequence (Sequence.last p)) (part p) 10 (record { is = last-tag; opened = refl; depth = refl; cells = λ N S σ Γ a. refl }); opened = refl }
 first (sequence (Sequence.then p q)) = record { tag-of = 11; rest = _; view = then p q; opened = refl }
 first (part Part.delta) = record { tag-of = 12; rest = _; view = delta; opened = refl }
 first (part Part.tau) = record { tag-of = 13; rest = _; view = tau; opened = refl }
@@ -69,7 +70,7 @@ first (part (Part.named x none)) = record { tag-of = 14; rest = _; view = bare x
 first (part (Part.named x (some ds))) = record { tag-of = 15; rest = _; view = given x ds; opened = refl }
 first (part (Part.sum v D p)) = record { tag-of = 16; rest = _; view = sum v D p; opened = refl }
 first (part (Part.group p)) =
-    record { tag-of = 17; rest = _; view = single (part (Part.group p)) (choice p) 17 (record { is = group-tag; opened = refl; depth = refl; cells = λ N σ a. refl }); opened = refl }
+    record { tag-of = 17; rest = _; view = single (part (Part.group p)) (choice p) 17 (record { is = group-tag; opened = refl; depth = refl; cells = λ N S σ Γ a. refl }); opened = refl }
 
 pub seen : (s raw : List ℕ) (at : ℕ) (t : Term) (rest : List Symbol) → drop at (symbols s raw) ≡ enc-term t ++ rest → Seen s raw at t
 seen s raw at t rest e =

@@ -1,11 +1,11 @@
 -- Cells written one after another, and a cell put in place of one written before.
-use mathlib.Core.Path.{refl, sym, ap, _∙_}
+use mathlib.Core.Path.{_≡_, refl, sym, ap, subst, _∙_}
 use mathlib.Core.List.{List, [], _∷_, _++_, append-assoc, append-nil}
-use Prim.Native.Nat.{ℕ, suc, _+_, _≤_}
+use Prim.Native.Nat.{ℕ, suc, _+_, _≤_, _<_}
 use native.Mathlib.Numerals.{add-one}
 use native.Mathlib.Omega.{arith}
-use lib.ListN.{length, take, set, length-append, length-set}
-use lib.Seq.{length-take-le, take-suc-set, take-set-lt, set-at}
+use lib.ListN.{length, take, getD, set, length-append, length-set}
+use lib.Seq.{length-take-le, take-suc-set, take-set-lt, set-at, getD-take, getD-append-add}
 use Rattle.parser.specs.Reading.{Put}
 use Rattle.resolver.specs.Writing.{Written, Writes}
 
@@ -56,3 +56,15 @@ writes-instead {x} {e} {v} {w} {w₁} {w′} {o} {o₁} {o′} a p = record { wi
           same = ap length (p .cells) ∙ length-set o₁ w v ∙ b .same;
           cells = ap (λ l. take w₁ l) (p .cells) ∙ take-set-lt w₁ o₁ w v (omega arith) ∙ ap (λ l. set l w v) (b .cells) ∙ set-at (take w o) x e v w (length-take-le w o (omega arith));
         }
+
+-- what was written can be read
+pub written-cell : {e : List ℕ} {w w′ : ℕ} {o o′ : List ℕ} → Written e w o w′ o′ → w ≤ length o → (i : ℕ) → i < length e → getD o′ (w + i) 0 ≡ getD e i 0
+written-cell {e} {w} {w′} {o} {o′} x h i l =
+    let n = x .next in
+    let m = length-take-le w o h in
+    let z : w + i ≡ length (take w o) + i = omega arith in
+    sym (getD-take w′ o′ (w + i) 0 (omega arith)) ∙ ap (λ k. getD k (w + i) 0) (x .cells) ∙ ap (λ k. getD (take w o ++ e) k 0) z ∙ getD-append-add (take w o) e i 0
+
+-- a cell in the first one's place that is as it must be if there was room
+pub writes-found : {x : ℕ} {e : List ℕ} {v u w w₁ w′ : ℕ} {o o₁ o′ : List ℕ} → Writes (x ∷ e) w o w₁ o₁ → Put o₁ w v w′ o′ → (w + suc (length e) ≤ length o → v ≡ u) → Writes (u ∷ e) w o w₁ o′
+writes-found {x} {e} {v} {u} {w} {w₁} {w′} {o} {o₁} {o′} a p f = record { with-room = λ h. subst (λ (y : ℕ). Written (y ∷ e) w o w₁ o′) (f h) (writes-instead a p .with-room h) }

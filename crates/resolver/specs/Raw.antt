@@ -3,12 +3,14 @@
 use mathlib.Core.Path.{_≡_}
 use mathlib.Core.List.{List, [], _∷_, _++_}
 use mathlib.Core.Option.{Option}
-use Prim.Native.Nat.{ℕ, suc, max}
+use mathlib.Core.Bool.{true, false}
+use Prim.Native.Nat.{ℕ, suc, _-_, max}
+use lib.Dec.{ltb}
 use lib.ListN.{drop, getD}
-use Rattle.pcrl.specs.Tree.{Name, Choice, only, plus, Conditional, plain, cond, Sequence, last, then, Part, delta, tau, named, sum, group}
-use Rattle.pcrl.specs.Sheet.{Proc}
+use Rattle.pcrl.specs.Tree.{Name, RawData, Conjunction, Comparison, Choice, only, plus, Conditional, plain, cond, Sequence, last, then, Part, delta, tau, named, sum, group}
+use Rattle.pcrl.specs.Sheet.{Proc, Sig}
 use Rattle.pcrl.specs.Names.{Names, resolve-choice, resolve-conditional, resolve-sequence, resolve-part}
-use Rattle.parser.specs.Cells.{Symbol, enc-choice, enc-conditional, enc-sequence, enc-part}
+use Rattle.parser.specs.Cells.{Symbol, first-ors, first-ands, enc-choice, enc-conditional, enc-sequence, enc-part}
 use Rattle.names.specs.Standing.{symbols}
 
 pub data Term : Type 0 where
@@ -23,11 +25,11 @@ enc-term (conditional c) = enc-conditional c
 enc-term (sequence p) = enc-sequence p
 enc-term (part p) = enc-part p
 
-unfoldable pub resolve-term : Names → List Name → Term → Option Proc
-resolve-term N scope (choice c) = resolve-choice N scope c
-resolve-term N scope (conditional c) = resolve-conditional N scope c
-resolve-term N scope (sequence p) = resolve-sequence N scope p
-resolve-term N scope (part p) = resolve-part N scope p
+unfoldable pub resolve-term : Names → Sig → List Name → List ℕ → Term → Option Proc
+resolve-term N S scope Γ (choice c) = resolve-choice N S scope Γ c
+resolve-term N S scope Γ (conditional c) = resolve-conditional N S scope Γ c
+resolve-term N S scope Γ (sequence p) = resolve-sequence N S scope Γ p
+resolve-term N S scope Γ (part p) = resolve-part N S scope Γ p
 
 -- how many sums stand in one another
 unfoldable mutual
@@ -60,8 +62,22 @@ term-depth (part p) = part-depth p
 unfoldable pub tokens-of : ℕ → ℕ
 tokens-of k = getD (0 ∷ 1 ∷ 1 ∷ 1 ∷ 0 ∷ 0 ∷ 0 ∷ 0 ∷ 0 ∷ 0 ∷ 0 ∷ 0 ∷ 0 ∷ 0 ∷ 1 ∷ 1 ∷ 2 ∷ 0 ∷ []) k 0
 
+-- a cell of `\/` or `/\` has one subterm more than it says
 unfoldable pub kids-of : ℕ → ℕ
-kids-of k = getD (0 ∷ 0 ∷ 0 ∷ 1 ∷ 1 ∷ 2 ∷ 1 ∷ 2 ∷ 1 ∷ 3 ∷ 1 ∷ 2 ∷ 0 ∷ 0 ∷ 0 ∷ 1 ∷ 1 ∷ 1 ∷ []) k 0
+kids-of k =
+    elim (ltb k first-ors) [
+      | true ↦ getD (0 ∷ 0 ∷ 0 ∷ 1 ∷ 1 ∷ 2 ∷ 1 ∷ 2 ∷ 1 ∷ 3 ∷ 1 ∷ 2 ∷ 0 ∷ 0 ∷ 0 ∷ 1 ∷ 1 ∷ 1 ∷ 0 ∷ 0 ∷ 0 ∷ 0 ∷ 0 ∷ 0 ∷ 0 ∷ 1 ∷ 2 ∷ 1 ∷ 1 ∷ []) k 0
+      | false ↦ elim (ltb k first-ands) [ true ↦ suc (k - first-ors) | false ↦ suc (k - first-ands) ]
+    ]
+
+-- the operands of `\/` and of `/\`
+unfoldable pub disjuncts : RawData → List Conjunction
+disjuncts (RawData.only c) = c ∷ []
+disjuncts (RawData.or c d) = c ∷ disjuncts d
+
+unfoldable pub conjuncts : Conjunction → List Comparison
+conjuncts (Conjunction.single c) = c ∷ []
+conjuncts (Conjunction.and c d) = c ∷ conjuncts d
 
 -- r is the place behind the term at `at`
 abbrev pub Skips : List ℕ → ℕ → ℕ → Type 0

@@ -4,21 +4,58 @@ ghost use mathlib.Core.List.{[], _∷_};
 ghost use Prim.Native.Nat.{_+_, _*_, _<_, _≤_};
 ghost use lib.ListN.{length};
 ghost use Rattle.nodes.specs.Layout.{after-mark, one-if};
+ghost use Rattle.nodes.specs.Layout.{cell-limit};
 ghost use Rattle.resolver.specs.Raw.{kids-of, tokens-of, Skips};
 ghost use Rattle.resolver.specs.Writing.{Writes};
+ghost use Rattle.resolver.specs.Resolving.{joins};
 use crate::Step;
 use names::find::cell;
 use parser::cells::put;
+use parser::codes::FIRST_ANDS;
+use parser::codes::FIRST_ORS;
 
 const AFTER: u16 = nodes::AFTER as u16;
 
-// The tags of terms are below this.
+// The tags with tokens behind them are below this.
 const TAGS: u16 = 18;
+
+// The tags with subterms behind them are below this.
+const KID_TAGS: u16 = 29;
 
 // How many tokens and how many subterms stand behind each tag (crate parser, Cells).
 const TOKENS: [u8; 18] = [0, 1, 1, 1, 0, 0, 0, 0, 0, 0, 0, 0, 0, 0, 1, 1, 2, 0];
 
-const KIDS: [u8; 18] = [0, 0, 0, 1, 1, 2, 1, 2, 1, 3, 1, 2, 0, 0, 0, 1, 1, 1];
+const KIDS: [u16; 29] = [
+    0,
+    0,
+    0,
+    1,
+    1,
+    2,
+    1,
+    2,
+    1,
+    3,
+    1,
+    2,
+    0,
+    0,
+    0,
+    1,
+    1,
+    1,
+    0,
+    0,
+    0,
+    0,
+    0,
+    0,
+    0,
+    1,
+    2,
+    1,
+    1,
+];
 
 // The first three cells of a node.
 pub fn node(out: &mut [u16], w: usize, first: u16, number: u16, count: u16) -> usize
@@ -27,6 +64,20 @@ pub fn node(out: &mut [u16], w: usize, first: u16, number: u16, count: u16) -> u
     let a = put(out, w, first);
     let b = put(out, a, number);
     put(out, b, count)
+}
+
+// So many times a function of two arguments, by its cell: what is grouped to the left has them before its operands.
+pub fn put_joins(out: &mut [u16], w: usize, c: u16, many: usize) -> usize
+    ensures { λ r. ⌜ Writes (joins c many) w (now (out .entry)) r (now (out .exit)) ⌝ }
+{
+    let mut v = w;
+    let mut i: usize = 0;
+    while i < many {
+        let a = put(out, v, c);
+        v = put(out, a, 2);
+        i += 1;
+    }
+    v
 }
 
 // A name is not as it must be: past the end.
@@ -54,11 +105,20 @@ pub fn tokens(k: u16) -> u8
     if k < TAGS { TOKENS[k as usize] } else { 0 }
 }
 
-// How many subterms stand behind a tag and its tokens.
-pub fn kids(k: u16) -> u8
-    ensures { λ r. ⌜ (r ≡ kids-of k) × (r < 4) ⌝ }
+// How many subterms stand behind a tag and its tokens; a cell of `\/` or `/\` has one operand more than it says.
+pub fn kids(k: u16) -> u16
+    ensures { λ r. ⌜ (r ≡ kids-of k) × (r < cell-limit) ⌝ }
 {
-    if k < TAGS { KIDS[k as usize] } else { 0 }
+    if k < KID_TAGS {
+        return KIDS[k as usize];
+    }
+    if k < FIRST_ORS {
+        return 0;
+    }
+    if k < FIRST_ANDS {
+        return k - FIRST_ORS + 1;
+    }
+    k - FIRST_ANDS + 1
 }
 
 fn wide(b: u8) -> usize
@@ -67,8 +127,15 @@ fn wide(b: u8) -> usize
     b as usize
 }
 
+pub fn wide_cell(c: u16) -> usize
+    ensures { λ r. ⌜ r ≡ c ⌝ }
+{
+    c as usize
+}
+
 // The place behind the raw term at `at`.
 pub fn skip(raw: &[u16], at: usize) -> usize
+    requires { ⌜ length (now raw) < cell-limit ⌝ }
     ensures on { λ r. ⌜ at ≤ r ⌝ }
     ensures skips { λ r. ⌜ Skips (now (raw .entry)) at r ⌝ }
 {
@@ -79,7 +146,7 @@ pub fn skip(raw: &[u16], at: usize) -> usize
             return p;
         }
         let k = cell(raw, p);
-        need = need - 1 + wide(kids(k));
+        need = need - 1 + wide_cell(kids(k));
         p = p + 1 + wide(tokens(k));
     }
     p

@@ -3,10 +3,13 @@ ghost use Prim.Native.Nat.{_+_, _<_};
 ghost use lib.ListN.{length};
 ghost use Rattle.names.specs.NameKeys.{Keyed};
 ghost use Rattle.names.specs.NameKinds.{total-of};
-ghost use Rattle.resolver.specs.Resolving.{Ahead, Few, ResolvesData, ResolvesDatas, ResolvesGiven};
+ghost use Rattle.resolver.specs.Resolving.{Ahead, Few, ResolvesData, ResolvesConjunction, ResolvesComparison, ResolvesNegation, ResolvesAtom, ResolvesDatas, ResolvesGiven};
 use crate::Run;
 use crate::Step;
 use crate::cells::lost;
+use crate::cells::put_joins;
+use crate::cells::wide_cell;
+use crate::operators::equal_cell;
 use lexer::FIRST_NAME;
 use lexer::FIRST_NUMERAL;
 use names::Kinds;
@@ -15,14 +18,28 @@ use names::find::scope_number;
 use names::keys::func_in;
 use parser::cells::put;
 use parser::cells::short;
+use parser::codes::ALONE_TAG;
 use parser::codes::APPLY_TAG;
 use parser::codes::BARE_TAG;
+use parser::codes::EQUAL_TAG;
+use parser::codes::FIRST_ANDS;
+use parser::codes::FIRST_ORS;
 use parser::codes::GIVEN_TAG;
 use parser::codes::MORE_TAG;
+use parser::codes::NEST_TAG;
+use parser::codes::NOT_TAG;
 use parser::codes::ONE_TAG;
 use parser::codes::VALUE_TAG;
 use parser::codes::VARIABLE_TAG;
 
+// The first cells of the operators' terms.
+const NOT_CELL: u16 = (4 * nodes::NOT + nodes::FUNCTION) as u16;
+
+const AND_CELL: u16 = (4 * nodes::AND + nodes::FUNCTION) as u16;
+
+const OR_CELL: u16 = (4 * nodes::OR + nodes::FUNCTION) as u16;
+
+// Conjunctions joined by `\/`, which groups to the left.
 pub fn data_term(
     s: &[u8],
     raw: &[u16],
@@ -40,6 +57,141 @@ pub fn data_term(
     ensures data { λ r. ⌜ ResolvesData (now (s .entry)) (now (raw .entry)) (now (names .entry)) kinds (now (scope .entry)) n at w (now (out .entry)) r (now (out .exit)) ⌝ }
 {
     let k = cell(raw, at);
+    if k < FIRST_ORS {
+        return lost(raw, w);
+    }
+    if k >= FIRST_ANDS {
+        return lost(raw, w);
+    }
+    let more = wide_cell(k - FIRST_ORS);
+    let mut p = at + 1;
+    let mut v = put_joins(out, w, OR_CELL, more);
+    let mut i: usize = 0;
+    while i <= more {
+        let a = conjunction(s, raw, names, keys, kinds, scope, n, p, out, v);
+        p = a.at;
+        v = a.w;
+        i += 1;
+    }
+    Step { at: p, w: v }
+}
+
+// Comparisons joined by `/\`, which groups to the left.
+fn conjunction(
+    s: &[u8],
+    raw: &[u16],
+    names: &[u16],
+    keys: &[u8],
+    kinds: Kinds,
+    scope: &[u16],
+    n: usize,
+    at: usize,
+    out: &mut [u16],
+    w: usize,
+) -> Step
+    requires { ⌜ Few (now raw) kinds (now scope) n × Keyed (now s) (now names) (now keys) (total-of kinds) ⌝ }
+    ensures ahead { λ r. ⌜ Ahead (length (now (raw .entry))) at (r .at) ⌝ }
+    ensures data { λ r. ⌜ ResolvesConjunction (now (s .entry)) (now (raw .entry)) (now (names .entry)) kinds (now (scope .entry)) n at w (now (out .entry)) r (now (out .exit)) ⌝ }
+{
+    let k = cell(raw, at);
+    if k < FIRST_ANDS {
+        return lost(raw, w);
+    }
+    let more = wide_cell(k - FIRST_ANDS);
+    let mut p = at + 1;
+    let mut v = put_joins(out, w, AND_CELL, more);
+    let mut i: usize = 0;
+    while i <= more {
+        let a = comparison(s, raw, names, keys, kinds, scope, n, p, out, v);
+        p = a.at;
+        v = a.w;
+        i += 1;
+    }
+    Step { at: p, w: v }
+}
+
+// A negation, or two with `==`: its cell is put when both stand behind it.
+fn comparison(
+    s: &[u8],
+    raw: &[u16],
+    names: &[u16],
+    keys: &[u8],
+    kinds: Kinds,
+    scope: &[u16],
+    n: usize,
+    at: usize,
+    out: &mut [u16],
+    w: usize,
+) -> Step
+    requires { ⌜ Few (now raw) kinds (now scope) n × Keyed (now s) (now names) (now keys) (total-of kinds) ⌝ }
+    ensures ahead { λ r. ⌜ Ahead (length (now (raw .entry))) at (r .at) ⌝ }
+    ensures data { λ r. ⌜ ResolvesComparison (now (s .entry)) (now (raw .entry)) (now (names .entry)) kinds (now (scope .entry)) n at w (now (out .entry)) r (now (out .exit)) ⌝ }
+{
+    let k = cell(raw, at);
+    if k == ALONE_TAG {
+        return negation(s, raw, names, keys, kinds, scope, n, at + 1, out, w);
+    }
+    if k != EQUAL_TAG {
+        return lost(raw, w);
+    }
+    let c = put(out, w, 0);
+    let v = put(out, c, 2);
+    let a = negation(s, raw, names, keys, kinds, scope, n, at + 1, out, v);
+    let b = negation(s, raw, names, keys, kinds, scope, n, a.at, out, a.w);
+    let x = cell(out, v);
+    let y = cell(out, a.w);
+    put(out, w, equal_cell(scope, x, y));
+    Step { at: b.at, w: b.w }
+}
+
+// An atom behind any number of `!`.
+fn negation(
+    s: &[u8],
+    raw: &[u16],
+    names: &[u16],
+    keys: &[u8],
+    kinds: Kinds,
+    scope: &[u16],
+    n: usize,
+    at: usize,
+    out: &mut [u16],
+    w: usize,
+) -> Step
+    requires { ⌜ Few (now raw) kinds (now scope) n × Keyed (now s) (now names) (now keys) (total-of kinds) ⌝ }
+    ensures ahead { λ r. ⌜ Ahead (length (now (raw .entry))) at (r .at) ⌝ }
+    ensures data { λ r. ⌜ ResolvesNegation (now (s .entry)) (now (raw .entry)) (now (names .entry)) kinds (now (scope .entry)) n at w (now (out .entry)) r (now (out .exit)) ⌝ }
+{
+    let mut p = at;
+    let mut v = w;
+    while cell(raw, p) == NOT_TAG {
+        let a = put(out, v, NOT_CELL);
+        v = put(out, a, 1);
+        p += 1;
+    }
+    atom(s, raw, names, keys, kinds, scope, n, p, out, v)
+}
+
+// A numeral, a variable, a function with bracketed data, or data in brackets.
+fn atom(
+    s: &[u8],
+    raw: &[u16],
+    names: &[u16],
+    keys: &[u8],
+    kinds: Kinds,
+    scope: &[u16],
+    n: usize,
+    at: usize,
+    out: &mut [u16],
+    w: usize,
+) -> Step
+    requires { ⌜ Few (now raw) kinds (now scope) n × Keyed (now s) (now names) (now keys) (total-of kinds) ⌝ }
+    ensures ahead { λ r. ⌜ Ahead (length (now (raw .entry))) at (r .at) ⌝ }
+    ensures data { λ r. ⌜ ResolvesAtom (now (s .entry)) (now (raw .entry)) (now (names .entry)) kinds (now (scope .entry)) n at w (now (out .entry)) r (now (out .exit)) ⌝ }
+{
+    let k = cell(raw, at);
+    if k == NEST_TAG {
+        return data_term(s, raw, names, keys, kinds, scope, n, at + 1, out, w);
+    }
     if k == VALUE_TAG {
         let c = cell(raw, at + 1);
         if c < FIRST_NUMERAL {

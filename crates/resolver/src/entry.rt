@@ -1,11 +1,10 @@
 // A right side and init, as the layers above ask for them.
-ghost use mathlib.Core.Path.{_≡_};
 ghost use Prim.Native.Nat.{_<_};
-ghost use lib.ListN.{length, take};
-ghost use Rattle.nodes.specs.Layout.{cell-limit};
+ghost use lib.ListN.{length};
 ghost use Rattle.names.specs.NameKeys.{Keyed};
 ghost use Rattle.names.specs.NameKinds.{total-of};
-ghost use Rattle.resolver.specs.Resolving.{Few, FewKinds, ResolvesRight, ResolvesInit};
+ghost use Rattle.resolver.specs.Sorting.{ScopeKept};
+ghost use Rattle.resolver.specs.Resolving.{Few, ResolvesRight, ResolvesInit};
 use crate::Resolved;
 use crate::data::given;
 use crate::process::term;
@@ -30,7 +29,7 @@ pub fn right_side(
     w: usize,
 ) -> Resolved
     requires { ⌜ Few (now raw) kinds (now scope) n × Keyed (now s) (now names) (now keys) (total-of kinds) ⌝ }
-    ensures kept { λ r. ⌜ take n (now (scope .exit)) ≡ take n (now (scope .entry)) ⌝ }
+    ensures kept { λ r. ⌜ ScopeKept n (now (scope .entry)) (now (scope .exit)) ⌝ }
     ensures resolves { λ r. ⌜ ResolvesRight (now (s .entry)) (now (raw .entry)) (now (names .entry)) kinds (now (scope .entry)) n at w (now (out .entry)) r (now (out .exit)) ⌝ }
 {
     let a = term(s, raw, names, keys, kinds, scope, n, at, false, out, w);
@@ -41,19 +40,20 @@ pub fn right_side(
     }
 }
 
-// The call of init, whose line stands at `at`.
+// The call of init, whose line stands at `at`; nothing is in scope.
 pub fn init(
     s: &[u8],
     raw: &[u16],
     names: &[u16],
     keys: &[u8],
     kinds: Kinds,
+    scope: &[u16],
     at: usize,
     out: &mut [u16],
     w: usize,
 ) -> Resolved
-    requires { ⌜ (length (now raw) < cell-limit) × FewKinds kinds × (at < length (now raw)) × Keyed (now s) (now names) (now keys) (total-of kinds) ⌝ }
-    ensures { λ r. ⌜ ResolvesInit (now (s .entry)) (now (raw .entry)) (now (names .entry)) kinds at w (now (out .entry)) r (now (out .exit)) ⌝ }
+    requires { ⌜ Few (now raw) kinds (now scope) 0 × (at < length (now raw)) × Keyed (now s) (now names) (now keys) (total-of kinds) ⌝ }
+    ensures { λ r. ⌜ ResolvesInit (now (s .entry)) (now (raw .entry)) (now (names .entry)) kinds (now (scope .entry)) at w (now (out .entry)) r (now (out .exit)) ⌝ }
 {
     let k = proc_in(s, names, keys, kinds, cell(raw, at + 2));
     if k >= kinds.procs {
@@ -63,14 +63,13 @@ pub fn init(
             w: w,
         };
     }
-    let scope = [0u16; 1];
     let a = given(
         s,
         raw,
         names,
         keys,
         kinds,
-        &scope,
+        scope,
         0,
         at + 1,
         CALL,

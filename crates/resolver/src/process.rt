@@ -1,14 +1,15 @@
 // Choices, conditionals, sequences and parts, as one kind of term: what stands last in a term is read by going on in the loop,
 // what stands first by recursion. So a chain of `.` or `+` takes no stack, only brackets do.
-ghost use mathlib.Core.Path.{_≡_};
 ghost use Prim.Native.Nat.{_+_, _≤_, _<_};
-ghost use lib.ListN.{length, take};
+ghost use lib.ListN.{length};
 ghost use Rattle.pcrl.specs.Limits.{max-actions, max-processes};
 ghost use Rattle.pcrl.specs.Names.{number-of};
 ghost use Rattle.names.specs.NameCells.{name-at};
 ghost use Rattle.names.specs.NameKeys.{Keyed};
 ghost use Rattle.names.specs.NameKinds.{total-of, acts-in, procs-in};
+ghost use Rattle.resolver.specs.Sorting.{ScopeKept};
 ghost use Rattle.resolver.specs.Resolving.{Ahead, Few, Naming, InScope, Binds, ResolvesConstant, ResolvesNamed, Forks, ResolvesFirst, ResolvesTerm};
+use crate::FIRST_SORT;
 use crate::Fork;
 use crate::Found;
 use crate::Step;
@@ -27,6 +28,7 @@ use names::keys::act_in;
 use names::keys::proc_in;
 use names::keys::sort_in;
 use names::keys::total;
+use nodes::MAX_SCOPE;
 use parser::cells::put;
 use parser::cells::short;
 use parser::codes::DELTA_TAG;
@@ -77,7 +79,7 @@ fn named(s: &[u8], names: &[u16], keys: &[u8], kinds: Kinds, x: u16, after: bool
     }
 }
 
-// `sum(v:sort,`: the variable comes into scope with the next number.
+// `sum(v:sort,`: the variable comes into scope with the next number, and its sort.
 fn binder(
     s: &[u8],
     raw: &[u16],
@@ -93,8 +95,8 @@ fn binder(
 ) -> Step
     requires { ⌜ Few (now raw) kinds (now scope) n × (at < length (now raw)) × Keyed (now s) (now names) (now keys) (total-of kinds) ⌝ }
     ensures ahead { λ r. ⌜ Ahead (length (now (raw .entry))) (at + 1) (r .at) ⌝ }
-    ensures kept { λ r. ⌜ take n (now (scope .exit)) ≡ take n (now (scope .entry)) ⌝ }
-    ensures bound { λ r. ⌜ InScope (now (raw .entry)) (now (scope .entry)) n at r (now (scope .exit)) ⌝ }
+    ensures kept { λ r. ⌜ ScopeKept n (now (scope .entry)) (now (scope .exit)) ⌝ }
+    ensures bound { λ r. ⌜ InScope (now (s .entry)) (now (raw .entry)) (now (names .entry)) kinds (now (scope .entry)) n at r (now (scope .exit)) ⌝ }
     ensures binds { λ r. ⌜ Binds (now (s .entry)) (now (raw .entry)) (now (names .entry)) kinds (now (scope .entry)) n at after w (now (out .entry)) r (now (out .exit)) ⌝ }
 {
     let x = cell(raw, at + 1);
@@ -105,10 +107,11 @@ fn binder(
     if d > kinds.sorts {
         return lost(raw, w);
     }
-    if n >= scope.len() {
+    if n >= MAX_SCOPE {
         return lost(raw, w);
     }
     scope[n] = x;
+    scope[FIRST_SORT + n] = short(d);
     let v = node(out, w, marked(after, SUM), short(d), 1);
     Step {
         at: at + 3,
@@ -244,7 +247,7 @@ fn first_part(
 ) -> Step
     requires { ⌜ Few (now raw) kinds (now scope) n × (at < length (now raw)) × Keyed (now s) (now names) (now keys) (total-of kinds) ⌝ }
     ensures ahead { λ r. ⌜ at + 1 ≤ r .at ⌝ }
-    ensures kept { λ r. ⌜ take n (now (scope .exit)) ≡ take n (now (scope .entry)) ⌝ }
+    ensures kept { λ r. ⌜ ScopeKept n (now (scope .entry)) (now (scope .exit)) ⌝ }
     ensures resolves { λ r. ⌜ ResolvesFirst (now (s .entry)) (now (raw .entry)) (now (names .entry)) kinds (now (scope .entry)) n at after w (now (out .entry)) r (now (out .exit)) ⌝ }
 {
     let h = fork(s, raw, names, keys, kinds, scope, n, at, after, out, w);
@@ -284,7 +287,7 @@ pub fn term(
 ) -> Step
     requires { ⌜ Few (now raw) kinds (now scope) n × Keyed (now s) (now names) (now keys) (total-of kinds) ⌝ }
     ensures ahead { λ r. ⌜ Ahead (length (now (raw .entry))) at (r .at) ⌝ }
-    ensures kept { λ r. ⌜ take n (now (scope .exit)) ≡ take n (now (scope .entry)) ⌝ }
+    ensures kept { λ r. ⌜ ScopeKept n (now (scope .entry)) (now (scope .exit)) ⌝ }
     ensures resolves { λ r. ⌜ ResolvesTerm (now (s .entry)) (now (raw .entry)) (now (names .entry)) kinds (now (scope .entry)) n at after w (now (out .entry)) r (now (out .exit)) ⌝ }
 {
     let mut p = at;

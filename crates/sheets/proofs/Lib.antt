@@ -2,6 +2,7 @@ pub mod Asked
 pub mod SignatureLaws
 pub mod Placed
 pub mod TermRoom
+pub mod ScopeLaws
 pub mod ProcessLaws
 pub mod ProcessesLaws
 pub mod SheetLaws

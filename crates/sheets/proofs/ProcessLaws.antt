@@ -3,19 +3,18 @@ use mathlib.Core.Path.{_≡_, refl, sym, _∙_, ap, subst}
 use mathlib.Core.List.{List, [], _∷_, _++_, append-assoc}
 use mathlib.Core.Bool.{Bool, true, false}
 use mathlib.Core.Option.{Option, none, some}
-use Prim.Native.Nat.{ℕ, _+_, _*_, _≤_}
+use Prim.Native.Nat.{ℕ, _+_, _*_, _≤_, _<_}
 use native.Mathlib.Omega.{arith}
 use lib.ListN.{length, drop}
 use Rattle.pcrl.specs.Text.{bytes}
-use Rattle.pcrl.specs.Limits.{max-open, frame-width}
+use Rattle.pcrl.specs.Limits.{max-open, max-functions, frame-width}
 use Rattle.pcrl.specs.Maybe.{_>>=_}
 use Rattle.pcrl.specs.Tokens.{name}
 use Rattle.pcrl.specs.Tree.{Name, ProcLine}
-use Rattle.pcrl.specs.Sheet.{Proc}
+use Rattle.pcrl.specs.Sheet.{Proc, Sig}
 use Rattle.pcrl.specs.Names.{Names, declared, resolve-choice, resolve-params, resolve-proc}
 use Rattle.pcrl.specs.Print.{line, print-proc}
 use Rattle.parser.specs.Cells.{Symbol, tag, token, proc-tag, enc-items, enc-param, enc-choice, enc-proc}
-use Rattle.nodes.specs.Scoped.{max-scope}
 use Rattle.names.specs.declared.Params.{Params}
 use Rattle.names.specs.NameCells.{scope-at}
 use Rattle.names.specs.NameKinds.{total-of}
@@ -29,20 +28,23 @@ use Rattle.resolver.specs.declared.Resolved.{Resolved as Side}
 use Rattle.resolver.specs.Raw.{sum-depth}
 use Rattle.resolver.specs.Resolving.{Declared, ResolvesRight}
 use Rattle.resolver.specs.Resolving.{Answers as SideAnswers}
+use Rattle.resolver.specs.Sorting.{scope-sorts}
 use Rattle.resolver.specs.InScope.{process-scoped}
+use Rattle.sheets.specs.ScopePuts.{SortsPut, ResultsPut}
 use Rattle.sheets.specs.Resolving.{ProcessRow, ProcessRead}
+use Rattle.sheets.proofs.ScopeLaws.{filled-names, filled-sorts, filled-known}
 use Rattle.sheets.proofs.TermRoom.{right-room}
 
 -- a name of the parameters is not as it must be
-params-missing : (N : Names) (l : ProcLine) → resolve-params N [] (l .params) ≡ none → resolve-proc N l ≡ none
+params-missing : (N : Names) (S : Sig) (l : ProcLine) → resolve-params N [] (l .params) ≡ none → resolve-proc N S l ≡ none
 unfolding resolve-proc
-params-missing N l e = rw e
+params-missing N S l e = rw e
 
 -- the parameters are known
-params-there : (N : Names) (l : ProcLine) (x : List Name × List ℕ) → resolve-params N [] (l .params) ≡ some x
-    → resolve-proc N l ≡ _>>=_ (resolve-choice N (x .0) (l .right)) (λ t. some (record { params = x .1; right = t }))
+params-there : (N : Names) (S : Sig) (l : ProcLine) (x : List Name × List ℕ) → resolve-params N [] (l .params) ≡ some x
+    → resolve-proc N S l ≡ _>>=_ (resolve-choice N S (x .0) (x .1) (l .right)) (λ t. some (record { params = x .1; right = t }))
 unfolding resolve-proc
-params-there N l x e = rw e
+params-there N S l x e = rw e
 
 module _ (s raw sorts names : List ℕ) (kinds : Kinds) (n : ℕ) (total : n ≡ total-of kinds) (at : ℕ) (rows : List ℕ) (p : ℕ) (scope : List ℕ) (a : Params) (read : ParamsRead s raw sorts names n (at + 2) rows p scope a) where
   -- all declared names, kind after kind
@@ -70,33 +72,37 @@ module _ (s raw sorts names : List ℕ) (kinds : Kinds) (n : ℕ) (total : n ≡
   row-of N l rest d ns e few = read N (l .params) (enc-choice (l .right) ++ rest) ns (all-declared N d ∙ ap (λ (m : ℕ). bytes "Bool" ∷ scope-at s names m) (sym total)) (params-at l rest e) few
 
   -- a parameter is not as it must be
-  pub params-lost : (w : ℕ) (o : List ℕ) (r : Side) (o′ : List ℕ) → a .ok ≡ false → r .ok ≡ false → ProcessRead s raw sorts names kinds at rows p w o r o′
-  params-lost w o r o′ lost z N l rest d ns e few deep =
-      rw (params-missing N l (answered-no (Row (enc-choice (l .right) ++ rest)) (resolve-params N [] (l .params)) (a .ok) (row-of N l rest d ns e few) lost)) z
+  pub params-lost : (funcs : List ℕ) (w : ℕ) (o : List ℕ) (r : Side) (o′ : List ℕ) → a .ok ≡ false → r .ok ≡ false → ProcessRead s raw sorts names kinds funcs at rows p w o r o′
+  params-lost funcs w o r o′ lost z N S l rest d gives ns e few deep =
+      rw (params-missing N S l (answered-no (Row (enc-choice (l .right) ++ rest)) (resolve-params N [] (l .params)) (a .ok) (row-of N l rest d ns e few) lost)) z
 
   module _ (w : ℕ) (o : List ℕ) (r : Side) (o′ : List ℕ) where
     -- the answer of the right side is that of the process
-    right-answered : (N : Names) (l : ProcLine) (rest rest′ : List Symbol) (x : List Name × List ℕ) → Row rest′ x → length (x .1) ≤ frame-width → sum-depth (l .right) ≤ max-open
-        → resolve-params N [] (l .params) ≡ some x → SideAnswers (symbols s raw) rest w o (resolve-choice N (x .0) (l .right)) r o′
-        → Answers (λ q. ProcessRow (length (N .procs)) q rows p w o (r .w) o′ (3 * length (line "proc" (print-proc l)))) (resolve-proc N l) (r .ok)
+    right-answered : (N : Names) (S : Sig) (l : ProcLine) (rest rest′ : List Symbol) (x : List Name × List ℕ) → Row rest′ x → length (x .1) ≤ frame-width → sum-depth (l .right) ≤ max-open
+        → resolve-params N [] (l .params) ≡ some x → SideAnswers (symbols s raw) rest w o (resolve-choice N S (x .0) (x .1) (l .right)) r o′
+        → Answers (λ q. ProcessRow (length (N .procs)) q rows p w o (r .w) o′ (3 * length (line "proc" (print-proc l)))) (resolve-proc N S l) (r .ok)
     unfolding SideAnswers
-    right-answered N l rest rest′ x row few deep e h = go (resolve-choice N (x .0) (l .right)) refl h
+    right-answered N S l rest rest′ x row few deep e h = go (resolve-choice N S (x .0) (x .1) (l .right)) refl h
       where
-        go : (t : Option Proc) → resolve-choice N (x .0) (l .right) ≡ t → SideAnswers (symbols s raw) rest w o t r o′
-            → Answers (λ q. ProcessRow (length (N .procs)) q rows p w o (r .w) o′ (3 * length (line "proc" (print-proc l)))) (resolve-proc N l) (r .ok)
-        go none f h = let none-there : resolve-proc N l ≡ none = params-there N l x e ∙ (rw f) in rw none-there h
+        go : (t : Option Proc) → resolve-choice N S (x .0) (x .1) (l .right) ≡ t → SideAnswers (symbols s raw) rest w o t r o′
+            → Answers (λ q. ProcessRow (length (N .procs)) q rows p w o (r .w) o′ (3 * length (line "proc" (print-proc l)))) (resolve-proc N S l) (r .ok)
+        go none f h = let none-there : resolve-proc N S l ≡ none = params-there N S l x e ∙ (rw f) in rw none-there h
         go (some t) f h =
-            let there : resolve-proc N l ≡ some (record { params = x .1; right = t }) = params-there N l x e ∙ (rw f) in
-            let scoped = process-scoped N l (record { params = x .1; right = t }) there (omega arith) in
-            rw there (h .0, record { few = few; params = row .sorts; scoped = scoped; right = h .2; size = right-room N (x .0) l t f })
+            let there : resolve-proc N S l ≡ some (record { params = x .1; right = t }) = params-there N S l x e ∙ (rw f) in
+            let scoped = process-scoped N S l (record { params = x .1; right = t }) there (omega arith) in
+            rw there (h .0, record { few = few; params = row .sorts; scoped = scoped; right = h .2; size = right-room N S (x .0) (x .1) l t f })
 
-    -- THE PARAMETERS, AND THE RIGHT SIDE WITH THEM IN SCOPE.
-    pub process-read : a .ok ≡ true → a .count ≤ frame-width → length scope ≡ max-scope → ResolvesRight s raw names kinds scope (a .count) (a .at) w o r o′
-        → ProcessRead s raw sorts names kinds at rows p w o r o′
+    -- THE PARAMETERS, AND THE RIGHT SIDE WITH THEM IN SCOPE: their names, their sorts, and what the functions give.
+    pub process-read : (funcs scope₁ scope₂ : List ℕ) → a .ok ≡ true → a .count ≤ frame-width → p + frame-width < length rows → kinds .funcs ≤ max-functions
+        → ResultsPut funcs scope scope₁ → SortsPut rows p (a .count) scope₁ scope₂ → ResolvesRight s raw names kinds scope₂ (a .count) (a .at) w o r o′
+        → ProcessRead s raw sorts names kinds funcs at rows p w o r o′
     unfolding symbols
-    process-read known few wide right N l rest d ns e many deep =
+    process-read funcs scope₁ scope₂ known few room funcs-few results sorts-put right N S l rest d gives ns e many deep =
         let (x, q, row) = answered-yes (Row (enc-choice (l .right) ++ rest)) (resolve-params N [] (l .params)) (a .ok) (row-of N l rest d ns e many) known in
         let same = row .many in
-        let side = right N (l .right) rest d (row .next) (omega arith) in
-        right-answered N l rest (enc-choice (l .right) ++ rest) x row (omega arith) deep q
-        (subst (λ (scope : List Name). SideAnswers (symbols s raw) rest w o (resolve-choice N scope (l .right)) r o′) (row .scoped) side)
+        let in-names = filled-names kinds funcs rows p (a .count) scope scope₁ scope₂ (omega arith) results sorts-put s ∙ row .scoped in
+        let in-sorts = filled-sorts kinds funcs rows p (a .count) scope scope₁ scope₂ (omega arith) results sorts-put (x .1) same (row .sorts) (omega arith) in
+        let side = right N S (l .right) rest d (filled-known kinds funcs rows p (a .count) scope scope₁ scope₂ (omega arith) results sorts-put S funcs-few gives) (row .next) (omega arith) in
+        right-answered N S l rest (enc-choice (l .right) ++ rest) x row (omega arith) deep q
+        (subst (λ (Γ : List ℕ). SideAnswers (symbols s raw) rest w o (resolve-choice N S (x .0) Γ (l .right)) r o′) in-sorts
+        (subst (λ (σ : List Name). SideAnswers (symbols s raw) rest w o (resolve-choice N S σ (scope-sorts scope₂ (a .count)) (l .right)) r o′) in-names side))

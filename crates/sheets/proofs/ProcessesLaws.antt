@@ -11,7 +11,7 @@ use Rattle.pcrl.specs.Tests.{Every}
 use Rattle.pcrl.specs.Reader.{all}
 use Rattle.pcrl.specs.Tokens.{Token}
 use Rattle.pcrl.specs.Tree.{ProcLine}
-use Rattle.pcrl.specs.Sheet.{Process, no-process}
+use Rattle.pcrl.specs.Sheet.{Process, Sig, no-process}
 use Rattle.pcrl.specs.Names.{Names, resolve-proc}
 use Rattle.laws.specs.Each.{each-length}
 use Rattle.pcrl.specs.Print.{line, print-lines, print-proc}
@@ -27,6 +27,7 @@ use Rattle.resolver.specs.declared.Resolved.{Resolved as Side}
 use Rattle.resolver.specs.Raw.{sum-depth}
 use Rattle.resolver.specs.Resolving.{Declared}
 use Rattle.sheets.specs.declared.ProcRows.{ProcRows}
+use Rattle.sheets.specs.ScopePuts.{GivesRows}
 use Rattle.sheets.specs.Resolving.{ProcessRow, ProcessRead, ProcessesHeld, ProcessesRead}
 use Rattle.sheets.proofs.Placed.{term-kept, term-written}
 
@@ -50,43 +51,43 @@ stays-on out₀ rows rows′ out out′ starts k v ok h e g = record {
   well = h .well;
 }
 
-module _ (s raw sorts procs names : List ℕ) (kinds : Kinds) where
+module _ (s raw sorts procs names : List ℕ) (kinds : Kinds) (funcs : List ℕ) where
   -- the first k lines have their rows and their cells before w, and there is room for the rest
-  pub record ProcsOf (N : Names) (ls : List ProcLine) (rows out starts : List ℕ) (w k : ℕ) : Type 0 where
-    pub gone : Gone (resolve-proc N) no-process (λ q j. ProcAt (length (N .procs)) q rows (take w out) starts j) ls k
+  pub record ProcsOf (N : Names) (S : Sig) (ls : List ProcLine) (rows out starts : List ℕ) (w k : ℕ) : Type 0 where
+    pub gone : Gone (resolve-proc N S) no-process (λ q j. ProcAt (length (N .procs)) q rows (take w out) starts j) ls k
     pub left : w + room (drop k ls) ≤ room ls
 
   abbrev pub ProcsGone : (rows out starts : List ℕ) (w k : ℕ) → Type 0
   ProcsGone rows out starts w k =
-      (N : Names) (ls : List ProcLine) → Declared s names kinds N → N .sorts ≡ sorts-at s raw sorts → LinesAt enc-proc s raw procs ls
+      (N : Names) (S : Sig) (ls : List ProcLine) → Declared s names kinds N → GivesRows kinds funcs S → N .sorts ≡ sorts-at s raw sorts → LinesAt enc-proc s raw procs ls
       → Every (λ (l : ProcLine). length (l .params) ≤ frame-width) ls → Every (λ (l : ProcLine). sum-depth (l .right) ≤ max-open) ls → room ls ≤ length out
-      → ProcsOf N ls rows out starts w k
+      → ProcsOf N S ls rows out starts w k
 
   pub procs-start : (rows out starts : List ℕ) → ProcsGone rows out starts 0 0
-  procs-start rows out starts N ls d ns l f t b =
-      record { gone = gone-none (resolve-proc N) no-process (λ q j. ProcAt (length (N .procs)) q rows (take 0 out) starts j) ls; left = omega arith }
+  procs-start rows out starts N S ls d gi ns l f t b =
+      record { gone = gone-none (resolve-proc N S) no-process (λ q j. ProcAt (length (N .procs)) q rows (take 0 out) starts j) ls; left = omega arith }
 
   -- all lines are done
   pub procs-end : (rows out starts : List ℕ) (w k : ℕ) (ok : Bool) → length procs ≤ k → ProcsGone rows out starts w k → ok ≡ true
-      → ProcessesRead s raw sorts procs names kinds (record { ok = ok; procs = rows; starts = starts; w = w }) out
-  procs-end rows out starts w k ok h g o N ls d ns l f t b =
-      let G = g N ls d ns l f t b in
+      → ProcessesRead s raw sorts procs names kinds funcs (record { ok = ok; procs = rows; starts = starts; w = w }) out
+  procs-end rows out starts w k ok h g o N S ls d gi ns l f t b =
+      let G = g N S ls d gi ns l f t b in
       let left = G .left in
-      gone-ends (resolve-proc N) no-process (λ q j. ProcAt (length (N .procs)) q rows (take w out) starts j)
+      gone-ends (resolve-proc N S) no-process (λ q j. ProcAt (length (N .procs)) q rows (take w out) starts j)
       (ProcessesHeld (length (N .procs)) (record { ok = ok; procs = rows; starts = starts; w = w }) out (room ls)) ls k ok (G .gone)
       (omega (arith, each-length (λ p l. At s raw (enc-proc l) p) procs ls l)) o
       (λ bs m x. record { each = λ j i. x j (omega arith); size = omega arith })
 
   -- the line at k, of which a process was read or not
   module _ (rows rows′ out out′ starts : List ℕ) (w k at : ℕ) (r : Side) (h : k < length procs) (same : length out′ ≡ length out) (place : at ≡ getD procs k 0) (g : ProcsGone rows out starts w k)
-      (a : ProcessRead s raw sorts names kinds at rows′ (5 * k) w out r out′) where
-    pub procs-stop : (R : ProcRows) → r .ok ≡ false → R .ok ≡ false → ProcessesRead s raw sorts procs names kinds R out′
-    procs-stop R lost z N ls d ns l f t b =
+      (a : ProcessRead s raw sorts names kinds funcs at rows′ (5 * k) w out r out′) where
+    pub procs-stop : (R : ProcRows) → r .ok ≡ false → R .ok ≡ false → ProcessesRead s raw sorts procs names kinds funcs R out′
+    procs-stop R lost z N S ls d gi ns l f t b =
         let (x, e, here) = each-next (λ p l. At s raw (enc-proc l) p) procs ls k l h in
         let few = every-at _ ls k x (drop (k + 1) ls) f e in
         let deep = every-at _ ls k x (drop (k + 1) ls) t e in
-        gone-stops (resolve-proc N) no-process (λ q j. ProcAt (length (N .procs)) q rows (take w out) starts j) (ProcessesHeld (length (N .procs)) R out′ (room ls)) ls (drop (k + 1) ls) k x (R .ok)
-        (g N ls d ns l f t (omega arith) .gone) e (answered-no _ (resolve-proc N x) (r .ok) (a N x (here .0) d ns (rw place (here .1)) few deep) lost) z
+        gone-stops (resolve-proc N S) no-process (λ q j. ProcAt (length (N .procs)) q rows (take w out) starts j) (ProcessesHeld (length (N .procs)) R out′ (room ls)) ls (drop (k + 1) ls) k x (R .ok)
+        (g N S ls d gi ns l f t (omega arith) .gone) e (answered-no _ (resolve-proc N S x) (r .ok) (a N S x (here .0) d gi ns (rw place (here .1)) few deep) lost) z
 
     module _ (v : ℕ) (few-starts : k < length starts) (few-cells : length out < cell-limit) (start : w < cell-limit → v ≡ w) (kept : Kept (5 * k) rows rows′) where
       -- a process that is done keeps its row and its cells
@@ -104,13 +105,13 @@ module _ (s raw sorts procs names : List ℕ) (kinds : Kinds) where
       -- ONE MORE PROCESS.
       pub procs-go : r .ok ≡ true → ProcsGone rows′ out′ (set starts k v) (r .w) (k + 1)
       unfolding all
-      procs-go o N ls d ns l f t b =
+      procs-go o N S ls d gi ns l f t b =
           let (x, e, here) = each-next (λ p l. At s raw (enc-proc l) p) procs ls k l h in
           let few = every-at _ ls k x (drop (k + 1) ls) f e in
           let deep = every-at _ ls k x (drop (k + 1) ls) t e in
-          let G = g N ls d ns l f t (omega arith) in
+          let G = g N S ls d gi ns l f t (omega arith) in
           let m = length (N .procs) in
-          let (q, known, row) = answered-yes (λ q. ProcessRow m q rows′ (5 * k) w out (r .w) out′ (3 * length (line "proc" (print-proc x)))) (resolve-proc N x) (r .ok) (a N x (here .0) d ns (rw place (here .1)) few deep) o in
+          let (q, known, row) = answered-yes (λ q. ProcessRow m q rows′ (5 * k) w out (r .w) out′ (3 * length (line "proc" (print-proc x)))) (resolve-proc N S x) (r .ok) (a N S x (here .0) d gi ns (rw place (here .1)) few deep) o in
           let printed : List ProcLine → List Token = print-lines "proc" print-proc in
           let more : length (printed (drop k ls)) ≡ length (line "proc" (print-proc x)) + length (printed (drop (k + 1) ls))
           = ap (λ (ms : List ProcLine). length (printed ms)) e ∙ length-append (line "proc" (print-proc x)) (printed (drop (k + 1) ls)) in
@@ -120,7 +121,7 @@ module _ (s raw sorts procs names : List ℕ) (kinds : Kinds) where
           let end = written .next in
           let s₀ : getD (set starts k v) k 0 ≡ w = getD-set-same starts k v 0 few-starts ∙ start (omega arith) in
           record {
-            gone = gone-goes (resolve-proc N) no-process (λ q j. ProcAt m q rows (take w out) starts j) (λ q j. ProcAt m q rows′ (take (r .w) out′) (set starts k v) j) ls k x q (G .gone) e known
+            gone = gone-goes (resolve-proc N S) no-process (λ q j. ProcAt m q rows (take w out) starts j) (λ q j. ProcAt m q rows′ (take (r .w) out′) (set starts k v) j) ls k x q (G .gone) e known
                 (done-kept m (enc false (q .right)) (written .cells))
                 (record {
                   few = row .few;

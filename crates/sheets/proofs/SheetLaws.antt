@@ -13,7 +13,7 @@ use Rattle.pcrl.specs.Maybe.{_>>=_, for-each}
 use Rattle.pcrl.specs.Tree.{Name, RawSheet, ActLine, ProcLine}
 use Rattle.pcrl.specs.Sheet.{Data, call, Process, Func, Action, Sig, Sheet, no-action, no-process}
 use Rattle.pcrl.specs.Counts.{Counted}
-use Rattle.pcrl.specs.Names.{names-of, declared, sizes-of, sorts-of, resolve-func, resolve-act, resolve-proc, resolve-init, resolve}
+use Rattle.pcrl.specs.Names.{names-of, declared, sizes-of, sorts-of, resolve-func, resolve-act, resolve-proc, resolve-init, resolve-terms, resolve}
 use Rattle.laws.specs.Lists.{getD-map}
 use Rattle.laws.specs.Each.{each-length, each-map}
 use Rattle.laws.specs.Optional.{first-given, each-given}
@@ -38,8 +38,10 @@ use Rattle.resolver.specs.declared.Resolved.{Resolved as Side}
 use Rattle.sheets.specs.declared.SigRows.{SigRows}
 use Rattle.sheets.specs.declared.ProcRows.{ProcRows}
 use Rattle.sheets.specs.declared.Rows.{Rows}
+use Rattle.sheets.specs.ScopePuts.{ResultsPut, GivesRows}
 use Rattle.sheets.specs.Resolving.{FewLines, LinesStand, HoldsSignature, SignatureRead, resolve-signature, ProcessesHeld, ProcessesRead, arrays, Named, LinesResolve}
 use Rattle.sheets.proofs.Asked.{answers-then, answers-last, answers-test}
+use Rattle.sheets.proofs.ScopeLaws.{results-known}
 use Rattle.sheets.proofs.TermRoom.{init-room}
 use Rattle.sheets.proofs.Placed.{proc-kept, written-whole, written-at}
 
@@ -140,15 +142,15 @@ module _ (s raw sorts funcs acts procs : List ℕ) (R : RawSheet) (stand : Lines
 
   -- PROCESSES AND INIT ARE HELD, init behind the right sides
   procs-held : (S : Sig) (ps : List Process) (x : ℕ × List Data) (b : ProcRows) (o o′ : List ℕ) (most w′ : ℕ) (n : Outline) → n .procs ≡ length procs → n .init ≡ b .w → FewLines raw sorts funcs acts procs
-      → for-each (resolve-proc (names-of R)) (R .procs) ≡ some ps → ProcessesHeld (length (names-of R .procs)) b o most ps → resolve-init (names-of R) (R .start) ≡ some x
+      → for-each (resolve-proc (names-of R) S) (R .procs) ≡ some ps → ProcessesHeld (length (names-of R .procs)) b o most ps → resolve-init (names-of R) S (R .start) ≡ some x
       → Writes (enc false (call (x .0) (x .1))) (b .w) o w′ o′ → most + 3 * length (print-init (R .start)) ≤ length o
       → HeldProcs (record { sig = S; procs = ps; start = x }) (b .procs) o′ (b .starts) n
   procs-held S ps x b o o′ most w′ n np ni few pe held xe wr room =
-      let many = each-length (λ (l : ProcLine) (q : Process). resolve-proc (names-of R) l ≡ some q) (R .procs) ps (each-given (resolve-proc (names-of R)) (R .procs) ps pe) in
+      let many = each-length (λ (l : ProcLine) (q : Process). resolve-proc (names-of R) S l ≡ some q) (R .procs) ps (each-given (resolve-proc (names-of R) S) (R .procs) ps pe) in
       let lines = lines-many in
       let names = names-many in
       let size = held .size in
-      let call-room = init-room (names-of R) (R .start) (x .0) (x .1) xe in
+      let call-room = init-room (names-of R) S (R .start) (x .0) (x .1) xe in
       let written = wr .with-room (omega arith) in
       let same : length (names-of R .procs) ≡ n .procs = names ∙ sym np in
       record {
@@ -159,7 +161,7 @@ module _ (s raw sorts funcs acts procs : List ℕ) (R : RawSheet) (stand : Lines
             (subst (λ (c : List ℕ). ProcAt (length (names-of R .procs)) (getD ps k no-process) (b .procs) c (b .starts) k) (written-whole written)
             (proc-kept (length (names-of R .procs)) (getD ps k no-process) (b .procs) (take (b .w) o) _ (b .starts) k (held .each k (omega arith))));
         init-at = (drop w′ o′, ap (λ (p : ℕ). drop p o′) ni ∙ written-at (omega arith) written);
-        init-scoped = subst (λ (m : ℕ). Scoped m 0 (call (x .0) (x .1))) same (init-scoped (names-of R) (R .start) (x .0) (x .1) xe);
+        init-scoped = subst (λ (m : ℕ). Scoped m 0 (call (x .0) (x .1))) same (init-scoped (names-of R) S (R .start) (x .0) (x .1) xe);
       }
 
   -- THE ACTIONS' NAMES stand behind those of the sorts and of the functions
@@ -217,25 +219,28 @@ Holds s rows values cells H = Held H (arrays rows values cells) (rows .outline) 
 pub lines-resolve : (s raw sorts funcs acts procs : List ℕ) (at : ℕ) (values o o′ names : List ℕ) (n : ℕ) (fresh : Bool) (a : SigRows) (b : ProcRows) (c : Side) (ok : Bool)
     → FewLines raw sorts funcs acts procs → length o′ ≡ length o → n ≡ total-of (kinds-of sorts funcs acts procs)
     → scope-at s names n ≡ names-at s raw sorts (length sorts) ++ (names-at s raw funcs (length funcs) ++ (names-at s raw acts (length acts) ++ names-at s raw procs (length procs)))
-    → fresh ≡ distinct (bytes "Bool" ∷ scope-at s names n) → SignatureRead s raw sorts funcs acts values a → ProcessesRead s raw sorts procs names (kinds-of sorts funcs acts procs) b o
-    → ResolvesInit s raw names (kinds-of sorts funcs acts procs) at (b .w) o c o′ → ok ≡ and fresh (and (a .ok) (and (b .ok) (c .ok)))
+    → fresh ≡ distinct (bytes "Bool" ∷ scope-at s names n) → SignatureRead s raw sorts funcs acts values a → ProcessesRead s raw sorts procs names (kinds-of sorts funcs acts procs) (a .funcs) b o
+    → (empty scope : List ℕ) → ResultsPut (a .funcs) empty scope → ResolvesInit s raw names (kinds-of sorts funcs acts procs) scope at (b .w) o c o′ → ok ≡ and fresh (and (a .ok) (and (b .ok) (c .ok)))
     → LinesResolve s raw sorts funcs acts procs at values o′ (record { ok = ok; rows = rows-of sorts funcs acts procs names a b })
-unfolding resolve symbols Counted arrays
-lines-resolve s raw sorts funcs acts procs at values o o′ names n fresh a b c ok few same total scoped new sig procs-read init-read e R stand init-at m counted bounded values-room cells-room =
+unfolding resolve resolve-terms symbols Counted arrays
+lines-resolve s raw sorts funcs acts procs at values o o′ names n fresh a b c ok few same total scoped new sig procs-read empty scope results init-read e R stand init-at m counted bounded values-room cells-room =
     let rows : Rows = rows-of sorts funcs acts procs names a b in
     let D = lines-declare s raw sorts funcs acts procs R stand names n total scoped in
     let known : declared (names-of R) ≡ bytes "Bool" ∷ scope-at s names n = declared-are s raw R sorts funcs acts procs (stand .sorts-at) (stand .funcs-at) (stand .acts-at) (stand .procs-at) names n scoped in
     let both = bounded .processes-few in
     let f = sig R m (stand .sorts-at) (stand .funcs-at) (stand .acts-at) counted bounded values-room in
-    let g = procs-read (names-of R) (R .procs) D (sort-names s raw sorts funcs acts procs R stand) (stand .procs-at) (counted .1 .1 .1 .1 .1) (bounded .sums-shallow) (omega arith) in
-    let h = init-answers (symbols s raw) (init-at .0) (b .w) o (resolve-init (names-of R) (R .start)) c o′ (init-read (names-of R) (R .start) (init-at .0) (D .funcs-are) (D .procs-are) (init-at .1)) in
     subst⁻¹ (λ (t : Bool). Answers (Holds s rows values o′) (resolve R) t) e
     (answers-test (Holds s rows values o′) (distinct (declared (names-of R))) _ fresh _ (new ∙ ap distinct (sym known))
     (subst (λ (q : Option Sheet). Answers (Holds s rows values o′) q (and (a .ok) (and (b .ok) (c .ok)))) (signature-then R _)
     (answers-then (Holds s rows values o′) (HoldsSignature sorts funcs acts values a) (resolve-signature R)
-    (λ S. _>>=_ (for-each (resolve-proc (names-of R)) (R .procs)) (λ ps. _>>=_ (resolve-init (names-of R) (R .start)) (λ x. some (record { sig = S; procs = ps; start = x })))) (a .ok) _ f
-    (λ S se held. answers-then (Holds s rows values o′) (ProcessesHeld (length (names-of R .procs)) b o (3 * length (print-lines "proc" print-proc (R .procs)))) (for-each (resolve-proc (names-of R)) (R .procs)) _ (b .ok) (c .ok) g
-    (λ ps pe pheld. answers-last (Holds s rows values o′) (λ (x : ℕ × List Data). Writes (enc false (call (x .0) (x .1))) (b .w) o (c .w) o′) (resolve-init (names-of R) (R .start)) _ (c .ok) h
+    (λ S. _>>=_ (for-each (resolve-proc (names-of R) S) (R .procs)) (λ ps. _>>=_ (resolve-init (names-of R) S (R .start)) (λ x. some (record { sig = S; procs = ps; start = x })))) (a .ok) _ f
+    (λ S se held.
+    let gi : GivesRows (kinds-of sorts funcs acts procs) (a .funcs) S = λ i h. held (rows .outline) refl refl refl .func-at i h .gives in
+    let g = procs-read (names-of R) S (R .procs) D gi (sort-names s raw sorts funcs acts procs R stand) (stand .procs-at) (counted .1 .1 .1 .1 .1) (bounded .sums-shallow) (omega arith) in
+    let h = init-answers (symbols s raw) (init-at .0) (b .w) o (resolve-init (names-of R) S (R .start)) c o′
+    (init-read (names-of R) S (R .start) (init-at .0) (results-known (kinds-of sorts funcs acts procs) (a .funcs) empty scope S (few .funcs-few) results gi) (D .funcs-are) (D .procs-are) (init-at .1)) in
+    answers-then (Holds s rows values o′) (ProcessesHeld (length (names-of R .procs)) b o (3 * length (print-lines "proc" print-proc (R .procs)))) (for-each (resolve-proc (names-of R) S) (R .procs)) _ (b .ok) (c .ok) g
+    (λ ps pe pheld. answers-last (Holds s rows values o′) (λ (x : ℕ × List Data). Writes (enc false (call (x .0) (x .1))) (b .w) o (c .w) o′) (resolve-init (names-of R) S (R .start)) _ (c .ok) h
     (λ x xe w. (
       record {
         signature = held (rows .outline) refl refl refl;

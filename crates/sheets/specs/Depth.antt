@@ -6,8 +6,8 @@ use native.Mathlib.Omega.{arith}
 use Rattle.pcrl.specs.Limits.{max-open}
 use Rattle.pcrl.specs.Tests.{Every}
 use Rattle.pcrl.specs.Tokens.{name, numeral, the, Shallow}
-use Rattle.pcrl.specs.Tree.{Name, RawData, RawDatas, Choice, Conditional, Sequence, Part, SortLine, FuncLine, ActLine, ProcLine, RawSheet}
-use Rattle.pcrl.specs.Print.{print-data, print-datas, print-given, print-choice, print-conditional, print-sequence, print-part, line, print-lines, print-sorts, print-values, print-sort, print-func, print-takes, print-act, print-param, print-params, print-proc, print-init, print-sheet}
+use Rattle.pcrl.specs.Tree.{Name, RawData, Conjunction, Comparison, Negation, Atom, RawDatas, Choice, Conditional, Sequence, Part, SortLine, FuncLine, ActLine, ProcLine, RawSheet}
+use Rattle.pcrl.specs.Print.{print-data, print-conjunction, print-comparison, print-negation, print-atom, print-datas, print-given, print-choice, print-conditional, print-sequence, print-part, line, print-lines, print-sorts, print-values, print-sort, print-func, print-takes, print-act, print-param, print-params, print-proc, print-init, print-sheet}
 use Rattle.resolver.specs.Raw.{sum-depth, conditional-depth, sequence-depth, part-depth}
 use Rattle.sheets.specs.Rising.{Rises, rises-none, rises-less, rises-append, rises-flat, rises-bracketed, rises-joined, rises-lines, lines-below}
 
@@ -16,9 +16,26 @@ mutual
   unfolding print-data
 
   data-rises : {n : ℕ} (d : RawData) → Rises n 0 (print-data d)
-  data-rises (RawData.value v) = rises-flat (numeral v) tt rises-none
-  data-rises (RawData.variable x) = rises-flat (name x) tt rises-none
-  data-rises (RawData.apply x ds) = rises-flat (name x) tt (rises-less 0 (omega arith) (rises-bracketed (datas-rise ds)))
+  data-rises (RawData.only c) = conjunction-rises c
+  data-rises (RawData.or c d) = rises-append (conjunction-rises c) (rises-flat (the "\\/") tt (data-rises d))
+
+  conjunction-rises : {n : ℕ} (c : Conjunction) → Rises n 0 (print-conjunction c)
+  conjunction-rises (Conjunction.single c) = comparison-rises c
+  conjunction-rises (Conjunction.and c d) = rises-append (comparison-rises c) (rises-flat (the "/\\") tt (conjunction-rises d))
+
+  comparison-rises : {n : ℕ} (c : Comparison) → Rises n 0 (print-comparison c)
+  comparison-rises (Comparison.plain a) = negation-rises a
+  comparison-rises (Comparison.equal a b) = rises-append (negation-rises a) (rises-flat (the "==") tt (negation-rises b))
+
+  negation-rises : {n : ℕ} (a : Negation) → Rises n 0 (print-negation a)
+  negation-rises (Negation.atom a) = atom-rises a
+  negation-rises (Negation.not a) = rises-flat (the "!") tt (negation-rises a)
+
+  atom-rises : {n : ℕ} (a : Atom) → Rises n 0 (print-atom a)
+  atom-rises (Atom.value v) = rises-flat (numeral v) tt rises-none
+  atom-rises (Atom.variable x) = rises-flat (name x) tt rises-none
+  atom-rises (Atom.apply x ds) = rises-flat (name x) tt (rises-less 0 (omega arith) (rises-bracketed (datas-rise ds)))
+  atom-rises (Atom.group d) = rises-less 0 (omega arith) (rises-bracketed (data-rises d))
 
   datas-rise : {n : ℕ} (ds : RawDatas) → Rises n 0 (print-datas ds)
   datas-rise (RawDatas.one d) = data-rises d

@@ -34,6 +34,7 @@ use Rattle.sheets.specs.declared.ProcRows.{ProcRows}
 use Rattle.sheets.specs.declared.Rows.{Rows}
 use Rattle.sheets.specs.declared.Resolved.{Resolved}
 use Rattle.sheets.specs.Bounded.{Bounded}
+use Rattle.sheets.specs.ScopePuts.{GivesRows}
 
 -- so few lines that their numbers fit; so few cells that a place fits a cell
 pub record FewLines (raw sorts funcs acts procs : List ℕ) : Type 0 where
@@ -85,22 +86,22 @@ pub record ProcessRow (m : ℕ) (q : Process) (rows : List ℕ) (p : ℕ) (w : �
   pub size : length (enc false (q .right)) ≤ most
 
 -- for every process line that stands at `at`
-abbrev pub ProcessRead : (s raw sorts names : List ℕ) (kinds : Kinds) (at : ℕ) (rows : List ℕ) (p w : ℕ) (o : List ℕ) → Side → List ℕ → Type 0
-ProcessRead s raw sorts names kinds at rows p w o r o′ =
-    (N : Names) (l : ProcLine) (rest : List Symbol) → Declared s names kinds N → N .sorts ≡ sorts-at s raw sorts
+abbrev pub ProcessRead : (s raw sorts names : List ℕ) (kinds : Kinds) (funcs : List ℕ) (at : ℕ) (rows : List ℕ) (p w : ℕ) (o : List ℕ) → Side → List ℕ → Type 0
+ProcessRead s raw sorts names kinds funcs at rows p w o r o′ =
+    (N : Names) (S : Sig) (l : ProcLine) (rest : List Symbol) → Declared s names kinds N → GivesRows kinds funcs S → N .sorts ≡ sorts-at s raw sorts
     → drop at (symbols s raw) ≡ enc-proc l ++ rest → length (l .params) ≤ frame-width → sum-depth (l .right) ≤ max-open
-    → Answers (λ q. ProcessRow (length (N .procs)) q rows p w o (r .w) o′ (3 * length (line "proc" (print-proc l)))) (resolve-proc N l) (r .ok)
+    → Answers (λ q. ProcessRow (length (N .procs)) q rows p w o (r .w) o′ (3 * length (line "proc" (print-proc l)))) (resolve-proc N S l) (r .ok)
 
 -- all of them: each has its row, and its right side stands among the first w cells
 pub record ProcessesHeld (m : ℕ) (r : ProcRows) (cells : List ℕ) (most : ℕ) (ps : List Process) : Type 0 where
   pub each : InRows no-process (λ q k. ProcAt m q (r .procs) (take (r .w) cells) (r .starts) k) ps
   pub size : r .w ≤ most
 
-abbrev pub ProcessesRead : (s raw sorts procs names : List ℕ) (kinds : Kinds) → ProcRows → List ℕ → Type 0
-ProcessesRead s raw sorts procs names kinds r o′ =
-    (N : Names) (ls : List ProcLine) → Declared s names kinds N → N .sorts ≡ sorts-at s raw sorts → LinesAt enc-proc s raw procs ls
+abbrev pub ProcessesRead : (s raw sorts procs names : List ℕ) (kinds : Kinds) (funcs : List ℕ) → ProcRows → List ℕ → Type 0
+ProcessesRead s raw sorts procs names kinds funcs r o′ =
+    (N : Names) (S : Sig) (ls : List ProcLine) → Declared s names kinds N → GivesRows kinds funcs S → N .sorts ≡ sorts-at s raw sorts → LinesAt enc-proc s raw procs ls
     → Every (λ (l : ProcLine). length (l .params) ≤ frame-width) ls → Every (λ (l : ProcLine). sum-depth (l .right) ≤ max-open) ls → 3 * length (print-lines "proc" print-proc ls) ≤ length o′
-    → Answers (ProcessesHeld (length (N .procs)) r o′ (3 * length (print-lines "proc" print-proc ls))) (for-each (resolve-proc N) ls) (r .ok)
+    → Answers (ProcessesHeld (length (N .procs)) r o′ (3 * length (print-lines "proc" print-proc ls))) (for-each (resolve-proc N S) ls) (r .ok)
 
 -- ---- the whole sheet
 -- the arrays of a sheet that was read

@@ -1,5 +1,6 @@
 // Questions 1 to 9: from a sheet's bytes to the resolved sheet in arrays, or the number of the first question that fails.
 pub mod signature; // question 7 on the declarations
+pub mod scopes; // what the resolver is told of sorts
 pub mod processes; // question 7 on right sides
 pub mod resolve; // question 7 on the whole sheet
 pub mod read; // the questions in their order

@@ -1,11 +1,14 @@
 // Question 7 on the lines of processes.
-ghost use Prim.Native.Nat.{_+_, _≤_, _<_};
+ghost use Prim.Native.Nat.{_+_, _*_, _≤_, _<_};
 ghost use lib.ListN.{length};
-ghost use Rattle.pcrl.specs.Limits.{frame-width, max-processes};
+ghost use Rattle.pcrl.specs.Limits.{frame-width, max-functions, max-processes};
 ghost use Rattle.nodes.specs.Layout.{cell-limit};
+ghost use Rattle.nodes.specs.Held.{func-width};
 ghost use Rattle.names.specs.Rows.{Kept};
 ghost use Rattle.sheets.specs.Resolving.{FewNames, ProcessRead, ProcessesRead};
 use crate::ProcRows;
+use crate::scopes::put_results;
+use crate::scopes::put_sorts;
 use names::Kinds;
 use names::find::place;
 use names::keys::total;
@@ -13,6 +16,7 @@ use names::rows::param_row;
 use nodes::PROC_ROW;
 use parser::cells::short;
 use resolver::Resolved;
+use resolver::SCOPE_CELLS;
 use resolver::entry::right_side;
 
 // The process whose line stands at `at`: the row of its parameters at p, the cells of its right side behind w.
@@ -23,17 +27,18 @@ fn process(
     names: &[u16],
     keys: &[u8],
     kinds: Kinds,
+    funcs: &[u8],
     at: usize,
     rows: &mut [u8],
     p: usize,
     out: &mut [u16],
     w: usize,
 ) -> Resolved
-    requires { ⌜ FewNames (now s) (now raw) (now sorts) (now names) (now keys) kinds × (at < cell-limit) × (p + frame-width < length (now rows)) ⌝ }
+    requires { ⌜ FewNames (now s) (now raw) (now sorts) (now names) (now keys) kinds × (func-width * max-functions ≤ length (now funcs)) × (at < cell-limit) × (p + frame-width < length (now rows)) ⌝ }
     ensures kept { λ r. ⌜ Kept p (now (rows .entry)) (now (rows .exit)) ⌝ }
-    ensures process { λ r. ⌜ ProcessRead (now (s .entry)) (now (raw .entry)) (now (sorts .entry)) (now (names .entry)) kinds at (now (rows .exit)) p w (now (out .entry)) r (now (out .exit)) ⌝ }
+    ensures process { λ r. ⌜ ProcessRead (now (s .entry)) (now (raw .entry)) (now (sorts .entry)) (now (names .entry)) kinds (now (funcs .entry)) at (now (rows .exit)) p w (now (out .entry)) r (now (out .exit)) ⌝ }
 {
-    let mut scope = [0u16; 32];
+    let mut scope = [0u16; SCOPE_CELLS];
     let a = param_row(
         s,
         raw,
@@ -53,6 +58,8 @@ fn process(
             w: w,
         };
     }
+    put_results(funcs, &mut scope);
+    put_sorts(rows, p, a.count, &mut scope);
     right_side(
         s,
         raw,
@@ -76,10 +83,11 @@ pub fn processes(
     names: &[u16],
     keys: &[u8],
     kinds: Kinds,
+    funcs: &[u8],
     out: &mut [u16],
 ) -> ProcRows
-    requires { ⌜ FewNames (now s) (now raw) (now sorts) (now names) (now keys) kinds × (length (now procs) ≤ max-processes) × (length (now out) < cell-limit) ⌝ }
-    ensures { λ r. ⌜ ProcessesRead (now (s .entry)) (now (raw .entry)) (now (sorts .entry)) (now (procs .entry)) (now (names .entry)) kinds r (now (out .exit)) ⌝ }
+    requires { ⌜ FewNames (now s) (now raw) (now sorts) (now names) (now keys) kinds × (func-width * max-functions ≤ length (now funcs)) × (length (now procs) ≤ max-processes) × (length (now out) < cell-limit) ⌝ }
+    ensures { λ r. ⌜ ProcessesRead (now (s .entry)) (now (raw .entry)) (now (sorts .entry)) (now (procs .entry)) (now (names .entry)) kinds (now (funcs .entry)) r (now (out .exit)) ⌝ }
 {
     let mut rows = [0u8; 80];
     let mut starts = [0u16; 16];
@@ -95,6 +103,7 @@ pub fn processes(
             names,
             keys,
             kinds,
+            funcs,
             place(procs[k]),
             &mut rows,
             PROC_ROW * k,

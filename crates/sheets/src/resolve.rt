@@ -8,6 +8,7 @@ use crate::Resolved;
 use crate::Rows;
 use crate::both;
 use crate::processes::processes;
+use crate::scopes::put_results;
 use crate::signature::signature;
 use names::Kinds;
 use names::find::place;
@@ -16,6 +17,7 @@ use names::fresh::declared_names;
 use names::keys::put_keys;
 use nodes::Outline;
 use parser::Lines;
+use resolver::SCOPE_CELLS;
 use resolver::entry::init;
 
 // The lines of each kind stand at these places, init at `at`.
@@ -45,10 +47,12 @@ fn resolve_lines(
         procs: procs.len(),
     };
     let a = signature(s, raw, sorts, funcs, acts, values);
-    let b = processes(s, raw, sorts, procs, &names, &keys, kinds, out);
-    let c = init(s, raw, &names, &keys, kinds, at, out, b.w);
-    let sizes = a.sizes;
     let func_bytes = a.funcs;
+    let b = processes(s, raw, sorts, procs, &names, &keys, kinds, &func_bytes, out);
+    let mut scope = [0u16; SCOPE_CELLS];
+    put_results(&func_bytes, &mut scope);
+    let c = init(s, raw, &names, &keys, kinds, &scope, at, out, b.w);
+    let sizes = a.sizes;
     let places = a.places;
     let act_bytes = a.acts;
     let proc_bytes = b.procs;

@@ -76,11 +76,11 @@ returns c =
     let at-short = c .short in
     λ s.
     let q = at-start .pre in
-    let n : ℕ = 4 * length (map (cell-token s) (at-start .args .toks .now)) + 4 in
+    let n : ℕ = 5 * length (map (cell-token s) (at-start .args .toks .now)) + 5 in
     let l = length-map (at-start .args .toks .now) (cell-token s) in
-    let k : 4 * length (at-start .args .toks .now) + 3 < n = omega arith in
+    let k : 5 * length (at-start .args .toks .now) + 4 < n = omega arith in
     let g : length (at-start .args .toks .now) < n = omega arith in
-    parses s (at-start .args .toks .now) (at-start .args .out .now) _ _ _ _ (q .0) (q .1)
+    parses s (at-start .args .toks .now) (at-start .args .out .now) _ _ _ _ (q .0) (q .1) (q .2)
     (sheet-read s (at-start .args .toks .now) n (at-lines-of .result) (at-lines-of2 .result) (at-lines-of3 .result) (at-lines-of4 .result)
     (at-lines-of .ensures .1 (omega arith) s n n k (left-below (at-start .args .toks .now) 0 g))
     (at-lines-of2 .ensures .0) (λ i. at-lines-of2 .ensures .1 i s n n k (left-below (at-start .args .toks .now) _ g))

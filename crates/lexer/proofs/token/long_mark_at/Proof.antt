@@ -1,6 +1,6 @@
--- `lexer::token::long_mark_at`: what `long_mark` found of the two bytes is the mark that the definition finds.
+-- `lexer::token::long_mark_at`: what `long_mark` found of the two bytes is the mark that the definition finds; where it found none and `=` does not stand there, no mark does.
 use mathlib.Core.List.{[], _∷_}
-use mathlib.Core.Path.{_∙_, ap₂}
+use mathlib.Core.Path.{_∙_, sym, ap₂}
 use Prim.Native.Nat.{ℕ}
 use native.Mathlib.Omega.{arith}
 use borrow.Author.Needs.{needs}
@@ -13,6 +13,12 @@ use Rattle.lexer.proofs.token.long_mark_at.Tie as tie
 byte-at-requires : tie.Need-byte-at-requires
 byte-at-requires c κs = search needs
 
+equals-at-requires : tie.Need-equals-at-requires
+equals-at-requires c κs = (omega arith, sym (c .before .byte-at .ensures) ∙ c .if1 .taken)
+
+returns : tie.Need-returns
+returns c = c .equals-at .ensures
+
 add-byte-at : tie.Need-add-byte-at
 add-byte-at c = search needs
 
@@ -20,24 +26,28 @@ byte-at-requires-2 : tie.Need-byte-at-requires-2
 byte-at-requires-2 c κs = search needs
 
 long-mark-requires : tie.Need-long-mark-requires
-long-mark-requires c κs = search needs
-
-returns : tie.Need-returns
-returns c = let a = c .before .before .before .before .before .args in (
-  omega arith,
-  reads-no-pair (a .s .now) (a .at) (c .before .long-mark .result) (omega arith) (omega (arith, c .before .before .before .before .shared-slice-known .given (a .at))) (c .before .before .before .before .before .pre .1)
-      (c .before .long-mark .ensures ∙ ap₂ (λ (x y : ℕ). sign-cell first-long-mark long-marks (x ∷ y ∷ [])) (c .before .before .before .byte-at .ensures) (c .before .before .byte-at2 .ensures))
-      (c .if1 .taken),
-)
+long-mark-requires c κs = c .before .if1 .left
 
 returns-2 : tie.Need-returns-2
-returns-2 c = let a = c .before .before .before .before .before .args in
-    let e = c .before .long-mark .ensures ∙ ap₂ (λ (x y : ℕ). sign-cell first-long-mark long-marks (x ∷ y ∷ [])) (c .before .before .before .byte-at .ensures) (c .before .before .byte-at2 .ensures) in (
-      pair-fits (a .s .now) (a .at) (c .before .long-mark .result) (omega arith) (omega (arith, c .before .before .before .before .shared-slice-known .given (a .at))) (c .before .before .before .before .before .pre .1) e (c .if1 .left),
-      reads-pair (a .s .now) (a .at) (c .before .long-mark .result) (omega arith) (omega (arith, c .before .before .before .before .shared-slice-known .given (a .at))) (c .before .before .before .before .before .pre .1) e (c .if1 .left),
+returns-2 c = let first = c .before .before .before .before in
+    let start = first .before .before in
+    let a = start .args in
+    let e = c .before .long-mark .ensures ∙ ap₂ (λ (x y : ℕ). sign-cell first-long-mark long-marks (x ∷ y ∷ [])) (first .byte-at .ensures) (c .before .before .byte-at2 .ensures) in (
+      omega arith,
+      reads-no-pair (a .s .now) (a .at) (c .before .long-mark .result) (omega arith) e (c .if2 .taken) (omega (arith, first .before .shared-slice-known .given (a .at))) (start .pre .1)
+          (λ q. c .before .before .before .if1 .left (first .byte-at .ensures ∙ q)),
+    )
+
+returns-3 : tie.Need-returns-3
+returns-3 c = let first = c .before .before .before .before in
+    let start = first .before .before in
+    let a = start .args in
+    let e = c .before .long-mark .ensures ∙ ap₂ (λ (x y : ℕ). sign-cell first-long-mark long-marks (x ∷ y ∷ [])) (first .byte-at .ensures) (c .before .before .byte-at2 .ensures) in (
+      pair-fits (a .s .now) (a .at) (c .before .long-mark .result) (omega arith) e (c .if2 .left),
+      reads-pair (a .s .now) (a .at) (c .before .long-mark .result) (omega arith) e (c .if2 .left),
     )
 
 pub long-mark-at-spec : {M : Type 1} → statement M
 long-mark-at-spec =
     tie.close
-    (tie.spec byte-at-requires add-byte-at byte-at-requires-2 long-mark-requires returns returns-2)
+    (tie.spec byte-at-requires equals-at-requires returns add-byte-at byte-at-requires-2 long-mark-requires returns-2 returns-3)

@@ -88,7 +88,7 @@ abbrev sequence-calls : ℕ → sequence-lts.Claims
 sequence-calls t = (put-reads.Asked, put-reads.Learnt, part-below t, part.Post, peek-reads.Asked, peek-reads.Learnt)
 
 abbrev choice-Inv-loop : choice-lts.InvT-loop
-choice-Inv-loop toks at out₀ w from₀ v₀ out from v = (at ≤ from) × (length out ≡ length out₀) × ((s : List ℕ) → Goes s toks enc-choice G.choice (λ p. 4 * left toks p + 3) at w out₀ from v out)
+choice-Inv-loop toks at out₀ w from₀ v₀ out from v = (at ≤ from) × (length out ≡ length out₀) × ((s : List ℕ) → Goes s toks enc-choice G.choice (λ p. 5 * left toks p + 4) at w out₀ from v out)
 
 abbrev choice-μ-loop : choice-lts.MeasureT-loop
 choice-μ-loop toks at out₀ w from₀ v₀ out from v = length toks - from
@@ -370,11 +370,11 @@ part-returns-5 t c =
     let at-if3 = c .before .before .before .before .before .if3 in
     let at-if4 = c .before .before .before .before .if4 in (
       at-named .ensures .0,
-      λ s. part-named s (at-start .args .toks .now) (at-start .args .at) (λ e. at-if1 .left (at-peek .ensures ∙ e)) (λ e. at-if2 .left (at-peek .ensures ∙ e)) (λ e. at-if3 .left (at-peek .ensures ∙ e)) (λ e. at-if4 .left (at-peek .ensures ∙ e)) (at-named .ensures .1 s) (at-named .ensures .0),
+      λ s. part-named s (at-start .args .toks .now) (at-start .args .at) (λ e. at-if1 .left (at-peek .ensures ∙ e)) (λ e. at-if2 .left (at-peek .ensures ∙ e)) (λ e. at-if3 .left (at-peek .ensures ∙ e)) (λ e. at-if4 .left (at-peek .ensures ∙ e)) (at-named .ensures .1 s),
     )
 
 abbrev sequence-Inv-loop : sequence-lts.InvT-loop
-sequence-Inv-loop toks at out₀ w from₀ v₀ out from v = (at ≤ from) × (length out ≡ length out₀) × ((s : List ℕ) → Goes s toks enc-sequence G.sequence (λ p. 4 * left toks p + 1) at w out₀ from v out)
+sequence-Inv-loop toks at out₀ w from₀ v₀ out from v = (at ≤ from) × (length out ≡ length out₀) × ((s : List ℕ) → Goes s toks enc-sequence G.sequence (λ p. 5 * left toks p + 2) at w out₀ from v out)
 
 abbrev sequence-μ-loop : sequence-lts.MeasureT-loop
 sequence-μ-loop toks at out₀ w from₀ v₀ out from v = length toks - from

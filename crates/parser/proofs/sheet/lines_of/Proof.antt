@@ -12,7 +12,7 @@ use Rattle.parser.proofs.sheet.lines_of.Statement.{statement}
 use Rattle.parser.proofs.sheet.lines_of.Tie as tie
 
 abbrev Inv-loop : tie.InvT-loop
-Inv-loop word toks at out₀ w places₀ n from₀ v₀ i₀ out places from v i = (at ≤ from) × (i ≤ from) × (length out ≡ length out₀) × (length places ≡ length places₀) × (at ≤ length toks → (s : List ℕ) (f : ℕ) → 4 * length toks + 3 < f → RunGoes s toks (kind-of word .enc) (kind-of word .word) (kind-of word .reader f) at w n out₀ places₀ from v i out places)
+Inv-loop word toks at out₀ w places₀ n from₀ v₀ i₀ out places from v i = (at ≤ from) × (i ≤ from) × (length out ≡ length out₀) × (length places ≡ length places₀) × (at ≤ length toks → (s : List ℕ) (f : ℕ) → 5 * length toks + 4 < f → RunGoes s toks (kind-of word .enc) (kind-of word .word) (kind-of word .reader f) at w n out₀ places₀ from v i out places)
 
 abbrev μ-loop : tie.MeasureT-loop
 μ-loop word toks at out₀ w places₀ n from₀ v₀ i₀ out places from v i = length toks - from

@@ -9,7 +9,7 @@ use Rattle.resolver.proofs.cells.skip.Statement.{statement}
 use Rattle.resolver.proofs.cells.skip.Tie as tie
 
 abbrev Inv-loop : tie.InvT-loop
-Inv-loop raw at p₀ need₀ p need = ((at ≤ p) × (need ≤ 1 + 2 * (p - at))) × SkipLeft raw at p need
+Inv-loop raw at p₀ need₀ p need = ((at ≤ p) × (need ≤ 1 + 65535 * (p - at))) × SkipLeft raw at p need
 
 abbrev μ-loop : tie.MeasureT-loop
 μ-loop raw at p₀ need₀ p need = length raw - p
@@ -29,8 +29,8 @@ sub-need c = omega arith
 kids-requires : tie.Need-kids-requires Inv-loop μ-loop
 kids-requires c κs = tt
 
-wide-requires : tie.Need-wide-requires Inv-loop μ-loop
-wide-requires c κs = tt
+wide-cell-requires : tie.Need-wide-cell-requires Inv-loop μ-loop
+wide-cell-requires c κs = tt
 
 add-need : tie.Need-add-need Inv-loop μ-loop
 add-need c = omega arith
@@ -41,8 +41,8 @@ add-p c = omega arith
 tokens-requires : tie.Need-tokens-requires Inv-loop μ-loop
 tokens-requires c κs = tt
 
-wide-requires-2 : tie.Need-wide-requires-2 Inv-loop μ-loop
-wide-requires-2 c κs = tt
+wide-requires : tie.Need-wide-requires Inv-loop μ-loop
+wide-requires c κs = tt
 
 add-p-2 : tie.Need-add-p-2 Inv-loop μ-loop
 add-p-2 c = omega arith
@@ -54,8 +54,8 @@ loop-again : tie.Need-loop-again Inv-loop μ-loop
 loop-again c =
     let k = c .before .before .before .kids .ensures .0 ∙ ap kids-of (c .before .before .before .before .cell .ensures) in
     let n = c .before .tokens .ensures .0 ∙ ap tokens-of (c .before .before .before .before .cell .ensures) in
-    let a = c .before .before .wide .ensures in
-    let b = c .wide2 .ensures in
+    let a = c .before .before .wide-cell .ensures in
+    let b = c .wide .ensures in
     (omega arith, skip-step (c .before .before .before .before .before .before .before .before .before .args .raw .now) (c .before .before .before .before .before .before .before .before .before .args .at) (c .before .before .before .before .before .before .before .loop .p) (c .before .before .before .before .before .before .before .loop .need) (c .before .before .before .before .before .before .before .loop .inv .1) (omega arith) _ _ (ap (λ x. c .before .before .before .before .before .before .before .loop .need - 1 + x) (a ∙ k)) (ap (λ x. c .before .before .before .before .before .before .before .loop .p + 1 + x) (b ∙ n)))
 
 returns-2 : tie.Need-returns-2 Inv-loop μ-loop
@@ -74,11 +74,11 @@ skip-spec =
     cell-requires
     sub-need
     kids-requires
-    wide-requires
+    wide-cell-requires
     add-need
     add-p
     tokens-requires
-    wide-requires-2
+    wide-requires
     add-p-2
     loop-less
     loop-again

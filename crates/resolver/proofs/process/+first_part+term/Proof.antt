@@ -2,7 +2,10 @@
 use mathlib.Core.Path.{_≡_, refl, sym, ap, _∙_}
 use Prim.Native.Nat.{ℕ, _+_, _*_, _-_, _≤_, _<_}
 use native.Mathlib.Omega.{arith}
-use lib.ListN.{length, take}
+use lib.ListN.{length}
+use Rattle.nodes.specs.Scoped.{max-scope}
+use Rattle.resolver.specs.Sorting.{ScopeKept}
+use Rattle.resolver.proofs.NewLaws.{nothing-changed}
 use Rattle.resolver.specs.Raw.{tokens-of, kids-of}
 use Rattle.resolver.proofs.TermLaws.{TermLeft, term-start, term-end, term-named, term-constant, term-single, term-binder, term-second, kept-on}
 use Rattle.resolver.proofs.FirstLaws.{first-read}
@@ -102,7 +105,7 @@ first-part-returns-2 t c =
     (omega arith, (called .ensures .1 .0, first-read (args .s .now) (args .raw .now) (args .names .now) (args .kinds) (args .scope .now) (args .n) (args .at) (args .after) (args .w) (args .out .now) (fork .result) (fork .last .1 .1 .1 .1 .1 .1 .1 .1 .1 .0) (fork .ensures) (called .result) (called .last .1 .1 .1 .1 .1 .1 .1 .1 .1 .0) (called .ensures .1 .1) (omega arith) (called .result) (omega arith) refl))
 
 abbrev term-Inv-loop : term-lts.InvT-loop
-term-Inv-loop s raw names keys kinds scope₀ n at after out₀ w p₀ m₀ r₀ v₀ scope out p m r v = ((at ≤ p) × (n ≤ m) × (p ≤ length raw → m ≤ length scope) × (length scope ≡ length scope₀) × (length out ≡ length out₀)) × (take n scope ≡ take n scope₀) × TermLeft s raw names kinds scope₀ n at after w out₀ p m r v scope out
+term-Inv-loop s raw names keys kinds scope₀ n at after out₀ w p₀ m₀ r₀ v₀ scope out p m r v = ((at ≤ p) × (n ≤ m) × (p ≤ length raw → m ≤ max-scope) × (length scope ≡ length scope₀) × (length out ≡ length out₀)) × ScopeKept n scope₀ scope × TermLeft s raw names kinds scope₀ n at after w out₀ p m r v scope out
 
 abbrev term-μ-loop : term-lts.MeasureT-loop
 term-μ-loop s raw names keys kinds scope₀ n at after out₀ w p₀ m₀ r₀ v₀ scope out p m r v = length raw - p
@@ -112,7 +115,7 @@ term-loop-holds t c =
     let start = c .before .before .before .before .before .before in
     let args = start .args in
     let q = start .pre .1 in
-    (omega arith, refl, term-start (args .s .now) (args .raw .now) (args .names .now) (args .kinds) (args .scope .now) (args .n) (args .at) (args .after) (args .w) (args .out .now))
+    (omega arith, nothing-changed (args .n) (args .scope .now), term-start (args .s .now) (args .raw .now) (args .names .now) (args .kinds) (args .scope .now) (args .n) (args .at) (args .after) (args .w) (args .out .now))
 
 term-cell-requires : (t : ℕ) → term-lts.Need-cell-requires (term-calls t) (term-at t) term.Post term-Inv-loop term-μ-loop
 term-cell-requires t c κs = tt
@@ -156,7 +159,7 @@ term-loop-again t c =
     let a = binder .ensures .0 in
     let k = binder .kept .1 .1 .1 .1 .1 .0 in
     let l = binder .kept .1 .1 .1 .1 .1 .1 .1 .1 .1 .0 in
-    ((omega arith, omega arith, λ h. (let b = binder .ensures .1 .1 .0 h in let d = b .0 in omega arith), omega arith, omega arith), kept-on (args .n) (here .m) (binder .last .1 .1 .1 .1 .1 .0) (here .scope) (args .scope .now) (here .inv .0 .1) (binder .ensures .1 .0) (here .inv .1), term-binder (args .s .now) (args .raw .now) (args .names .now) (args .kinds) (args .scope .now) (args .n) (args .at) (args .after) (args .w) (args .out .now) (here .p) (here .m) (here .r) (here .v) (here .scope) (here .out) (here .inv .2) (sym (c .before .before .before .before .before .before .before .before .cell .ensures) ∙ c .before .before .before .before .before .before .before .if1 .taken) (loop-test .taken) (here .inv .0 .3) (binder .result) (binder .last .1 .1 .1 .1 .1 .1 .1 .1 .1 .0) (binder .ensures .1 .1 .1) (binder .last .1 .1 .1 .1 .1 .0) (binder .ensures .1 .1 .0))
+    ((omega arith, omega arith, λ h. (let b = binder .ensures .1 .1 .0 h in let d = b .0 in omega arith), omega arith, omega arith), kept-on (args .n) (here .m) (binder .last .1 .1 .1 .1 .1 .0) (here .scope) (args .scope .now) (here .inv .0 .1) (binder .ensures .1 .0) (here .inv .1), term-binder (args .s .now) (args .raw .now) (args .names .now) (args .kinds) (args .scope .now) (args .n) (args .at) (args .after) (args .w) (args .out .now) (here .p) (here .m) (here .r) (here .v) (here .scope) (here .out) (here .inv .2) (sym (c .before .before .before .before .before .before .before .before .cell .ensures) ∙ c .before .before .before .before .before .before .before .if1 .taken) (loop-test .taken) (let w = here .inv .0 .3 in let f = q .0 .scope-many in w ∙ f) (q .0 .kinds-few .sorts-few) (binder .result) (binder .last .1 .1 .1 .1 .1 .1 .1 .1 .1 .0) (binder .ensures .1 .1 .1) (binder .last .1 .1 .1 .1 .1 .0) (binder .ensures .1 .1 .0))
 
 term-tokens-requires : (t : ℕ) → term-lts.Need-tokens-requires (term-calls t) (term-at t) term.Post term-Inv-loop term-μ-loop
 term-tokens-requires t c κs = tt
@@ -270,7 +273,7 @@ term-loop-again-3 t c =
     let a = called .ensures .0 in
     let k = called .kept .1 .1 .1 .1 .1 .0 in
     let l = called .kept .1 .1 .1 .1 .1 .1 .1 .1 .1 .0 in
-    (omega arith, kept-on (args .n) (here .m) (called .last .1 .1 .1 .1 .1 .0) (here .scope) (args .scope .now) (here .inv .0 .1) (called .ensures .1 .0) (here .inv .1), term-second (args .s .now) (args .raw .now) (args .names .now) (args .kinds) (args .scope .now) (args .n) (args .at) (args .after) (args .w) (args .out .now) (here .p) (here .m) (here .r) (here .v) (here .scope) (here .out) (here .inv .2) (let g = c .before .before .before .before .before .before .before .before .if3 .left in let g₁ = c .before .before .before .before .before .before .before .if4 .left in omega arith) (loop-test .taken) (here .inv .0 .3) (called .result) (called .last .1 .1 .1 .1 .1 .1 .1 .1 .1 .0) (called .ensures .1 .1) (called .last .1 .1 .1 .1 .1 .0) (called .ensures .1 .0) (cell .result) (cell .ensures))
+    (omega arith, kept-on (args .n) (here .m) (called .last .1 .1 .1 .1 .1 .0) (here .scope) (args .scope .now) (here .inv .0 .1) (called .ensures .1 .0) (here .inv .1), term-second (args .s .now) (args .raw .now) (args .names .now) (args .kinds) (args .scope .now) (args .n) (args .at) (args .after) (args .w) (args .out .now) (here .p) (here .m) (here .r) (here .v) (here .scope) (here .out) (here .inv .2) (let g = c .before .before .before .before .before .before .before .before .if3 .left in let g₁ = c .before .before .before .before .before .before .before .if4 .left in omega arith) (loop-test .taken) (called .result) (called .last .1 .1 .1 .1 .1 .1 .1 .1 .1 .0) (called .ensures .1 .1) (called .last .1 .1 .1 .1 .1 .0) (called .ensures .1 .0) (cell .result) (cell .ensures))
 
 term-lost-requires : (t : ℕ) → term-lts.Need-lost-requires (term-calls t) (term-at t) term.Post term-Inv-loop term-μ-loop
 term-lost-requires t c κs = tt

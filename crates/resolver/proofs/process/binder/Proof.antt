@@ -1,12 +1,13 @@
--- A new variable and a known sort: the node, the variable, and the name behind those in scope.
-use mathlib.Core.Path.{refl, ap, _∙_}
+-- A new variable and a known sort: the node, the variable, its name behind those in scope, and its sort.
+use borrow.Author.Needs.{needs}
+use mathlib.Core.Path.{_∙_}
+use Prim.Native.Nat.{_≤_, _<_}
 use native.Mathlib.Omega.{arith}
 use borrow.Author.Tests.{not-true, not-false}
 use lib.ListN.{set, length-set}
-use lib.Seq.{take-set-le}
 use Rattle.names.specs.NameKinds.{total-of}
 use Rattle.names.proofs.KeyLaws.{keyed-fewer}
-use Rattle.resolver.proofs.NewLaws.{says-new, binder-full, binder-old, binder-no-sort, binder-took}
+use Rattle.resolver.proofs.NewLaws.{says-new, binder-full, binder-old, binder-no-sort, binder-took, push-kept, both-pushed, nothing-changed}
 use Rattle.resolver.proofs.process.binder.Statement.{statement}
 use Rattle.resolver.proofs.process.binder.Tie as tie
 
@@ -20,19 +21,24 @@ total-requires : tie.Need-total-requires
 total-requires c κs = let q = c .before .before .before .before .before .before .before .pre .0 .kinds-few in omega arith
 
 new-variable-requires : tie.Need-new-variable-requires
-new-variable-requires c κs = (keyed-fewer (c .before .before .before .before .before .before .before .before .before .args .s .now) (c .before .before .before .before .before .before .before .before .before .args .names .now) (c .before .before .before .before .before .before .before .before .before .args .keys .now) _ (total-of (c .before .before .before .before .before .before .before .before .before .args .kinds)) (omega arith) (c .before .before .before .before .before .before .before .before .before .pre .2), c .before .before .before .before .before .before .before .before .before .pre .0 .in-scope)
+new-variable-requires c κs =
+    let args = c .before .before .before .before .before .before .before .before .before .args in
+    (keyed-fewer (args .s .now) (args .names .now) (args .keys .now) _ (total-of (args .kinds)) (omega arith) (c .before .before .before .before .before .before .before .before .before .pre .2), (let q = c .before .before .before .before .before .before .before .before .before .pre .0 in omega arith))
 
 lost-requires : tie.Need-lost-requires
 lost-requires c κs = tt
 
 same-length : tie.Need-same-length
-same-length c = refl
+same-length c = search needs
 
 returns : tie.Need-returns
 returns c =
-    let q = c .before .before .before .before .before .before .before .before .before .before .before .before .pre .1 in
+    let start = c .before .before .before .before .before .before .before .before .before .before .before .before in
+    let args = start .args in
+    let few = start .pre .0 in
+    let q = start .pre .1 in
     let z = c .lost .ensures in
-    (omega arith, (refl, (λ h. absurd (omega arith), binder-old (c .before .before .before .before .before .before .before .before .before .before .before .before .args .s .now) (c .before .before .before .before .before .before .before .before .before .before .before .before .args .raw .now) (c .before .before .before .before .before .before .before .before .before .before .before .before .args .names .now) (c .before .before .before .before .before .before .before .before .before .before .before .before .args .kinds) (c .before .before .before .before .before .before .before .before .before .before .before .before .args .scope .now) (c .before .before .before .before .before .before .before .before .before .before .before .before .args .n) (c .before .before .before .before .before .before .before .before .before .before .before .before .args .at) (c .before .before .before .before .before .before .before .before .before .before .before .before .args .after) (c .before .before .before .before .before .before .before .before .before .before .before .before .args .w) (c .before .before .before .before .before .before .before .before .before .before .before .before .args .out .now) (c .before .before .before .before .before .before .before .before .before .before .before .before .pre .0 .in-scope) (c .before .before .before .before .before .cell .result) (c .before .before .before .before .before .cell .ensures) (c .before .before .new-variable .result) (says-new (c .before .before .before .before .before .before .before .before .before .before .before .before .args .s .now) (c .before .before .before .before .before .before .before .before .before .before .before .before .args .names .now) (c .before .before .before .before .before .before .before .before .before .before .before .before .args .kinds) (c .before .before .before .before .before .before .before .before .before .before .before .before .args .scope .now) (c .before .before .before .before .before .before .before .before .before .before .before .before .args .n) (c .before .before .before .before .before .cell .result) (c .before .before .before .before .total .result) (c .before .before .new-variable .result) (c .before .before .before .before .total .ensures) (c .before .before .new-variable .ensures)) (not-true _ (c .before .if1 .taken)) (c .lost .result) (c .before .before .before .before .before .before .before .before .before .before .before .before .args .out .now) (c .lost .ensures))))
+    (omega arith, (nothing-changed (args .n) (args .scope .now), (λ h. absurd (omega arith), binder-old (args .s .now) (args .raw .now) (args .names .now) (args .kinds) (args .scope .now) (args .n) (args .at) (args .after) (args .w) (args .out .now) (omega arith) (c .before .before .before .before .before .cell .result) (c .before .before .before .before .before .cell .ensures) (c .before .before .new-variable .result) (says-new (args .s .now) (args .names .now) (args .kinds) (args .scope .now) (args .n) (c .before .before .before .before .before .cell .result) (c .before .before .before .before .total .result) (c .before .before .new-variable .result) (c .before .before .before .before .total .ensures) (c .before .before .new-variable .ensures)) (not-true _ (c .before .if1 .taken)) (c .lost .result) (args .out .now) (c .lost .ensures))))
 
 add-cell-2 : tie.Need-add-cell-2
 add-cell-2 c = let q = c .before .before .before .before .before .before .before .before .before .before .before .pre in omega arith
@@ -47,25 +53,31 @@ lost-requires-2 : tie.Need-lost-requires-2
 lost-requires-2 c κs = tt
 
 same-length-2 : tie.Need-same-length-2
-same-length-2 c = refl
+same-length-2 c = search needs
 
 returns-2 : tie.Need-returns-2
 returns-2 c =
-    let q = c .before .before .before .before .before .before .before .before .before .before .before .before .before .before .before .before .pre .1 in
+    let start = c .before .before .before .before .before .before .before .before .before .before .before .before .before .before .before .before in
+    let args = start .args in
+    let few = start .pre .0 in
+    let q = start .pre .1 in
     let z = c .lost2 .ensures in
-    (omega arith, (refl, (λ h. absurd (omega arith), binder-no-sort (c .before .before .before .before .before .before .before .before .before .before .before .before .before .before .before .before .args .s .now) (c .before .before .before .before .before .before .before .before .before .before .before .before .before .before .before .before .args .raw .now) (c .before .before .before .before .before .before .before .before .before .before .before .before .before .before .before .before .args .names .now) (c .before .before .before .before .before .before .before .before .before .before .before .before .before .before .before .before .args .kinds) (c .before .before .before .before .before .before .before .before .before .before .before .before .before .before .before .before .args .scope .now) (c .before .before .before .before .before .before .before .before .before .before .before .before .before .before .before .before .args .n) (c .before .before .before .before .before .before .before .before .before .before .before .before .before .before .before .before .args .at) (c .before .before .before .before .before .before .before .before .before .before .before .before .before .before .before .before .args .after) (c .before .before .before .before .before .before .before .before .before .before .before .before .before .before .before .before .args .w) (c .before .before .before .before .before .before .before .before .before .before .before .before .before .before .before .before .args .out .now) (c .before .before .before .before .before .before .before .before .before .before .before .before .before .before .before .before .pre .0 .in-scope) (c .before .before .before .before .before .before .before .before .before .cell .result) (c .before .before .before .before .before .before .before .before .before .cell .ensures) (c .before .before .before .before .before .before .new-variable .result) (says-new (c .before .before .before .before .before .before .before .before .before .before .before .before .before .before .before .before .args .s .now) (c .before .before .before .before .before .before .before .before .before .before .before .before .before .before .before .before .args .names .now) (c .before .before .before .before .before .before .before .before .before .before .before .before .before .before .before .before .args .kinds) (c .before .before .before .before .before .before .before .before .before .before .before .before .before .before .before .before .args .scope .now) (c .before .before .before .before .before .before .before .before .before .before .before .before .before .before .before .before .args .n) (c .before .before .before .before .before .before .before .before .before .cell .result) (c .before .before .before .before .before .before .before .before .total .result) (c .before .before .before .before .before .before .new-variable .result) (c .before .before .before .before .before .before .before .before .total .ensures) (c .before .before .before .before .before .before .new-variable .ensures)) (not-false _ (c .before .before .before .before .before .if1 .left)) (c .before .before .before .before .cell2 .result) (c .before .before .before .before .cell2 .ensures) (c .before .before .before .sort-in .result) (c .before .before .before .sort-in .ensures .1) (c .before .if2 .taken) (c .lost2 .result) (c .before .before .before .before .before .before .before .before .before .before .before .before .before .before .before .before .args .out .now) (c .lost2 .ensures))))
+    (omega arith, (nothing-changed (args .n) (args .scope .now), (λ h. absurd (omega arith), binder-no-sort (args .s .now) (args .raw .now) (args .names .now) (args .kinds) (args .scope .now) (args .n) (args .at) (args .after) (args .w) (args .out .now) (omega arith) (c .before .before .before .before .before .before .before .before .before .cell .result) (c .before .before .before .before .before .before .before .before .before .cell .ensures) (c .before .before .before .before .before .before .new-variable .result) (says-new (args .s .now) (args .names .now) (args .kinds) (args .scope .now) (args .n) (c .before .before .before .before .before .before .before .before .before .cell .result) (c .before .before .before .before .before .before .before .before .total .result) (c .before .before .before .before .before .before .new-variable .result) (c .before .before .before .before .before .before .before .before .total .ensures) (c .before .before .before .before .before .before .new-variable .ensures)) (not-false _ (c .before .before .before .before .before .if1 .left)) (c .before .before .before .before .cell2 .result) (c .before .before .before .before .cell2 .ensures) (c .before .before .before .sort-in .result) (c .before .before .before .sort-in .ensures .1) (c .before .if2 .taken) (c .lost2 .result) (args .out .now) (c .lost2 .ensures))))
 
 lost-requires-3 : tie.Need-lost-requires-3
 lost-requires-3 c κs = tt
 
 same-length-3 : tie.Need-same-length-3
-same-length-3 c = refl
+same-length-3 c = search needs
 
 returns-3 : tie.Need-returns-3
 returns-3 c =
-    let q = c .before .before .before .before .before .before .before .before .before .before .before .before .before .before .before .before .before .pre .1 in
+    let start = c .before .before .before .before .before .before .before .before .before .before .before .before .before .before .before .before .before in
+    let args = start .args in
+    let few = start .pre .0 in
+    let q = start .pre .1 in
     let z = c .lost3 .ensures in
-    (omega arith, (refl, (λ h. absurd (omega arith), binder-full (c .before .before .before .before .before .before .before .before .before .before .before .before .before .before .before .before .before .args .s .now) (c .before .before .before .before .before .before .before .before .before .before .before .before .before .before .before .before .before .args .raw .now) (c .before .before .before .before .before .before .before .before .before .before .before .before .before .before .before .before .before .args .names .now) (c .before .before .before .before .before .before .before .before .before .before .before .before .before .before .before .before .before .args .kinds) (c .before .before .before .before .before .before .before .before .before .before .before .before .before .before .before .before .before .args .scope .now) (c .before .before .before .before .before .before .before .before .before .before .before .before .before .before .before .before .before .args .n) (c .before .before .before .before .before .before .before .before .before .before .before .before .before .before .before .before .before .args .at) (c .before .before .before .before .before .before .before .before .before .before .before .before .before .before .before .before .before .args .after) (c .before .before .before .before .before .before .before .before .before .before .before .before .before .before .before .before .before .args .w) (c .before .before .before .before .before .before .before .before .before .before .before .before .before .before .before .before .before .args .out .now) (c .before .before .before .before .before .before .before .before .before .before .before .before .before .before .before .before .before .pre .0 .in-scope) (c .lost3 .result) (c .before .before .before .before .before .before .before .before .before .before .before .before .before .before .before .before .before .args .out .now) (c .before .if3 .taken))))
+    (omega arith, (nothing-changed (args .n) (args .scope .now), (λ h. absurd (omega arith), binder-full (args .s .now) (args .raw .now) (args .names .now) (args .kinds) (args .scope .now) (args .n) (args .at) (args .after) (args .w) (args .out .now) (omega arith) (c .lost3 .result) (args .out .now) (c .before .if3 .taken))))
 
 mul-scope : tie.Need-mul-scope
 mul-scope c = let q = c .before .before .before .before .before .before .before .before .before .before .before .before .before .before .before .before .pre in omega arith
@@ -73,48 +85,58 @@ mul-scope c = let q = c .before .before .before .before .before .before .before 
 slice-write-scope : tie.Need-slice-write-scope
 slice-write-scope c = let q = c .before .before .before .before .before .before .before .before .before .before .before .before .before .before .before .before .pre in omega arith
 
+short-requires : tie.Need-short-requires
+short-requires c κs = tt
+
+add-scope : tie.Need-add-scope
+add-scope c = let q = c .before .before .before .before .before .before .before .before .before .before .before .before .before .before .before .before .before .pre in omega arith
+
+mul-scope-2 : tie.Need-mul-scope-2
+mul-scope-2 c = let q = c .before .before .before .before .before .before .before .before .before .before .before .before .before .before .before .before .before .pre in let l = length-set (c .before .before .before .before .before .before .before .before .before .before .before .before .before .before .before .before .before .args .scope .now) (c .before .before .before .before .before .before .before .before .before .before .before .before .before .before .before .before .before .args .n) (c .before .before .before .before .before .before .before .before .before .before .cell .result) in omega arith
+
+slice-write-scope-2 : tie.Need-slice-write-scope-2
+slice-write-scope-2 c = let q = c .before .before .before .before .before .before .before .before .before .before .before .before .before .before .before .before .before .pre in let l = length-set (c .before .before .before .before .before .before .before .before .before .before .before .before .before .before .before .before .before .args .scope .now) (c .before .before .before .before .before .before .before .before .before .before .before .before .before .before .before .before .before .args .n) (c .before .before .before .before .before .before .before .before .before .before .cell .result) in omega arith
+
 marked-requires : tie.Need-marked-requires
 marked-requires c κs = omega arith
 
-short-requires : tie.Need-short-requires
-short-requires c κs = tt
+short-requires-2 : tie.Need-short-requires-2
+short-requires-2 c κs = tt
 
 node-requires : tie.Need-node-requires
 node-requires c κs = tt
 
-add-t15 : tie.Need-add-t15
-add-t15 c = let q = c .before .before .before .before .before .before .before .before .before .before .before .before .before .before .before .before .before .before .before .before .before .before .pre in omega arith
+add-t22 : tie.Need-add-t22
+add-t22 c = let q = c .before .before .before .before .before .before .before .before .before .before .before .before .before .before .before .before .before .before .before .before .before .before .before .pre in omega arith
 
 mul-short : tie.Need-mul-short
-mul-short c = let q = c .before .before .before .before .before .before .before .before .before .before .before .before .before .before .before .before .before .before .before .before .before .before .before .pre in omega arith
+mul-short c = let q = c .before .before .before .before .before .before .before .before .before .before .before .before .before .before .before .before .before .before .before .before .before .before .before .before .pre in omega arith
 
 add-short : tie.Need-add-short
-add-short c = let q = c .before .before .before .before .before .before .before .before .before .before .before .before .before .before .before .before .before .before .before .before .before .before .before .pre in omega arith
+add-short c = let q = c .before .before .before .before .before .before .before .before .before .before .before .before .before .before .before .before .before .before .before .before .before .before .before .before .pre in omega arith
 
-short-requires-2 : tie.Need-short-requires-2
-short-requires-2 c κs = tt
+short-requires-3 : tie.Need-short-requires-3
+short-requires-3 c κs = tt
 
 put-requires : tie.Need-put-requires
 put-requires c κs = tt
 
 same-length-4 : tie.Need-same-length-4
-same-length-4 c = length-set (c .before .before .before .before .before .before .before .before .before .before .before .before .before .before .before .before .before .before .before .before .before .before .before .before .before .before .before .args .scope .now) (c .before .before .before .before .before .before .before .before .before .before .before .before .before .before .before .before .before .before .before .before .before .before .before .before .before .before .before .args .n) (c .before .before .before .before .before .before .before .before .before .before .before .before .before .before .before .before .before .before .before .before .cell .result)
+same-length-4 c = length-set (set (c .before .before .before .before .before .before .before .before .before .before .before .before .before .before .before .before .before .before .before .before .before .before .before .before .before .before .before .before .args .scope .now) (c .before .before .before .before .before .before .before .before .before .before .before .before .before .before .before .before .before .before .before .before .before .before .before .before .before .before .before .before .args .n) (c .before .before .before .before .before .before .before .before .before .before .before .before .before .before .before .before .before .before .before .before .before .cell .result)) _ _ ∙ length-set (c .before .before .before .before .before .before .before .before .before .before .before .before .before .before .before .before .before .before .before .before .before .before .before .before .before .before .before .before .args .scope .now) (c .before .before .before .before .before .before .before .before .before .before .before .before .before .before .before .before .before .before .before .before .before .before .before .before .before .before .before .before .args .n) (c .before .before .before .before .before .before .before .before .before .before .before .before .before .before .before .before .before .before .before .before .before .cell .result)
 
 same-length-5 : tie.Need-same-length-5
 same-length-5 c = c .before .before .put .kept .0 ∙ c .before .before .before .before .before .before .before .node .kept .0
 
 returns-4 : tie.Need-returns-4
 returns-4 c =
-    let q = c .before .before .before .before .before .before .before .before .before .before .before .before .before .before .before .before .before .before .before .before .before .before .before .before .before .before .before .pre .0 in (
-      omega arith,
-      (
-        take-set-le (c .before .before .before .before .before .before .before .before .before .before .before .before .before .before .before .before .before .before .before .before .before .before .before .before .before .before .before .args .n) (c .before .before .before .before .before .before .before .before .before .before .before .before .before .before .before .before .before .before .before .before .before .before .before .before .before .before .before .args .scope .now) (c .before .before .before .before .before .before .before .before .before .before .before .before .before .before .before .before .before .before .before .before .before .before .before .before .before .before .before .args .n) (c .before .before .before .before .before .before .before .before .before .before .before .before .before .before .before .before .before .before .before .before .cell .result) (omega arith),
-        (
-          λ h. (c .before .before .before .before .before .before .before .before .before .before .before .if3 .left, ap (set (c .before .before .before .before .before .before .before .before .before .before .before .before .before .before .before .before .before .before .before .before .before .before .before .before .before .before .before .args .scope .now) (c .before .before .before .before .before .before .before .before .before .before .before .before .before .before .before .before .before .before .before .before .before .before .before .before .before .before .before .args .n)) (c .before .before .before .before .before .before .before .before .before .before .before .before .before .before .before .before .before .before .before .before .cell .ensures)),
-          binder-took (c .before .before .before .before .before .before .before .before .before .before .before .before .before .before .before .before .before .before .before .before .before .before .before .before .before .before .before .args .s .now) (c .before .before .before .before .before .before .before .before .before .before .before .before .before .before .before .before .before .before .before .before .before .before .before .before .before .before .before .args .raw .now) (c .before .before .before .before .before .before .before .before .before .before .before .before .before .before .before .before .before .before .before .before .before .before .before .before .before .before .before .args .names .now) (c .before .before .before .before .before .before .before .before .before .before .before .before .before .before .before .before .before .before .before .before .before .before .before .before .before .before .before .args .kinds) (c .before .before .before .before .before .before .before .before .before .before .before .before .before .before .before .before .before .before .before .before .before .before .before .before .before .before .before .args .scope .now) (c .before .before .before .before .before .before .before .before .before .before .before .before .before .before .before .before .before .before .before .before .before .before .before .before .before .before .before .args .n) (c .before .before .before .before .before .before .before .before .before .before .before .before .before .before .before .before .before .before .before .before .before .before .before .before .before .before .before .args .at) (c .before .before .before .before .before .before .before .before .before .before .before .before .before .before .before .before .before .before .before .before .before .before .before .before .before .before .before .args .after) (c .before .before .before .before .before .before .before .before .before .before .before .before .before .before .before .before .before .before .before .before .before .before .before .before .before .before .before .args .w) (c .before .before .before .before .before .before .before .before .before .before .before .before .before .before .before .before .before .before .before .before .before .before .before .before .before .before .before .args .out .now) (c .before .before .before .before .before .before .before .before .before .before .before .before .before .before .before .before .before .before .before .before .before .before .before .before .before .before .before .pre .0 .in-scope) (c .before .before .before .before .before .before .before .before .before .before .before .before .before .before .before .before .before .before .before .before .cell .result) (c .before .before .before .before .before .before .before .before .before .before .before .before .before .before .before .before .before .before .before .before .cell .ensures) (c .before .before .before .before .before .before .before .before .before .before .before .before .before .before .before .before .before .new-variable .result) (says-new (c .before .before .before .before .before .before .before .before .before .before .before .before .before .before .before .before .before .before .before .before .before .before .before .before .before .before .before .args .s .now) (c .before .before .before .before .before .before .before .before .before .before .before .before .before .before .before .before .before .before .before .before .before .before .before .before .before .before .before .args .names .now) (c .before .before .before .before .before .before .before .before .before .before .before .before .before .before .before .before .before .before .before .before .before .before .before .before .before .before .before .args .kinds) (c .before .before .before .before .before .before .before .before .before .before .before .before .before .before .before .before .before .before .before .before .before .before .before .before .before .before .before .args .scope .now) (c .before .before .before .before .before .before .before .before .before .before .before .before .before .before .before .before .before .before .before .before .before .before .before .before .before .before .before .args .n) (c .before .before .before .before .before .before .before .before .before .before .before .before .before .before .before .before .before .before .before .before .cell .result) (c .before .before .before .before .before .before .before .before .before .before .before .before .before .before .before .before .before .before .before .total .result) (c .before .before .before .before .before .before .before .before .before .before .before .before .before .before .before .before .before .new-variable .result) (c .before .before .before .before .before .before .before .before .before .before .before .before .before .before .before .before .before .before .before .total .ensures) (c .before .before .before .before .before .before .before .before .before .before .before .before .before .before .before .before .before .new-variable .ensures)) (not-false _ (c .before .before .before .before .before .before .before .before .before .before .before .before .before .before .before .before .if1 .left)) (c .before .before .before .before .before .before .before .before .before .before .before .before .before .before .before .cell2 .result) (c .before .before .before .before .before .before .before .before .before .before .before .before .before .before .before .cell2 .ensures) (c .before .before .before .before .before .before .before .before .before .before .before .before .before .before .sort-in .result) (c .before .before .before .before .before .before .before .before .before .before .before .before .before .before .sort-in .ensures .1) (c .before .before .before .before .before .before .before .before .before .before .before .before .if2 .left) (c .before .before .before .before .before .before .before .before .before .marked .result) (c .before .before .before .before .before .before .before .before .short .result) (c .before .before .before .short2 .result) (c .before .before .before .before .before .before .before .node .result) (c .before .before .put .result) (c .before .before .before .before .before .before .before .node .last .0) (c .before .before .put .last .0) (c .before .before .before .before .before .before .before .before .before .marked .ensures) (c .before .before .before .before .before .before .before .before .short .ensures (let a = c .before .before .before .before .before .before .before .before .before .before .before .before .if2 .left in omega arith)) (c .before .before .before .short2 .ensures (omega arith)) (c .before .before .before .before .before .before .before .node .ensures) (c .before .before .put .ensures),
-        ),
-      ),
-    )
+    let start = c .before .before .before .before .before .before .before .before .before .before .before .before .before .before .before .before .before .before .before .before .before .before .before .before .before .before .before .before in
+    let args = start .args in
+    let few = start .pre .0 in
+    let q = start .pre .1 in
+    let found : c .before .before .before .before .before .before .before .before .before .before .before .before .before .before .before .sort-in .result ≤ args .kinds .sorts = c .before .before .before .before .before .before .before .before .before .before .before .before .before .if2 .left in
+    let deep : args .n < 32 = c .before .before .before .before .before .before .before .before .before .before .before .before .if3 .left in
+    let sort = c .before .before .before .before .before .before .before .before .before .before .before .short .ensures (omega arith) in
+    (omega arith, (push-kept (args .scope .now) (args .n) (c .before .before .before .before .before .before .before .before .before .before .before .before .before .before .before .before .before .before .before .before .before .cell .result) (c .before .before .before .before .before .before .before .before .before .before .before .short .result) deep (few .scope-many), (λ h. (deep, both-pushed (args .s .now) (args .raw .now) (args .names .now) (args .kinds) (args .scope .now) (args .n) (args .at) (c .before .before .before .before .before .before .before .before .before .before .before .before .before .before .before .before .before .before .before .before .before .cell .result) (c .before .before .before .before .before .before .before .before .before .before .before .before .before .before .before .before .cell2 .result) (c .before .before .before .before .before .before .before .before .before .before .before .short .result) (c .before .before .before .before .before .before .before .before .before .before .before .before .before .before .before .sort-in .result) (c .before .before .before .before .before .before .before .before .before .before .before .before .before .before .before .before .before .before .before .before .before .cell .ensures) (c .before .before .before .before .before .before .before .before .before .before .before .before .before .before .before .before .cell2 .ensures) (c .before .before .before .before .before .before .before .before .before .before .before .before .before .before .before .sort-in .ensures .1) sort), binder-took (args .s .now) (args .raw .now) (args .names .now) (args .kinds) (args .scope .now) (args .n) (args .at) (args .after) (args .w) (args .out .now) (omega arith) (c .before .before .before .before .before .before .before .before .before .before .before .before .before .before .before .before .before .before .before .before .before .cell .result) (c .before .before .before .before .before .before .before .before .before .before .before .before .before .before .before .before .before .before .before .before .before .cell .ensures) (c .before .before .before .before .before .before .before .before .before .before .before .before .before .before .before .before .before .before .new-variable .result) (says-new (args .s .now) (args .names .now) (args .kinds) (args .scope .now) (args .n) (c .before .before .before .before .before .before .before .before .before .before .before .before .before .before .before .before .before .before .before .before .before .cell .result) (c .before .before .before .before .before .before .before .before .before .before .before .before .before .before .before .before .before .before .before .before .total .result) (c .before .before .before .before .before .before .before .before .before .before .before .before .before .before .before .before .before .before .new-variable .result) (c .before .before .before .before .before .before .before .before .before .before .before .before .before .before .before .before .before .before .before .before .total .ensures) (c .before .before .before .before .before .before .before .before .before .before .before .before .before .before .before .before .before .before .new-variable .ensures)) (not-false _ (c .before .before .before .before .before .before .before .before .before .before .before .before .before .before .before .before .before .if1 .left)) (c .before .before .before .before .before .before .before .before .before .before .before .before .before .before .before .before .cell2 .result) (c .before .before .before .before .before .before .before .before .before .before .before .before .before .before .before .before .cell2 .ensures) (c .before .before .before .before .before .before .before .before .before .before .before .before .before .before .before .sort-in .result) (c .before .before .before .before .before .before .before .before .before .before .before .before .before .before .before .sort-in .ensures .1) (c .before .before .before .before .before .before .before .before .before .before .before .before .before .if2 .left) (c .before .before .before .before .before .before .before .before .before .marked .result) (c .before .before .before .before .before .before .before .before .short2 .result) (c .before .before .before .short3 .result) (c .before .before .before .before .before .before .before .node .result) (c .before .before .put .result) (c .before .before .before .before .before .before .before .node .last .0) (c .before .before .put .last .0) (c .before .before .before .before .before .before .before .before .before .marked .ensures) (c .before .before .before .before .before .before .before .before .short2 .ensures (omega arith)) (c .before .before .before .short3 .ensures (omega arith)) (c .before .before .before .before .before .before .before .node .ensures) (c .before .before .put .ensures))))
 
 pub binder-spec : {M : Type 1} → statement M
 binder-spec =
@@ -138,13 +160,17 @@ binder-spec =
     returns-3
     mul-scope
     slice-write-scope
-    marked-requires
     short-requires
+    add-scope
+    mul-scope-2
+    slice-write-scope-2
+    marked-requires
+    short-requires-2
     node-requires
-    add-t15
+    add-t22
     mul-short
     add-short
-    short-requires-2
+    short-requires-3
     put-requires
     same-length-4
     same-length-5

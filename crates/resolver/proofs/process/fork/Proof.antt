@@ -39,7 +39,7 @@ add-skip : tie.Need-add-skip
 add-skip c = let q = c .before .before .before .before .before .before .before .before .before .before .before .before .before .before .pre in omega arith
 
 skip-requires : tie.Need-skip-requires
-skip-requires c κs = tt
+skip-requires c κs = let q = c .before .before .before .before .before .before .before .before .before .before .before .before .before .before .pre .0 in omega arith
 
 data-term-requires : tie.Need-data-term-requires
 data-term-requires c κs = let q = c .before .before .before .before .before .before .before .before .before .before .before .before .before .before .before .before .pre .0 in (omega arith, c .before .before .before .before .before .before .before .before .before .before .before .before .before .before .before .before .pre .2)

@@ -6,6 +6,7 @@ use Prim.Native.Nat.{_-_}
 use native.Mathlib.Omega.{arith}
 use lib.ListN.{length-take}
 use Rattle.lexer.proofs.Accepted.{accepted-cells}
+use Rattle.parser.proofs.Answered.{accepted-few}
 use Rattle.laws.specs.Says.{said-yes, said-no}
 use Rattle.names.proofs.Kept.{answered-yes, answered-no}
 use Rattle.sheets.proofs.ReadingLaws.{refused-early, refused-5, refused-6, refused-7, with-sheet, parsable, few-found, refused-by, answered}
@@ -45,7 +46,7 @@ parse-requires c κs =
     let lexed = c .before .before .before .before .before .before .before .lex in
     let room = start .pre in
     let few = accepted-cells (start .args .sheet .now) (lexed .last .1 .0) (lexed .result) (lexed .ensures) (c .before .before .before .if1 .left) in
-    (rw (length-take (lexed .result .count - 0) (lexed .last .1 .0)) (omega (arith, room .tree-room, few .fits, few .short)), room .tree-few)
+    (rw (length-take (lexed .result .count - 0) (lexed .last .1 .0)) (omega (arith, room .tree-room, few .fits, few .short)), room .tree-few, accepted-few few (lexed .result .count - 0) (omega arith))
 
 refusal-requires-2 : tie.Need-refusal-requires-2
 refusal-requires-2 c κs = search needs
