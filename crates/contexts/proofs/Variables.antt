@@ -51,6 +51,7 @@ variable-slots o n m b eb room σ s = record { many = length-snoc σ (var m) ∙
     new = record {
       whole = λ h. (at₀, at₁, ap (λ (k : ℕ). take k (drop (b + 2) (set (set (set o b 1) (b + 1) 1) (b + 2) (variable-code + m)))) at₁ ∙ at₂);
       long = λ h. absurd (omega (arith, at₀));
+      narrow = omega arith;
     }
 
     each : (i : ℕ) → i < n + 1 → Dec (i ≡ n) → Slot (getD (σ ++ (var m ∷ [])) i (val 0)) (set (set (set o b 1) (b + 1) 1) (b + 2) (variable-code + m)) (slot-width * i)

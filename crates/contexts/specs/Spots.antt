@@ -20,7 +20,7 @@ use Rattle.nodes.specs.Nodes.{kind-of}
 use Rattle.nodes.specs.Scoped.{max-scope}
 use Rattle.counting.specs.Limits.{max-fuel}
 use Rattle.counting.specs.Counting.{Placed, Tallied, FirstNew}
-use Rattle.putting.specs.Slots.{slot-width, Slots, Writable}
+use Rattle.putting.specs.Slots.{term-bytes, slot-width, Slots, Writable}
 use Rattle.following.specs.Fine.{Fine, Few}
 use Rattle.following.specs.Follows.{call-bytes, calls-room, CallSmall}
 use Rattle.contexts.specs.declared.Spot.{Spot}
@@ -28,10 +28,10 @@ use Rattle.contexts.specs.declared.Side.{Side}
 
 -- the most bytes of a condition
 abbrev pub cond-bytes : ℕ
-cond-bytes = 32
+cond-bytes = 1 + term-bytes
 
 abbrev pub conds-room : ℕ
-conds-room = 256
+conds-room = max-conditions * cond-bytes
 
 -- numbers of variables before any sum stay below this
 abbrev pub variable-limit : ℕ

@@ -4,6 +4,7 @@ use mathlib.Core.List.{List, [], _∷_, _++_}
 use mathlib.Core.Bool.{true, false}
 use Prim.Native.Nat.{ℕ, zero, suc, _+_, _*_, _%_, _<_}
 use lib.ListN.{length, take}
+use Rattle.pcrl.specs.Limits.{frame-width, max-arity, max-variables}
 use Rattle.pcrl.specs.Tests.{Every}
 use Rattle.pcrl.specs.Reader.{all}
 use Rattle.pcrl.specs.Sheet.{Data, var, Sheet}
@@ -11,7 +12,7 @@ use Rattle.pcrl.specs.Table.{Summand}
 use Rattle.pcrl.specs.Stream.{tau-code, encode-summand}
 use Rattle.nodes.specs.Layout.{byte-limit}
 use Rattle.putting.specs.declared.Done.{Done}
-use Rattle.putting.specs.Slots.{slot-width, Slots, Adds}
+use Rattle.putting.specs.Slots.{term-bytes, slot-width, Slots, Adds}
 use Rattle.nodes.specs.declared.Node.{Node}
 use Rattle.nodes.specs.Layout.{sum-kind, alt-kind, atom-kind, cond-kind, call-kind, seq-kind}
 use Rattle.nodes.specs.Views.{Views}
@@ -21,11 +22,11 @@ use Rattle.contexts.specs.Spots.{Ready, SummandFits, Arrays, arrays, Bou
 
 -- room for the terms of an action
 abbrev pub terms-room : ℕ
-terms-room = 62
+terms-room = max-arity * term-bytes
 
 -- room for slots for the parameters of a process and the sum variables of a summand
 abbrev pub call-room : ℕ
-call-room = 264
+call-room = (frame-width + max-variables) * slot-width
 
 abbrev pub VariablePut : List ℕ → ℕ → ℕ → List ℕ → Type 0
 VariablePut o n m o′ = ((σ : List Data) → Slots σ o n → Slots (σ ++ (var m ∷ [])) o′ (n + 1)) × (take (slot-width * n) o′ ≡ take (slot-width * n) o)

@@ -15,15 +15,23 @@ ghost use Rattle.contexts.specs.Steps.{VariablePut, call-room, terms-roo
 use nodes::Node;
 use putting::Done;
 use putting::SLOT;
+use putting::TERM;
 use putting::VARIABLE_CODE;
 
 const WIDTH: usize = 4;
 
-const MAX_VARIABLES: usize = 4;
+pub const MAX_VARIABLES: usize = 4;
 
 const MAX_CONDITIONS: usize = 8;
 
 const MAX_ARITY: usize = 2;
+
+// Room for the conditions of a summand, for the terms of an action, and for the slots of a process that is called.
+pub const CONDITIONS: usize = MAX_CONDITIONS * (1 + TERM);
+
+pub const TERMS: usize = MAX_ARITY * TERM;
+
+pub const MINE: usize = (WIDTH + MAX_VARIABLES) * SLOT;
 
 // Where the walk stands: at which node, how many calls may be followed; how many slots there are, the numbers of the next variable
 // and of the first new equation; how many sum variables, conditions and calls stand around it, where the conditions end and the

@@ -6,7 +6,7 @@ use native.Mathlib.Numerals.{add-one}
 use native.Mathlib.Omega.{arith}
 use lib.ListN.{length, take, drop, getD, length-drop}
 use lib.Seq.{ext-getD, getD-take, getD-drop, length-take-le}
-use Rattle.pcrl.specs.Parts.{tabulate}
+use Rattle.pcrl.specs.Lists.{tabulate}
 use Rattle.laws.specs.Lists.{length-tabulate, getD-tabulate}
 use Rattle.emit.specs.Putting.{Puts}
 use Rattle.emit.specs.Bytes.{part}

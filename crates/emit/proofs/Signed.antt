@@ -9,7 +9,7 @@ use lib.Seq.{getD-drop}
 use Rattle.pcrl.specs.Limits.{max-name}
 use Rattle.pcrl.specs.Tests.{Every}
 use Rattle.pcrl.specs.Reader.{all}
-use Rattle.pcrl.specs.Parts.{tabulate}
+use Rattle.pcrl.specs.Lists.{tabulate}
 use Rattle.pcrl.specs.Blocks.{joined}
 use Rattle.pcrl.specs.Sheet.{Func, Action, Sig, no-func, no-action, func}
 use Rattle.pcrl.specs.Stream.{encode-numbers, encode-list, encode-sorts, encode-func, encode-action, encode-sig}

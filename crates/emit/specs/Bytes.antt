@@ -6,7 +6,7 @@ use lib.ListN.{length, getD}
 use Rattle.pcrl.specs.Limits.{max-name}
 use Rattle.pcrl.specs.Tests.{Every}
 use Rattle.pcrl.specs.Tree.{Name}
-use Rattle.pcrl.specs.Parts.{tabulate}
+use Rattle.pcrl.specs.Lists.{tabulate}
 use Rattle.pcrl.specs.Blocks.{joined}
 use Rattle.pcrl.specs.Sheet.{Action, Sig, no-action}
 use Rattle.pcrl.specs.Stream.{encode-sig}

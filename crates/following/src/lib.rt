@@ -12,13 +12,13 @@ use putting::Done;
 
 pub const MAX_CALLS: usize = 8;
 
-// The most bytes of a call, and of all calls of a summand.
-const CALL: usize = 125;
-
-pub const CALLS: usize = 1000;
-
 // The most terms of a call.
 const MAX_TERMS: usize = 4;
+
+// The most bytes of a call, and of all calls of a summand.
+const CALL: usize = 1 + MAX_TERMS * putting::TERM;
+
+pub const CALLS: usize = MAX_CALLS * CALL;
 
 pub struct Calls {
     pub ok: bool,

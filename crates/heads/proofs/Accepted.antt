@@ -3,15 +3,16 @@ use mathlib.Core.Path.{_≡_, refl, sym, ap, _∙_, subst}
 use mathlib.Core.List.{List, [], _∷_, _++_}
 use mathlib.Core.Option.{Option}
 use mathlib.Core.Bool.{Bool, true, false}
-use Prim.Native.Nat.{ℕ, zero, suc, _+_, _*_, _<_, _≤_}
+use Prim.Native.Nat.{ℕ, zero, suc, _+_, _-_, _*_, _<_, _≤_}
 use native.Mathlib.Omega.{arith}
 use lib.ListN.{length, getD, getElem?, length-append}
-use Rattle.pcrl.specs.Limits.{max-arity, max-functions, max-actions, max-sorts, max-processes, frame-width}
+use Rattle.pcrl.specs.Limits.{max-arity, max-actions, max-sorts, max-processes, frame-width}
 use Rattle.pcrl.specs.Tests.{Every, Each}
-use Rattle.pcrl.specs.Sheet.{Data, val, var, app, Datas, nil, cons, Act, tau, action, Action, Proc, delta, atom, alt, cond, sum, seq, call, Process, Sig, Sheet, no-action, no-process, size, func, takes-of, params, right}
-use Rattle.pcrl.specs.Sorts.{Scope, binding, HasSort, HaveSorts, IsAct, Sorted}
+use Rattle.pcrl.specs.Sheet.{Data, val, var, app, Datas, nil, cons, Act, tau, action, Action, Proc, delta, atom, alt, cond, sum, seq, call, Process, Sig, Sheet, no-action, no-process, list-of, Operation, first-equal, operation, size, function, function-at, takes-of, params, right}
+use Rattle.pcrl.specs.Sorts.{Scope, binding, IsOperation, IsFunc, HasSort, HaveSorts, IsAct, Sorted}
 use Rattle.pcrl.specs.Parts.{NewPart, new-count, if-after, new-parts, all-new-parts, first-new}
 use Rattle.laws.specs.Every.{every-at}
+use Rattle.laws.specs.Operations.{Seen, seen, equal-number}
 use Rattle.nodes.specs.declared.Outline.{Outline}
 use Rattle.nodes.specs.Layout.{byte-limit, act-number}
 use Rattle.nodes.specs.Scoped.{max-scope, ScopedData, ScopedArguments, Scoped}
@@ -21,13 +22,44 @@ use Rattle.putting.specs.Slots.{Writable, WritableArguments}
 use Rattle.following.specs.Fine.{Fine, Few}
 use Rattle.contexts.specs.Spots.{Ready}
 
--- sizes of sorts, functions, actions and sorts are few
+-- sizes of sorts, sorts and actions are few
 pub record Small (S : Sig) : Type 0 where
   pub sizes : (D : ℕ) → size S D ≤ byte-limit
   pub sorts : length (S .sorts) ≤ byte-limit
-  pub funcs : length (S .funcs) ≤ max-functions
   pub acts : length (S .acts) ≤ max-actions
   pub takes : (a : ℕ) → length (getD (S .acts) a no-action .takes) ≤ max-arity
+
+-- a function that is there has a code, and its sort, if it is `==`, fits a byte
+is-coded : (S : Sig) (f : ℕ) → IsFunc S f → operation f ≡ Operation.unsorted → ⊥
+unfolding IsOperation
+is-coded S f h e = subst (λ (o : Operation). IsOperation S o) e h
+
+number-small : (S : Sig) → Small S → (f : ℕ) → IsFunc S f → f < first-equal + byte-limit
+unfolding IsOperation
+number-small S few f h = go (operation f) (seen f) h
+  where
+    go : (o : Operation) → Seen f o → IsOperation S o → f < first-equal + byte-limit
+    go (Operation.written g) (Seen.as-written k) h = omega arith
+    go Operation.not (Seen.as-not e) h = omega arith
+    go Operation.and (Seen.as-and e) h = omega arith
+    go Operation.or (Seen.as-or e) h = omega arith
+    go (Operation.equal D) (Seen.as-equal E e) h = omega (arith, few .sorts)
+    go Operation.unsorted (Seen.as-unsorted e) h = absurd h
+    go Operation.unsorted (Seen.as-none k l) h = absurd h
+
+-- "`==` takes two data"
+equal-takes : (S : Sig) (f : ℕ) → first-equal ≤ f → length (function-at S f .takes) ≡ 2
+unfolding function-at function
+equal-takes S f h =
+    let z : f ≡ first-equal + (f - first-equal) = omega arith in
+    ap (λ (o : Operation). length (function S o .takes)) (ap operation z ∙ equal-number (f - first-equal))
+
+arguments-many : (S : Sig) (Γ : Scope) (ds : Datas) (Ds : List ℕ) → HaveSorts S Γ ds Ds → length (list-of ds) ≡ length Ds
+unfolding HasSort list-of
+arguments-many S Γ nil [] h = refl
+arguments-many S Γ nil (D ∷ Ds) h = absurd h
+arguments-many S Γ (cons d ds) [] h = absurd h
+arguments-many S Γ (cons d ds) (D ∷ Ds) h = ap suc (arguments-many S Γ ds Ds (h .1))
 
 module _ (S : Sig) (few : Small S) (Γ : Scope) (n : ℕ) where
   mutual
@@ -36,7 +68,8 @@ module _ (S : Sig) (few : Small S) (Γ : Scope) (n : ℕ) where
     pub writable : (d : Data) (D : ℕ) → ScopedData n d → HasSort S Γ d D → Writable n d
     writable (val v) D s h = omega (arith, few .sizes D)
     writable (var i) D s h = s
-    writable (app f ds) D s h = (omega (arith, h .0, few .funcs), writable-all ds (func S f .takes) s (h .1 .1))
+    writable (app f ds) D s h =
+        (is-coded S f (h .0), number-small S few f (h .0), λ k. arguments-many S Γ ds (function-at S f .takes) (h .1 .1) ∙ equal-takes S f k, writable-all ds (function-at S f .takes) s (h .1 .1))
 
     writable-all : (ds : Datas) (Ds : List ℕ) → ScopedArguments n ds → HaveSorts S Γ ds Ds → WritableArguments n ds
     writable-all nil Ds s h = tt

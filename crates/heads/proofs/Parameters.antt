@@ -66,6 +66,7 @@ byte-put o n x b eb room σ d one is s = record { many = length-snoc σ d ∙ ap
     new = record {
       whole = λ h. (at₀ ∙ sym one, at₁ ∙ sym (ap length is), ap (λ (k : ℕ). take k (drop (b + 2) (set (set (set o b 1) (b + 1) 1) (b + 2) x))) at₁ ∙ at₂ ∙ sym is);
       long = λ h. absurd (omega (arith, at₀));
+      narrow = omega (arith, one, ap length is);
     }
 
     each : (i : ℕ) → i < n + 1 → Dec (i ≡ n) → Slot (getD (σ ++ (d ∷ [])) i (val 0)) (set (set (set o b 1) (b + 1) 1) (b + 2) x) (slot-width * i)

@@ -2,8 +2,9 @@
 use mathlib.Core.Path.{_≡_}
 use mathlib.Core.List.{List, [], _∷_, _++_}
 use mathlib.Core.Bool.{Bool, true, false}
-use Prim.Native.Nat.{ℕ, _+_, _≤_, _<_}
+use Prim.Native.Nat.{ℕ, _+_, _*_, _≤_, _<_}
 use lib.ListN.{length, drop}
+use Rattle.pcrl.specs.Limits.{max-variables}
 use Rattle.pcrl.specs.Tests.{Every}
 use Rattle.pcrl.specs.Sheet.{Data, val, var, Proc, Sheet}
 use Rattle.pcrl.specs.Parts.{new-count, all-new-parts}
@@ -13,17 +14,22 @@ use Rattle.pcrl.specs.Right.{SummandWithin}
 use Rattle.pcrl.specs.Heads.{heads}
 use Rattle.nodes.specs.Layout.{byte-limit, seq-kind, enc}
 use Rattle.nodes.specs.Nodes.{kind-of}
+use Rattle.nodes.specs.Scoped.{max-scope}
 use Rattle.counting.specs.Limits.{row-width, cut}
 use Rattle.counting.specs.Counting.{Placed, Tallied, FirstNew}
 use Rattle.putting.specs.declared.Done.{Done}
-use Rattle.putting.specs.Slots.{Slots, Adds}
+use Rattle.putting.specs.Slots.{slot-width, Slots, Adds}
 use Rattle.following.specs.Fine.{Fine}
 use Rattle.contexts.specs.Spots.{Ready, SummandFits}
 use Rattle.contexts.specs.Steps.{SummandsOut}
 
 -- room for a slot for each variable that can be in scope
 abbrev pub slots-room : ℕ
-slots-room = 1056
+slots-room = max-scope * slot-width
+
+-- and for one for each variable that a summand adds
+abbrev pub work-room : ℕ
+work-room = (max-scope + max-variables) * slot-width
 
 -- All heads of the term p written as summands, one behind another; or not every one has the limits, or there is no room for them.
 abbrev pub HeadsWritten : List ℕ → List ℕ → List ℕ → List ℕ → ℕ → ℕ → ℕ → List ℕ → ℕ → ℕ → ℕ → List ℕ → Done → List ℕ → Type 0

@@ -13,11 +13,16 @@ pub mod numbering; // the numbers of the first new equations
 pub mod params; // the slots of an equation's parameters
 pub mod walk; // one walk over the term and the right sides that it calls at the head
 
+use contexts::CONDITIONS;
+use contexts::MAX_VARIABLES;
 use contexts::Spot;
 use following::CALLS;
 use putting::Done;
 use putting::SLOT;
 use walk::walk;
+
+// Slots for the variables in scope and those that a summand adds.
+const WORK: usize = (nodes::MAX_SCOPE + MAX_VARIABLES) * SLOT;
 
 // All heads of a term written as summands, one behind another. Not ok: not every one has the limits, or there is no room for them.
 pub fn write_heads(
@@ -38,9 +43,9 @@ pub fn write_heads(
     ensures { λ r. ⌜ (w ≤ r .w) × (r .w ≤ length (now (out .entry))) ⌝ }
     ensures { λ r. ⌜ HeadsWritten (now (cells .entry)) (now (starts .entry)) (now (counts .entry)) (now (firsts .entry)) fuel at c (now (slots .entry)) n m w (now (out .entry)) r (now (out .exit)) ⌝ }
 {
-    let mut work = [0u8; 1188];
-    let mut vars = [0u8; 4];
-    let mut conds = [0u8; 256];
+    let mut work = [0u8; WORK];
+    let mut vars = [0u8; MAX_VARIABLES];
+    let mut conds = [0u8; CONDITIONS];
     let mut after = [0u8; CALLS];
     let mut calls = [0u8; CALLS];
     putting::copy(slots, 0, SLOT * n, &mut work, 0);

@@ -13,6 +13,9 @@ ghost use Rattle.heads.specs.Writing.{slots-room, BytePut, param-of};
 use putting::SLOT;
 use putting::VARIABLE_CODE;
 
+// Room for a slot for each variable that can be in scope.
+pub const SLOTS: usize = nodes::MAX_SCOPE * SLOT;
+
 // A term of one byte in slot n.
 fn put_byte(slots: &mut [u8], n: usize, x: u8)
     requires { ⌜ slot-width * n + slot-width ≤ length (now slots) ⌝ }

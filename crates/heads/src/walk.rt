@@ -86,7 +86,7 @@ fn leaf(
     ensures { λ r. ⌜ Written (now (cells .entry)) (now (starts .entry)) (now (counts .entry)) (now (firsts .entry)) (g .s) (arrays (now (slots .entry)) (now (vars .entry)) (now (conds .entry)) (now (calls .entry))) w (now (out .entry)) r (arrays (now (slots .entry)) (now (vars .exit)) (now (conds .exit)) (now (calls .exit))) (now (out .exit)) ⌝ }
 {
     if g.d.kind == nodes::ATOM {
-        let mut terms = [0u8; 62];
+        let mut terms = [0u8; contexts::TERMS];
         return contexts::emit(
             cells,
             g.d,
@@ -104,7 +104,7 @@ fn leaf(
     if z.ok {
         return z;
     }
-    let mut mine = [0u8; 264];
+    let mut mine = [0u8; contexts::MINE];
     let r = contexts::down_call(cells, starts, firsts, g.d, g.s, slots, &mut mine);
     if !r.ok {
         return z;

@@ -1,4 +1,5 @@
 pub mod CellLaws
+pub mod Operating
 pub mod Functions
 pub mod SymbolLaws
 pub mod Stepping

@@ -6,7 +6,7 @@ use native.Mathlib.Omega.{arith}
 use lib.ListN.{length, take, drop, getD, set, length-append, drop-of-length-le}
 use lib.Seq.{take-set-le, drop-drop, getD-drop, length-take-le}
 use Rattle.initial.specs.declared.Reached.{Reached}
-use Rattle.initial.specs.Symbols.{Symbol, value, one, two, symbol-cells, cells-of, looked-at, second-size, after, run}
+use Rattle.initial.specs.Symbols.{Symbol, value, one, two, symbol-cells, cells-of, one-value, two-value, after, run}
 use Rattle.initial.specs.Evaluating.{Steps, Evaluates}
 use Rattle.initial.proofs.CellLaws.{last-cell, last-two, written, pushed}
 
@@ -31,7 +31,7 @@ module _ (sizes funcs values places c : List ℕ) (i t : ℕ) (pos : 0 < i) (abo
     first : getD (drop t c) 0 0 ≡ x
     first = let z : t + 0 ≡ t = omega arith in getD-drop t c 0 0 ∙ ap (λ (j : ℕ). getD c j 0) z ∙ sym ex
 
-    pub one-step : (v : ℕ) → k < 2 → v ≡ looked-at values places f x → Steps sizes funcs values places c i t (record { end = i - 2; top = t }) (set c t v)
+    pub one-step : (v : ℕ) → k < 2 → v ≡ one-value values places f x → Steps sizes funcs values places c i t (record { end = i - 2; top = t }) (set c t v)
     unfolding symbol-cells after
     one-step v h ev p (value u) e = let b = last-cell c p (4 * u + 0) i pos (omega arith) e .1 in absurd (other (omega arith))
     one-step v h ev p (two g) e = let b = last-two c p (4 * g + 2) 2 i (omega arith) e .3 in absurd (omega arith)
@@ -40,10 +40,10 @@ module _ (sizes funcs values places c : List ℕ) (i t : ℕ) (pos : 0 < i) (abo
         let at : getD c (i - 2) 0 ≡ 4 * g + 2 = b .2 in
         let z : f ≡ g = omega arith in (
           take-set-le (i - 2) c t v (omega arith) ∙ b .1,
-          written c t v ∙ ap (λ (y : ℕ). set (drop t c) 0 y) (ev ∙ ap₂ (looked-at values places) z (sym first)),
+          written c t v ∙ ap (λ (y : ℕ). set (drop t c) 0 y) (ev ∙ ap₂ (one-value values places) z (sym first)),
         )
 
-    pub two-step : (v y : ℕ) → 2 ≤ k → y ≡ x * second-size sizes funcs f + getD c (t + 1) 0 → v ≡ looked-at values places f y → Steps sizes funcs values places c i t (record { end = i - 2; top = t + 1 }) (set c (t + 1) v)
+    pub two-step : (v y : ℕ) → 2 ≤ k → y ≡ getD c (t + 1) 0 → v ≡ two-value sizes funcs values places f x y → Steps sizes funcs values places c i t (record { end = i - 2; top = t + 1 }) (set c (t + 1) v)
     unfolding symbol-cells after
     two-step v y h ey ev p (value u) e = let b = last-cell c p (4 * u + 0) i pos (omega arith) e .1 in absurd (other (omega arith))
     two-step v y h ey ev p (one g) e = let b = last-two c p (4 * g + 2) 1 i (omega arith) e .3 in absurd (omega arith)
@@ -51,10 +51,11 @@ module _ (sizes funcs values places c : List ℕ) (i t : ℕ) (pos : 0 < i) (abo
         let b = last-two c p (4 * g + 2) 2 i (omega arith) e in
         let at : getD c (i - 2) 0 ≡ 4 * g + 2 = b .2 in
         let z : f ≡ g = omega arith in
-        let w : y ≡ getD (drop t c) 0 0 * second-size sizes funcs g + getD (drop t c) 1 0 =
-        ey ∙ ap₂ (λ (m n : ℕ). m + n) (ap₂ (λ (m n : ℕ). m * second-size sizes funcs n) (sym first) z) (sym (getD-drop t c 1 0)) in (
+        let w : y ≡ getD (drop t c) 1 0 = ey ∙ sym (getD-drop t c 1 0) in
+        let both : two-value sizes funcs values places f x y ≡ two-value sizes funcs values places g (getD (drop t c) 0 0) (getD (drop t c) 1 0) =
+        ap (λ (j : ℕ). two-value sizes funcs values places j x y) z ∙ ap₂ (two-value sizes funcs values places g) (sym first) w in (
           take-set-le (i - 2) c (t + 1) v (omega arith) ∙ b .1,
-          written c (t + 1) v ∙ ap₂ (λ (m : List ℕ) (n : ℕ). set m 0 n) (sym (drop-drop 1 t c)) (ev ∙ ap₂ (looked-at values places) z w),
+          written c (t + 1) v ∙ ap₂ (λ (m : List ℕ) (n : ℕ). set m 0 n) (sym (drop-drop 1 t c)) (ev ∙ both),
         )
 
     -- no values
@@ -65,7 +66,7 @@ module _ (sizes funcs values places c : List ℕ) (i t : ℕ) (pos : 0 < i) (abo
     none-step h past p (two g) e =
         let b = last-two c p (4 * g + 2) 2 i (omega arith) e in
         let z : drop t c ≡ [] = drop-of-length-le c {i = t} past in
-        (b .1, z ∙ ap (λ (l : List ℕ). set (drop 1 l) 0 (looked-at values places g (getD l 0 0 * second-size sizes funcs g + getD l 1 0))) (sym z))
+        (b .1, z ∙ ap (λ (l : List ℕ). set (drop 1 l) 0 (two-value sizes funcs values places g (getD l 0 0) (getD l 1 0))) (sym z))
 
 -- ALL SYMBOLS
 module _ (sizes funcs values places c : List ℕ) (at end : ℕ) where

@@ -1,8 +1,11 @@
 -- Data terms without variables as symbols, read in the cells from the right, and what the symbols make of the values that stand behind them.
 use mathlib.Core.List.{List, [], _∷_, _++_}
+use mathlib.Core.Bool.{true, false}
 use Prim.Native.Nat.{ℕ, zero, suc, _+_, _*_}
+use lib.Dec.{eqb, ltb}
 use lib.ListN.{length, drop, getD, set}
-use Rattle.pcrl.specs.Sheet.{Data, val, var, app, Datas, nil, cons, list-of}
+use Rattle.pcrl.specs.Sheet.{Data, val, var, app, Datas, nil, cons, list-of, not-number, and-number, first-equal}
+use Rattle.theory.specs.OperatorValues.{not-of, and-of, or-of, same-of}
 use Rattle.nodes.specs.Layout.{value-tag, function-tag}
 use Rattle.nodes.specs.Held.{func-width}
 
@@ -51,12 +54,23 @@ looked-at values places f x = getD values (getD places f 0 + x) 0
 unfoldable pub second-size : List ℕ → List ℕ → ℕ → ℕ
 second-size sizes funcs f = getD sizes (getD funcs (func-width * f + 2) 0) 0
 
+-- an operator of two operands
+unfoldable pub operated : ℕ → ℕ → ℕ → ℕ
+operated f x y = elim (ltb f first-equal) [ true ↦ elim (eqb f and-number) [ true ↦ and-of x y | false ↦ or-of x y ] | false ↦ same-of x y ]
+
+-- the value of function f for one argument, and for two
+unfoldable pub one-value : List ℕ → List ℕ → ℕ → ℕ → ℕ
+one-value values places f x = elim (ltb f not-number) [ true ↦ looked-at values places f x | false ↦ not-of x ]
+
+unfoldable pub two-value : List ℕ → List ℕ → List ℕ → List ℕ → ℕ → ℕ → ℕ → ℕ
+two-value sizes funcs values places f x y = elim (ltb f not-number) [ true ↦ looked-at values places f (x * second-size sizes funcs f + y) | false ↦ operated f x y ]
+
 module _ (sizes funcs values places : List ℕ) where
   -- A value is put before the others; a function's value takes the place of its last argument.
   unfoldable pub after : Symbol → List ℕ → List ℕ
   after (value v) s = v ∷ s
-  after (one f) s = set s 0 (looked-at values places f (getD s 0 0))
-  after (two f) s = set (drop 1 s) 0 (looked-at values places f (getD s 0 0 * second-size sizes funcs f + getD s 1 0))
+  after (one f) s = set s 0 (one-value values places f (getD s 0 0))
+  after (two f) s = set (drop 1 s) 0 (two-value sizes funcs values places f (getD s 0 0) (getD s 1 0))
 
   unfoldable pub run : List Symbol → List ℕ → List ℕ
   run [] s = s

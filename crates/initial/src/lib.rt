@@ -4,11 +4,14 @@ ghost use mathlib.Core.Path.{_≡_};
 ghost use Prim.Native.Nat.{_+_, _*_, _<_, _≤_, min};
 ghost use lib.ListN.{length, set};
 ghost use Rattle.nodes.specs.Layout.{cell-limit, byte-limit};
-ghost use Rattle.initial.specs.Symbols.{looked-at, second-size};
+ghost use Rattle.initial.specs.Symbols.{looked-at, second-size, operated, one-value, two-value};
 ghost use Rattle.initial.specs.Evaluating.{far, Further, Steps, Evaluates, PutsValues, PutsStart};
 use emit::bytes::low;
 use emit::bytes::put;
+use nodes::AND;
+use nodes::EQUAL;
 use nodes::FUNC_ROW;
+use nodes::NOT;
 use nodes::VALUE;
 use nodes::byte;
 use nodes::cell;
@@ -60,6 +63,51 @@ fn row(x: usize, n: usize, y: usize) -> usize
     x * n + y
 }
 
+// The value of function f for one argument. (`!` is the only operator that takes one.)
+fn of_one(values: &[u8], places: &[u16], f: usize, x: usize) -> usize
+    requires { ⌜ x < cell-limit ⌝ }
+    ensures { λ r. ⌜ (r ≡ one-value (now (values .entry)) (now (places .entry)) f x) × (r < cell-limit) ⌝ }
+{
+    if f < NOT {
+        return looked(values, places, f, x);
+    }
+    if x == 0 { 1 } else { 0 }
+}
+
+// An operator of two operands.
+fn operate(f: usize, x: usize, y: usize) -> usize
+    requires { ⌜ y < cell-limit ⌝ }
+    ensures { λ r. ⌜ (r ≡ operated f x y) × (r < cell-limit) ⌝ }
+{
+    if f >= EQUAL {
+        return if x == y { 1 } else { 0 };
+    }
+    if f == AND {
+        return if x == 0 { 0 } else { y };
+    }
+    if x == 0 { y } else { 1 }
+}
+
+// The value of function f for two arguments.
+fn of_two(
+    sizes: &[u8],
+    funcs: &[u8],
+    values: &[u8],
+    places: &[u16],
+    f: usize,
+    x: usize,
+    y: usize,
+) -> usize
+    requires { ⌜ (x < cell-limit) × (y < cell-limit) ⌝ }
+    ensures { λ r. ⌜ (r ≡ two-value (now (sizes .entry)) (now (funcs .entry)) (now (values .entry)) (now (places .entry)) f x y) × (r < cell-limit) ⌝ }
+{
+    if f < NOT {
+        let p = row(x, second(sizes, funcs, f), y);
+        return looked(values, places, f, p);
+    }
+    operate(f, x, y)
+}
+
 // One symbol, which stands before place i; the values stand from t on. No count of arguments is a multiple of 4.
 fn step(
     sizes: &[u8],
@@ -86,7 +134,7 @@ fn step(
     let f = cell(cells, i - 2) / 4;
     let x = cell(cells, t);
     if k < 2 {
-        store(cells, t, looked(values, places, f, x));
+        store(cells, t, of_one(values, places, f, x));
         return Reached { end: i - 2, top: t };
     }
     if t >= cells.len() {
@@ -94,8 +142,7 @@ fn step(
     }
     let u = t + 1;
     let y = cell(cells, u);
-    let p = row(x, second(sizes, funcs, f), y);
-    store(cells, u, looked(values, places, f, p));
+    store(cells, u, of_two(sizes, funcs, values, places, f, x, y));
     Reached { end: i - 2, top: u }
 }
 

@@ -11,7 +11,8 @@ use Rattle.pcrl.specs.Tests.{Between, Every}
 use Rattle.pcrl.specs.Reader.{all}
 use Rattle.pcrl.specs.Sheet.{Action, Sig, Sheet, Process, no-process}
 use Rattle.pcrl.specs.Values.{eval}
-use Rattle.pcrl.specs.Parts.{tabulate, NewPart, all-new-parts, count, marked, marks, in-proc}
+use Rattle.pcrl.specs.Lists.{tabulate}
+use Rattle.pcrl.specs.Parts.{NewPart, all-new-parts, count, marked, marks, in-proc}
 use Rattle.laws.specs.Lists.{length-tabulate}
 use Rattle.pcrl.specs.Table.{Equation, Table, equation, no-equation, params-of, summands-of, summand-count}
 use Rattle.pcrl.specs.Heads.{table-of}

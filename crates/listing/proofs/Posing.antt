@@ -37,7 +37,6 @@ unfolding RightSig RightSizes RightAction size
 small S r = record {
   sizes = λ D. sizes-few D;
   sorts = let m = r .0 .0 .0 in omega arith;
-  funcs = r .1 .0 .0;
   acts = r .1 .1 .0 .0;
   takes = λ a. every-getD (λ (x : Action). length (x .takes) ≤ max-arity) (S .acts) no-action a (every-weaken (RightAction (S .sorts)) (λ (x : Action). length (x .takes) ≤ max-arity) (λ x h. h .1 .0) (S .acts) (r .1 .1 .0 .1)) (omega arith);
 }

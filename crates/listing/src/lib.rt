@@ -149,7 +149,7 @@ fn put_equation(
     ensures { λ r. ⌜ (w ≤ r .w) × (r .w ≤ length (now (out .entry))) ⌝ }
     ensures { λ r. ⌜ EquationPut (now (cells .entry)) (now (starts .entry)) (now (counts .entry)) (now (firsts .entry)) fuel s w (now (out .entry)) r (now (out .exit)) ⌝ }
 {
-    let mut slots = [0u8; 1056];
+    let mut slots = [0u8; heads::params::SLOTS];
     heads::params::put_params(&mut slots, s.marks, s.scope);
     heads::write_summands(
         cells,

@@ -11,7 +11,8 @@ use lib.ListN.{length, drop, getD, length-append}
 use lib.Count.{ones, ones-step, ones-le}
 use Rattle.pcrl.specs.Tests.{or, and, negated}
 use Rattle.pcrl.specs.Sheet.{Data, val, var, app, Datas, nil, cons, list-of, Proc, delta, atom, alt, cond, sum, seq, call}
-use Rattle.pcrl.specs.Parts.{in-data, in-datas, in-list, in-proc, tabulate, marks, count}
+use Rattle.pcrl.specs.Lists.{tabulate}
+use Rattle.pcrl.specs.Parts.{in-data, in-datas, in-list, in-proc, marks, count}
 use Rattle.nodes.specs.declared.Datum.{Datum}
 use Rattle.nodes.specs.declared.Node.{Node}
 use Rattle.nodes.specs.Bits.{odd, bit}

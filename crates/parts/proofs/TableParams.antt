@@ -8,7 +8,8 @@ use lib.ListN.{length, getD, length-map, length-append}
 use Rattle.pcrl.specs.Limits.{max-equations}
 use Rattle.pcrl.specs.Reader.{all}
 use Rattle.pcrl.specs.Sheet.{Process, Sheet, no-process, params}
-use Rattle.pcrl.specs.Parts.{tabulate, NewPart, all-new-parts, Kind, absent, written, part, kind-new, kind-in, kind}
+use Rattle.pcrl.specs.Lists.{tabulate}
+use Rattle.pcrl.specs.Parts.{NewPart, all-new-parts, Kind, absent, written, part, kind-new, kind-in, kind}
 use Rattle.pcrl.specs.Table.{Equation, params-of}
 use Rattle.pcrl.specs.Blocks.{joined}
 use Rattle.pcrl.specs.Stream.{encode-numbers, encode-list}

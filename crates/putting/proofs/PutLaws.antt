@@ -6,14 +6,14 @@ use Prim.Native.Nat.{ℕ, _+_, _-_, _*_, _%_, _<_, _≤_}
 use native.Mathlib.Omega.{arith}
 use native.Mathlib.Decide.{decLe}
 use lib.Dec.{T}
-use lib.ListN.{length, drop, take, getD, set, length-append, length-drop, length-take}
+use lib.ListN.{length, drop, take, getD, set, length-append, length-drop, length-take, length-set}
 use lib.Seq.{length-take-le, paste, take-paste}
 use Rattle.pcrl.specs.Limits.{max-nodes}
 use Rattle.pcrl.specs.Tests.{Every}
-use Rattle.pcrl.specs.Sheet.{Data, val, var, app}
+use Rattle.pcrl.specs.Sheet.{Data, val, var, app, first-equal, operation}
 use Rattle.pcrl.specs.Values.{put-data}
 use Rattle.pcrl.specs.Table.{nodes}
-use Rattle.pcrl.specs.Stream.{function-code, encode-data}
+use Rattle.pcrl.specs.Stream.{function-code, codes, encode-data}
 use Rattle.pcrl.specs.Heads.{look}
 use Rattle.nodes.specs.declared.Datum.{Datum}
 use Rattle.nodes.specs.Layout.{byte-limit, value-tag, variable-tag, function-tag, enc-data, enc-datas}
@@ -24,8 +24,8 @@ use Rattle.putting.specs.declared.Share.{Share}
 use Rattle.putting.specs.declared.Put.{Put}
 use Rattle.putting.specs.Slots.{term-bytes, slot-width, Slot, Slots, Writable, Adds}
 use Rattle.putting.specs.Puts.{node-nodes, node-bytes, Shares, NodePut, Puts}
-use Rattle.putting.proofs.Bytes.{cell-more}
-use Rattle.putting.proofs.Opening.{put-bytes, put-nodes, bytes-open, nodes-open, nodes-left, bytes-few, kids-writable}
+use Rattle.putting.proofs.Bytes.{cell-more, adds-then}
+use Rattle.putting.proofs.Opening.{put-bytes, put-nodes, bytes-open, nodes-open, nodes-left, by-code, put-narrow, kids-writable}
 
 pub never : {A : Type 0} → false ≡ true → A
 never e = absurd (subst T (sym e) tt)
@@ -40,11 +40,18 @@ short k m f h = go (decLe k max-nodes)
 
 -- A NODE
 
-pub share-one : (slots : List ℕ) (n tag number : ℕ) → (tag ≡ variable-tag → ⊥) → Shares slots n tag number (record { nodes = 1; bytes = 1 })
-unfolding data-tag node-nodes node-bytes
-share-one slots n tag number other (val v) σ e f s w = (λ h. (refl, refl), λ h. h)
-share-one slots n tag number other (var i) σ e f s w = absurd (other e)
-share-one slots n tag number other (app g ds) σ e f s w = (λ h. (refl, refl), λ h. h)
+pub share-one : (slots : List ℕ) (n tag number : ℕ) → (tag ≡ variable-tag → ⊥) → number < first-equal → Shares slots n tag number (record { nodes = 1; bytes = 1 })
+unfolding data-tag data-number node-nodes node-bytes Writable
+share-one slots n tag number other few (val v) σ e f s w = (λ h. (refl, refl), λ h. h)
+share-one slots n tag number other few (var i) σ e f s w = absurd (other e)
+share-one slots n tag number other few (app g ds) σ e f s w = (λ h. (refl, by-code g (λ (c : List ℕ). 1 ≡ length c) (w .0) (λ k. refl) (λ k. absurd (omega arith))), λ h. h)
+
+-- `==` and its sort
+pub share-two : (slots : List ℕ) (n tag number : ℕ) → (tag ≡ variable-tag → ⊥) → first-equal ≤ number → Shares slots n tag number (record { nodes = 1; bytes = 2 })
+unfolding data-tag data-number node-nodes node-bytes Writable
+share-two slots n tag number other many (val v) σ e f s w = absurd (omega arith)
+share-two slots n tag number other many (var i) σ e f s w = absurd (other e)
+share-two slots n tag number other many (app g ds) σ e f s w = (λ h. (refl, by-code g (λ (c : List ℕ). 2 ≡ length c) (w .0) (λ k. absurd (omega arith)) (λ k. refl)), λ h. h)
 
 pub share-slot : (slots : List ℕ) (n tag number k l : ℕ) → tag ≡ variable-tag → k ≡ getD slots (slot-width * number) 0 → l ≡ getD slots (slot-width * number + 1) 0
     → Shares slots n tag number (record { nodes = k; bytes = l })
@@ -56,12 +63,6 @@ share-slot slots n tag number k l is ek el (var i) σ e f s w =
 share-slot slots n tag number k l is ek el (app g ds) σ e f s w = absurd (omega arith)
 
 module _ (slots : List ℕ) (n tag number l v : ℕ) (o : List ℕ) where
-  some-bytes : (d : Data) (σ : List Data) → tag ≡ data-tag d → (tag ≡ variable-tag → ⊥) → 1 ≡ length (node-bytes σ d)
-  unfolding data-tag node-bytes
-  some-bytes (val v) σ e other = refl
-  some-bytes (var i) σ e other = absurd (other e)
-  some-bytes (app f ds) σ e other = refl
-
   no-bytes : (e : List ℕ) → 0 ≡ length e → take v o ≡ take v o ++ e
   no-bytes [] z = sym (append-nil (take v o))
   no-bytes (x ∷ e) z = absurd (omega arith)
@@ -83,15 +84,35 @@ module _ (slots : List ℕ) (n tag number l v : ℕ) (o : List ℕ) where
   node-value i is (app g ds) σ e f s w h q = absurd (omega arith)
 
   -- a function
-  pub node-function : v < length o → tag ≡ function-tag → NodePut slots n tag number l v o (set o v ((function-code + number) % byte-limit))
+  pub node-function : v < length o → tag ≡ function-tag → l ≤ 1 → NodePut slots n tag number l v o (set o v ((function-code + number) % byte-limit))
   unfolding data-tag data-number node-bytes Writable
-  node-function i is (val x) σ e f s w h q = absurd (omega arith)
-  node-function i is (var x) σ e f s w h q = absurd (omega arith)
-  node-function i is (app g ds) σ e f s w h q =
-      let a = w .0 in
+  node-function i is one (val x) σ e f s w h q = absurd (omega arith)
+  node-function i is one (var x) σ e f s w h q = absurd (omega arith)
+  node-function i is one (app g ds) σ e f s w h q =
+      by-code g (λ (c : List ℕ). l ≡ length c → Adds c v o (v + l) (set o v ((function-code + number) % byte-limit))) (w .0)
+      (λ k m.
       let z : (function-code + number) % byte-limit ≡ function-code + g = omega arith in
       let y : v + l ≡ v + 1 = omega arith in
-      ap₂ (λ (j b : ℕ). take j (set o v b)) y z ∙ cell-more o v (function-code + g) i
+      ap₂ (λ (j b : ℕ). take j (set o v b)) y z ∙ cell-more o v (function-code + g) i)
+      (λ k m. absurd (omega arith))
+      q
+
+  -- `==`
+  pub node-equal : v + 1 < length o → tag ≡ function-tag → 1 < l → NodePut slots n tag number l v o (set (set o v 0x61) (v + 1) (number % byte-limit))
+  unfolding data-tag data-number node-bytes Writable
+  node-equal i is two (val x) σ e f s w h q = absurd (omega arith)
+  node-equal i is two (var x) σ e f s w h q = absurd (omega arith)
+  node-equal i is two (app g ds) σ e f s w h q =
+      by-code g (λ (c : List ℕ). l ≡ length c → Adds c v o (v + l) (set (set o v 0x61) (v + 1) (number % byte-limit))) (w .0)
+      (λ k m. absurd (omega arith))
+      (λ k m.
+      let a : g < first-equal + byte-limit = w .1 in
+      let z : number % byte-limit ≡ g - first-equal = omega arith in
+      let y : v + l ≡ v + 1 + 1 = omega arith in
+      ap₂ (λ (j b : ℕ). take j (set (set o v 0x61) (v + 1) b)) y z
+      ∙ adds-then (0x61 ∷ []) ((g - first-equal) ∷ []) v (v + 1) (v + 1 + 1) o (set o v 0x61) (set (set o v 0x61) (v + 1) (g - first-equal)) (cell-more o v 0x61 (omega arith))
+      (cell-more (set o v 0x61) (v + 1) (g - first-equal) (omega (arith, length-set o v 0x61))))
+      q
 
   -- a variable
   pub node-slot : (tag ≡ value-tag → ⊥) → (tag ≡ function-tag → ⊥) → slot-width * number + 2 + l ≤ length slots → v + l ≤ length o
@@ -117,7 +138,7 @@ module _ (slots : List ℕ) (n tag number l v : ℕ) (o : List ℕ) where
       → (o′ : List ℕ) → NodePut slots n tag number l v o o′
   unfolding data-tag data-number node-bytes node-nodes Writable
   node-past a b room past o′ (val x) σ e f s w h q = absurd (a e)
-  node-past a b room past o′ (var i) σ e f s w h q = absurd (omega (arith, bytes-few (look σ i) h))
+  node-past a b room past o′ (var i) σ e f s w h q = absurd (omega (arith, s .each i w .narrow))
   node-past a b room past o′ (app g ds) σ e f s w h q = absurd (b e)
 
 -- A TERM
@@ -221,5 +242,5 @@ module _ (cells : List ℕ) (at : ℕ) (slots : List ℕ) (n w : ℕ) (o : List 
               pick (decLe (nodes (put-data (look σ) d)) max-nodes) l
             where
               pick : Dec (nodes (put-data (look σ) d) ≤ max-nodes) → term-bytes < length (encode-data (put-data (look σ) d)) → max-nodes < nodes (put-data (look σ) d)
-              pick (yes few) l = absurd (omega (arith, bytes-few (put-data (look σ) d) few))
+              pick (yes few) l = absurd (omega (arith, put-narrow σ slots n s d a))
               pick (no many) l = let y : nodes (put-data (look σ) d) ≤ max-nodes → ⊥ = many in omega arith

@@ -26,7 +26,7 @@ use Rattle.putting.specs.Slots.{term-bytes, slot-width, Slot, Slots, Wri
 use Rattle.putting.specs.Puts.{Puts, PutsAll, SlotPut, Fills}
 use Rattle.putting.proofs.PutLaws.{never}
 use Rattle.putting.proofs.Bytes.{kept-front}
-use Rattle.putting.proofs.Opening.{bytes-few}
+use Rattle.putting.proofs.Opening.{put-narrow}
 
 one-data : (d : Data) (rest : List ℕ) → enc-data d ++ rest ≡ enc-datas (d ∷ []) ++ rest
 unfolding enc-datas
@@ -123,12 +123,12 @@ module _ (w : ℕ) (o o′ : List ℕ) (e : take w o′ ≡ take w o) where
 
   -- so is a slot in it
   pub slot-kept : (d : Data) (b : ℕ) → b + slot-width ≤ w → Slot d o b → Slot d o′ b
-  slot-kept d b h s = record { whole = whole; long = λ k. s .long (omega (arith, same-at b (omega arith))) }
+  slot-kept d b h s = record { whole = whole; long = λ k. s .long (omega (arith, same-at b (omega arith))); narrow = s .narrow }
     where
       whole : getD o′ b 0 ≤ max-nodes → (getD o′ b 0 ≡ nodes d) × (getD o′ (b + 1) 0 ≡ length (encode-data d)) × (take (getD o′ (b + 1) 0) (drop (b + 2) o′) ≡ encode-data d)
       whole k =
           let y = s .whole (omega (arith, same-at b (omega arith))) in
-          let z : getD o (b + 1) 0 ≤ term-bytes = omega (arith, y .1, bytes-few d (omega (arith, y .0, same-at b (omega arith)))) in (
+          let z : getD o (b + 1) 0 ≤ term-bytes = omega (arith, y .0, y .1, same-at b (omega arith), s .narrow) in (
             same-at b (omega arith) ∙ y .0,
             same-at (b + 1) (omega arith) ∙ y .1,
             ap (λ (i : ℕ). take i (drop (b + 2) o′)) (same-at (b + 1) (omega arith)) ∙ same-part (b + 2) (getD o (b + 1) 0) (omega arith) ∙ y .2,
@@ -136,12 +136,13 @@ module _ (w : ℕ) (o o′ : List ℕ) (e : take w o′ ≡ take w o) where
 
 module _ (cells : List ℕ) (at : ℕ) (slots : List ℕ) (n b : ℕ) (o : List ℕ) (r : Put) (out : List ℕ) (room : b + slot-width ≤ length out) (put : Puts cells at slots n (b + 2) o r out) where
   pub slot-long : r .ok ≡ false → SlotPut cells at slots n (set out b 255) b
-  slot-long bad d rest σ e s a = record { whole = λ k. absurd (omega (arith, getD-set-same out b 255 0 (omega arith))); long = λ k. put d rest σ e s a .1 bad }
+  slot-long bad d rest σ e s a = record { whole = λ k. absurd (omega (arith, getD-set-same out b 255 0 (omega arith))); long = λ k. put d rest σ e s a .1 bad; narrow = put-narrow σ slots n s d a }
 
   pub slot-whole : r .ok ≡ true → b + 2 ≤ r .w → r .w ≤ b + slot-width → b + 2 ≤ length o → SlotPut cells at slots n (set (set out b (r .nodes)) (b + 1) (r .w - (b + 2))) b
   slot-whole ok past most inside d rest σ e s a = record {
     whole = λ k. (first ∙ u .0, second ∙ long, ap₂ (λ (i : ℕ) (l : List ℕ). take i l) second (drop-set-lt (b + 2) (set out b (r .nodes)) (b + 1) (r .w - (b + 2)) (omega arith) ∙ drop-set-lt (b + 2) out b (r .nodes) (omega arith)) ∙ bytes);
     long = λ k. absurd (omega (arith, first, u .0, u .1));
+    narrow = put-narrow σ slots n s d a;
   }
     where
       u : (r .nodes ≡ nodes (put-data (look σ) d)) × (nodes (put-data (look σ) d) ≤ max-nodes) × Adds (encode-data (put-data (look σ) d)) (b + 2) o (r .w) out

@@ -7,10 +7,10 @@ use lib.ListN.{length, drop, take}
 use Rattle.pcrl.specs.Limits.{max-nodes}
 use Rattle.pcrl.specs.Tests.{Every}
 use Rattle.pcrl.specs.Reader.{all}
-use Rattle.pcrl.specs.Sheet.{Data, val, var, app}
+use Rattle.pcrl.specs.Sheet.{Data, val, var, app, operation}
 use Rattle.pcrl.specs.Values.{put-data}
 use Rattle.pcrl.specs.Table.{nodes}
-use Rattle.pcrl.specs.Stream.{function-code, encode-data}
+use Rattle.pcrl.specs.Stream.{codes, encode-data}
 use Rattle.pcrl.specs.Right.{Small}
 use Rattle.pcrl.specs.Heads.{look}
 use Rattle.nodes.specs.Layout.{enc-data, enc-datas}
@@ -29,7 +29,7 @@ node-nodes σ (app f ds) = 1
 unfoldable pub node-bytes : List Data → Data → List ℕ
 node-bytes σ (val v) = v ∷ []
 node-bytes σ (var i) = encode-data (look σ i)
-node-bytes σ (app f ds) = (function-code + f) ∷ []
+node-bytes σ (app f ds) = codes (operation f)
 
 -- how much a node comes to
 abbrev pub Shares : List ℕ → ℕ → ℕ → ℕ → Share → Type 0

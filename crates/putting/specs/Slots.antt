@@ -4,37 +4,42 @@ use mathlib.Core.List.{List, _++_}
 use Prim.Native.Nat.{ℕ, _+_, _*_, _≤_, _<_}
 use lib.ListN.{length, drop, take, getD}
 use Rattle.pcrl.specs.Limits.{max-nodes}
-use Rattle.pcrl.specs.Sheet.{Data, val, var, app, Datas, nil, cons}
+use Rattle.pcrl.specs.Sheet.{Data, val, var, app, Datas, nil, cons, list-of, Operation, first-equal, operation}
 use Rattle.pcrl.specs.Table.{nodes}
-use Rattle.pcrl.specs.Stream.{function-code, encode-data}
+use Rattle.pcrl.specs.Stream.{encode-data}
 use Rattle.pcrl.specs.Heads.{look}
 use Rattle.nodes.specs.Layout.{byte-limit}
 
--- the most bytes of a term that has no more nodes than a term may have
+-- A node is a byte, and `==`, which has two arguments, is two: so 31 nodes are at most 46 bytes.
+abbrev pub Narrow : Data → Type 0
+Narrow d = 2 * length (encode-data d) + 1 ≤ 3 * nodes d
+
+-- the most bytes of a narrow term that has no more nodes than a term may have
 abbrev pub term-bytes : ℕ
-term-bytes = 31
+term-bytes = 46
 
 abbrev pub slot-width : ℕ
-slot-width = 33
+slot-width = 48
 
 -- The slot from b on holds a term, or only that it has too many nodes.
 pub record Slot (d : Data) (s : List ℕ) (b : ℕ) : Type 0 where
   pub whole : getD s b 0 ≤ max-nodes
       → (getD s b 0 ≡ nodes d) × (getD s (b + 1) 0 ≡ length (encode-data d)) × (take (getD s (b + 1) 0) (drop (b + 2) s) ≡ encode-data d)
   pub long : max-nodes < getD s b 0 → max-nodes < nodes d
+  pub narrow : Narrow d
 
 -- the terms for the variables 0 to n - 1
 pub record Slots (σ : List Data) (s : List ℕ) (n : ℕ) : Type 0 where
   pub many : length σ ≡ n
   pub each : (i : ℕ) → i < n → Slot (look σ i) s (slot-width * i)
 
--- A term of cells that can be written: its numbers fit bytes, and its variables are among n.
+-- A term of cells that can be written: its numbers fit bytes, its variables are among n, each function has a code, and `==` its two arguments.
 module _ (n : ℕ) where
   unfoldable mutual
     pub Writable : Data → Type 0
     Writable (val v) = v < byte-limit
     Writable (var i) = i < n
-    Writable (app f ds) = (function-code + f < byte-limit) × WritableArguments ds
+    Writable (app f ds) = (operation f ≡ Operation.unsorted → ⊥) × (f < first-equal + byte-limit) × (first-equal ≤ f → length (list-of ds) ≡ 2) × WritableArguments ds
 
     pub WritableArguments : Datas → Type 0
     WritableArguments nil = Unit {0}

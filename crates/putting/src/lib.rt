@@ -13,9 +13,9 @@ ghost use Rattle.putting.specs.Puts.{Shares, NodePut, Puts, PutsAll, Slo
 pub const MAX_NODES: usize = 31;
 
 // The most bytes of a term, and a slot: how many nodes, how many bytes, the bytes.
-pub const TERM: usize = 31;
+pub const TERM: usize = 46;
 
-pub const SLOT: usize = 33;
+pub const SLOT: usize = 48;
 
 // The mark of a term with too many nodes.
 const LONG: u8 = 255;
@@ -23,6 +23,11 @@ const LONG: u8 = 255;
 pub const VARIABLE_CODE: usize = 32;
 
 const FUNCTION_CODE: usize = 64;
+
+// `==` and its sort are two bytes; its number at the sort D is FIRST_EQUAL + D.
+const EQUAL_CODE: u8 = 0x61;
+
+const FIRST_EQUAL: usize = 256;
 
 // How many nodes and bytes a node comes to.
 pub struct Share {
@@ -59,6 +64,9 @@ fn share_of(slots: &[u8], n: usize, tag: usize, number: usize) -> Share
     ensures { λ r. ⌜ Shares (now (slots .entry)) n tag number r ⌝ }
 {
     if tag != nodes::VARIABLE {
+        if number >= FIRST_EQUAL {
+            return Share { nodes: 1, bytes: 2 };
+        }
         return Share { nodes: 1, bytes: 1 };
     }
     let k = nodes::byte(slots, SLOT * number);
@@ -80,6 +88,11 @@ fn put_node(slots: &[u8], n: usize, tag: usize, number: usize, l: usize, out: &m
         return;
     }
     if tag == nodes::FUNCTION {
+        if l > 1 {
+            out[v] = EQUAL_CODE;
+            out[v + 1] = (number % 256) as u8;
+            return;
+        }
         out[v] = ((FUNCTION_CODE + number) % 256) as u8;
         return;
     }

@@ -5,6 +5,9 @@ use Prim.Native.Nat.{_-_, _*_}
 use mathlib.Core.Path.{refl, ap, _∙_}
 use lib.ListN.{take, replicate}
 use Rattle.putting.specs.Slots.{slot-width}
+use Rattle.following.specs.Follows.{calls-room}
+use Rattle.contexts.specs.Spots.{conds-room}
+use Rattle.heads.specs.Writing.{work-room}
 use Rattle.heads.proofs.Walking.{copied-front, heads-out}
 use Rattle.heads.proofs.write_heads.Statement.{statement}
 use Rattle.heads.proofs.write_heads.Tie as tie
@@ -46,8 +49,8 @@ returns c = let start = c .before .before .before .before .before .before .befor
     let the-copy = c .before .before .before .before .before .before .before .before .before .before .before .before .before .before .before .copy in
     let the-walk = c .before .before .before .before .before .before .before .walk in (
       the-walk .ensures .0,
-      heads-out (a .cells .now) (a .starts .now) (a .counts .now) (a .firsts .now) (a .fuel) (a .at) (a .c) (a .slots .now) (a .n) (a .m) (a .w) (a .out .now) (the-copy .last .1 .1 .1 .0) (replicate 4 0) (replicate 256 0) (replicate 1000 0) 1000 refl
-          (ap (take (slot-width * (a .n))) (the-copy .ensures) ∙ copied-front (a .cells .now) (a .starts .now) (a .counts .now) (a .firsts .now) (replicate 1188 0) (a .slots .now) (slot-width * (a .n)) (omega arith)) (the-walk .result) _ (the-walk .last .1 .1 .1 .1 .1 .1 .1 .1 .1 .1 .0) (the-walk .ensures .1),
+      heads-out (a .cells .now) (a .starts .now) (a .counts .now) (a .firsts .now) (a .fuel) (a .at) (a .c) (a .slots .now) (a .n) (a .m) (a .w) (a .out .now) (the-copy .last .1 .1 .1 .0) (replicate 4 0) (replicate conds-room 0) (replicate calls-room 0) calls-room refl
+          (ap (take (slot-width * (a .n))) (the-copy .ensures) ∙ copied-front (a .cells .now) (a .starts .now) (a .counts .now) (a .firsts .now) (replicate work-room 0) (a .slots .now) (slot-width * (a .n)) (omega arith)) (the-walk .result) _ (the-walk .last .1 .1 .1 .1 .1 .1 .1 .1 .1 .1 .0) (the-walk .ensures .1),
     )
 
 pub write-heads-spec : {M : Type 1} → statement M

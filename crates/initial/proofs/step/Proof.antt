@@ -1,8 +1,8 @@
 -- A value, a function of one argument, a function of two; or what no term has.
 use borrow.Author.Needs.{needs}
-use mathlib.Core.Path.{sym, ap, ap₂, subst, _∙_}
+use mathlib.Core.Path.{sym, ap, subst}
 use mathlib.Core.List.{List}
-use Prim.Native.Nat.{ℕ, _+_, _-_, _*_, _/_}
+use Prim.Native.Nat.{ℕ, _+_, _-_, _/_}
 use native.Mathlib.Omega.{arith}
 use Rattle.initial.specs.Evaluating.{Steps}
 use Rattle.initial.proofs.Stepping.{value-step, no-step, one-step, two-step, none-step}
@@ -21,8 +21,8 @@ sub-s c = search needs
 store-requires : tie.Need-store-requires
 store-requires c κs = search needs
 
-sub-t22 : tie.Need-sub-t22
-sub-t22 c = search needs
+sub-t21 : tie.Need-sub-t21
+sub-t21 c = search needs
 
 same-length : tie.Need-same-length
 same-length c = search needs
@@ -49,8 +49,8 @@ cell-requires-2 c κs = search needs
 cell-requires-3 : tie.Need-cell-requires-3
 cell-requires-3 c κs = search needs
 
-looked-requires : tie.Need-looked-requires
-looked-requires c κs = search needs
+of-one-requires : tie.Need-of-one-requires
+of-one-requires c κs = search needs
 
 store-requires-2 : tie.Need-store-requires-2
 store-requires-2 c κs = search needs
@@ -59,7 +59,7 @@ same-length-3 : tie.Need-same-length-3
 same-length-3 c = search needs
 
 returns-3 : tie.Need-returns-3
-returns-3 c = let a = c .before .before .before .before .before .before .before .before .before .before .before .before .before .before .before .before .before .before .before .args in let k = c .before .before .before .before .before .before .before .before .before .before .before .before .cell in let f = c .before .before .before .before .before .before .before .before .cell2 in let x = c .before .before .before .before .before .before .cell3 in let v = c .before .before .before .looked in (
+returns-3 c = let a = c .before .before .before .before .before .before .before .before .before .before .before .before .before .before .before .before .before .before .before .args in let k = c .before .before .before .before .before .before .before .before .before .before .before .before .cell in let f = c .before .before .before .before .before .before .before .before .cell2 in let x = c .before .before .before .before .before .before .cell3 in let v = c .before .before .before .of-one in (
   record { less = omega arith; above = omega arith; inside = omega arith },
   subst (λ (d : List ℕ). Steps (a .sizes .now) (a .funcs .now) (a .values .now) (a .places .now) (a .cells .now) (a .i) (a .t) (record { end = a .i - 2; top = a .t }) d) (sym (c .before .before .store2 .ensures))
       (one-step (a .sizes .now) (a .funcs .now) (a .values .now) (a .places .now) (a .cells .now) (a .i) (a .t) (omega arith) (omega arith) (omega arith) (k .result) (f .result / 4) (x .result)
@@ -82,14 +82,8 @@ add-u c = search needs
 cell-requires-4 : tie.Need-cell-requires-4
 cell-requires-4 c κs = search needs
 
-second-requires : tie.Need-second-requires
-second-requires c κs = search needs
-
-row-requires : tie.Need-row-requires
-row-requires c κs = let x = c .before .before .before .before .before .cell3 .ensures in let y = c .before .cell4 .ensures in let z = c .second .ensures in (omega arith, omega arith, omega arith)
-
-looked-requires-2 : tie.Need-looked-requires-2
-looked-requires-2 c κs = c .before .row .ensures .1
+of-two-requires : tie.Need-of-two-requires
+of-two-requires c κs = search needs
 
 store-requires-3 : tie.Need-store-requires-3
 store-requires-3 c κs = search needs
@@ -98,12 +92,11 @@ same-length-5 : tie.Need-same-length-5
 same-length-5 c = search needs
 
 returns-5 : tie.Need-returns-5
-returns-5 c = let a = c .before .before .before .before .before .before .before .before .before .before .before .before .before .before .before .before .before .before .before .before .before .before .before .before .args in let h = c .before .before .before .before .before .before .before .before .before .before .before .before .before .before .before .before .before .before .before .before .before .before .before .before .pre in let g = c .before .before .before .before .before .before .before .before .before .before .before .before .before .before .before .before .if1 in let m = c .before .before .before .before .before .before .before .before .before .before .before .before .before .before .before .if2 in let n = c .before .before .before .before .before .before .before .before .before .before .if3 in let j = c .before .before .before .before .before .before .before .before .before .if4 in let k = c .before .before .before .before .before .before .before .before .before .before .before .before .before .before .before .before .before .cell in let f = c .before .before .before .before .before .before .before .before .before .before .before .before .before .cell2 in let x = c .before .before .before .before .before .before .before .before .before .before .before .cell3 in let z = c .before .before .before .before .before .before .second in let y = c .before .before .before .before .before .before .before .cell4 in let p = c .before .before .before .before .before .row in let v = c .before .before .before .looked2 in (
+returns-5 c = let a = c .before .before .before .before .before .before .before .before .before .before .before .before .before .before .before .before .before .before .before .before .before .before .args in let h = c .before .before .before .before .before .before .before .before .before .before .before .before .before .before .before .before .before .before .before .before .before .before .pre in let g = c .before .before .before .before .before .before .before .before .before .before .before .before .before .before .if1 in let m = c .before .before .before .before .before .before .before .before .before .before .before .before .before .if2 in let n = c .before .before .before .before .before .before .before .before .if3 in let j = c .before .before .before .before .before .before .before .if4 in let k = c .before .before .before .before .before .before .before .before .before .before .before .before .before .before .before .cell in let f = c .before .before .before .before .before .before .before .before .before .before .before .cell2 in let x = c .before .before .before .before .before .before .before .before .before .cell3 in let y = c .before .before .before .before .before .cell4 in let v = c .before .before .before .of-two in (
   record { less = omega arith; above = omega arith; inside = omega arith },
   subst (λ (d : List ℕ). Steps (a .sizes .now) (a .funcs .now) (a .values .now) (a .places .now) (a .cells .now) (a .i) (a .t) (record { end = a .i - 2; top = a .t + 1 }) d) (sym (c .before .before .store3 .ensures))
       (two-step (a .sizes .now) (a .funcs .now) (a .values .now) (a .places .now) (a .cells .now) (a .i) (a .t) (omega arith) (omega arith) (omega arith) (k .result) (f .result / 4) (x .result)
-      (k .ensures .0) (λ h. omega arith) (omega arith) (ap (λ (n : ℕ). n / 4) (f .ensures .0)) (x .ensures .0) (v .result) (p .result) (omega arith)
-      (p .ensures .0 ∙ ap₂ (λ (m n : ℕ). x .result * m + n) (z .ensures .0) (y .ensures .0)) (v .ensures .0)),
+      (k .ensures .0) (λ h. omega arith) (omega arith) (ap (λ (n : ℕ). n / 4) (f .ensures .0)) (x .ensures .0) (v .result) (y .result) (omega arith) (y .ensures .0) (v .ensures .0)),
 )
 
 pub step-spec : {M : Type 1} → statement M
@@ -114,14 +107,14 @@ step-spec =
     cell-requires
     sub-s
     store-requires
-    sub-t22
+    sub-t21
     same-length
     returns
     same-length-2
     returns-2
     cell-requires-2
     cell-requires-3
-    looked-requires
+    of-one-requires
     store-requires-2
     same-length-3
     returns-3
@@ -129,9 +122,7 @@ step-spec =
     returns-4
     add-u
     cell-requires-4
-    second-requires
-    row-requires
-    looked-requires-2
+    of-two-requires
     store-requires-3
     same-length-5
     returns-5)
