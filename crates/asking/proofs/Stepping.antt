@@ -8,7 +8,7 @@ use native.Mathlib.Omega.{arith}
 use lib.ListN.{length, getD, getElem?, drop, take, replicate, length-append, length-take, length-drop, length-reverse}
 use lib.Seq.{drop-at, take-suc, length-take-le, getD-take, getD-drop, ext-getD}
 use Rattle.pcrl.specs.Limits.{frame-width, stack-limit}
-use Rattle.pcrl.specs.Parts.{tabulate}
+use Rattle.pcrl.specs.Lists.{tabulate}
 use Rattle.pcrl.specs.Reader.{all}
 use Rattle.pcrl.specs.Sheet.{Sig}
 use Rattle.pcrl.specs.Label.{Label}

@@ -6,8 +6,8 @@ use mathlib.Core.Option.{some}
 use Prim.Native.Nat.{ℕ, zero, suc, _+_, _-_, _<_, _≤_}
 use lib.Dec.{eqb, ltb}
 use lib.ListN.{length, getD, take, drop, getElem?}
-use Rattle.pcrl.specs.Limits.{max-nodes}
 use Rattle.pcrl.specs.Tests.{and}
+use Rattle.codec.specs.TermLength.{max-term}
 use Rattle.evaluation.specs.Run.{pick, top, run, peak, foot}
 use Rattle.assignments.specs.Places.{product, places}
 
@@ -35,7 +35,7 @@ met s funcs froms ends n e = all-below n (λ i. holds s funcs e (getD froms i 0)
 -- `reach`: no condition names a variable from it on; `low`: none names a sum variable before it.
 pub record Ready (s : List ℕ) (p : ℕ) (sizes froms ends blocks : List ℕ) (reach low i : ℕ) : Type 0 where
   pub some-term : getD froms i 0 + 1 ≤ getD ends i 0
-  pub short : getD ends i 0 ≤ getD froms i 0 + 1 + max-nodes
+  pub short : getD ends i 0 ≤ getD froms i 0 + 1 + max-term
   pub inside : getD ends i 0 ≤ length s
   pub block-is : getD blocks i 0 ≡ product (drop (peak (code s (getD froms i 0) (getD ends i 0)) - p) sizes)
   pub below : peak (code s (getD froms i 0) (getD ends i 0)) ≤ reach

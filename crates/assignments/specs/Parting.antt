@@ -5,7 +5,7 @@ use mathlib.Core.Bool.{Bool, true}
 use Prim.Native.Nat.{ℕ, _+_, _-_, _<_, _≤_}
 use lib.Dec.{ltb}
 use lib.ListN.{length, getD, drop}
-use Rattle.pcrl.specs.Limits.{max-nodes}
+use Rattle.codec.specs.TermLength.{max-term}
 use Rattle.evaluation.specs.Run.{pick, peak, foot}
 use Rattle.assignments.specs.Places.{product}
 use Rattle.assignments.specs.Conditions.{code, holds, all-below}
@@ -14,7 +14,7 @@ use Rattle.assignments.specs.declared.Parts.{Parts}
 -- condition i stands in the stream
 pub record Standing (s froms ends : List ℕ) (i : ℕ) : Type 0 where
   pub some-term : getD froms i 0 + 1 ≤ getD ends i 0
-  pub short : getD ends i 0 ≤ getD froms i 0 + 1 + max-nodes
+  pub short : getD ends i 0 ≤ getD froms i 0 + 1 + max-term
   pub inside : getD ends i 0 ≤ length s
 
 -- what condition i says where it has a block

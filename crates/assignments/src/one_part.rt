@@ -3,7 +3,8 @@ ghost use mathlib.Core.Path.{_≡_};
 ghost use mathlib.Core.Bool.{true, false};
 ghost use Prim.Native.Nat.{ℕ, _+_, _-_, _/_, _≤_, _<_};
 ghost use lib.ListN.{length, getD, drop};
-ghost use Rattle.pcrl.specs.Limits.{frame-width, max-conditions, max-nodes};
+ghost use Rattle.pcrl.specs.Limits.{frame-width, max-conditions};
+ghost use Rattle.codec.specs.TermLength.{max-term};
 ghost use Rattle.assignments.specs.Places.{product, valuesOf, places, Sizes};
 ghost use Rattle.assignments.specs.Conditions.{env, holds, tried-of, Tested, Finds};
 ghost use Rattle.assignments.specs.Parting.{Standing, asked, part-met, Part, Above};
@@ -24,7 +25,7 @@ fn next(j: usize, d: usize) -> usize
 
 // The larger of out and the condition's block, if the condition fails; it is not evaluated if that changes nothing.
 fn tried(s: &[u8], funcs: &[u16], e: &[u8], from: usize, end: usize, block: u32, out: u32) -> u32
-    ensures { λ r. ⌜ (from + 1 ≤ end → end ≤ from + 1 + max-nodes → end ≤ length (now (s .entry)) → r ≡ tried-of (holds (now (s .entry)) (now (funcs .entry)) (now (e .entry)) from end) block out) ⌝ }
+    ensures { λ r. ⌜ (from + 1 ≤ end → end ≤ from + 1 + max-term → end ≤ length (now (s .entry)) → r ≡ tried-of (holds (now (s .entry)) (now (funcs .entry)) (now (e .entry)) from end) block out) ⌝ }
 {
     if block <= out {
         return out;

@@ -1,30 +1,38 @@
 // Data terms as text, by a loop over the prefix order.
 ghost use mathlib.Core.Path.{_≡_};
 ghost use mathlib.Core.List.{List, _++_};
-ghost use Prim.Native.Nat.{ℕ, _-_, _≤_};
+ghost use Prim.Native.Nat.{ℕ, _+_, _-_, _≤_, _<_, min};
 ghost use lib.ListN.{length, getD, drop};
 ghost use Rattle.pcrl.specs.Limits.{max-stream};
 ghost use Rattle.pcrl.specs.Tests.{Each};
 ghost use Rattle.pcrl.specs.Reader.{all};
 ghost use Rattle.pcrl.specs.Sheet.{Data, Sig};
 ghost use Rattle.pcrl.specs.Stream.{variable-code, function-code, encode-data};
-ghost use Rattle.pcrl.specs.Decode.{node-of};
 ghost use Rattle.pcrl.specs.Right.{RightTerm};
 ghost use Rattle.rendering.specs.Texts.{data-text, given-text};
 ghost use Rattle.evaluation.specs.Known.{KnownTerms};
 ghost use Rattle.texts.specs.Wrote.{Wrote};
 ghost use Rattle.lettering.specs.Named.{Lettered};
-ghost use Rattle.clauses.specs.Brackets.{Open, code, node-text, deeper, lead, Closes, Turns};
+ghost use Rattle.clauses.specs.Brackets.{Open, code, operator-code, sign, node-text, deeper, passed, lead, Turns};
 ghost use Rattle.clauses.specs.Terms.{Within, Puts};
+use crate::operands::ANY;
+use crate::operands::After;
+use crate::operands::COMMA;
+use crate::operands::LIMIT;
+use crate::operands::NEGATION;
+use crate::operands::NONE;
+use crate::operands::close;
+use crate::operands::first_place;
+use crate::operands::joint;
+use crate::operands::marked;
 use lettering::Letters;
 use lettering::put_name;
+use terms::EQUAL;
 use terms::FUNCTION;
+use terms::NOT;
 use terms::VARIABLE;
 use texts::put_byte;
 use texts::put_decimal;
-
-// More than the brackets of any term of a table make.
-const LIMIT: u64 = 0x100000000;
 
 // Where the stream was read to, and where the text ends.
 pub struct Put {
@@ -32,38 +40,24 @@ pub struct Put {
     pub at: usize,
 }
 
-// Where the text ends behind an argument, and the brackets that are then open.
-struct Closed {
-    at: usize,
-    opens: u64,
-}
-
-// Behind an argument: brackets are closed as long as no argument follows in them, and then a comma. The open brackets are the bits of a
-// number, the innermost lowest, behind a first 1: 1 if an argument follows behind the next one, 0 if not.
-fn close(out: &mut [u8], at: usize, opens: u64) -> Closed
-    requires { ⌜ at ≤ length (now out) ⌝ }
-    ensures { λ r. ⌜ (r .at ≤ length (now (out .entry))) × (length (now (out .exit)) ≡ length (now (out .entry))) ⌝ }
-    ensures { λ r. ⌜ ((bs : Open) → opens ≡ code bs → Closes (now (out .entry)) at bs (now (out .exit)) (r .at) (r .opens)) ⌝ }
+// What stands before the operands of an operator: `!`, or a bracket where its form is looser than its place.
+fn put_operator(out: &mut [u8], at: usize, n: usize, place: u64) -> usize
+    requires { ⌜ (at ≤ length (now out)) × (operator-code ≤ n) ⌝ }
+    ensures { λ r. ⌜ ((k l : ℕ) → Wrote (now (out .entry)) at (node-text k l place (sign n)) (now (out .exit)) r) ⌝ }
 {
-    let mut p = at;
-    let mut o = opens;
-    while 1 < o {
-        if o % 2 == 1 {
-            return Closed {
-                at: put_byte(out, p, b','),
-                opens: o - 1,
-            };
-        }
-        p = put_byte(out, p, b')');
-        o = o / 2;
+    if n == NOT {
+        return put_byte(out, at, b'!');
     }
-    Closed { at: p, opens: o }
+    if joint(n) <= place {
+        return put_byte(out, at, b'(');
+    }
+    at
 }
 
-// A value, or the name of a variable or of a function.
-fn put_node(out: &mut [u8], at: usize, l: Letters, b: u8) -> usize
+// What stands before the operands of a node at a place: a value, a name, that of a function with its bracket.
+fn put_node(out: &mut [u8], at: usize, l: Letters, b: u8, place: u64) -> usize
     requires { ⌜ at ≤ length (now out) ⌝ }
-    ensures { λ r. ⌜ Wrote (now (out .entry)) at (node-text (l .funcs) (l .vars) (node-of b)) (now (out .exit)) r ⌝ }
+    ensures { λ r. ⌜ Wrote (now (out .entry)) at (node-text (l .funcs) (l .vars) place (sign b)) (now (out .exit)) r ⌝ }
 {
     let n = terms::wide(b);
     if n < VARIABLE {
@@ -72,39 +66,69 @@ fn put_node(out: &mut [u8], at: usize, l: Letters, b: u8) -> usize
     if n < FUNCTION {
         return put_name(out, at, b'v', l.vars, n - VARIABLE);
     }
-    put_name(out, at, b'f', l.funcs, n - FUNCTION)
+    if n < NOT {
+        let a = put_name(out, at, b'f', l.funcs, n - FUNCTION);
+        return put_byte(out, a, b'(');
+    }
+    put_operator(out, at, n, place)
 }
 
-// The open brackets with that of a function more, in which a second argument follows or not. (A term of 31 nodes has fewer brackets than
-// the limit.)
+// The bracket of a function more, in which a second argument follows or not.
 fn opened(s: &[u8], funcs: &[u16], b: u8, opens: u64) -> u64
     requires { ⌜ function-code ≤ b ⌝ }
     ensures { λ r. ⌜ ((bs : Open) → opens ≡ code bs → r ≡ code (deeper (now (s .entry)) (getD (now (funcs .entry)) (b - function-code) 0) bs)) ⌝ }
 {
+    let p = terms::place(funcs, terms::wide(b) - FUNCTION);
+    if terms::peek(s, p) != 1 {
+        return marked(opens, COMMA, ANY);
+    }
     if LIMIT <= opens {
         return opens;
     }
-    let p = terms::place(funcs, terms::wide(b) - FUNCTION);
-    if terms::peek(s, p) == 1 {
-        return 2 * opens;
-    }
-    2 * opens + 1
+    2 * opens
 }
 
-// Behind the byte b: a bracket is opened behind a function, and others are closed behind a value or a variable.
-fn turn(s: &[u8], funcs: &[u16], b: u8, opens: u64, out: &mut [u8], at: usize) -> Closed
+// Behind the byte b, which stands at a place: operands follow behind a function or an operator, and an operand ends with a value or a variable.
+fn turn(s: &[u8], funcs: &[u16], b: u8, opens: u64, place: u64, out: &mut [u8], at: usize) -> After
     requires { ⌜ at ≤ length (now out) ⌝ }
     ensures { λ r. ⌜ (r .at ≤ length (now (out .entry))) × (length (now (out .exit)) ≡ length (now (out .entry))) ⌝ }
-    ensures { λ r. ⌜ ((bs : Open) → opens ≡ code bs → Turns (now (s .entry)) (now (funcs .entry)) b (now (out .entry)) at bs (now (out .exit)) (r .at) (r .opens)) ⌝ }
+    ensures { λ r. ⌜ ((bs : Open) → opens ≡ code bs → Turns (now (s .entry)) (now (funcs .entry)) b place (now (out .entry)) at bs (now (out .exit)) (r .at) (r .opens) (r .place)) ⌝ }
 {
-    if terms::wide(b) < FUNCTION {
+    let n = terms::wide(b);
+    if n < FUNCTION {
         return close(out, at, opens);
     }
-    let o = opened(s, funcs, b, opens);
-    Closed {
-        at: put_byte(out, at, b'('),
-        opens: o,
+    if n < NOT {
+        return After {
+            at: at,
+            opens: opened(s, funcs, b, opens),
+            place: ANY,
+        };
     }
+    if n == NOT {
+        return After {
+            at: at,
+            opens: opens,
+            place: NEGATION,
+        };
+    }
+    let m = joint(n);
+    After {
+        at: at,
+        opens: marked(opens, m, place),
+        place: first_place(m),
+    }
+}
+
+// Where the next node stands in a stream of n bytes, behind that at i: a sort is passed.
+fn next_node(n: usize, i: usize, b: u8) -> usize
+    requires { ⌜ (i < n) × (n ≤ max-stream) ⌝ }
+    ensures { λ r. ⌜ r ≡ min n (i + 1 + passed (sign b)) ⌝ }
+{
+    if terms::wide(b) == EQUAL {
+        return evaluation::smaller(n, i + 2);
+    }
+    i + 1
 }
 
 // A term that stands in the stream.
@@ -116,14 +140,16 @@ pub fn put_term(s: &[u8], funcs: &[u16], l: Letters, from: usize, out: &mut [u8]
     let mut i = from;
     let mut p = at;
     let mut opens: u64 = 1;
+    let mut place = ANY;
     while i < s.len() {
         let b = s[i];
-        i += 1;
-        let q = put_node(out, p, l, b);
-        let c = turn(s, funcs, b, opens, out, q);
-        p = c.at;
-        opens = c.opens;
-        if opens < 2 {
+        i = next_node(s.len(), i, b);
+        let q = put_node(out, p, l, b, place);
+        let t = turn(s, funcs, b, opens, place, out, q);
+        p = t.at;
+        opens = t.opens;
+        place = t.place;
+        if place == NONE {
             return Put { from: i, at: p };
         }
     }

@@ -18,6 +18,7 @@ ghost use Rattle.clauses.specs.Terms.{Within};
 ghost use Rattle.clauses.specs.Written.{Ends, Marks, sum-by, SumsPut, CondPut, CondsPut, ActionPut, CallPut, CallsPut, SummandPut};
 
 pub mod data; // data terms
+pub mod operands; // what is to be written behind operands
 
 use crate::data::Put;
 use crate::data::put_term;

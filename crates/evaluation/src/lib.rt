@@ -2,31 +2,84 @@
 ghost use mathlib.Core.Path.{_≡_};
 ghost use Prim.Native.Nat.{_+_, _-_, _*_, _≤_, _<_, max, min};
 ghost use lib.ListN.{length, getD, take, drop};
-ghost use Rattle.pcrl.specs.Limits.{max-nodes, max-stream};
+ghost use Rattle.pcrl.specs.Limits.{max-stream};
 ghost use Rattle.pcrl.specs.Decode.{node-of};
-ghost use Rattle.evaluation.specs.Run.{argument-count, worth-of, extent, run, top, named, peak, lowered, foot};
+ghost use Rattle.codec.specs.TermLength.{max-term};
+ghost use Rattle.evaluation.specs.Run.{pick, operator-code, operator-count, operator-worth, argument-count, worth-of, extent, run, top, named, peak, lowered, foot};
+use terms::AND;
+use terms::EQUAL;
 use terms::FUNCTION;
-use terms::NODES;
+use terms::NOT;
 use terms::VARIABLE;
 
-// How many arguments stand behind a byte.
+// Bytes of a term, at the most.
+pub const TERM: usize = 46;
+
+// How many values an operator takes: `==` its sort too.
+fn operator_arguments(n: usize) -> usize
+    requires { ⌜ operator-code ≤ n ⌝ }
+    ensures { λ r. ⌜ (r ≡ operator-count (n - operator-code)) × (r ≤ 3) ⌝ }
+{
+    if n == NOT {
+        return 1;
+    }
+    if n == EQUAL {
+        return 3;
+    }
+    2
+}
+
+// How many values stand behind a byte.
 fn arguments(s: &[u8], funcs: &[u16], b: u8) -> usize
-    ensures { λ r. ⌜ (r ≡ argument-count (now (s .entry)) (now (funcs .entry)) (node-of b)) × (r ≤ 2) ⌝ }
+    ensures { λ r. ⌜ (r ≡ argument-count (now (s .entry)) (now (funcs .entry)) (node-of b)) × (r ≤ 3) ⌝ }
 {
     let n = terms::wide(b);
     if n < FUNCTION {
         return 0;
     }
-    let p = terms::place(funcs, n - FUNCTION);
-    if terms::peek(s, p) == 1 {
-        return 1;
+    if n < NOT {
+        let p = terms::place(funcs, n - FUNCTION);
+        if terms::peek(s, p) == 1 {
+            return 1;
+        }
+        return 2;
     }
-    2
+    operator_arguments(n)
 }
 
-// What a byte is worth where the values behind it begin with x and y.
-fn worth(s: &[u8], funcs: &[u16], e: &[u8], b: u8, x: u8, y: u8) -> u8
-    ensures { λ r. ⌜ r ≡ worth-of (now (s .entry)) (now (funcs .entry)) (now (e .entry)) (node-of b) x y ⌝ }
+fn bit(t: bool) -> u8
+    ensures { λ r. ⌜ r ≡ pick t 1 0 ⌝ }
+{
+    if t { 1 } else { 0 }
+}
+
+// What an operator is worth where the values behind it begin with x, y and z.
+fn operator_worth(n: usize, x: u8, y: u8, z: u8) -> u8
+    requires { ⌜ operator-code ≤ n ⌝ }
+    ensures { λ r. ⌜ r ≡ operator-worth (n - operator-code) x y z ⌝ }
+{
+    if n == NOT {
+        return bit(x == 0);
+    }
+    if n == EQUAL {
+        return bit(y == z);
+    }
+    if n == AND {
+        if x == 0 {
+            return 0;
+        }
+        return y;
+    }
+    if x == 0 {
+        return y;
+    }
+    1
+}
+
+// What a byte is worth where the value behind it is x, and those behind that stand on the stack from t on.
+fn worth(s: &[u8], funcs: &[u16], e: &[u8], stack: &[u8], t: usize, b: u8, x: u8) -> u8
+    requires { ⌜ t ≤ 48 ⌝ }
+    ensures { λ r. ⌜ r ≡ worth-of (now (s .entry)) (now (funcs .entry)) (now (e .entry)) (node-of b) x (getD (now (stack .entry)) t 0) (getD (now (stack .entry)) (t + 1) 0) ⌝ }
 {
     let n = terms::wide(b);
     if n < VARIABLE {
@@ -35,13 +88,17 @@ fn worth(s: &[u8], funcs: &[u16], e: &[u8], b: u8, x: u8, y: u8) -> u8
     if n < FUNCTION {
         return terms::peek(e, n - VARIABLE);
     }
-    let p = terms::place(funcs, n - FUNCTION);
-    if terms::peek(s, p) == 1 {
-        return terms::peek(s, p + 3 + terms::wide(x));
+    if n < NOT {
+        let p = terms::place(funcs, n - FUNCTION);
+        if terms::peek(s, p) == 1 {
+            return terms::peek(s, p + 3 + terms::wide(x));
+        }
+        let d = terms::wide(terms::peek(s, p + 2));
+        let y = terms::peek(stack, t);
+        let i = row(x, terms::peek(s, 1 + d), y);
+        return terms::peek(s, p + 4 + i);
     }
-    let d = terms::wide(terms::peek(s, p + 2));
-    let i = row(x, terms::peek(s, 1 + d), y);
-    terms::peek(s, p + 4 + i)
+    operator_worth(n, x, terms::peek(stack, t), terms::peek(stack, t + 1))
 }
 
 // The place of y in row x, where the rows are of the given length.
@@ -131,18 +188,18 @@ pub fn variables(s: &[u8], at: usize, end: usize, p: usize) -> Span
 
 // Where the stack begins after its first value was put on it and k were taken.
 fn taken(t: usize, k: usize) -> usize
-    requires { ⌜ (0 < t) × ((t ≤ 32) × (k ≤ 2)) ⌝ }
-    ensures { λ r. ⌜ r ≡ min (t - 1 + k) 32 ⌝ }
+    requires { ⌜ (0 < t) × ((t ≤ 48) × (k ≤ 3)) ⌝ }
+    ensures { λ r. ⌜ r ≡ min (t - 1 + k) 48 ⌝ }
 {
-    smaller(t - 1 + k, 32)
+    smaller(t - 1 + k, 48)
 }
 
 // The value of the term that stands from at to end, from the right: the value last found is x, those before it stand on a stack that grows downwards.
 pub fn value(s: &[u8], funcs: &[u16], e: &[u8], at: usize, end: usize) -> u8
-    ensures { λ r. ⌜ (at ≤ end → end ≤ at + max-nodes → end ≤ length (now (s .entry)) → r ≡ top (run (now (s .entry)) (now (funcs .entry)) (now (e .entry)) (take (end - at) (drop at (now (s .entry)))))) ⌝ }
+    ensures { λ r. ⌜ (at ≤ end → end ≤ at + max-term → end ≤ length (now (s .entry)) → r ≡ top (run (now (s .entry)) (now (funcs .entry)) (now (e .entry)) (take (end - at) (drop at (now (s .entry)))))) ⌝ }
 {
-    let mut stack = [0u8; 32];
-    let mut t: usize = 32;
+    let mut stack = [0u8; 48];
+    let mut t: usize = 48;
     let mut x: u8 = 0;
     if end < at {
         return 0;
@@ -150,16 +207,16 @@ pub fn value(s: &[u8], funcs: &[u16], e: &[u8], at: usize, end: usize) -> u8
     if s.len() < end {
         return 0;
     }
-    if NODES < end - at {
+    if TERM < end - at {
         return 0;
     }
     let mut i = end;
     while at < i {
         i -= 1;
         let b = s[i];
-        let y = terms::peek(&stack, t);
+        let v = worth(s, funcs, e, &stack, t, b, x);
         stack[t - 1] = x;
-        x = worth(s, funcs, e, b, x, y);
+        x = v;
         t = taken(t, arguments(s, funcs, b));
     }
     x

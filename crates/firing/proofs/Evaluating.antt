@@ -5,20 +5,19 @@ use Prim.Native.Nat.{ℕ, zero, suc, _+_, _-_, _≤_, _<_}
 use native.Mathlib.Omega.{arith}
 use lib.ListN.{length, getD, take, drop, set, replicate, length-append, length-drop, length-map, drop-of-length-le}
 use lib.Seq.{drop-drop, take-at, drop-at, take-all}
-use Rattle.pcrl.specs.Limits.{max-nodes}
 use Rattle.pcrl.specs.Tests.{Each}
 use Rattle.pcrl.specs.Reader.{all}
 use Rattle.pcrl.specs.Sheet.{Data, val, Sig}
 use Rattle.pcrl.specs.Values.{eval}
-use Rattle.pcrl.specs.Table.{nodes}
 use Rattle.pcrl.specs.Stream.{encode-data}
 use Rattle.pcrl.specs.Right.{RightTerm}
 use Rattle.laws.specs.Each.{each-at, each-length}
 use Rattle.laws.specs.Lists.{getD-map}
+use Rattle.codec.specs.TermLength.{max-term, term-length}
 use Rattle.blocks.proofs.Fronts.{copied-more}
 use Rattle.evaluation.specs.Run.{extent, run, top}
 use Rattle.evaluation.proofs.Bytes.{extent-none}
-use Rattle.evaluation.proofs.Terms.{extent-data, value-is, data-length}
+use Rattle.evaluation.proofs.Terms.{some-byte, extent-data, value-is}
 use Rattle.opening.proofs.Standing.{all-first}
 use Rattle.firing.specs.Known.{Valued}
 
@@ -32,25 +31,17 @@ module _ (S : Sig) (s funcs e Γ vs : List ℕ) (valued : Valued S s funcs e Γ 
     pub term-rest : drop end s ≡ more
     term-rest = ap (λ (n : ℕ). drop n s) ends ∙ sym (drop-drop (length (encode-data d)) a s) ∙ ap (drop (length (encode-data d))) here ∙ drop-at (encode-data d) more (length (encode-data d)) refl
 
-    some-node : (d : Data) → 0 < nodes d
-    unfolding nodes
-    some-node (Data.val v) = omega arith
-    some-node (Data.var i) = omega arith
-    some-node (Data.app f ds) = omega arith
-
     inside : end ≤ length s
     inside =
         let l = ap length here in
-        let n = data-length d in
-        let p = some-node d in
+        let p = some-byte S Γ d D (right .0) in
         let e′ = ends in
         omega (arith, length-drop a s, length-append (encode-data d) more)
 
-    pub term-worth : (v : ℕ) → (a ≤ end → end ≤ a + max-nodes → end ≤ length s → v ≡ top (run s funcs e (take (end - a) (drop a s)))) → v ≡ eval S vs d
+    pub term-worth : (v : ℕ) → (a ≤ end → end ≤ a + max-term → end ≤ length s → v ≡ top (run s funcs e (take (end - a) (drop a s)))) → v ≡ eval S vs d
     term-worth v ev =
-        let n = data-length d in
+        let n = term-length S Γ D d right in
         let e′ = ends in
-        let m : nodes d ≤ max-nodes = right .1 in
         let z : end - a ≡ length (encode-data d) = omega arith in
         ev (omega arith) (omega arith) inside
         ∙ ap (λ (c : List ℕ). top (run s funcs e c)) (ap₂ (λ (k : ℕ) (y : List ℕ). take k y) z here ∙ take-at (encode-data d) more (length (encode-data d)) refl)
@@ -68,7 +59,7 @@ module _ (s funcs e : List ℕ) (at n : ℕ) (o : List ℕ) where
   valuing-none S Γ vs Ds ds rest valued right l here = (refl, here)
 
   pub valuing-more : (out : List ℕ) (a i end v : ℕ) → i < n → n ≤ length o → end ≡ a + extent s funcs (drop a s) 1
-      → (a ≤ end → end ≤ a + max-nodes → end ≤ length s → v ≡ top (run s funcs e (take (end - a) (drop a s)))) → Valuing s funcs e at n o out a i → Valuing s funcs e at n o (set out i v) end (i + 1)
+      → (a ≤ end → end ≤ a + max-term → end ≤ length s → v ≡ top (run s funcs e (take (end - a) (drop a s)))) → Valuing s funcs e at n o out a i → Valuing s funcs e at n o (set out i v) end (i + 1)
   unfolding Valuing
   valuing-more out a i end v k room ee ev old S Γ vs Ds ds rest valued right l here =
       let (written, left) = old S Γ vs Ds ds rest valued right l here in

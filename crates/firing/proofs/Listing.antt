@@ -8,7 +8,7 @@ use native.Mathlib.Omega.{arith}
 use lib.ListN.{length, getD, replicate}
 use Rattle.pcrl.specs.Tests.{Each}
 use Rattle.pcrl.specs.Reader.{all}
-use Rattle.pcrl.specs.Parts.{tabulate}
+use Rattle.pcrl.specs.Lists.{tabulate}
 use Rattle.pcrl.specs.Sheet.{Sig, size}
 use Rattle.pcrl.specs.Stack.{InSorts}
 use Rattle.pcrl.specs.Steps.{values-of, if-met}

@@ -10,7 +10,7 @@ use borrow.Author.Tests.{eq-eqb, ltb-true, ltb-false, eqb-true}
 use Rattle.pcrl.specs.Limits.{frame-width, max-variables}
 use Rattle.pcrl.specs.Tests.{Between, and, Every}
 use Rattle.pcrl.specs.Reader.{all}
-use Rattle.pcrl.specs.Parts.{tabulate}
+use Rattle.pcrl.specs.Lists.{tabulate}
 use Rattle.pcrl.specs.Sheet.{Data, Sig, size}
 use Rattle.pcrl.specs.Values.{eval}
 use Rattle.pcrl.specs.Table.{Summand}

@@ -10,7 +10,7 @@ use lib.Seq.{getD-append-add}
 use Rattle.pcrl.specs.Limits.{frame-width}
 use Rattle.pcrl.specs.Tests.{Every}
 use Rattle.pcrl.specs.Reader.{all}
-use Rattle.pcrl.specs.Parts.{tabulate}
+use Rattle.pcrl.specs.Lists.{tabulate}
 use Rattle.pcrl.specs.Sheet.{Sig}
 use Rattle.pcrl.specs.Label.{Label}
 use Rattle.pcrl.specs.Stack.{Frame}

@@ -5,7 +5,7 @@ use mathlib.Core.Option.{Option, none, some}
 use Prim.Native.Nat.{ℕ, _+_, _*_}
 use lib.ListN.{getD, take}
 use Rattle.pcrl.specs.Limits.{frame-width}
-use Rattle.pcrl.specs.Parts.{tabulate}
+use Rattle.pcrl.specs.Lists.{tabulate}
 use Rattle.pcrl.specs.Sheet.{Sig}
 use Rattle.pcrl.specs.Label.{Label, label}
 use Rattle.pcrl.specs.Stack.{Frame}

@@ -8,7 +8,7 @@ use mir.Val.{Val}
 use denote.Laws.{Is}
 use denote.Struct.Laws as LL
 use Rattle.pcrl.specs.Limits.{frame-width}
-use Rattle.pcrl.specs.Parts.{tabulate}
+use Rattle.pcrl.specs.Lists.{tabulate}
 use Rattle.pcrl.specs.Stack as pcrl
 use Rattle.laws.specs.Lists.{getD-map}
 use Rattle.stacks.specs.Lent.{frame-at}

@@ -9,18 +9,18 @@ use lib.Dec.{ltb}
 use lib.ListN.{length, getD, take, drop, set, length-append, length-drop, drop-of-length-le}
 use lib.Seq.{drop-cons, drop-drop, getD-drop, take-at, drop-at, getD-set-same, getD-set-other}
 use borrow.Author.Tests.{ltb-true, ltb-false}
-use Rattle.pcrl.specs.Limits.{max-nodes, max-conditions}
+use Rattle.pcrl.specs.Limits.{max-conditions}
 use Rattle.pcrl.specs.Tests.{Every}
 use Rattle.pcrl.specs.Reader.{all}
 use Rattle.pcrl.specs.Sheet.{Data, Sig}
-use Rattle.pcrl.specs.Table.{nodes}
 use Rattle.pcrl.specs.Stream.{variable-code, encode-data, encode-list, encode-cond}
 use Rattle.pcrl.specs.Right.{RightCond}
 use Rattle.laws.specs.Every.{every-at}
+use Rattle.codec.specs.TermLength.{term-length}
 use Rattle.evaluation.specs.Run.{extent, peak, foot}
 use Rattle.evaluation.specs.Known.{KnownTerms}
 use Rattle.evaluation.proofs.Bytes.{extent-none}
-use Rattle.evaluation.proofs.Terms.{extent-data, data-length}
+use Rattle.evaluation.proofs.Terms.{extent-data}
 use Rattle.assignments.specs.Places.{product}
 use Rattle.assignments.specs.Conditions.{code}
 use Rattle.assignments.specs.declared.Conditions.{Conditions}
@@ -67,8 +67,7 @@ module _ (S : Sig) (s funcs : List ℕ) (known : KnownTerms S s funcs) (Γ : Lis
     unfolding RightCond
     cond-stood p reach low h f block sizes up down eh ef eb =
         let e = ends in
-        let n = data-length d in
-        let m : nodes d ≤ max-nodes = right .1 .1 in
+        let n = term-length S Γ 0 d (right .1) in
         let q : h ≡ peak (code s a end) = eh (omega arith) inside in
         let v : f ≡ foot p (code s a end) = ef (omega arith) inside in
         record {

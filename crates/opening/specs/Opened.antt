@@ -3,9 +3,10 @@ use mathlib.Core.Path.{_≡_}
 use mathlib.Core.List.{List, _++_, map}
 use Prim.Native.Nat.{ℕ, _+_, _-_, _<_, _≤_}
 use lib.ListN.{length, getD, drop, replicate}
-use Rattle.pcrl.specs.Limits.{max-nodes, max-variables}
+use Rattle.pcrl.specs.Limits.{max-variables}
 use Rattle.pcrl.specs.Sheet.{Data, val, Sig, size}
 use Rattle.pcrl.specs.Stream.{encode-data}
+use Rattle.codec.specs.TermLength.{max-term}
 use Rattle.evaluation.specs.Run.{peak, foot}
 use Rattle.assignments.specs.Places.{product}
 use Rattle.assignments.specs.Conditions.{code}
@@ -21,7 +22,7 @@ no-cond = (0, val 0)
 -- a condition stands in the stream up to `end`, with its block and what it names
 pub record Stood (s : List ℕ) (p : ℕ) (sizes : List ℕ) (reach low : ℕ) (c : ℕ × Data) (from end block : ℕ) : Type 0 where
   pub some-term : from + 1 ≤ end
-  pub short : end ≤ from + 1 + max-nodes
+  pub short : end ≤ from + 1 + max-term
   pub inside : end ≤ length s
   pub block-is : block ≡ product (drop (peak (code s from end) - p) sizes)
   pub below : peak (code s from end) ≤ reach

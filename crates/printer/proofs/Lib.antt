@@ -3,4 +3,5 @@ pub mod Params
 pub mod Known
 pub mod Whole
 pub mod Seventeen
+pub mod WatchLaws
 pub mod Tokened

@@ -21,7 +21,7 @@ use Rattle.texts.specs.Wrote.{Wrote}
 use Rattle.printing.specs.Linear.{linear-sheet}
 use Rattle.printing.specs.TextFits.{Fits, fits-passes, tokens-fit, fits-tokens, seventeen-exactly}
 use Rattle.printer.specs.declared.delivery.Printed.{Printed}
-use Rattle.printer.specs.Printing.{text-room, HasTokens, printed-answer}
+use Rattle.printer.specs.Printing.{text-room, TokensApart, printed-answer}
 
 -- both that the answer and the output are those of a result
 abbrev pub Delivered : Result (List ℕ) → List ℕ → Printed → List ℕ → Type 0
@@ -69,11 +69,11 @@ module _ (U : Table) (right : RightTable U) (room : ℕ) where
     pub too-many : max-processes < length (U .equations) → text-printed U room ≡ refused 17
     too-many h = unfit (λ fits. let few = fits .few in omega arith)
 
-    pub no-tokens : length text ≤ max-bytes → ¬ (HasTokens text) → text-printed U room ≡ refused 17
-    no-tokens h lacks = unfit (λ fits. lacks (subst HasTokens (sym (whole h)) (fits-tokens U right fits)))
+    pub not-apart : length text ≤ max-bytes → ¬ (TokensApart text) → text-printed U room ≡ refused 17
+    not-apart h lacks = unfit (λ fits. lacks (subst TokensApart (sym (whole h)) (fits-tokens U right fits)))
 
-    pub fit : length text ≤ max-bytes → HasTokens text → length (U .equations) ≤ max-processes → Fits U
-    fit h has few = let (ts, e) = subst HasTokens (whole h) has in tokens-fit U right ts e few
+    pub fit : length text ≤ max-bytes → TokensApart text → length (U .equations) ≤ max-processes → Fits U
+    fit h has few = let (ts, both) = subst TokensApart (whole h) has in tokens-fit U right ts (both .0) (both .1) few
 
 -- the whole operation, from the table's own
 pub printed-refused : (file : List ℕ) (room n : ℕ) → table-checked file ≡ refused n → table-printed file room ≡ refused n

@@ -9,8 +9,9 @@ ghost use Rattle.pcrl.specs.Blocks.{block-bytes, block-stream};
 ghost use Rattle.pcrl.specs.Printer.{table-text};
 ghost use Rattle.pcrl.specs.Answers.{output-after, text-printed, table-printed};
 ghost use Rattle.laws.specs.Says.{Says};
-ghost use Rattle.printer.specs.Printing.{text-room, HasTokens, printed-answer};
+ghost use Rattle.printer.specs.Printing.{text-room, TokensApart, printed-answer};
 use crate::put_sheet;
+use crate::watch::apart;
 use blocks::MAX_STREAM;
 use blocks::SHORT_FILE;
 use blocks::SHORT_STREAM;
@@ -43,17 +44,22 @@ fn refuse(n: u8) -> Printed
     }
 }
 
-// Does a text pass questions 1 to 4?
-fn has_tokens(text: &[u8]) -> bool
-    ensures { λ r. ⌜ Says r (HasTokens (now (text .entry))) ⌝ }
+// Does a text pass questions 1 to 4, with no `==` over two values among its tokens?
+fn tokens_apart(text: &[u8]) -> bool
+    ensures { λ r. ⌜ Says r (TokensApart (now (text .entry))) ⌝ }
 {
     let mut cells = [0u16; 4096];
     let l = lexer::lex(text, &mut cells);
-    l.refused == 0
+    if l.refused != 0 {
+        return false;
+    }
+    let n = l.count;
+    apart(&cells, n)
 }
 
 // Questions 17 and 11 on the text of a table with n equations, of which so much was written as there is room for one byte more than a
-// sheet has. (Of questions 1 to 8 only 1, 3, 4 and the count of processes can fail on such a text: printing, TextFits.)
+// sheet has. (Of questions 1 to 8 only 1, 3, 4, 6 for the count of processes and 8 for `==` over two values can fail on such a text:
+// printing, TextFits.)
 fn deliver(text: &[u8], n: usize, out: &mut [u8]) -> Printed
     ensures { λ r. ⌜ ((U : Table) → RightTable U → now (text .entry) ≡ take text-room (table-text U) → n ≡ length (U .equations) → (r ≡ printed-answer (text-printed U (length (now (out .entry))))) × (now (out .exit) ≡ output-after (text-printed U (length (now (out .entry)))) (now (out .entry)))) ⌝ }
 {
@@ -64,7 +70,7 @@ fn deliver(text: &[u8], n: usize, out: &mut [u8]) -> Printed
     if MAX_PROCESSES < n {
         return refuse(NOT_PRINTED);
     }
-    if !has_tokens(text) {
+    if !tokens_apart(text) {
         return refuse(NOT_PRINTED);
     }
     if out.len() < m {

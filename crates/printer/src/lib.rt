@@ -13,6 +13,7 @@ ghost use Rattle.printer.specs.Counted.{Counted};
 
 pub mod delivery; // from any bytes
 pub mod lines; // lines of processes, and init
+pub mod watch; // `==` over two values
 
 use tables::Index;
 

@@ -8,7 +8,7 @@ use native.Mathlib.Nat.{sub-zero}
 use lib.ListN.{length, getD, drop, take, set, replicate, length-append, length-reverse, length-replicate, replicate-append-replicate}
 use lib.Seq.{take-suc, set-at, set-split, length-take-le, take-length, take-set-le}
 use Rattle.pcrl.specs.Stack.{Frame, Stack, zero-frame, frames-of, stack-of}
-use Rattle.pcrl.specs.Parts.{tabulate}
+use Rattle.pcrl.specs.Lists.{tabulate}
 use Rattle.laws.specs.Lists.{length-tabulate, getD-tabulate}
 use Rattle.stacks.specs.Lent.{frame-bytes, frame-at, frames-at, frames-in}
 use Rattle.stacks.proofs.Views.{no-frame, length-frames-in}

@@ -8,7 +8,7 @@ use native.Mathlib.Decide.{decLt, ℕ-discrete}
 use lib.Dec.{eqb}
 use lib.ListN.{length, getD, take, drop, replicate, length-take, length-drop, length-map, length-replicate, getD-replicate}
 use lib.Seq.{getD-take, getD-drop, take-all, ext-getD}
-use Rattle.pcrl.specs.Parts.{tabulate}
+use Rattle.pcrl.specs.Lists.{tabulate}
 use Rattle.pcrl.specs.Tests.{Every, and}
 use Rattle.pcrl.specs.Sheet.{Sig}
 use Rattle.pcrl.specs.Table.{Table, Equation, equation, no-equation, params-of}

@@ -7,7 +7,7 @@ use native.Mathlib.Decide.{decLt}
 use lib.ListN.{length, getD, drop, take, replicate, length-append, length-map, length-replicate, getD-replicate, List·getD-append, List·getD-eq-default}
 use lib.Seq.{take-at, getD-append-add, ext-getD}
 use Rattle.pcrl.specs.Limits.{frame-width, stack-limit}
-use Rattle.pcrl.specs.Parts.{tabulate}
+use Rattle.pcrl.specs.Lists.{tabulate}
 use Rattle.pcrl.specs.Table.{Table, Equation, equation, params-of, no-equation}
 use Rattle.pcrl.specs.Right.{RightTable, RightStart, RightEquations, RightSorts}
 use Rattle.pcrl.specs.Stack.{Frame, Stack, padded, zero-frame, frames-of}

@@ -3,7 +3,7 @@ use mathlib.Core.List.{List}
 use Prim.Native.Nat.{ℕ, _+_, _*_, _/_}
 use lib.ListN.{length, getD}
 use Rattle.pcrl.specs.Limits.{frame-width, stack-limit}
-use Rattle.pcrl.specs.Parts.{tabulate}
+use Rattle.pcrl.specs.Lists.{tabulate}
 use Rattle.pcrl.specs.Stack.{Frame}
 
 -- the bytes of a frame

@@ -1,7 +1,9 @@
 pub mod Rests
 pub mod Places
 pub mod Stack
+pub mod NextNode
 pub mod Nodes
+pub mod Operators
 pub mod Loop
 pub mod Lists
 pub mod Laying

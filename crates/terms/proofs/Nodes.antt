@@ -1,4 +1,4 @@
--- One byte of a term: whether it may stand where a sort is expected, and the sorts that it wants behind it.
+-- A value, a variable or a written function in a term: whether it may stand where a sort is expected, and the sorts that it wants behind it.
 use mathlib.Core.Path.{_≡_, refl, sym, ap, _∙_}
 use mathlib.Core.List.{List, [], _∷_}
 use mathlib.Core.Bool.{Bool, true, false}
@@ -10,12 +10,14 @@ use lib.ListN.{length, getD}
 use borrow.Author.Tests.{ltb-true, ltb-false}
 use Rattle.pcrl.specs.Limits.{max-arity}
 use Rattle.pcrl.specs.Tests.{Between}
-use Rattle.pcrl.specs.Sheet.{Sig, Func, no-func, size, func}
+use Rattle.pcrl.specs.Sheet.{Sig, Func, no-func, written, not-number, size, func, function-at}
+use Rattle.pcrl.specs.Sorts.{IsOperation, IsFunc}
 use Rattle.pcrl.specs.Stream.{variable-code, function-code, encode-func}
 use Rattle.pcrl.specs.Decode.{variable, function, node-of, Fits, wants}
 use Rattle.laws.specs.Lists.{getElem?-below, getElem?-past}
 use Rattle.laws.specs.Every.{every-at}
 use Rattle.laws.specs.Says.{Says, says-as, says-lt, says-eq}
+use Rattle.laws.specs.Operations.{written-number, written-function}
 use Rattle.codec.specs.TermLaws as terms
 use Rattle.terms.specs.Stands.{Stands, KnownData}
 use Rattle.terms.proofs.Places.{stands-there, as-many, arity-at, takes-at, gives-at}
@@ -48,6 +50,15 @@ module _ (S : Sig) (Γ : List ℕ) (b d : ℕ) where
   unfolding Fits
   no-variable l h k = rw (node-variable b (b - variable-code) (omega arith) (omega arith), getElem?-past Γ (b - variable-code) k) (λ q. let z : _≡_ {A = ℕ} 0 1 = cc in omega arith)
 
+-- a written function
+is-written : (S : Sig) (f : ℕ) → f < not-number → IsFunc S f → f < length (S .funcs)
+unfolding IsOperation
+is-written S f h k = let z : IsOperation S (written f) = rw (written-number f h) at k in z
+
+written-is : (S : Sig) (f : ℕ) → f < not-number → f < length (S .funcs) → IsFunc S f
+unfolding IsOperation
+written-is S f h k = rw (written-number f h) k
+
 -- a function by its place
 module _ (S : Sig) (s sizes funcs : List ℕ) (known : KnownData S s sizes funcs) (f : ℕ) where
   pub function-stands : f < length funcs → Stands s (getD funcs f 0) (encode-func (func S f))
@@ -58,18 +69,19 @@ module _ (S : Sig) (s sizes funcs : List ℕ) (known : KnownData S s sizes funcs
   unfolding func
   one-or-two h = every-at (λ (g : Func). Between 1 max-arity (length (g .takes))) (S .funcs) no-func f (known .arity) h
 
-  module _ (Γ : List ℕ) (b d : ℕ) (is : b ≡ function-code + f) where
+  module _ (Γ : List ℕ) (b d : ℕ) (is : b ≡ function-code + f) (small : f < not-number) where
     pub fits-function : (x : ℕ) → x ≡ getD s (getD funcs f 0 + 1 + getD s (getD funcs f 0) 0) 0 → f < length funcs → Says (eqb x d) (Fits S Γ d (node-of b))
     unfolding Fits
     fits-function x e h =
         let z : x ≡ func S f .gives = e ∙ gives-at s (getD funcs f 0) (func S f) (function-stands h) in
         let q = as-many encode-func s (S .funcs) funcs (known .stand) in
         let l : f < length (S .funcs) = omega arith in
-        rw (node-function b f is) (says-as (eqb x d) (λ y. (l, sym z ∙ y)) (λ y. z ∙ y .1) (says-eq x d))
+        let w : function-at S f .gives ≡ func S f .gives = ap (λ (g : Func). g .gives) (written-function S f small) in
+        rw (node-function b f is) (says-as (eqb x d) (λ y. (written-is S f small l, w ∙ sym z ∙ y)) (λ y. z ∙ sym w ∙ y .1) (says-eq x d))
 
     pub no-function : length funcs ≤ f → ¬ Fits S Γ d (node-of b)
     unfolding Fits
-    no-function h = rw (node-function b f is) (λ y. let q = as-many encode-func s (S .funcs) funcs (known .stand) in let l = y .0 in omega arith)
+    no-function h = rw (node-function b f is) (λ y. let q = as-many encode-func s (S .funcs) funcs (known .stand) in let l = is-written S f small (y .0) in omega arith)
 
 -- THE ANSWERS OF `after`
 
@@ -94,10 +106,10 @@ wants-none S Γ b h = go (ltb b variable-code) refl
 
 -- n, x, y: what is read at the function's place
 module _ (S : Sig) (s sizes funcs : List ℕ) (known : KnownData S s sizes funcs) (Γ : List ℕ) (D b f n x : ℕ) (is : b ≡ function-code + f)
-    (fits : Fits S Γ D (node-of b)) (count : n ≡ getD s (getD funcs f 0) 0) (one : x ≡ getD s (getD funcs f 0 + 1) 0) where
+    (small : f < not-number) (fits : Fits S Γ D (node-of b)) (count : n ≡ getD s (getD funcs f 0) 0) (one : x ≡ getD s (getD funcs f 0 + 1) 0) where
   fits-there : f < length (S .funcs)
   unfolding Fits
-  fits-there = let h : Fits S Γ D (function f) = rw (node-function b f is) at fits in h .0
+  fits-there = let h : Fits S Γ D (function f) = rw (node-function b f is) at fits in is-written S f small (h .0)
 
   stands : Stands s (getD funcs f 0) (encode-func (func S f))
   stands = let q = as-many encode-func s (S .funcs) funcs (known .stand) in let l = fits-there in function-stands S s sizes funcs known f (omega arith)
@@ -111,10 +123,13 @@ module _ (S : Sig) (s sizes funcs : List ℕ) (known : KnownData S s sizes funcs
   first-sort : x ≡ getD (func S f .takes) 0 0
   first-sort = let k = some-sorts in let z : getD funcs f 0 + 1 ≡ getD funcs f 0 + 1 + 0 = omega arith in one ∙ ap (λ (i : ℕ). getD s i 0) z ∙ sort-at 0 (omega arith)
 
+  same-sorts : function-at S f .takes ≡ func S f .takes
+  same-sorts = ap (λ (g : Func). g .takes) (written-function S f small)
+
   pub wants-one : n ≡ 1 → wants S Γ (node-of b) ≡ x ∷ []
   unfolding wants
   wants-one e =
-      rw (node-function b f is) (one-sort (func S f .takes) (sym (arity-at s (getD funcs f 0) (func S f) stands) ∙ sym count ∙ e) ∙ ap (λ (y : ℕ). y ∷ []) (sym first-sort))
+      rw (node-function b f is) (same-sorts ∙ one-sort (func S f .takes) (sym (arity-at s (getD funcs f 0) (func S f) stands) ∙ sym count ∙ e) ∙ ap (λ (y : ℕ). y ∷ []) (sym first-sort))
 
   pub wants-two : (y : ℕ) → y ≡ getD s (getD funcs f 0 + 2) 0 → ¬ (n ≡ 1) → wants S Γ (node-of b) ≡ x ∷ (y ∷ [])
   unfolding wants
@@ -125,4 +140,4 @@ module _ (S : Sig) (s sizes funcs : List ℕ) (known : KnownData S s sizes funcs
       let l : ¬ (length (func S f .takes) ≡ 1) = λ w. e (count ∙ a ∙ w) in
       let v : 1 < length (func S f .takes) = omega arith in
       let w : y ≡ getD (func S f .takes) 1 0 = two ∙ ap (λ (i : ℕ). getD s i 0) z ∙ sort-at 1 v in
-      rw (node-function b f is) (two-sorts (func S f .takes) l k ∙ cc (first-sort, w))
+      rw (node-function b f is) (same-sorts ∙ two-sorts (func S f .takes) l k ∙ cc (first-sort, w))

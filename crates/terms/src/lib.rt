@@ -5,17 +5,29 @@ ghost use mathlib.Core.Bool.{true};
 ghost use Prim.Native.Nat.{ℕ, _+_, _-_, _≤_, _<_};
 ghost use lib.ListN.{length, getD, drop};
 ghost use Rattle.pcrl.specs.Sheet.{Sig};
-ghost use Rattle.pcrl.specs.Reader.{each};
-ghost use Rattle.pcrl.specs.Decode.{node-of, Fits, wants, read-term};
+ghost use Rattle.pcrl.specs.Reader.{found, each};
+ghost use Rattle.pcrl.specs.Decode.{Node, node-of, read-node, Fits, wants, read-term};
 ghost use Rattle.laws.specs.Says.{Says};
 ghost use Rattle.terms.specs.Stands.{KnownData, list-at};
 ghost use Rattle.terms.specs.Ends.{rests, ended, stack, top, below};
+ghost use Rattle.terms.specs.Fitting.{NextFits};
 ghost use Rattle.terms.specs.Numbers.{read-list, ListEnds};
 
-// The codes of a term's bytes: values, then variables, then functions.
+// The codes of a term's nodes: values, then variables, then functions, then operators.
 pub const VARIABLE: usize = 0x20;
 
 pub const FUNCTION: usize = 0x40;
+
+pub const NOT: usize = 0x60;
+
+// A byte for its sort stands behind it.
+pub const EQUAL: usize = 0x61;
+
+pub const AND: usize = 0x62;
+
+pub const OR: usize = 0x63;
+
+const BOOL_SORT: u8 = 0;
 
 // Nodes of a term, at the most.
 pub const NODES: usize = 31;
@@ -106,8 +118,9 @@ fn push(s: Want, v: u8) -> Want
     r
 }
 
-// May this byte of a term stand where the sort d is expected?
+// May this byte of a term stand where the sort d is expected? It is a node by itself and no operator.
 fn fits(s: &[u8], sizes: &[u8], funcs: &[u16], scope: &[u8], b: u8, d: u8) -> bool
+    requires { ⌜ b < 0x60 ⌝ }
     ensures { λ r. ⌜ ((S : Sig) → KnownData S (now (s .entry)) (now (sizes .entry)) (now (funcs .entry)) → Says r (Fits S (now (scope .entry)) d (node-of b))) ⌝ }
 {
     let n = wide(b);
@@ -131,7 +144,7 @@ fn fits(s: &[u8], sizes: &[u8], funcs: &[u16], scope: &[u8], b: u8, d: u8) -> bo
 
 // The sorts that are expected after the byte b.
 fn after(s: &[u8], funcs: &[u16], b: u8, w: Want) -> Want
-    requires { ⌜ (0 < w .top) × (w .top < 32) ⌝ }
+    requires { ⌜ (b < 0x60) × (0 < w .top) × (w .top < 32) ⌝ }
     ensures { λ r. ⌜ ((S : Sig) (Γ sizes : List ℕ) (D : ℕ) → KnownData S (now (s .entry)) sizes (now (funcs .entry)) → Fits S Γ D (node-of b) → stack r ≡ wants S Γ (node-of b) ++ below (stack w)) × ((w .top ≤ r .top + 1) × (r .top ≤ 32) × (length (r .sorts) ≡ 32)) ⌝ }
 {
     let rest = pop(w);
@@ -146,6 +159,59 @@ fn after(s: &[u8], funcs: &[u16], b: u8, w: Want) -> Want
     }
     let y = peek(s, p + 2);
     push(push(rest, y), x)
+}
+
+// May the operator at i stand where the sort d is expected? It gives Bool.
+fn operator_fits(s: &[u8], sizes: &[u8], i: usize, d: u8) -> bool
+    requires { ⌜ (i < length (now s)) × (0x60 ≤ getD (now s) i 0) ⌝ }
+    ensures { λ r. ⌜ ((S : Sig) (Γ : List ℕ) → now (sizes .entry) ≡ S .sorts → Says r (NextFits S Γ d (drop i (now (s .entry))))) ⌝ }
+{
+    let n = wide(s[i]);
+    if n == EQUAL {
+        let j = i + 1;
+        if s.len() <= j {
+            return false;
+        }
+        if sizes.len() <= wide(s[j]) {
+            return false;
+        }
+        return d == BOOL_SORT;
+    }
+    if OR < n {
+        return false;
+    }
+    d == BOOL_SORT
+}
+
+// The sorts that are expected after the operator at i.
+fn operands(s: &[u8], i: usize, w: Want) -> Want
+    requires { ⌜ (i < length (now s)) × (0x60 ≤ getD (now s) i 0) × (0 < w .top) × (w .top < 32) ⌝ }
+    ensures { λ r. ⌜ ((S : Sig) (Γ : List ℕ) (D : ℕ) (k : NextFits S Γ D (drop i (now (s .entry)))) → stack r ≡ wants S Γ (k .node) ++ below (stack w)) × ((w .top ≤ r .top + 1) × (r .top ≤ 32) × (length (r .sorts) ≡ 32)) ⌝ }
+{
+    let rest = pop(w);
+    let n = wide(s[i]);
+    if n == NOT {
+        return push(rest, BOOL_SORT);
+    }
+    if n == EQUAL {
+        let d = peek(s, i + 1);
+        return push(push(rest, d), d);
+    }
+    push(push(rest, BOOL_SORT), BOOL_SORT)
+}
+
+// Where the operator at i ends.
+fn past(s: &[u8], i: usize) -> usize
+    requires { ⌜ i < length (now s) ⌝ }
+    ensures { λ r. ⌜ ((x : Node) (ys : List ℕ) → read-node (drop i (now (s .entry))) ≡ found x ys → drop r (now (s .entry)) ≡ ys) ⌝ }
+{
+    let j = i + 1;
+    if wide(s[i]) == EQUAL {
+        if j < s.len() {
+            return j + 1;
+        }
+    }
+    j
 }
 
 // A term of the given sort.
@@ -165,14 +231,22 @@ pub fn read_term(s: &[u8], sizes: &[u8], funcs: &[u16], scope: &[u8], at: usize,
         if s.len() <= i {
             return Next { ok: false, at: 0 };
         }
+        left -= 1;
         let b = s[i];
         let d = head(w);
-        if !fits(s, sizes, funcs, scope, b, d) {
+        if wide(b) < NOT {
+            if !fits(s, sizes, funcs, scope, b, d) {
+                return Next { ok: false, at: 0 };
+            }
+            w = after(s, funcs, b, w);
+            i += 1;
+            continue;
+        }
+        if !operator_fits(s, sizes, i, d) {
             return Next { ok: false, at: 0 };
         }
-        w = after(s, funcs, b, w);
-        i += 1;
-        left -= 1;
+        w = operands(s, i, w);
+        i = past(s, i);
     }
     Next { ok: true, at: i }
 }

@@ -91,6 +91,10 @@ module _ (T : Table) (right : RightTable T) where
   unfolding RightTable RightSig
   funcs-right = right .0 .0 .1 .0 .1
 
+  sizes-right : RightSizes (S .sorts)
+  unfolding RightTable RightSig
+  sizes-right = right .0 .0 .0
+
   act-short : (a : Act) (vs : List ℕ) → IsAct S a → InSorts S (takes-of S a) vs → ShortLabel (label S a vs)
   unfolding label takes-of IsAct InSorts RightAction RightName
   act-short tau vs w i = of-tau
@@ -108,7 +112,7 @@ module _ (T : Table) (right : RightTable T) where
       let e = used T f ++ o .values in
       let i = in-sorts-append S (equation T (f .number) .params) (x .vars) (used T f) (o .values) (h .0 .1 .0) (o .in-sorts) in
       let is : l ≡ label S (x .act) (map (eval S e) (x .terms)) = ap (λ (y : Label × List Frame). y .0) (o .gives) in
-      subst ShortLabel (sym is) (act-short (x .act) (map (eval S e) (x .terms)) (r .1 .1 .0) (values-in S funcs-right _ e i (x .terms) (takes-of S (x .act)) (each-flip _ _ (λ D d z. z .0) (takes-of S (x .act)) (x .terms) (r .1 .1 .1 .0))))
+      subst ShortLabel (sym is) (act-short (x .act) (map (eval S e) (x .terms)) (r .1 .1 .0) (values-in S sizes-right funcs-right _ e i (x .terms) (takes-of S (x .act)) (each-flip _ _ (λ D d z. z .0) (takes-of S (x .act)) (x .terms) (r .1 .1 .1 .0))))
 
   -- the lines for an answer, where m bounds those that follow
   answer-short : (i m : ℕ) (next : Stack → List ℕ) (s : Stack) → i < 10 → RightStack frame-width T s → ((t : Stack) → RightStack frame-width T t → length (next t) ≤ m + word-limit) → {a : Answer} {t : Stack} → AnswerIs frame-width stack-limit T 0 s a t

@@ -2,7 +2,7 @@
 use Rattle.evaluation.proofs.skip.Statement.{statement}
 use Rattle.evaluation.proofs.skip.Tie as tie
 use native.Mathlib.Omega.{arith}
-use Prim.Native.Nat.{ℕ, _+_, _-_, _≤_, max}
+use Prim.Native.Nat.{ℕ, _+_, _-_, _*_, _≤_, max}
 use mathlib.Core.Path.{_≡_, _∙_, ap}
 use lib.ListN.{length, drop, getD}
 use Rattle.evaluation.specs.Run.{extent, argument-count}
@@ -11,7 +11,7 @@ use Rattle.pcrl.specs.Decode.{node-of}
 use borrow.Author.Needs.{needs}
 
 abbrev Inv-loop : tie.InvT-loop
-Inv-loop s funcs at n need₀ i₀ need i = (at ≤ i) × ((i ≤ max at (length s)) × ((need + at ≤ 255 + i) × (i + extent s funcs (drop i s) need ≡ at + extent s funcs (drop at s) n)))
+Inv-loop s funcs at n need₀ i₀ need i = (at ≤ i) × ((i ≤ max at (length s)) × ((need + 2 * at ≤ 255 + 2 * i) × (i + extent s funcs (drop i s) need ≡ at + extent s funcs (drop at s) n)))
 
 abbrev μ-loop : tie.MeasureT-loop
 μ-loop s funcs at n need₀ i₀ need i = length s - i

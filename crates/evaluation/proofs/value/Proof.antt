@@ -11,7 +11,7 @@ use Rattle.evaluation.proofs.Bytes.{run-start, run-again}
 use borrow.Author.Needs.{needs}
 
 abbrev Inv-loop : tie.InvT-loop
-Inv-loop s funcs e at end stack₀ t₀ x₀ i₀ stack t x i = (at ≤ i) × ((i ≤ end) × ((length stack ≡ 32) × ((32 ≤ t + (end - i)) × ((t ≤ 32) × ((m : ℕ) → getD (x ∷ drop t stack) m 0 ≡ getD (run s funcs e (take (end - i) (drop i s))) m 0)))))
+Inv-loop s funcs e at end stack₀ t₀ x₀ i₀ stack t x i = (at ≤ i) × ((i ≤ end) × ((length stack ≡ 48) × ((48 ≤ t + (end - i)) × ((t ≤ 48) × ((m : ℕ) → getD (x ∷ drop t stack) m 0 ≡ getD (run s funcs e (take (end - i) (drop i s))) m 0)))))
 
 abbrev μ-loop : tie.MeasureT-loop
 μ-loop s funcs e at end stack₀ t₀ x₀ i₀ stack t x i = i
@@ -26,7 +26,7 @@ returns-3 : tie.Need-returns-3 Inv-loop μ-loop
 returns-3 c = λ h k l. absurd (omega arith)
 
 loop-holds : tie.Need-loop-holds Inv-loop μ-loop
-loop-holds c = (omega arith, (omega arith, (refl, (omega arith, (omega arith, run-start (c .before .before .before .before .before .before .args .s .now) (c .before .before .before .before .before .before .args .funcs .now) (c .before .before .before .before .before .before .args .e .now) (c .before .before .before .before .before .before .args .s .now) (replicate 32 0) (c .before .before .before .before .before .before .args .end) (c .before .before .before .before .before .before .args .end - c .before .before .before .before .before .before .args .end) (omega arith) refl)))))
+loop-holds c = (omega arith, (omega arith, (refl, (omega arith, (omega arith, run-start (c .before .before .before .before .before .before .args .s .now) (c .before .before .before .before .before .before .args .funcs .now) (c .before .before .before .before .before .before .args .e .now) (c .before .before .before .before .before .before .args .s .now) (replicate 48 0) (c .before .before .before .before .before .before .args .end) (c .before .before .before .before .before .before .args .end - c .before .before .before .before .before .before .args .end) (omega arith) refl)))))
 
 sub-i : tie.Need-sub-i Inv-loop μ-loop
 sub-i c = omega arith
@@ -34,20 +34,17 @@ sub-i c = omega arith
 shared-slice-read-b : tie.Need-shared-slice-read-b Inv-loop μ-loop
 shared-slice-read-b c = omega arith
 
-slice-aggregate-peek : tie.Need-slice-aggregate-peek Inv-loop μ-loop
-slice-aggregate-peek c = search needs
+slice-aggregate-worth : tie.Need-slice-aggregate-worth Inv-loop μ-loop
+slice-aggregate-worth c = search needs
 
-peek-requires : tie.Need-peek-requires Inv-loop μ-loop
-peek-requires c κs = search needs
+worth-requires : tie.Need-worth-requires Inv-loop μ-loop
+worth-requires c κs = omega arith
 
 sub-stack : tie.Need-sub-stack Inv-loop μ-loop
 sub-stack c = omega arith
 
 array-write-stack : tie.Need-array-write-stack Inv-loop μ-loop
 array-write-stack c = omega arith
-
-worth-requires : tie.Need-worth-requires Inv-loop μ-loop
-worth-requires c κs = search needs
 
 arguments-requires : tie.Need-arguments-requires Inv-loop μ-loop
 arguments-requires c κs = search needs
@@ -59,7 +56,7 @@ loop-less : tie.Need-loop-less Inv-loop μ-loop
 loop-less c = omega arith
 
 loop-again : tie.Need-loop-again Inv-loop μ-loop
-loop-again c = let a = c .before .before .before .before .before .before .before .before .before .before .before .before .before .before .args in let l = c .before .before .before .before .before .before .before .loop in let v = l .inv in (
+loop-again c = let a = c .before .before .before .before .before .before .before .before .before .before .before .before .before .args in let l = c .before .before .before .before .before .before .loop in let v = l .inv in (
   omega arith,
   (
     omega arith,
@@ -69,8 +66,8 @@ loop-again c = let a = c .before .before .before .before .before .before .before
         omega (arith, c .taken .ensures),
         (
           omega (arith, c .taken .ensures),
-          run-again (a .s .now) (a .funcs .now) (a .e .now) (a .s .now) (l .stack) (l .i) (a .end) (l .t) (c .before .arguments .result) (c .taken .result) (c .before .before .worth .result) (l .x) (c .before .before .before .peek .result)
-              (v .1 .1 .0) (omega arith) (omega arith) (omega arith) (omega arith) (omega arith) (v .1 .1 .1 .1 .1) (c .before .before .before .peek .ensures) (c .before .before .worth .ensures) (c .before .arguments .ensures .0) (c .taken .ensures),
+          run-again (a .s .now) (a .funcs .now) (a .e .now) (a .s .now) (l .stack) (l .i) (a .end) (l .t) (c .before .arguments .result) (c .taken .result) (c .before .before .worth .result) (l .x)
+              (v .1 .1 .0) (omega arith) (omega arith) (omega arith) (omega arith) (omega arith) (v .1 .1 .1 .1 .1) (c .before .before .worth .ensures) (c .before .arguments .ensures .0) (c .taken .ensures),
         ),
       ),
     ),
@@ -93,11 +90,10 @@ value-spec =
     loop-holds
     sub-i
     shared-slice-read-b
-    slice-aggregate-peek
-    peek-requires
+    slice-aggregate-worth
+    worth-requires
     sub-stack
     array-write-stack
-    worth-requires
     arguments-requires
     taken-requires
     loop-less

@@ -4,7 +4,7 @@ use Rattle.frames.proofs.at.Statement.{statement}
 use Rattle.frames.proofs.at.Tie as tie
 use native.Mathlib.Omega.{arith}
 use mathlib.Core.Path.{refl}
-use Rattle.pcrl.specs.Parts.{tabulate}
+use Rattle.pcrl.specs.Lists.{tabulate}
 use Rattle.stacks.specs.Lent.{frame-at}
 use Rattle.frames.specs.Lists.{frame-of}
 

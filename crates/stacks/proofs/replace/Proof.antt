@@ -9,7 +9,7 @@ use Prim.Native.Nat.{ℕ, _+_, _-_, _*_, _<_, _≤_}
 use lib.ListN.{length, getD, take, set, replicate, length-replicate}
 use Rattle.pcrl.specs.Limits.{frame-width, stack-limit}
 use Rattle.pcrl.specs.Stack.{Frame, zero-frame, frames-of, stack-of}
-use Rattle.pcrl.specs.Parts.{tabulate}
+use Rattle.pcrl.specs.Lists.{tabulate}
 use Rattle.stacks.specs.Lent.{frame-bytes, frame-at, frames-at, frames-in, stack-bytes}
 use Rattle.stacks.proofs.Views.{no-frame, length-frames-in}
 use Rattle.stacks.proofs.Filling.{filling, filling-step, length-frames-at, getD-frames-at, cleared, replaced, low-length}

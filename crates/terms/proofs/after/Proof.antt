@@ -1,12 +1,10 @@
 -- The byte's sort is popped, and what it wants is pushed: nothing, or one or two sorts of a function.
+use borrow.Author.Needs.{needs}
 use mathlib.Core.Path.{_∙_, ap}
 use Prim.Native.Nat.{_+_, _-_, ℕ}
 use native.Mathlib.Omega.{arith}
 use lib.ListN.{getD}
-use borrow.Author.Needs.{needs}
-use Rattle.pcrl.specs.Values.{place}
 use Rattle.terms.proofs.Nodes.{wants-none, wants-one, wants-two}
-use Rattle.terms.proofs.Places.{before}
 use Rattle.terms.proofs.after.Statement.{statement}
 use Rattle.terms.proofs.after.Tie as tie
 
@@ -37,8 +35,9 @@ push-requires c κs = search needs
 returns-2 : tie.Need-returns-2
 returns-2 c = (
   λ S Γ sizes D k h.
+      let a = c .before .before .before .before .before .before .before .before .before .before .args in
       let q = c .before .before .before .before .place .ensures .0 in
-      rw (wants-one S (c .before .before .before .before .before .before .before .before .before .before .args .s .now) sizes (c .before .before .before .before .before .before .before .before .before .before .args .funcs .now) k Γ D (c .before .before .before .before .before .before .before .before .before .before .args .b) (c .before .before .before .before .before .before .wide .result - 0x40) (c .before .before .peek2 .result) (c .before .before .before .peek .result) (omega arith) h (c .before .before .peek2 .ensures ∙ ap (λ (i : ℕ). getD (c .before .before .before .before .before .before .before .before .before .before .args .s .now) i 0) q) (c .before .before .before .peek .ensures ∙ ap (λ (i : ℕ). getD (c .before .before .before .before .before .before .before .before .before .before .args .s .now) (i + 1) 0) q) (c .before .if2 .taken))
+      rw (wants-one S (a .s .now) sizes (a .funcs .now) k Γ D (a .b) (c .before .before .before .before .before .before .wide .result - 0x40) (c .before .before .peek2 .result) (c .before .before .before .peek .result) (omega arith) (omega arith) h (c .before .before .peek2 .ensures ∙ ap (λ (i : ℕ). getD (a .s .now) i 0) q) (c .before .before .before .peek .ensures ∙ ap (λ (i : ℕ). getD (a .s .now) (i + 1) 0) q) (omega arith))
       (cc (c .push .ensures .0, c .before .before .before .before .before .before .before .pop .ensures .0)),
   (omega arith, omega arith, c .push .ensures .2),
 )
@@ -58,8 +57,9 @@ push-requires-3 c κs = search needs
 returns-3 : tie.Need-returns-3
 returns-3 c = (
   λ S Γ sizes D k h.
+      let a = c .before .before .before .before .before .before .before .before .before .before .before .before .args in
       let q = c .before .before .before .before .before .before .place .ensures .0 in
-      rw (wants-two S (c .before .before .before .before .before .before .before .before .before .before .before .before .args .s .now) sizes (c .before .before .before .before .before .before .before .before .before .before .before .before .args .funcs .now) k Γ D (c .before .before .before .before .before .before .before .before .before .before .before .before .args .b) (c .before .before .before .before .before .before .before .before .wide .result - 0x40) (c .before .before .before .before .peek2 .result) (c .before .before .before .before .before .peek .result) (omega arith) h (c .before .before .before .before .peek2 .ensures ∙ ap (λ (i : ℕ). getD (c .before .before .before .before .before .before .before .before .before .before .before .before .args .s .now) i 0) q) (c .before .before .before .before .before .peek .ensures ∙ ap (λ (i : ℕ). getD (c .before .before .before .before .before .before .before .before .before .before .before .before .args .s .now) (i + 1) 0) q) (c .before .before .peek3 .result) (c .before .before .peek3 .ensures ∙ ap (λ (i : ℕ). getD (c .before .before .before .before .before .before .before .before .before .before .before .before .args .s .now) (i + 2) 0) q) (c .before .before .before .if2 .left))
+      rw (wants-two S (a .s .now) sizes (a .funcs .now) k Γ D (a .b) (c .before .before .before .before .before .before .before .before .wide .result - 0x40) (c .before .before .before .before .peek2 .result) (c .before .before .before .before .before .peek .result) (omega arith) (omega arith) h (c .before .before .before .before .peek2 .ensures ∙ ap (λ (i : ℕ). getD (a .s .now) i 0) q) (c .before .before .before .before .before .peek .ensures ∙ ap (λ (i : ℕ). getD (a .s .now) (i + 1) 0) q) (c .before .before .peek3 .result) (c .before .before .peek3 .ensures ∙ ap (λ (i : ℕ). getD (a .s .now) (i + 2) 0) q) (λ e. omega arith))
       (cc (c .push3 .ensures .0, c .before .push2 .ensures .0, c .before .before .before .before .before .before .before .before .before .pop .ensures .0)),
   (omega arith, omega arith, c .push3 .ensures .2),
 )

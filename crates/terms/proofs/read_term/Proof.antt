@@ -1,18 +1,17 @@
 -- The sorts still expected are a stack, and the budget of 31 nodes is what is left: a place of the stack for each node left.
+use borrow.Author.Needs.{needs}
 use mathlib.Core.Path.{_∙_, _≡_, refl}
 use Prim.Native.Nat.{_+_, _-_, _≤_}
 use native.Mathlib.Omega.{arith}
 use lib.ListN.{drop, length}
 use borrow.Author.Tests.{not-false, not-true}
-use borrow.Author.Needs.{needs}
 use Rattle.pcrl.specs.Decode.{read-term, read-terms}
-use Rattle.pcrl.specs.Result.{after}
 use Rattle.pcrl.specs.Sheet.{Sig}
 use Rattle.laws.specs.Says.{said-yes, said-no}
-use Rattle.terms.proofs.Loop.{none-wanted, term-bad, term-end, term-good, term-spent, term-start}
-use Rattle.terms.proofs.Places.{before}
+use Rattle.terms.proofs.Loop.{none-wanted, operator-bad, operator-good, term-bad, term-end, term-good, term-spent, term-start}
 use Rattle.terms.proofs.Stack.{emptied, filled}
 use Rattle.terms.specs.Ends.{rests, stack, top}
+use Rattle.terms.specs.Fitting.{NextFits}
 use Rattle.terms.specs.Stands.{KnownData}
 use Rattle.terms.proofs.read_term.Statement.{statement}
 use Rattle.terms.proofs.read_term.Tie as tie
@@ -25,13 +24,22 @@ abbrev μ-loop : tie.MeasureT-loop
 μ-loop s sizes funcs scope at sort w₀ i₀ left₀ w i left = left
 
 loop-holds : tie.Need-loop-holds Inv-loop μ-loop
-loop-holds c = (omega arith, omega arith, omega arith, refl, λ S k. term-start S (c .before .before .before .before .args .scope .now) (c .before .before .before .before .args .sort) (drop (c .before .before .before .before .args .at) (c .before .before .before .before .args .s .now)))
+loop-holds c = let a = c .before .before .before .before .args in (omega arith, omega arith, omega arith, refl, λ S k. term-start S (a .scope .now) (a .sort) (drop (a .at) (a .s .now)))
 
 returns : tie.Need-returns Inv-loop μ-loop
-returns c = λ S k. c .before .before .before .loop .inv .4 S k ∙ term-spent S (c .before .before .before .before .before .before .before .before .args .scope .now) (stack (c .before .before .before .loop .w)) (c .before .before .before .before .before .before .before .before .args .s .now) (c .before .before .before .loop .i) (c .before .before .before .loop .left) (filled ((c .before .before .before .loop .w) .sorts) ((c .before .before .before .loop .w) .top) (c .before .before .before .loop .inv .3) (c .before .if1 .taken)) (c .if2 .taken)
+returns c = λ S k.
+    let a = c .before .before .before .before .before .before .before .before .args in
+    let l = c .before .before .before .loop in
+    l .inv .4 S k ∙ term-spent S (a .scope .now) (stack (l .w)) (a .s .now) (l .i) (l .left) (filled (l .w .sorts) (l .w .top) (l .inv .3) (omega arith)) (omega arith)
 
 returns-2 : tie.Need-returns-2 Inv-loop μ-loop
-returns-2 c = λ S k. c .before .before .before .before .loop .inv .4 S k ∙ term-end S (c .before .before .before .before .before .before .before .before .before .args .scope .now) (stack (c .before .before .before .before .loop .w)) (c .before .before .before .before .before .before .before .before .before .args .s .now) (c .before .before .before .before .loop .i) (c .before .before .before .before .loop .left) (filled ((c .before .before .before .before .loop .w) .sorts) ((c .before .before .before .before .loop .w) .top) (c .before .before .before .before .loop .inv .3) (c .before .before .if1 .taken)) (c .if3 .taken)
+returns-2 c = λ S k.
+    let a = c .before .before .before .before .before .before .before .before .before .args in
+    let l = c .before .before .before .before .loop in
+    l .inv .4 S k ∙ term-end S (a .scope .now) (stack (l .w)) (a .s .now) (l .i) (l .left) (filled (l .w .sorts) (l .w .top) (l .inv .3) (omega arith)) (omega arith)
+
+sub-left : tie.Need-sub-left Inv-loop μ-loop
+sub-left c = omega arith
 
 shared-slice-read-b : tie.Need-shared-slice-read-b Inv-loop μ-loop
 shared-slice-read-b c = omega arith
@@ -39,21 +47,25 @@ shared-slice-read-b c = omega arith
 head-requires : tie.Need-head-requires Inv-loop μ-loop
 head-requires c κs = search needs
 
+wide-requires : tie.Need-wide-requires Inv-loop μ-loop
+wide-requires c κs = search needs
+
 fits-requires : tie.Need-fits-requires Inv-loop μ-loop
-fits-requires c κs = search needs
+fits-requires c κs = omega arith
 
 returns-3 : tie.Need-returns-3 Inv-loop μ-loop
-returns-3 c = λ S k. c .before .before .before .before .before .before .before .before .loop .inv .4 S k
-    ∙ term-bad S (c .before .before .before .before .before .before .before .before .before .before .before .before .before .args .scope .now) (stack (c .before .before .before .before .before .before .before .before .loop .w)) (c .before .before .before .before .before .before .before .before .before .before .before .before .before .args .s .now) (c .before .before .before .before .before .before .before .before .loop .i) (c .before .before .before .before .before .before .before .before .loop .left) (filled ((c .before .before .before .before .before .before .before .before .loop .w) .sorts) ((c .before .before .before .before .before .before .before .before .loop .w) .top) (c .before .before .before .before .before .before .before .before .loop .inv .3) (c .before .before .before .before .before .before .if1 .taken)) (c .before .before .before .before .if3 .left) (rw (c .before .before .head .ensures) at (said-no (c .before .fits2 .result) (c .before .fits2 .ensures S k) (not-true _ (c .if4 .taken))))
+returns-3 c = λ S k.
+    let a = c .before .before .before .before .before .before .before .before .before .before .before .before .before .before .before .args in
+    let l = c .before .before .before .before .before .before .before .before .before .before .loop in
+    let misfit = said-no (c .before .fits2 .result) (c .before .fits2 .ensures S k) (not-true _ (c .if5 .taken)) in
+    l .inv .4 S k
+    ∙ term-bad S (a .scope .now) (stack (l .w)) (a .s .now) (l .i) (l .left) (filled (l .w .sorts) (l .w .top) (l .inv .3) (omega arith)) (omega arith) (omega arith) (rw (c .before .before .before .before .head .ensures) at misfit)
 
 after-requires : tie.Need-after-requires Inv-loop μ-loop
-after-requires c κs = (omega arith, omega arith)
+after-requires c κs = (omega arith, omega arith, omega arith)
 
 add-i : tie.Need-add-i Inv-loop μ-loop
 add-i c = omega arith
-
-sub-left : tie.Need-sub-left Inv-loop μ-loop
-sub-left c = omega arith
 
 loop-less : tie.Need-loop-less Inv-loop μ-loop
 loop-less c = omega arith
@@ -65,14 +77,54 @@ loop-again c = let m = c .after .ensures .1 in (
   omega arith,
   m .2,
   λ S k.
-      let y = said-yes (c .before .before .fits2 .result) (c .before .before .fits2 .ensures S k) (not-false _ (c .before .if4 .left)) in
-      let y′ = rw (c .before .before .before .head .ensures) at y in
-      c .before .before .before .before .before .before .before .before .before .loop .inv .4 S k
-      ∙ term-good S (c .before .before .before .before .before .before .before .before .before .before .before .before .before .before .args .scope .now) (stack (c .before .before .before .before .before .before .before .before .before .loop .w)) (c .before .before .before .before .before .before .before .before .before .before .before .before .before .before .args .s .now) (c .before .before .before .before .before .before .before .before .before .loop .i) (c .before .before .before .before .before .before .before .before .before .loop .left) (filled ((c .before .before .before .before .before .before .before .before .before .loop .w) .sorts) ((c .before .before .before .before .before .before .before .before .before .loop .w) .top) (c .before .before .before .before .before .before .before .before .before .loop .inv .3) (c .before .before .before .before .before .before .before .if1 .taken)) (stack (c .after .result)) ((c .before .before .before .before .before .before .before .before .before .loop .i) + 1) ((c .before .before .before .before .before .before .before .before .before .loop .left) - 1) (c .before .before .before .before .before .if3 .left) (omega arith) (omega arith) y′ (c .after .ensures .0 S (c .before .before .before .before .before .before .before .before .before .before .before .before .before .before .args .scope .now) (c .before .before .before .before .before .before .before .before .before .before .before .before .before .before .args .sizes .now) _ k y),
+      let a = c .before .before .before .before .before .before .before .before .before .before .before .before .before .before .before .before .args in
+      let l = c .before .before .before .before .before .before .before .before .before .before .before .loop in
+      let y = said-yes (c .before .before .fits2 .result) (c .before .before .fits2 .ensures S k) (not-false _ (c .before .if5 .left)) in
+      let y′ = rw (c .before .before .before .before .before .head .ensures) at y in
+      l .inv .4 S k
+      ∙ term-good S (a .scope .now) (stack (l .w)) (a .s .now) (l .i) (l .left) (filled (l .w .sorts) (l .w .top) (l .inv .3) (omega arith)) (omega arith) (omega arith) (stack (c .after .result)) (l .i + 1) (l .left - 1) (omega arith) (omega arith) y′ (c .after .ensures .0 S (a .scope .now) (a .sizes .now) _ k y),
 )
 
+operator-fits-requires : tie.Need-operator-fits-requires Inv-loop μ-loop
+operator-fits-requires c κs = (omega arith, omega arith)
+
 returns-4 : tie.Need-returns-4 Inv-loop μ-loop
-returns-4 c = λ S k. c .before .before .loop .inv .4 S k ∙ rw (emptied ((c .before .before .loop .w) .sorts) ((c .before .before .loop .w) .top) (c .before .before .loop .inv .3) (c .if1 .left)) (none-wanted S (c .before .before .before .before .before .before .before .args .scope .now) (c .before .before .loop .left) (drop (c .before .before .loop .i) (c .before .before .before .before .before .before .before .args .s .now)))
+returns-4 c = λ S k.
+    let a = c .before .before .before .before .before .before .before .before .before .before .before .before .before .before .before .args in
+    let l = c .before .before .before .before .before .before .before .before .before .before .loop in
+    let misfit = said-no (c .before .operator-fits .result) (c .before .operator-fits .ensures S (a .scope .now) (k .sizes-are)) (not-true _ (c .if6 .taken)) in
+    l .inv .4 S k
+    ∙ operator-bad S (a .scope .now) (stack (l .w)) (a .s .now) (l .i) (l .left) (filled (l .w .sorts) (l .w .top) (l .inv .3) (omega arith)) (rw (c .before .before .before .before .head .ensures) at misfit)
+
+operands-requires : tie.Need-operands-requires Inv-loop μ-loop
+operands-requires c κs = (omega arith, omega arith, omega arith, omega arith)
+
+past-requires : tie.Need-past-requires Inv-loop μ-loop
+past-requires c κs = omega arith
+
+loop-less-2 : tie.Need-loop-less-2 Inv-loop μ-loop
+loop-less-2 c = omega arith
+
+loop-again-2 : tie.Need-loop-again-2 Inv-loop μ-loop
+loop-again-2 c = let m = c .before .operands .ensures .1 in (
+  omega arith,
+  omega arith,
+  omega arith,
+  m .2,
+  λ S k.
+      let a = c .before .before .before .before .before .before .before .before .before .before .before .before .before .before .before .before .before .args in
+      let l = c .before .before .before .before .before .before .before .before .before .before .before .before .loop in
+      let y = said-yes (c .before .before .before .operator-fits .result) (c .before .before .before .operator-fits .ensures S (a .scope .now) (k .sizes-are)) (not-false _ (c .before .before .if6 .left)) in
+      let f : NextFits S (a .scope .now) (top (stack (l .w))) (drop (l .i) (a .s .now)) = rw (c .before .before .before .before .before .before .head .ensures) at y in
+      l .inv .4 S k
+      ∙ operator-good S (a .scope .now) (stack (l .w)) (a .s .now) (l .i) (l .left) (filled (l .w .sorts) (l .w .top) (l .inv .3) (omega arith)) (stack (c .before .operands .result)) (c .past .result) (l .left - 1) f (omega arith) (c .past .ensures (f .node) (f .rest) (f .next)) (c .before .operands .ensures .0 S (a .scope .now) (top (stack (l .w))) f),
+)
+
+returns-5 : tie.Need-returns-5 Inv-loop μ-loop
+returns-5 c = λ S k.
+    let a = c .before .before .before .before .before .before .before .args in
+    let l = c .before .before .loop in
+    l .inv .4 S k ∙ rw (emptied (l .w .sorts) (l .w .top) (l .inv .3) (omega arith)) (none-wanted S (a .scope .now) (l .left) (drop (l .i) (a .s .now)))
 
 pub read-term-spec : {M : Type 1} → statement M
 read-term-spec =
@@ -83,13 +135,20 @@ read-term-spec =
     loop-holds
     returns
     returns-2
+    sub-left
     shared-slice-read-b
     head-requires
+    wide-requires
     fits-requires
     returns-3
     after-requires
     add-i
-    sub-left
     loop-less
     loop-again
-    returns-4)
+    operator-fits-requires
+    returns-4
+    operands-requires
+    past-requires
+    loop-less-2
+    loop-again-2
+    returns-5)

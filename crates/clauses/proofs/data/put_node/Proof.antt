@@ -1,7 +1,7 @@
 -- By the kinds of a byte.
 use borrow.Author.Needs.{needs}
 use native.Mathlib.Omega.{arith}
-use Rattle.texts.proofs.Writing.{wrote-as}
+use Rattle.texts.proofs.Writing.{wrote-more, wrote-as}
 use Rattle.clauses.proofs.Marks.{value-text, variable-text, function-text}
 use Rattle.clauses.proofs.data.put_node.Statement.{statement}
 use Rattle.clauses.proofs.data.put_node.Tie as tie
@@ -19,7 +19,7 @@ returns : tie.Need-returns
 returns c =
     let a = c .before .before .before .before .before .before .before .args in
     let n = c .before .before .before .before .before .wide in
-    wrote-as (a .out .now) (a .at) _ _ _ _ (value-text (a .l .funcs) (a .l .vars) (a .b) (n .result) (n .ensures .0) (omega (arith, n .ensures))) (c .before .before .put-decimal .ensures)
+    wrote-as (a .out .now) (a .at) _ _ _ _ (value-text (a .l .funcs) (a .l .vars) (a .place) (a .b) (n .result) (n .ensures .0) (omega (arith, n .ensures))) (c .before .before .put-decimal .ensures)
 
 put-name-requires : tie.Need-put-name-requires
 put-name-requires c κs = search needs
@@ -31,19 +31,36 @@ returns-2 : tie.Need-returns-2
 returns-2 c =
     let a = c .before .before .before .before .before .before .before .before .args in
     let n = c .before .before .before .before .before .before .wide in
-    wrote-as (a .out .now) (a .at) _ _ _ _ (variable-text (a .l .funcs) (a .l .vars) (a .b) (n .result) (n .ensures .0) (omega (arith, n .ensures)) (omega (arith, n .ensures))) (c .before .before .put-name .ensures)
+    wrote-as (a .out .now) (a .at) _ _ _ _ (variable-text (a .l .funcs) (a .l .vars) (a .place) (a .b) (n .result) (n .ensures .0) (omega (arith, n .ensures)) (omega (arith, n .ensures))) (c .before .before .put-name .ensures)
 
 put-name-requires-2 : tie.Need-put-name-requires-2
 put-name-requires-2 c κs = search needs
+
+put-byte-requires : tie.Need-put-byte-requires
+put-byte-requires c κs = search needs
 
 same-length-3 : tie.Need-same-length-3
 same-length-3 c = search needs
 
 returns-3 : tie.Need-returns-3
 returns-3 c =
-    let a = c .before .before .before .before .before .before .before .before .args in
-    let n = c .before .before .before .before .before .before .wide in
-    wrote-as (a .out .now) (a .at) _ _ _ _ (function-text (a .l .funcs) (a .l .vars) (a .b) (n .result) (n .ensures .0) (omega (arith, n .ensures)) (n .ensures .1)) (c .before .before .put-name2 .ensures)
+    let a = c .before .before .before .before .before .before .before .before .before .before .before .before .before .args in
+    let n = c .before .before .before .before .before .before .before .before .before .before .before .wide in
+    wrote-as (a .out .now) (a .at) _ _ _ _ (function-text (a .l .funcs) (a .l .vars) (a .place) (a .b) (n .result) (n .ensures .0) (omega (arith, n .ensures)) (omega (arith, n .ensures)))
+    (wrote-more (a .out .now) (a .at) _ _ _ _ _ _ (omega arith) (c .before .before .before .before .before .before .put-name2 .ensures) (c .before .before .put-byte .ensures))
+
+put-operator-requires : tie.Need-put-operator-requires
+put-operator-requires c κs = search needs
+
+same-length-4 : tie.Need-same-length-4
+same-length-4 c = search needs
+
+returns-4 : tie.Need-returns-4
+returns-4 c =
+    let a = c .before .before .before .before .before .before .before .before .before .args in
+    let n = c .before .before .before .before .before .before .before .wide in
+    let w = c .before .before .put-operator .ensures (a .l .funcs) (a .l .vars) in
+    rw (n .ensures .0) at w
 
 pub put-node-spec : {M : Type 1} → statement M
 put-node-spec =
@@ -57,5 +74,9 @@ put-node-spec =
     same-length-2
     returns-2
     put-name-requires-2
+    put-byte-requires
     same-length-3
-    returns-3)
+    returns-3
+    put-operator-requires
+    same-length-4
+    returns-4)

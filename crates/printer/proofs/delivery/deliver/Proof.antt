@@ -11,8 +11,8 @@ use Rattle.texts.specs.Wrote.{Wrote}
 use Rattle.texts.proofs.Writing.{wrote-nothing, wrote-more, wrote-fits, wrote-as}
 use Rattle.pcrl.specs.Limits.{max-bytes, max-processes}
 use Rattle.laws.specs.Says.{said-yes, said-no}
-use Rattle.printer.specs.Printing.{text-room, HasTokens}
-use Rattle.printer.proofs.Seventeen.{Delivered, delivered-refused, delivered-text, wrote-front, no-room, some-room, whole, too-long, too-many, no-tokens, fit, printed-refused, printed-checked}
+use Rattle.printer.specs.Printing.{text-room, TokensApart}
+use Rattle.printer.proofs.Seventeen.{Delivered, delivered-refused, delivered-text, wrote-front, no-room, some-room, whole, too-long, too-many, not-apart, fit, printed-refused, printed-checked}
 use borrow.Author.Tests.{not-false, not-true}
 use Rattle.pcrl.specs.Result.{accepted}
 use Rattle.printer.proofs.delivery.deliver.Statement.{statement}
@@ -30,14 +30,14 @@ refuse-requires-2 c κs = search needs
 returns-2 : tie.Need-returns-2
 returns-2 c = λ U right front m. let a = c .before .before .before .before .before .args in delivered-refused _ 17 (a .out .now) _ _ (too-many U right _ (a .text .now) front (omega arith)) (c .refuse2 .ensures) refl
 
-has-tokens-requires : tie.Need-has-tokens-requires
-has-tokens-requires c κs = search needs
+tokens-apart-requires : tie.Need-tokens-apart-requires
+tokens-apart-requires c κs = search needs
 
 refuse-requires-3 : tie.Need-refuse-requires-3
 refuse-requires-3 c κs = search needs
 
 returns-3 : tie.Need-returns-3
-returns-3 c = λ U right front m. let a = c .before .before .before .before .before .before .before .args in delivered-refused _ 17 (a .out .now) _ _ (no-tokens U right _ (a .text .now) front (omega arith) (said-no (c .before .before .has-tokens .result) (c .before .before .has-tokens .ensures) (not-true _ (c .before .if3 .taken)))) (c .refuse3 .ensures) refl
+returns-3 c = λ U right front m. let a = c .before .before .before .before .before .before .before .args in delivered-refused _ 17 (a .out .now) _ _ (not-apart U right _ (a .text .now) front (omega arith) (said-no (c .before .before .tokens-apart .result) (c .before .before .tokens-apart .ensures) (not-true _ (c .before .if3 .taken)))) (c .refuse3 .ensures) refl
 
 refuse-requires-4 : tie.Need-refuse-requires-4
 refuse-requires-4 c κs = search needs
@@ -45,7 +45,7 @@ refuse-requires-4 c κs = search needs
 returns-4 : tie.Need-returns-4
 returns-4 c = λ U right front m. let a = c .before .before .before .before .before .before .before .before .args in
     let same = whole U right 0 (a .text .now) front (omega arith) in
-    let fits = fit U right 0 (a .text .now) front (omega arith) (said-yes (c .before .before .before .has-tokens .result) (c .before .before .before .has-tokens .ensures) (not-false _ (c .before .before .if3 .left))) (omega arith) in
+    let fits = fit U right 0 (a .text .now) front (omega arith) (said-yes (c .before .before .before .tokens-apart .result) (c .before .before .before .tokens-apart .ensures) (not-false _ (c .before .before .if3 .left))) (omega arith) in
     delivered-refused _ 11 (a .out .now) _ _ (no-room U right _ fits (let n = ap length same in omega arith)) (c .refuse4 .ensures) refl
 
 put-bytes-requires : tie.Need-put-bytes-requires
@@ -57,7 +57,7 @@ same-length c = search needs
 returns-5 : tie.Need-returns-5
 returns-5 c = λ U right front m. let a = c .before .before .before .before .before .before .before .before .before .before .before .args in
     let same = whole U right 0 (a .text .now) front (omega arith) in
-    let fits = fit U right 0 (a .text .now) front (omega arith) (said-yes (c .before .before .before .before .before .before .has-tokens .result) (c .before .before .before .before .before .before .has-tokens .ensures) (not-false _ (c .before .before .before .before .before .if3 .left))) (omega arith) in
+    let fits = fit U right 0 (a .text .now) front (omega arith) (said-yes (c .before .before .before .before .before .before .tokens-apart .result) (c .before .before .before .before .before .before .tokens-apart .ensures) (not-false _ (c .before .before .before .before .before .if3 .left))) (omega arith) in
     let n = ap length same in
     delivered-text _ (a .text .now) (a .out .now) _ _ (some-room U right _ fits (omega arith) ∙ ap accepted (sym same)) refl (wrote-front (a .out .now) (a .text .now) _ _ (c .before .before .put-bytes .ensures) (omega arith))
 
@@ -69,7 +69,7 @@ deliver-spec =
     returns
     refuse-requires-2
     returns-2
-    has-tokens-requires
+    tokens-apart-requires
     refuse-requires-3
     returns-3
     refuse-requires-4

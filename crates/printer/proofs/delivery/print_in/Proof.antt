@@ -11,10 +11,10 @@ use Rattle.texts.specs.Wrote.{Wrote}
 use Rattle.texts.proofs.Writing.{wrote-nothing, wrote-more, wrote-fits, wrote-as}
 use Rattle.pcrl.specs.Limits.{max-bytes, max-processes}
 use Rattle.laws.specs.Says.{said-yes, said-no}
-use Rattle.printer.specs.Printing.{text-room, HasTokens, printed-answer}
+use Rattle.printer.specs.Printing.{text-room, TokensApart, printed-answer}
 use Rattle.pcrl.specs.Result.{Result}
 use Rattle.pcrl.specs.Answers.{output-after}
-use Rattle.printer.proofs.Seventeen.{Delivered, delivered-refused, delivered-text, wrote-front, no-room, some-room, whole, too-long, too-many, no-tokens, fit, printed-refused, printed-checked}
+use Rattle.printer.proofs.Seventeen.{Delivered, delivered-refused, delivered-text, wrote-front, no-room, some-room, whole, too-long, too-many, not-apart, fit, printed-refused, printed-checked}
 use borrow.Author.Tests.{not-false, not-true}
 use Rattle.stepping.proofs.Loading.{load-refused, load-accepted, load-count}
 use Rattle.tables.specs.Indexed.{Indexed}

@@ -5,10 +5,10 @@ use mathlib.Core.Path.{_≡_, refl, _∙_}
 use Prim.Native.Nat.{_≤_}
 use lib.ListN.{length}
 use Rattle.clauses.specs.Brackets.{Open, code}
-use Rattle.clauses.proofs.Closing.{Closing, closing-start, closing-comma, closing-bracket, closing-end}
+use Rattle.clauses.proofs.Closing.{Closing, closing-start, closing-mark, closing-bracket, closing-end}
 use Rattle.texts.proofs.Writing.{wrote-fits}
-use Rattle.clauses.proofs.data.close.Statement.{statement}
-use Rattle.clauses.proofs.data.close.Tie as tie
+use Rattle.clauses.proofs.operands.close.Statement.{statement}
+use Rattle.clauses.proofs.operands.close.Tie as tie
 
 abbrev Inv-loop : tie.InvT-loop
 Inv-loop out₀ at opens p₀ o₀ out p o = (p ≤ length out) × ((length out ≡ length out₀) × ((bs : Open) → opens ≡ code bs → Closing out₀ at bs out p o))
@@ -19,25 +19,25 @@ abbrev μ-loop : tie.MeasureT-loop
 loop-holds : tie.Need-loop-holds Inv-loop μ-loop
 loop-holds c = (omega arith, (refl, λ bs e. closing-start _ _ _ bs e))
 
-put-byte-requires : tie.Need-put-byte-requires Inv-loop μ-loop
-put-byte-requires c κs = search needs
+kept-requires : tie.Need-kept-requires Inv-loop μ-loop
+kept-requires c κs = search needs
 
-sub-t11 : tie.Need-sub-t11 Inv-loop μ-loop
-sub-t11 c = search needs
+put-joint-requires : tie.Need-put-joint-requires Inv-loop μ-loop
+put-joint-requires c κs = search needs
 
 same-length : tie.Need-same-length Inv-loop μ-loop
 same-length c = search needs
 
 returns : tie.Need-returns Inv-loop μ-loop
 returns c =
-    let a = c .before .before .before .before .before .before .before .before .args in
-    let now = c .before .before .before .before .before .before .loop in
-    let w = c .before .before .put-byte .ensures in
+    let a = c .before .before .before .before .before .before .before .before .before .args in
+    let now = c .before .before .before .before .before .before .before .loop in
+    let w = c .before .before .put-joint .ensures in
     let f = wrote-fits _ _ _ _ _ w in
-    ((omega (arith, f, w .same, now .inv .1 .0), w .same ∙ now .inv .1 .0), λ bs e. closing-comma (a .out .now) (a .at) bs (now .out) (now .p) (now .o) _ _ (now .inv .1 .1 bs e) (omega arith) (omega arith) w)
+    ((omega (arith, f, w .same, now .inv .1 .0), w .same ∙ now .inv .1 .0), λ bs e. closing-mark (a .out .now) (a .at) bs (now .out) (now .p) (now .o) _ _ _ (now .inv .1 .1 bs e) (omega arith) (omega arith) w (c .before .before .before .before .kept .ensures))
 
-put-byte-requires-2 : tie.Need-put-byte-requires-2 Inv-loop μ-loop
-put-byte-requires-2 c κs = search needs
+put-byte-requires : tie.Need-put-byte-requires Inv-loop μ-loop
+put-byte-requires c κs = search needs
 
 loop-less : tie.Need-loop-less Inv-loop μ-loop
 loop-less c = search needs
@@ -46,7 +46,7 @@ loop-again : tie.Need-loop-again Inv-loop μ-loop
 loop-again c =
     let a = c .before .before .before .before .before .before .before .before .args in
     let now = c .before .before .before .before .before .before .loop in
-    let w = c .before .before .put-byte2 .ensures in (
+    let w = c .before .before .put-byte .ensures in (
       wrote-fits _ _ _ _ _ w,
       (w .same ∙ now .inv .1 .0, λ bs e. closing-bracket (a .out .now) (a .at) bs (now .out) (now .p) (now .o) _ _ (now .inv .1 .1 bs e) (omega arith) (λ z. omega arith) (now .inv .0) w),
     )
@@ -67,11 +67,11 @@ close-spec =
     Inv-loop
     μ-loop
     loop-holds
-    put-byte-requires
-    sub-t11
+    kept-requires
+    put-joint-requires
     same-length
     returns
-    put-byte-requires-2
+    put-byte-requires
     loop-less
     loop-again
     same-length-2
