@@ -76,7 +76,8 @@ const EXPLAINED: [Explained; 17] = [
     entry(
         Sheet("sort D 3;act a:D;proc X=a(3);init X;"),
         "Values of a sort of size n are 0 to n - 1. Give each action, process and function as many data as its line \
-         says, of those sorts; a function needs one value for each choice of arguments.",
+         says, of those sorts; a function needs one value for each choice of arguments. Of two numerals == cannot tell \
+         the sort.",
         Sheet("sort D 3;act a:D;proc X=a(2);init X;"),
     ),
     entry(

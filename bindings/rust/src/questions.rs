@@ -5,15 +5,15 @@ const QUESTIONS: [&str; 17] = [
     "at most 4,096 bytes in the sheet?",
     "no bytes but printable ASCII, blanks and line feeds?",
     "all of the text tokens: names of at most 16 characters that begin with a letter, numerals up to 255 without \
-     leading zeros, the marks ( ) , ; : # = + . -> <| |>?",
+     leading zeros, the marks ( ) , ; : # = + . -> <| |> ! == /\\ \\/?",
     "never more than 16 round brackets open?",
     "the form of a sheet: lines sort, func, act, proc and init in this order, each closed by a semicolon, at least \
      one proc, just one init?",
     "at most 8 sorts with Bool, sizes 1 to 16, 16 functions, 32 actions, 16 processes, 4 parameters a process?",
     "every declared name new, each variable unlike all declared names and all variables in scope, each used name of \
      the kind that its place needs?",
-    "argument counts and sorts right, conditions Bool, numerals below their sort's size, function values complete and \
-     in range?",
+    "argument counts and sorts right, conditions Bool, the sides of == of one sort and not two numerals, numerals \
+     below their sort's size, function values complete and in range?",
     "no process that comes back to itself through first parts alone, without an action before it?",
     "the table within its limits: 64 equations of 4 parameters, 255 summands, for each 4 sum variables, 8 conditions \
      and 8 calls, 31 nodes a data term, 64,768 bytes in all?",
@@ -25,7 +25,7 @@ const QUESTIONS: [&str; 17] = [
      not used?",
     "at most 64 frames after the step?",
     "the printed text a sheet by questions 1 to 8: at most 4,096 bytes, names of at most 16 characters, at most 16 \
-     round brackets open, at most 16 equations?",
+     round brackets open, at most 16 equations, no == over two values?",
 ];
 
 /// What a question asks, in words; there are questions 1 to 17.

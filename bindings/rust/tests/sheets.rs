@@ -24,7 +24,7 @@ fn sheets_get_their_tables_or_numbers() {
             Err(_) => refused += 1,
         }
     }
-    assert_eq!((made, refused), (406, 835));
+    assert_eq!((made, refused), (407, 834));
 }
 
 #[test]

@@ -5,7 +5,7 @@
 use std::collections::BTreeMap;
 
 use reader::sheet::{Choice, Conditional, Part, PartKind};
-use reader::signature::Data;
+use reader::signature::{Data, Joint};
 use reader::table::Summand;
 use reader::{Sheet, Table};
 
@@ -25,19 +25,40 @@ struct Terms<'k> {
 }
 
 impl Terms<'_> {
+    /// So many functions of this number in one another, and how many arguments each has.
+    fn functions(&mut self, times: usize, number: usize, arguments: usize) {
+        let cells = [4 * number + self.kinds["FUNCTION"], arguments];
+        (0..times).for_each(|_| self.cells.extend(cells));
+    }
+
     fn data(&mut self, data: &Data) {
-        let (tag, number, arguments) = match data {
-            Data::Value(value) => ("VALUE", usize::from(*value), &[][..]),
-            Data::Variable(index) => ("VARIABLE", *index, &[][..]),
-            Data::Apply(function, arguments) => ("FUNCTION", *function, &arguments[..]),
-        };
-        self.cells.push(4 * number + self.kinds[tag]);
         match data {
-            Data::Variable(index) => self.seen |= 1 << index,
-            Data::Apply(..) => self.cells.push(arguments.len()),
-            Data::Value(_) => {}
+            Data::Value(value) => {
+                let cell = 4 * usize::from(*value) + self.kinds["VALUE"];
+                self.cells.push(cell);
+            }
+            Data::Variable(index) => {
+                self.cells.push(4 * index + self.kinds["VARIABLE"]);
+                self.seen |= 1 << index;
+            }
+            Data::Apply(function, arguments) => {
+                self.functions(1, *function, arguments.len());
+                arguments.iter().for_each(|argument| self.data(argument));
+            }
+            Data::Not(times, operand) => {
+                self.functions(*times, self.kinds["NOT"], 1);
+                self.data(operand);
+            }
+            Data::Equal(sort, sides) => {
+                self.functions(1, self.kinds["EQUAL"] + sort, 2);
+                sides.iter().for_each(|side| self.data(side));
+            }
+            Data::Joined(joint, operands) => {
+                let name = if *joint == Joint::And { "AND" } else { "OR" };
+                self.functions(operands.len() - 1, self.kinds[name], 2);
+                operands.iter().for_each(|operand| self.data(operand));
+            }
         }
-        arguments.iter().for_each(|argument| self.data(argument));
     }
 
     fn node(&mut self, kind: &str, after: bool, number: usize, datas: &[Data]) {

@@ -11,7 +11,14 @@ use crate::inputs::in_words;
 use crate::stepping::{Frame, ANSWER};
 
 const WORDS: [&str; 8] = ["sort", "func", "act", "proc", "init", "sum", "delta", "tau"];
-const LONG_MARKS: [(&str, &str); 3] = [("->", "ARROW"), ("<|", "IF"), ("|>", "ELSE")];
+const LONG_MARKS: [(&str, &str); 6] = [
+    ("->", "ARROW"),
+    ("<|", "IF"),
+    ("|>", "ELSE"),
+    ("==", "SAME"),
+    ("/\\", "AND"),
+    ("\\/", "OR"),
+];
 
 const LEXER: &str = "crates/lexer/src/lib.rt";
 const PARSER: &str = "crates/parser/src/codes.rt";
@@ -152,15 +159,26 @@ pub fn tokens_are(sheet: &str, text: &str) -> Result<(), String> {
     same(glossed(text)?, token_cells(sheet)?)
 }
 
-/// The cells below 32 are the tags that the words name, the others those of the sheet's names and numerals, in order.
+/// The cell of a tag, or of a count of operands: `ors` and `ands` where there is only one, `ors+2` where two more stand behind it.
+fn tag_or_count(codes: &Numbers, word: &str) -> Result<usize, String> {
+    let (kind, more) = word.split_once('+').unwrap_or((word, "0"));
+    let first = codes.get(&format!("FIRST_{}", kind.to_uppercase()));
+    match (first, codes.get(&format!("{}_TAG", word.to_uppercase()))) {
+        (Some(first), _) => Ok(first + number(more)?),
+        (None, Some(tag)) => Ok(*tag),
+        (None, None) => Err(format!("no {word}")),
+    }
+}
+
+/// The cells below 32 and those of counts are what the words name, the others those of the sheet's names and numerals, in order.
 pub fn raw_is(sheet: &str, text: &str) -> Result<(), String> {
-    let (lexer, tags) = (constants(LEXER)?, constants(PARSER)?);
-    let (shown, rest): (Vec<_>, Vec<_>) = glossed(text)?
+    let (lexer, codes) = (constants(LEXER)?, constants(PARSER)?);
+    let tokens = FIRST_TOKEN..codes["FIRST_ORS"];
+    let (rest, shown): (Vec<_>, Vec<_>) = glossed(text)?
         .into_iter()
-        .partition(|pair| pair.0 < FIRST_TOKEN);
-    for (tag, word) in shown {
-        let name = format!("{}_TAG", word.to_uppercase());
-        same((word, tags.get(&name)), (word, Some(&tag)))?;
+        .partition(|pair| tokens.contains(&pair.0));
+    for (cell, word) in shown {
+        same((word, tag_or_count(&codes, word)?), (word, cell))?;
     }
     let mut wanted = token_cells(sheet)?;
     wanted.retain(|pair| pair.0 >= lexer["FIRST_NUMERAL"]);

@@ -21,7 +21,8 @@ fn declared() -> String {
     let even: Vec<String> = (0..16).map(|i| (1 - i % 2).to_string()).collect();
     let all = vec!["1"; 16].join(",");
     format!(
-        "sort D 16;func f:D#D->D={};func g:D->D={};func even:D->Bool={};func t:D->Bool={all};act a:D#D;",
+        "sort D 16;func f:D#D->D={};func g:D->D={};func even:D->Bool={};func t:D->Bool={all};\
+         func and:Bool#Bool->Bool=0,0,0,1;act a:D#D;",
         sums.join(","),
         sums[..16].join(","),
         even.join(","),
@@ -70,6 +71,18 @@ fn all_four() -> String {
     let data = tree(29, "p").replacen('p', "q", 3);
     let data = data.replacen('q', "r", 2).replacen('r', "s", 1);
     four_sums_with("t", |_| data.clone())
+}
+
+/// Eight conditions that hold where all four variables are even, joined two by two.
+fn joined(join: fn(String, String) -> String) -> String {
+    let pair = |left, right| join(format!("even({left})"), format!("even({right})"));
+    let test = join(pair("p", "q"), pair("r", "s"));
+    let tests = format!("<|{test}|>delta)").repeat(8);
+    format!(
+        "proc Y=sum(u:D,sum(v:D,sum(w:D,sum(x:D,Z(u,v,w,x)))));\
+         proc Z(p:D,q:D,r:D,s:D)={}a(p,s){tests};",
+        "(".repeat(8)
+    )
 }
 
 fn file(body: &str, more: &str) -> Vec<u8> {
@@ -145,6 +158,16 @@ pub fn usual() -> Vec<Question> {
         question(
             "eight conditions on all four variables",
             file("Y", &all_four()),
+            none,
+        ),
+        question(
+            "eight conditions joined by a function",
+            file("Y", &joined(|left, right| format!("and({left},{right})"))),
+            none,
+        ),
+        question(
+            "eight conditions joined by operators",
+            file("Y", &joined(|left, right| format!("({left}/\\{right})"))),
             none,
         ),
         question("step 0 of 128 blocks", largest(), 0),

@@ -48,7 +48,8 @@ fn answer(case: &Json) -> reader::Answer {
 #[test]
 fn questions_get_their_answers() {
     let mut seen = std::collections::BTreeMap::new();
-    for case in vectors("asks.jsonl") {
+    let cases = [vectors("asks.jsonl"), vectors("operators-asks.jsonl")].concat();
+    for case in cases {
         let (file, before) = (case.bytes("file"), frames(&case, "frames"));
         let (depth, k) = (case.number("depth") as usize, case.number("k"));
         let after: After = asked(&file, &before, depth, k);
@@ -57,7 +58,18 @@ fn questions_get_their_answers() {
         assert_eq!(after, wanted(&file, &before, depth, k), "{name}");
         *seen.entry(case.text("answer").to_string()).or_insert(0) += 1;
     }
-    assert_eq!(seen.values().sum::<usize>(), 738);
+    assert_eq!(seen.values().sum::<usize>(), 808);
     let kinds: Vec<&str> = seen.keys().map(String::as_str).collect();
-    assert_eq!(kinds, ["ended", "none", "refused 15", "refused 16", "step"]);
+    assert_eq!(
+        kinds,
+        [
+            "ended",
+            "none",
+            "refused 13",
+            "refused 14",
+            "refused 15",
+            "refused 16",
+            "step"
+        ]
+    );
 }

@@ -18,12 +18,14 @@ fn count() -> usize {
     }
 }
 
-/// A generated sheet: a third of them small, a third with many heads, a third with circles.
+/// A generated sheet: small, with many heads, with circles, with operators, with heads and operators.
 fn sheet(seed: u64) -> String {
-    match seed % 3 {
+    match seed % 5 {
         0 => generate::sheet(seed),
         1 => generate::with_heads(seed),
-        _ => generate::with_circles(seed),
+        2 => generate::with_circles(seed),
+        3 => generate::with_operators(seed),
+        _ => generate::with_heads_and_operators(seed),
     }
 }
 
@@ -43,8 +45,10 @@ fn files_and_answers() {
     let count = count();
     for seed in 0..(count / 4) as u64 {
         let generated = sheet(seed);
-        let changed = [(); 3].map(|()| mutate::changed(&mut random, &generated));
-        for sheet in [generated.into_bytes()].iter().chain(&changed) {
+        let changed = [(); 2].map(|()| mutate::changed(&mut random, &generated));
+        let generated = generated.into_bytes();
+        let mutant = mutate::operator_mutant(&mut random, &generated);
+        for sheet in [generated, mutant].iter().chain(&changed) {
             let number = same(sheet, room(&mut random), "generated");
             seen[usize::from(number)] += 1;
             let checked = if number == 11 { 0 } else { number };

@@ -118,7 +118,10 @@ fn lists_of_generated_sheets() {
     let mut random = Random::new(61);
     let mut seen = [0; 17];
     for seed in 0..4000 {
-        let text = generate::with_heads(seed);
+        let text = match seed % 2 {
+            0 => generate::with_heads(seed),
+            _ => generate::with_heads_and_operators(seed),
+        };
         let Ok(file) = reader::make_table(text.as_bytes()) else {
             continue;
         };

@@ -31,8 +31,8 @@ fn room(random: &mut Random) -> usize {
 
 #[test]
 fn vectors_give_their_texts_or_refusals() {
-    let cases = vectors("prints.jsonl");
-    assert_eq!(cases.len(), 70);
+    let cases = [vectors("prints.jsonl"), vectors("operators-prints.jsonl")].concat();
+    assert_eq!(cases.len(), 140);
     for case in &cases {
         let (name, room) = (case.text("name"), case.number("room") as usize);
         let wanted = match case.text("answer") {
@@ -50,6 +50,7 @@ fn tables_of_sheets() {
     for seed in 0..count() {
         let sheet = match seed % 4 {
             0 => generate::with_heads(seed),
+            1 => generate::with_operators(seed),
             _ => generate::sheet(seed),
         };
         if let Ok(file) = made_whole(sheet.as_bytes()) {
@@ -65,7 +66,11 @@ fn tables_of_sheets() {
 fn tables_of_no_sheet() {
     let (mut random, mut seen): (_, Seen) = (Random::new(102), [0; 18]);
     for seed in 0..count() {
-        let file = reader::encode_file(&tables::table(seed));
+        let table = match seed % 2 {
+            0 => tables::table(seed),
+            _ => tables::with_operators(seed),
+        };
+        let file = reader::encode_file(&table);
         let number = same(&file, room(&mut random), &format!("seed {seed}"));
         seen[usize::from(number)] += 1;
     }

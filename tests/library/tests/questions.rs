@@ -23,7 +23,8 @@ fn timed_questions_get_the_same_answers() {
 fn conditions_of_31_nodes_over_four_sums_of_16() {
     let dear = usual()
         .into_iter()
-        .filter(|question| question.what.contains("conditions"));
+        .filter(|question| question.what.contains("conditions"))
+        .filter(|question| !question.what.contains("joined"));
     let files: Vec<Vec<u8>> = dear.map(|question| question.file).collect();
     assert_eq!(files.len(), 7);
     for file in files {

@@ -112,10 +112,10 @@ fn every_step_of_every_stack() {
     let mut random = Random::new(41);
     let mut seen = Seen::default();
     for seed in 0..sheets {
-        let text = if seed % 2 == 0 {
-            generate::sheet(seed)
-        } else {
-            generate::with_heads(seed)
+        let text = match seed % 3 {
+            0 => generate::sheet(seed),
+            1 => generate::with_heads(seed),
+            _ => generate::with_operators(seed),
         };
         let Ok(file) = made_whole(text.as_bytes()) else {
             continue;

@@ -13,7 +13,8 @@ fn same(file: &[u8], what: &str) -> u8 {
 
 #[test]
 fn vectors_get_their_answers() {
-    for case in common::vectors("tables.jsonl") {
+    let files = ["tables.jsonl", "operators-tables.jsonl"];
+    for case in files.iter().flat_map(|file| common::vectors(file)) {
         let wanted = match case.text("answer") {
             "ok" => 0,
             refused => refused["refused ".len()..].parse().expect("a number"),

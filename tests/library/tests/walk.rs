@@ -47,7 +47,10 @@ fn vectors_get_their_walks() {
 fn generated_sheets() {
     let mut closed = std::collections::BTreeMap::new();
     for seed in 0..600 {
-        let sheet = generate::with_heads(seed);
+        let sheet = match seed % 2 {
+            0 => generate::with_heads(seed),
+            _ => generate::with_heads_and_operators(seed),
+        };
         let text = written(sheet.as_bytes());
         assert_eq!(text, reader::walk(sheet.as_bytes()), "{sheet}");
         let word = text.lines().last().expect("a closing word").to_string();

@@ -125,10 +125,10 @@ fn generated_sheets() {
     let mut random = Random::new(72);
     let mut seen = [0; 4];
     for seed in 0..400 {
-        let text = if seed % 2 == 0 {
-            generate::sheet(seed)
-        } else {
-            generate::with_heads(seed)
+        let text = match seed % 3 {
+            0 => generate::sheet(seed),
+            1 => generate::with_heads(seed),
+            _ => generate::with_operators(seed),
         };
         if reader::make_table(text.as_bytes()).is_ok() {
             let more = walk(&text, &mut random, 300, 2);

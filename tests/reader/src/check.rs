@@ -33,7 +33,8 @@ impl Sheet {
     pub fn closed_choice(&self, text: &[u8]) -> Result<Choice, Refusal> {
         let tokens = check_text(text)?;
         let parsed = parse::closed_choice(&tokens).ok_or(question::FORM)?;
-        let choice = self.names.closed_choice(&parsed).ok_or(question::NAMES)?;
+        let choice = self.names.closed_choice(&self.signature, &parsed);
+        let choice = choice.ok_or(question::NAMES)?;
         let sorted = sorts::closed_choice_well_sorted(self, &choice);
         put(question::SORTS, sorted)?;
         Ok(choice)

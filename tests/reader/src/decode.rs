@@ -3,7 +3,7 @@
 
 use crate::limits;
 use crate::signature::{Action, Data, Function, Signature, BOOL, BOOL_NAME, BOOL_SIZE};
-use crate::stream::{FUNCTION, TAU, VARIABLE};
+use crate::stream::TAU;
 use crate::table::{Call, Condition, Equation, Summand, Table};
 use crate::token::is_name;
 
@@ -33,12 +33,13 @@ pub fn decode(bytes: &[u8]) -> Option<(Table, usize)> {
 }
 
 /// The bytes not read yet.
-struct Reader<'b> {
+pub(crate) struct Reader<'b> {
     bytes: &'b [u8],
 }
 
 impl Reader<'_> {
-    fn byte(&mut self) -> Option<u8> {
+    /// The next byte.
+    pub(crate) fn byte(&mut self) -> Option<u8> {
         let (&first, rest) = self.bytes.split_first()?;
         self.bytes = rest;
         Some(first)
@@ -48,7 +49,8 @@ impl Reader<'_> {
         self.byte().filter(|&value| value < size)
     }
 
-    fn index(&mut self, count: usize) -> Option<usize> {
+    /// A byte below the count.
+    pub(crate) fn index(&mut self, count: usize) -> Option<usize> {
         let index = usize::from(self.byte()?);
         (index < count).then_some(index)
     }
@@ -123,8 +125,8 @@ impl Reader<'_> {
 }
 
 /// What is known when the summands are read.
-struct Rows<'t> {
-    signature: &'t Signature,
+pub(crate) struct Rows<'t> {
+    pub(crate) signature: &'t Signature,
     parameters: &'t [Vec<usize>],
 }
 
@@ -190,44 +192,5 @@ impl Rows<'_> {
             equation,
             arguments,
         })
-    }
-
-    fn terms(&self, reader: &mut Reader, scope: &[usize], sorts: &[usize]) -> Option<Vec<Data>> {
-        sorts
-            .iter()
-            .map(|&sort| self.term(reader, scope, sort))
-            .collect()
-    }
-
-    fn term(&self, reader: &mut Reader, scope: &[usize], sort: usize) -> Option<Data> {
-        let mut nodes_left = limits::TERM_NODES;
-        self.node(reader, scope, sort, &mut nodes_left)
-    }
-
-    fn node(
-        &self,
-        reader: &mut Reader,
-        scope: &[usize],
-        sort: usize,
-        nodes_left: &mut usize,
-    ) -> Option<Data> {
-        *nodes_left = nodes_left.checked_sub(1)?;
-        let byte = reader.byte()?;
-        if byte < VARIABLE {
-            return (byte < self.signature.sorts[sort]).then_some(Data::Value(byte));
-        }
-        if byte < FUNCTION {
-            let index = usize::from(byte - VARIABLE);
-            return (*scope.get(index)? == sort).then_some(Data::Variable(index));
-        }
-        let index = usize::from(byte - FUNCTION);
-        let function = self.signature.functions.get(index)?;
-        if function.result != sort {
-            return None;
-        }
-        let arguments = (function.arguments.iter())
-            .map(|&sort| self.node(reader, scope, sort, nodes_left))
-            .collect::<Option<_>>()?;
-        Some(Data::Apply(index, arguments))
     }
 }

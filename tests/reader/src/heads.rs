@@ -184,23 +184,15 @@ fn within(limit_kept: bool) -> Result<(), Refusal> {
 
 /// Stops as soon as more nodes than are left would be written.
 fn put_within(data: &Data, bound: &[Option<Data>], nodes_left: &mut usize) -> Option<Data> {
-    match data {
-        Data::Value(_) => {
-            *nodes_left = nodes_left.checked_sub(1)?;
-            Some(data.clone())
-        }
-        Data::Variable(variable) => {
-            let put = bound[*variable].as_ref()?;
-            *nodes_left = nodes_left.checked_sub(put.nodes())?;
-            Some(put.clone())
-        }
-        Data::Apply(function, arguments) => {
-            *nodes_left = nodes_left.checked_sub(1)?;
-            let mut put = Vec::new();
-            for argument in arguments {
-                put.push(put_within(argument, bound, nodes_left)?);
-            }
-            Some(Data::Apply(*function, put))
-        }
+    if let Data::Variable(variable) = data {
+        let put = bound[*variable].as_ref()?;
+        *nodes_left = nodes_left.checked_sub(put.nodes())?;
+        return Some(put.clone());
     }
+    *nodes_left = nodes_left.checked_sub(data.own_nodes())?;
+    let mut put = Vec::new();
+    for part in data.parts() {
+        put.push(put_within(part, bound, nodes_left)?);
+    }
+    Some(data.over(put))
 }

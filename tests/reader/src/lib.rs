@@ -1,5 +1,6 @@
-//! A reader of the rules of document 01, written apart from the proved library: sheets, linear
-//! tables, table files, stacks, closed terms and equality to n steps.
+//! A reader of the rules of document 01, with the changes #101 and #102 of document 02, written
+//! apart from the proved library: sheets, linear tables, table files, stacks, closed terms and
+//! equality to n steps.
 
 #![forbid(unsafe_code)]
 #![warn(missing_docs)]
@@ -8,7 +9,9 @@ mod blocks;
 mod check;
 mod circles;
 mod count;
+mod data;
 mod decode;
+mod decode_data;
 mod equations;
 mod file;
 mod heads;
@@ -17,8 +20,10 @@ pub mod limits;
 mod linear;
 mod names;
 mod parse;
+mod parse_data;
 mod parse_process;
 mod print;
+mod print_data;
 mod put;
 pub mod question;
 mod search;

@@ -30,7 +30,7 @@ pub const SUM_VARIABLES: usize = 4;
 pub const CONDITIONS: usize = 8;
 /// Question 10: calls of a summand.
 pub const CALLS: usize = 8;
-/// Question 10: nodes of a data term.
+/// Question 10: nodes of a data term; the sort that follows `==` is none.
 pub const TERM_NODES: usize = 31;
 /// Question 10: bytes of the stream.
 pub const STREAM_BYTES: usize = 64_768;

@@ -2,8 +2,10 @@
 
 use std::collections::HashMap;
 
+use crate::data::NO_SORT;
 use crate::sheet::{Choice, Conditional, Part, PartKind, Process, Sequence, Sheet};
 use crate::signature::{Action, Data, Function, Signature, BOOL, BOOL_NAME, BOOL_SIZE};
+use crate::sorts::own_sort;
 use crate::syntax;
 
 /// What a declared name stands for.
@@ -24,15 +26,15 @@ pub(crate) struct Names {
 /// The sheet with its names looked up, or `None` if question 7 fails.
 pub fn resolve(sheet: &syntax::Sheet) -> Option<Sheet> {
     let names = Names::of(sheet)?;
+    let signature = names.signature(sheet)?;
     let mut processes = Vec::new();
     for process in &sheet.processes {
-        processes.push(names.process(process)?);
+        processes.push(names.process(&signature, process)?);
     }
-    let signature = names.signature(sheet)?;
     let Declared::Process(start) = names.get(sheet.init.name)? else {
         return None;
     };
-    let start_data = Scope::new(&names).data_list(&sheet.init.arguments)?;
+    let start_data = Scope::new(&names, &signature).data_list(&sheet.init.arguments)?;
     Some(Sheet {
         signature,
         processes,
@@ -104,32 +106,43 @@ impl Names {
         })
     }
 
-    fn process(&self, process: &syntax::Process) -> Option<Process> {
-        let mut scope = Scope::new(self);
-        let mut parameters = Vec::new();
+    fn process(&self, signature: &Signature, process: &syntax::Process) -> Option<Process> {
+        let mut scope = Scope::new(self, signature);
         for parameter in &process.parameters {
-            parameters.push(scope.open(parameter)?);
+            scope.open(parameter)?;
         }
+        let parameters = scope.sorts.clone();
         let body = scope.choice(&process.body)?;
         Some(Process { parameters, body })
     }
 
     /// A choice without free variables, its names looked up.
-    pub(crate) fn closed_choice(&self, choice: &syntax::Choice) -> Option<Choice> {
-        Scope::new(self).choice(choice)
+    pub(crate) fn closed_choice(
+        &self,
+        signature: &Signature,
+        choice: &syntax::Choice,
+    ) -> Option<Choice> {
+        Scope::new(self, signature).choice(choice)
     }
 }
 
 /// The variables in scope, outermost first.
 struct Scope<'n> {
     names: &'n Names,
+    signature: &'n Signature,
     variables: Vec<String>,
+    /// Their sorts.
+    sorts: Vec<usize>,
 }
 
 impl<'n> Scope<'n> {
-    fn new(names: &'n Names) -> Self {
-        let variables = Vec::new();
-        Scope { names, variables }
+    fn new(names: &'n Names, signature: &'n Signature) -> Self {
+        Scope {
+            names,
+            signature,
+            variables: Vec::new(),
+            sorts: Vec::new(),
+        }
     }
 
     /// Puts a variable, unlike all declared names and all in scope, into scope; gives its sort.
@@ -138,8 +151,10 @@ impl<'n> Scope<'n> {
         if taken {
             return None;
         }
+        let sort = self.names.sort(variable.sort)?;
         self.variables.push(variable.name.to_string());
-        self.names.sort(variable.sort)
+        self.sorts.push(sort);
+        Some(sort)
     }
 
     fn find(&self, name: &str) -> Option<usize> {
@@ -205,6 +220,7 @@ impl<'n> Scope<'n> {
         let sort = self.open(variable)?;
         let body = self.choice(body)?;
         self.variables.truncate(number);
+        self.sorts.truncate(number);
         Some(PartKind::Sum {
             variable: number,
             sort,
@@ -224,7 +240,18 @@ impl<'n> Scope<'n> {
                 Declared::Function(f) => Some(Data::Apply(f, self.data_list(&call.arguments)?)),
                 _ => None,
             },
+            syntax::Data::Not(count, inner) => Some(Data::not(*count, self.data(inner)?)),
+            syntax::Data::Equal(sides) => self.comparison(sides),
+            syntax::Data::Joined(joint, items) => Some(Data::chain(*joint, self.data_list(items)?)),
         }
+    }
+
+    /// The sort of `==` is that of a side that is no numeral.
+    fn comparison(&self, [left, right]: &[syntax::Data; 2]) -> Option<Data> {
+        let (left, right) = (self.data(left)?, self.data(right)?);
+        let sort = |side| own_sort(self.signature, &self.sorts, side);
+        let sort = sort(&left).or(sort(&right)).unwrap_or(NO_SORT);
+        Some(Data::equal(sort, left, right))
     }
 }
 

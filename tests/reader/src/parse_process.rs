@@ -1,7 +1,7 @@
-//! The form of right sides (question 5): choice, conditional, sequence, part, data.
+//! The form of right sides (question 5): choice, conditional, sequence, part.
 
 use crate::parse::Parser;
-use crate::syntax::{Call, Choice, Conditional, Data, Part, PartKind, Sequence};
+use crate::syntax::{Choice, Conditional, Part, PartKind, Sequence};
 use crate::token::Kind;
 
 impl<'a> Parser<'_, 'a> {
@@ -54,25 +54,5 @@ impl<'a> Parser<'_, 'a> {
         let body = self.choice()?;
         self.mark(")")?;
         Some(PartKind::Sum(variable, body))
-    }
-
-    /// A name with or without bracketed data.
-    pub(crate) fn call(&mut self) -> Option<Call<'a>> {
-        let name = self.name()?;
-        let arguments = self.bracketed(Parser::data)?;
-        Some(Call { name, arguments })
-    }
-
-    /// Data is a numeral, a variable, or a function name with bracketed data.
-    fn data(&mut self) -> Option<Data<'a>> {
-        if let Some(value) = self.numeral() {
-            return Some(Data::Numeral(value));
-        }
-        let call = self.call()?;
-        Some(if call.arguments.is_empty() {
-            Data::Variable(call.name)
-        } else {
-            Data::Apply(call)
-        })
     }
 }

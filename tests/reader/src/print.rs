@@ -4,7 +4,7 @@ use crate::check::check_written;
 use crate::file::read_table;
 use crate::limits::SHEET_BYTES;
 use crate::question::{self, put, Refusal};
-use crate::signature::{Data, Signature, BOOL, BOOL_NAME};
+use crate::signature::{Signature, BOOL, BOOL_NAME};
 use crate::table::{Call, Condition, Equation, Summand, Table};
 
 /// The sheet of a table file, written to an output that is always long enough.
@@ -64,18 +64,19 @@ impl Text {
     }
 }
 
-/// A name goes on through letters, digits and underscores, a numeral through digits, a mark never.
+/// A name goes on through letters, digits and underscores, a numeral through digits; of the marks
+/// only `=` can become a longer one.
 fn merge(token: &str, next: &str) -> bool {
     let [first, next] = [token, next].map(|text| text.bytes().next().unwrap_or(b' '));
     match first {
         b'a'..=b'z' | b'A'..=b'Z' => next.is_ascii_alphanumeric() || next == b'_',
         b'0'..=b'9' => next.is_ascii_digit(),
-        _ => false,
+        _ => token == "=" && next == b'=',
     }
 }
 
 /// What stands before the index of a sort, a function, a process and a variable; and the text so far.
-struct Printer<'t> {
+pub(crate) struct Printer<'t> {
     signature: &'t Signature,
     sorts: String,
     functions: String,
@@ -85,7 +86,7 @@ struct Printer<'t> {
 }
 
 impl Printer<'_> {
-    fn tokens(&mut self, tokens: &[&str]) {
+    pub(crate) fn tokens(&mut self, tokens: &[&str]) {
         tokens.iter().for_each(|token| self.text.token(token));
     }
 
@@ -97,7 +98,7 @@ impl Printer<'_> {
         }
     }
 
-    fn function(&mut self, index: usize) {
+    pub(crate) fn function(&mut self, index: usize) {
         self.tokens(&[&format!("{}{index}", self.functions)]);
     }
 
@@ -105,13 +106,23 @@ impl Printer<'_> {
         self.tokens(&[&format!("{}{index}", self.processes)]);
     }
 
+    pub(crate) fn variable_name(&mut self, index: usize) {
+        self.tokens(&[&format!("{}{index}", self.variables)]);
+    }
+
     /// A variable where it is declared.
     fn variable(&mut self, index: usize, sort: usize) {
-        self.tokens(&[&format!("{}{index}", self.variables), ":"]);
+        self.variable_name(index);
+        self.tokens(&[":"]);
         self.sort(sort);
     }
 
-    fn joined<T>(&mut self, items: &[T], joint: &str, print: impl Fn(&mut Self, usize, &T)) {
+    pub(crate) fn joined<T>(
+        &mut self,
+        items: &[T],
+        joint: &str,
+        print: impl Fn(&mut Self, usize, &T),
+    ) {
         for (index, item) in items.iter().enumerate() {
             if index > 0 {
                 self.tokens(&[joint]);
@@ -121,7 +132,7 @@ impl Printer<'_> {
     }
 
     /// A list in brackets; without items there are no brackets either.
-    fn bracketed<T>(&mut self, items: &[T], print: impl Fn(&mut Self, usize, &T)) {
+    pub(crate) fn bracketed<T>(&mut self, items: &[T], print: impl Fn(&mut Self, usize, &T)) {
         if !items.is_empty() {
             self.tokens(&["("]);
             self.joined(items, ",", print);
@@ -243,21 +254,6 @@ impl Printer<'_> {
             self.tokens(&["."]);
             self.process(*equation);
             self.arguments(arguments);
-        }
-    }
-
-    fn arguments(&mut self, arguments: &[Data]) {
-        self.bracketed(arguments, |to, _, data| to.data(data));
-    }
-
-    fn data(&mut self, data: &Data) {
-        match data {
-            Data::Value(value) => self.tokens(&[&value.to_string()]),
-            Data::Variable(index) => self.tokens(&[&format!("{}{index}", self.variables)]),
-            Data::Apply(index, arguments) => {
-                self.function(*index);
-                self.arguments(arguments);
-            }
         }
     }
 }

@@ -54,27 +54,27 @@ impl Put<'_> {
 
     fn data(&self, data: &Data) -> Data {
         match data {
-            Data::Value(value) => Data::Value(*value),
             Data::Variable(variable) => match self.known.get(*variable) {
                 Some(Some(value)) => Data::Value(*value),
                 _ => Data::Variable(*variable),
             },
-            Data::Apply(function, arguments) => {
-                let arguments = self.data_list(arguments);
-                match values(&arguments) {
-                    Some(values) => Data::Value(self.signature.apply(*function, &values)),
-                    None => Data::Apply(*function, arguments),
-                }
+            // Grouped to the left, so what is closed in front has a value of its own.
+            Data::Joined(joint, chain) => {
+                let joined = |left, right| self.evaluated(Data::joined(*joint, left, right));
+                let put = chain.iter().map(|part| self.data(part));
+                put.reduce(joined).expect("a chain has parts")
             }
+            _ => self.evaluated(data.over(self.data_list(data.parts()))),
         }
     }
-}
 
-/// The values of data that are all values.
-fn values(data: &[Data]) -> Option<Vec<u8>> {
-    let value = |d: &Data| match d {
-        Data::Value(value) => Some(*value),
-        _ => None,
-    };
-    data.iter().map(value).collect()
+    /// Data over values alone is a value.
+    fn evaluated(&self, data: Data) -> Data {
+        let is_value = |part: &Data| matches!(part, Data::Value(_));
+        if data.parts().iter().all(is_value) {
+            Data::Value(self.signature.value(&data, &[]))
+        } else {
+            data
+        }
+    }
 }

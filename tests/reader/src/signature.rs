@@ -1,4 +1,6 @@
-//! Sorts, functions and actions, which a sheet and its table share, and data over them.
+//! Sorts, functions and actions, which a sheet and its table share, and the values of data over them.
+
+pub use crate::data::{all_variables, Data, Joint};
 
 /// The index of Bool among the sorts; Bool is always there first.
 pub const BOOL: usize = 0;
@@ -25,18 +27,6 @@ pub struct Action {
     pub name: String,
     /// Sorts of the values, none to two.
     pub arguments: Vec<usize>,
-}
-
-/// Data: in a sheet the variables are numbered by scope, outermost first; in a summand the
-/// parameters come first, then the sum variables.
-#[derive(Clone, Debug, PartialEq, Eq, Hash)]
-pub enum Data {
-    /// A value of the sort that its place needs.
-    Value(u8),
-    /// A variable.
-    Variable(usize),
-    /// A function and its arguments.
-    Apply(usize, Vec<Data>),
 }
 
 /// The sorts' sizes (Bool first), the functions and the actions.
@@ -80,35 +70,30 @@ impl Signature {
             Data::Apply(function, arguments) => {
                 self.apply(*function, &self.values(arguments, variables))
             }
+            Data::Not(count, inner) => {
+                let odd = count % 2 == 1;
+                u8::from(self.is_true(inner, variables) != odd)
+            }
+            Data::Equal(_, sides) => {
+                let [left, right] = &**sides;
+                u8::from(self.value(left, variables) == self.value(right, variables))
+            }
+            Data::Joined(joint, chain) => {
+                let mut truths = chain.iter().map(|part| self.is_true(part, variables));
+                u8::from(match joint {
+                    Joint::And => truths.all(|truth| truth),
+                    Joint::Or => truths.any(|truth| truth),
+                })
+            }
         }
+    }
+
+    fn is_true(&self, data: &Data, variables: &[u8]) -> bool {
+        self.value(data, variables) == 1
     }
 
     /// The values of a list of data when its variables have these values.
     pub fn values(&self, data: &[Data], variables: &[u8]) -> Vec<u8> {
         data.iter().map(|d| self.value(d, variables)).collect()
     }
-}
-
-impl Data {
-    /// The number of nodes: values, variables and functions.
-    pub fn nodes(&self) -> usize {
-        match self {
-            Data::Value(_) | Data::Variable(_) => 1,
-            Data::Apply(_, arguments) => 1 + arguments.iter().map(Data::nodes).sum::<usize>(),
-        }
-    }
-
-    /// The variables in it, as bits.
-    pub fn variables(&self) -> u32 {
-        match self {
-            Data::Value(_) => 0,
-            Data::Variable(index) => 1 << index,
-            Data::Apply(_, arguments) => all_variables(arguments),
-        }
-    }
-}
-
-/// The variables in a list of data, as bits.
-pub fn all_variables(data: &[Data]) -> u32 {
-    data.iter().fold(0, |bits, d| bits | d.variables())
 }

@@ -1,5 +1,6 @@
 //! Sorts (question 8): argument counts and sorts, conditions, numerals, function values.
 
+use crate::data::NO_SORT;
 use crate::sheet::{Choice, Conditional, Part, PartKind, Sequence, Sheet};
 use crate::signature::{Data, Function, Signature, BOOL};
 
@@ -35,6 +36,24 @@ fn data_has_sort(signature: &Signature, variables: &[usize], data: &Data, sort: 
             function.result == sort
                 && list_has_sorts(signature, variables, arguments, &function.arguments)
         }
+        Data::Not(..) | Data::Joined(..) => {
+            let has_bool = |part| data_has_sort(signature, variables, part, BOOL);
+            sort == BOOL && data.parts().iter().all(has_bool)
+        }
+        Data::Equal(of, sides) => {
+            let has_sort = |side| data_has_sort(signature, variables, side, *of);
+            sort == BOOL && *of != NO_SORT && sides.iter().all(has_sort)
+        }
+    }
+}
+
+/// The sort that data has by itself, its variables of the sorts given; a numeral has none.
+pub fn own_sort(signature: &Signature, variables: &[usize], data: &Data) -> Option<usize> {
+    match data {
+        Data::Value(_) => None,
+        Data::Variable(index) => Some(variables[*index]),
+        Data::Apply(function, _) => Some(signature.functions[*function].result),
+        Data::Not(..) | Data::Equal(..) | Data::Joined(..) => Some(BOOL),
     }
 }
 

@@ -1,7 +1,8 @@
 //! The stream of a table, one byte a number. All parameter lists stand before all summands, so
 //! that a call's data can be read without a count.
 
-use crate::signature::{Data, Signature};
+use crate::data::{Data, Joint};
+use crate::signature::Signature;
 use crate::table::{Equation, Summand, Table};
 
 /// The action byte of tau.
@@ -10,6 +11,14 @@ pub const TAU: u8 = 0xff;
 pub const VARIABLE: u8 = 0x20;
 /// Function i is this plus i.
 pub const FUNCTION: u8 = 0x40;
+/// `!`, before its data.
+pub const NOT: u8 = 0x60;
+/// `==`, before its sort and both sides.
+pub const EQUAL: u8 = 0x61;
+/// `/\`, before both sides.
+pub const AND: u8 = 0x62;
+/// `\/`, before both sides.
+pub const OR: u8 = 0x63;
 
 /// The stream of a table.
 pub fn encode(table: &Table) -> Vec<u8> {
@@ -92,6 +101,24 @@ fn term(data: &Data, stream: &mut Vec<u8>) {
         Data::Apply(function, arguments) => {
             number(usize::from(FUNCTION) + function, stream);
             terms(arguments, stream);
+        }
+        Data::Not(count, inner) => {
+            stream.extend(vec![NOT; *count]);
+            term(inner, stream);
+        }
+        Data::Equal(sort, sides) => {
+            stream.push(EQUAL);
+            number(*sort, stream);
+            terms(&sides[..], stream);
+        }
+        // Grouped to the left, so all operators stand before the first operand.
+        Data::Joined(joint, chain) => {
+            let operator = match joint {
+                Joint::And => AND,
+                Joint::Or => OR,
+            };
+            stream.extend(vec![operator; chain.len() - 1]);
+            terms(chain, stream);
         }
     }
 }

@@ -1,5 +1,7 @@
 //! The text of a sheet as a tree, names not yet looked up.
 
+use crate::data::Joint;
+
 /// A whole sheet, its lines by kind.
 #[derive(Debug)]
 pub struct Sheet<'a> {
@@ -87,21 +89,38 @@ pub struct Call<'a> {
     pub arguments: Vec<Data<'a>>,
 }
 
-/// A numeral, a variable, or a function name with bracketed data.
+/// A numeral, a variable, a function name with bracketed data, or operators over data. Brackets
+/// leave no trace, and a run of `!` or of one joint is one node.
 #[derive(Debug)]
 pub enum Data<'a> {
     Numeral(u8),
     Variable(&'a str),
     Apply(Call<'a>),
+    /// So many `!` before data.
+    Not(usize, Box<Data<'a>>),
+    Equal(Box<[Data<'a>; 2]>),
+    /// Two or more data with this joint between.
+    Joined(Joint, Vec<Data<'a>>),
 }
 
-impl Data<'_> {
-    /// Whether a name without brackets stands in it.
+impl<'a> Data<'a> {
+    /// One or more data with this joint between.
+    pub fn chain(joint: Joint, mut items: Vec<Data<'a>>) -> Data<'a> {
+        match items.len() {
+            1 => items.remove(0),
+            _ => Data::Joined(joint, items),
+        }
+    }
+
+    /// Whether a name without brackets of its own stands in it.
     pub fn has_bare_name(&self) -> bool {
         match self {
             Data::Numeral(_) => false,
             Data::Variable(_) => true,
             Data::Apply(call) => call.arguments.iter().any(Data::has_bare_name),
+            Data::Not(_, inner) => inner.has_bare_name(),
+            Data::Equal(sides) => sides.iter().any(Data::has_bare_name),
+            Data::Joined(_, items) => items.iter().any(Data::has_bare_name),
         }
     }
 }

@@ -4,8 +4,9 @@ use crate::limits::{NAME_LENGTH, OPEN_BRACKETS};
 use crate::question::{self, Refusal};
 
 const WORDS: [&str; 8] = ["sort", "func", "act", "proc", "init", "sum", "delta", "tau"];
-const MARKS: [&str; 12] = [
-    "(", ")", ",", ";", ":", "#", "=", "+", ".", "->", "<|", "|>",
+/// A mark stands before those that begin it.
+const MARKS: [&str; 16] = [
+    "(", ")", ",", ";", ":", "#", "==", "=", "+", ".", "->", "<|", "|>", "!", "/\\", "\\/",
 ];
 
 /// What a token is.

@@ -11,14 +11,17 @@ use reader::{all_steps, ask_list, ask_table, equal_to, step};
 use reader::{check_sheet, encode_file, linear_table, make_table, read_table};
 use reader::{Answer, Frame, Label, Sheet, Table, Term, Terms, Transitions};
 
-const SEEDS: u64 = 2500;
+const SEEDS: u64 = 5000;
 const STACKS: usize = 40;
 
-/// Every accepted sheet of the seeds, with its table.
+/// Every accepted sheet of the seeds, half of them with operators, with its table.
 fn accepted(seeds: u64) -> Vec<(String, Sheet, Table)> {
     let mut found = Vec::new();
     for seed in 0..seeds {
-        let text = generate::sheet(seed);
+        let text = match seed % 2 {
+            0 => generate::sheet(seed),
+            _ => generate::with_operators(seed),
+        };
         let sheet = check_sheet(text.as_bytes()).unwrap_or_else(|n| panic!("{n}: {text}"));
         match linear_table(&sheet) {
             Ok(table) => found.push((text, sheet, table)),
@@ -57,8 +60,8 @@ fn most_generated_sheets_are_accepted_and_many_go_on() {
     let sheets = accepted(SEEDS);
     let many = |(_, _, table): &&(String, Sheet, Table)| reached(table, 10).len() == 10;
     let going_on = sheets.iter().filter(many).count();
-    assert!(sheets.len() > 2000, "{}", sheets.len());
-    assert!(going_on > 500, "{going_on}");
+    assert!(sheets.len() > 4000, "{}", sheets.len());
+    assert!(going_on > 1000, "{going_on}");
 }
 
 #[test]
@@ -137,7 +140,7 @@ fn files_are_read_as_the_tables_written() {
 fn lists_of_questions_follow_a_run_of_the_first_term() {
     let mut random = Random::new(7);
     let mut answers_seen = [0; 4];
-    for (text, sheet, table) in accepted(600) {
+    for (text, sheet, table) in accepted(1000) {
         let terms = Terms::of(&sheet);
         let file = encode_file(&table);
         let start = starting_stack(&mut random, &table);

@@ -1,8 +1,10 @@
-//! Tables printed as sheets and read back: vectors, tables of sheets, tables of no sheet.
+//! Tables printed as sheets and read back: tables of sheets, tables of no sheet.
 
 mod common;
 
-use common::{generate, tables, vectors};
+use common::{generate, tables};
+use reader::signature::Data;
+use reader::table::Summand;
 use reader::{encode_file, make_table, print_table, print_table_within, printed};
 
 /// So many sheets of each kind, and so many tables of no sheet.
@@ -21,26 +23,14 @@ fn question(text: &str) -> u8 {
 }
 
 #[test]
-fn vectors_give_their_texts_or_refusals() {
-    let cases = vectors("prints.jsonl");
-    assert_eq!(cases.len(), 70);
-    for case in &cases {
-        let room = case.number("room") as usize;
-        let answer = print_table_within(&case.bytes("file"), room);
-        match case.text("answer") {
-            "text" => assert_eq!(answer.as_deref(), Ok(case.text("text"))),
-            refused => assert_eq!(format!("refused {}", answer.unwrap_err()), refused),
-        }
-    }
-}
-
-#[test]
 fn tables_of_sheets_are_read_back() {
     let (mut texts, mut refused) = (0, 0);
     let kinds = [
         generate::sheet,
         generate::with_heads,
         generate::with_circles,
+        generate::with_operators,
+        generate::with_heads_and_operators,
     ];
     for sheet in (0..SEEDS).flat_map(|seed| kinds.map(|kind| kind(seed))) {
         let Ok(file) = make_table(sheet.as_bytes()) else {
@@ -55,14 +45,14 @@ fn tables_of_sheets_are_read_back() {
         }
     }
     println!("{texts} texts, {refused} refused");
-    assert!(texts > 3000 && refused > 1000, "{texts}, {refused}");
+    assert!(texts > 5000 && refused > 2000, "{texts}, {refused}");
 }
 
-#[test]
-fn tables_of_no_sheet_are_read_back() {
+/// How many of the tables of the seeds have a text that fails which of questions 1 to 9, or none.
+fn texts_of(kind: fn(u64) -> reader::Table) -> [usize; 10] {
     let mut seen = [0; 10];
     for seed in 0..SEEDS {
-        let table = tables::table(seed);
+        let table = kind(seed);
         let file = encode_file(&table);
         assert_eq!(reader::read_table(&file).as_ref(), Ok(&table), "{seed}");
         let text = printed(&table);
@@ -72,12 +62,65 @@ fn tables_of_no_sheet_are_read_back() {
         assert_eq!(read_back(&file), wanted, "{seed}");
     }
     println!("answers 0 to 9 of the printed text: {seen:?}");
+    seen
+}
+
+#[test]
+fn tables_of_no_sheet_are_read_back() {
+    let seen = texts_of(tables::table);
     assert!(seen[0] > 1500, "{seen:?}");
     for number in [1, 3, 4, 6] {
         assert!(seen[number] > 20, "{number}: {seen:?}");
     }
     let never = [2, 5, 7, 8, 9].map(|number| seen[number]);
     assert_eq!(never, [0; 5], "{seen:?}");
+}
+
+/// With operators question 8 is failed too, and only by `==` over two values.
+#[test]
+fn tables_with_operators_are_read_back() {
+    let seen = texts_of(tables::with_operators);
+    assert!(seen[0] > 800, "{seen:?}");
+    for number in [1, 3, 6, 8] {
+        assert!(seen[number] > 20, "{number}: {seen:?}");
+    }
+    let never = [2, 5, 7, 9].map(|number| seen[number]);
+    assert_eq!(never, [0; 4], "{seen:?}");
+}
+
+fn compares_values(data: &Data) -> bool {
+    let is_value = |side: &Data| matches!(side, Data::Value(_));
+    matches!(data, Data::Equal(_, sides) if sides.iter().all(is_value))
+        || data.parts().iter().any(compares_values)
+}
+
+#[test]
+fn question_8_is_failed_by_equality_over_two_values_alone() {
+    let mut seen = [0; 2];
+    for seed in 0..SEEDS {
+        let table = tables::with_operators(seed);
+        let compares = summands(&table).any(|summand| data(summand).any(compares_values));
+        match question(&printed(&table)) {
+            0 => assert!(!compares, "{seed}"),
+            8 => assert!(compares, "{seed}"),
+            _ => continue,
+        }
+        seen[usize::from(compares)] += 1;
+    }
+    assert!(seen.iter().all(|&count| count > 100), "{seen:?}");
+}
+
+fn summands(table: &reader::Table) -> impl Iterator<Item = &Summand> {
+    table
+        .equations
+        .iter()
+        .flat_map(|equation| &equation.summands)
+}
+
+fn data(summand: &Summand) -> impl Iterator<Item = &Data> {
+    let conditions = summand.conditions.iter().map(|condition| &condition.data);
+    let calls = summand.calls.iter().flat_map(|call| &call.arguments);
+    conditions.chain(&summand.arguments).chain(calls)
 }
 
 #[test]
@@ -102,11 +145,18 @@ fn output_space_is_asked_last() {
     assert_eq!(print_table_within(&many.unwrap(), 0), Err(17));
 }
 
+fn with_or_without_operators(seed: u64) -> reader::Table {
+    match seed % 2 {
+        0 => tables::table(seed),
+        _ => tables::with_operators(seed),
+    }
+}
+
 /// No blank can be left out, and none stands elsewhere.
 #[test]
 fn blanks_stand_only_where_tokens_would_merge() {
     for seed in 0..400 {
-        let table = tables::table(seed);
+        let table = with_or_without_operators(seed);
         let Ok(text) = read_back(&encode_file(&table)) else {
             continue;
         };
@@ -138,8 +188,8 @@ fn pairs(text: &str) -> Vec<(usize, usize)> {
 #[test]
 fn no_pair_of_brackets_can_be_left_out() {
     let mut tried = 0;
-    for seed in 0..400 {
-        let table = tables::table(seed);
+    for seed in 0..800 {
+        let table = with_or_without_operators(seed);
         let file = encode_file(&table);
         let Ok(text) = read_back(&file) else {
             continue;
@@ -154,5 +204,5 @@ fn no_pair_of_brackets_can_be_left_out() {
             tried += 1;
         }
     }
-    assert!(tried > 2000, "{tried}");
+    assert!(tried > 4000, "{tried}");
 }

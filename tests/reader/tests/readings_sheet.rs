@@ -105,7 +105,8 @@ fn init_is_a_call_without_bare_names() {
 
 #[test]
 fn lists_are_not_empty_and_arity_is_form() {
-    bodies(5, &["a()", "()", "b((1))", "b(1,)", "b(,1)"]);
+    bodies(5, &["a()", "()", "b(())", "b(1,)", "b(,1)"]);
+    bodies(0, &["b((1))"]);
     let func = |rest: &str| verdict(&format!("func f:{rest};proc X=tau;init X;"));
     let forms = [
         "Bool->Bool=",
@@ -131,9 +132,9 @@ fn lists_are_not_empty_and_arity_is_form() {
 fn conditionals_do_not_chain() {
     bodies(
         5,
-        &["a<|1|>a<|1|>a", "a<||>a", "a<|1|>", "<|1|>a", "a<|(1)|>a"],
+        &["a<|1|>a<|1|>a", "a<||>a", "a<|1|>", "<|1|>a", "a<|()|>a"],
     );
-    bodies(0, &["(a<|1|>a)<|1|>a", "a<|1|>(a<|1|>a)"]);
+    bodies(0, &["(a<|1|>a)<|1|>a", "a<|1|>(a<|1|>a)", "a<|(1)|>a"]);
     bodies(5, &["delta(0)", "tau(0)", "1", "a+", "a.", ".a", "+a"]);
     bodies(
         5,

@@ -7,7 +7,7 @@
 use std::hint::black_box;
 use std::time::Duration;
 
-use library::common::{slow, worst, Case};
+use library::common::{operators, slow, worst, Case};
 use library::large::large_file;
 use library::printing::{printings, Printing};
 use library::questions::{dearest, going_on, largest, smallest, usual, Question};
@@ -300,13 +300,16 @@ fn main() {
     if wanted("check") {
         bench_table(&reader::make_table(b"act a;proc X=a.X;init X;").expect("a table"));
         bench_table(&large_file());
-        bench_sheets(bench_check, worst::sheets());
+        bench_sheets(bench_check, [worst::sheets(), operators::deep()].concat());
     }
     if wanted("make") {
-        bench_sheets(bench_make, [worst::sheets(), slow::sheets()].concat());
+        let dear = [worst::sheets(), slow::sheets(), operators::deep()];
+        bench_sheets(bench_make, dear.concat());
     }
     if wanted("walk") {
-        sheets::accepted().iter().for_each(|sheet| bench_walk(sheet));
+        sheets::accepted()
+            .iter()
+            .for_each(|sheet| bench_walk(sheet));
     }
     if wanted("print") {
         printings().into_iter().for_each(bench_print);

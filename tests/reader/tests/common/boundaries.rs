@@ -46,7 +46,7 @@ fn bytes() -> Vec<Case> {
             b' ' | b'\n' => 0,
             0..0x20 | 0x7f.. => 2,
             b'0'..=b'9' | b'a'..=b'z' | b'A'..=b'Z' => 5,
-            _ if b"(),;:#=+.".contains(&byte) => 5,
+            _ if b"(),;:#=+.!".contains(&byte) => 5,
             _ => 3,
         };
         let sheet = [accepted.as_bytes(), &[byte]].concat();

@@ -24,6 +24,8 @@ struct Shape {
     circles: bool,
     /// Processes call the next one at the head, for long ways to a head.
     chained: bool,
+    /// Data has operators and brackets.
+    operators: bool,
 }
 
 const SMALL: Shape = Shape {
@@ -35,6 +37,7 @@ const SMALL: Shape = Shape {
     scope: 4,
     circles: false,
     chained: false,
+    operators: false,
 };
 
 /// Many heads through several processes, with data.
@@ -47,6 +50,7 @@ const HEADS: Shape = Shape {
     scope: 6,
     circles: false,
     chained: true,
+    operators: false,
 };
 
 /// A sheet being written, with what is declared and the variables in scope.
@@ -64,6 +68,13 @@ struct Writer {
 
 const SORT_NAMES: [&str; 3] = ["Bool", "D", "E"];
 
+/// How tightly the operators bind; data without one outside binds tightest.
+const OR: usize = 0;
+const AND: usize = 1;
+const EQUAL: usize = 2;
+const NOT: usize = 3;
+const ATOM: usize = 4;
+
 /// The sheet of a seed.
 pub fn sheet(seed: u64) -> String {
     written(seed, SMALL)
@@ -78,6 +89,18 @@ pub fn with_circles(seed: u64) -> String {
 /// The sheet of a seed in which heads are reached through calls with data, sums and tests.
 pub fn with_heads(seed: u64) -> String {
     written(seed, HEADS)
+}
+
+/// The sheet of a seed with operators and brackets in its data.
+pub fn with_operators(seed: u64) -> String {
+    let operators = true;
+    written(seed, Shape { operators, ..SMALL })
+}
+
+/// The same with heads reached as above.
+pub fn with_heads_and_operators(seed: u64) -> String {
+    let operators = true;
+    written(seed, Shape { operators, ..HEADS })
 }
 
 fn written(seed: u64, shape: Shape) -> String {
@@ -240,6 +263,47 @@ impl Writer {
     }
 
     fn data(&mut self, sort: usize, depth: usize) -> String {
+        self.operand(sort, depth, OR)
+    }
+
+    /// Data in brackets where it binds less than is needed, and now and then where it need not.
+    fn operand(&mut self, sort: usize, depth: usize, needed: usize) -> String {
+        if !self.shape.operators {
+            return self.plain(sort, depth);
+        }
+        let (text, level) = if sort == 0 && depth > 0 && !self.random.one_in(3) {
+            self.operator(depth)
+        } else {
+            (self.plain(sort, depth), ATOM)
+        };
+        if level < needed || self.random.one_in(12) {
+            format!("({text})")
+        } else {
+            text
+        }
+    }
+
+    /// Data with an operator outside, and how tightly that binds.
+    fn operator(&mut self, depth: usize) -> (String, usize) {
+        let (joint, level) =
+            *self
+                .random
+                .pick(&[("\\/", OR), ("/\\", AND), ("==", EQUAL), ("!", NOT)]);
+        if level == NOT {
+            return (format!("!{}", self.operand(0, depth - 1, NOT)), NOT);
+        }
+        let (sort, left) = match level {
+            EQUAL => (self.random.below(self.sizes.len()), NOT),
+            _ => (0, level),
+        };
+        let sides = [left, level + 1].map(|needed| self.operand(sort, depth - 1, needed));
+        if level == EQUAL && sides.iter().all(|side| is_numeral(side)) {
+            return self.operator(depth);
+        }
+        (sides.join(joint), level)
+    }
+
+    fn plain(&mut self, sort: usize, depth: usize) -> String {
         let variables: Vec<&String> = (self.scope.iter())
             .filter(|(_, of)| *of == sort)
             .map(|(name, _)| name)
@@ -260,6 +324,11 @@ impl Writer {
             .collect();
         name + &in_brackets(&data)
     }
+}
+
+/// Whether data is a numeral, in brackets or not.
+fn is_numeral(data: &str) -> bool {
+    data.bytes().all(|byte| b"()0123456789".contains(&byte))
 }
 
 fn sort_names(sorts: &[usize], joint: &str) -> String {

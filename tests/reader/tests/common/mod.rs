@@ -6,6 +6,7 @@ pub mod boundaries;
 pub mod generate;
 pub mod json;
 pub mod mutate;
+pub mod operators;
 pub mod random;
 pub mod slow;
 pub mod table_limits;

@@ -8,10 +8,23 @@ const TOKENS: [&str; 30] = [
     "init", "sum", "delta", "tau", "0", "1", "2", "255", "X", "a", "b", "d", "D", "Bool",
 ];
 
+const OPERATORS: [&str; 14] = [
+    "!", "!", "==", "==", "/\\", "/\\", "\\/", "\\/", "=", "(", ")", "0", "p0", "1==0",
+];
+
 const NUMERALS: [&str; 10] = ["0", "1", "2", "3", "15", "16", "17", "255", "256", "00"];
 
 /// The text with a few tokens or bytes put in, left out or put for others.
 pub fn mutant(random: &mut Random, sheet: &[u8]) -> Vec<u8> {
+    spliced(random, sheet, &TOKENS)
+}
+
+/// The same with operators and what stands beside them.
+pub fn operator_mutant(random: &mut Random, sheet: &[u8]) -> Vec<u8> {
+    spliced(random, sheet, &OPERATORS)
+}
+
+fn spliced(random: &mut Random, sheet: &[u8], tokens: &[&str]) -> Vec<u8> {
     let mut text = sheet.to_vec();
     for _ in 0..1 + random.below(3) {
         let from = random.below(text.len() + 1);
@@ -20,7 +33,7 @@ pub fn mutant(random: &mut Random, sheet: &[u8]) -> Vec<u8> {
             0 => Vec::new(),
             1 => vec![random.draw() as u8],
             2 => text[from..to].repeat(2),
-            _ => random.pick(&TOKENS).as_bytes().to_vec(),
+            _ => random.pick(tokens).as_bytes().to_vec(),
         };
         text.splice(from..to, put);
     }

@@ -1,7 +1,7 @@
 //! Right tables by a seed, made without a sheet: within all limits and rightly sorted.
 
 use reader::limits;
-use reader::signature::{Action, Data, Function, Signature, BOOL_SIZE};
+use reader::signature::{Action, Data, Function, Joint, Signature, BOOL, BOOL_SIZE};
 use reader::table::{Call, Condition, Equation, Summand, Table};
 
 use super::random::Random;
@@ -85,6 +85,15 @@ const PRESSING: [&str; 24] = [
 
 /// The table of a seed.
 pub fn table(seed: u64) -> Table {
+    made(seed, false)
+}
+
+/// The table of a seed with operators in its data.
+pub fn with_operators(seed: u64) -> Table {
+    made(seed, true)
+}
+
+fn made(seed: u64, operators: bool) -> Table {
     let shape = match seed % 32 {
         20..24 => DEEP,
         24..29 => LONG,
@@ -97,6 +106,7 @@ pub fn table(seed: u64) -> Table {
     let mut maker = Maker {
         random,
         shape,
+        operators,
         parameters: Vec::new(),
         signature,
     };
@@ -172,6 +182,8 @@ fn action_name(random: &mut Random) -> String {
 struct Maker {
     random: Random,
     shape: Shape,
+    /// Data has operators.
+    operators: bool,
     signature: Signature,
     parameters: Vec<Vec<usize>>,
 }
@@ -264,8 +276,30 @@ impl Maker {
         self.node(scope, sort, nodes)
     }
 
+    /// A term of at most so many nodes with an operator outside.
+    fn operator(&mut self, scope: &[usize], nodes: usize) -> Data {
+        if nodes == 2 || self.random.one_in(4) {
+            return Data::not(1, self.node(scope, BOOL, nodes - 1));
+        }
+        let joint = *self.random.pick(&[None, Some(Joint::And), Some(Joint::Or)]);
+        let sort = match joint {
+            None => self.random.below(self.signature.sorts.len()),
+            Some(_) => BOOL,
+        };
+        let first = 1 + self.random.below(nodes - 2);
+        let left = self.node(scope, sort, first);
+        let right = self.node(scope, sort, nodes - 1 - first);
+        match joint {
+            None => Data::equal(sort, left, right),
+            Some(joint) => Data::joined(joint, left, right),
+        }
+    }
+
     /// A term of at most so many nodes; deep on one side where functions allow it.
     fn node(&mut self, scope: &[usize], sort: usize, nodes: usize) -> Data {
+        if self.operators && sort == BOOL && nodes > 1 && !self.random.one_in(4) {
+            return self.operator(scope, nodes);
+        }
         let functions = self.signature.functions.iter().enumerate();
         let fitting = functions.filter(|(_, f)| f.result == sort && f.arguments.len() < nodes);
         let fitting: Vec<(usize, Vec<usize>)> = fitting
