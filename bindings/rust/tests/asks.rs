@@ -5,7 +5,7 @@ mod common;
 use common::json::Json;
 use common::random::Random;
 use common::{number, vectors};
-use wizbratel::{Asked, Frame, Stack, Table, Taken, FRAMES};
+use wizbratel::{Asked, Frame, Refused, Stack, Table, Taken, FRAMES};
 
 /// Frames of a case, zeros behind them.
 fn frames(case: &Json, key: &str, count: usize) -> Vec<Frame> {
@@ -61,7 +61,7 @@ fn all_ways<'t>(stack: &Stack<'t>, k: u64) -> (String, Stack<'t>) {
 #[test]
 fn questions_get_their_answers() {
     let mut put = 0;
-    for case in vectors("asks.jsonl") {
+    for case in vectors("asks") {
         let name = case.text("name");
         let (depth, k) = (case.number("depth") as usize, case.number("k"));
         let lent = frames(&case, "frames", case.number("lent") as usize);
@@ -69,8 +69,24 @@ fn questions_get_their_answers() {
             continue;
         }
         put += 1;
-        let table = Table::read(&case.bytes("file")).expect(name);
-        let stack = table.stack(&lent[..depth]).expect(name);
+        let refused = |by: Refused| {
+            let answer = format!("refused {}", by.number());
+            assert_eq!(answer, case.text("answer"), "{name}");
+        };
+        let table = match Table::read(&case.bytes("file")) {
+            Ok(table) => table,
+            Err(by) => {
+                refused(by);
+                continue;
+            }
+        };
+        let stack = match table.stack(&lent[..depth]) {
+            Ok(stack) => stack,
+            Err(by) => {
+                refused(by);
+                continue;
+            }
+        };
         let (answer, after) = all_ways(&stack, k);
         if case.text("answer") == "step" {
             assert_eq!(answer, format!("step {}", case.text("label")), "{name}");
@@ -81,14 +97,14 @@ fn questions_get_their_answers() {
             assert_eq!(answer, case.text("answer"), "{name}");
         }
     }
-    // all but those that are refused by 15, which lend other than 64 frames or leave used ones behind the depth
-    assert_eq!(put, 344);
+    // all but those that lend other than 64 frames, or leave used ones behind the depth
+    assert_eq!(put, 344 + 65);
 }
 
 #[test]
 fn used_frames_with_one_byte_changed() {
     let (mut random, mut refused) = (Random::new(15), 0);
-    for case in vectors("asks.jsonl") {
+    for case in vectors("asks") {
         let depth = case.number("depth") as usize;
         let mut lent = frames(&case, "frames", FRAMES.max(depth));
         if depth == 0 {
@@ -101,7 +117,9 @@ fn used_frames_with_one_byte_changed() {
             byte => lent[at].values[byte] += by,
         }
         let file = case.bytes("file");
-        let table = Table::read(&file).unwrap();
+        let Ok(table) = Table::read(&file) else {
+            continue;
+        };
         let used = |frame: &Frame| reader::Frame::new(frame.equation.into(), &frame.values);
         let mut wanted: Vec<reader::Frame> = lent[..depth].iter().map(used).collect();
         wanted.resize(FRAMES.max(depth), reader::Frame::default());

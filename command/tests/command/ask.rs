@@ -14,7 +14,7 @@ fn hex(case: &Json, key: &str, depth: usize) -> String {
 #[test]
 fn questions_of_the_vectors() {
     let folder = Folder::new();
-    for case in vectors("asks.jsonl") {
+    for case in vectors("asks") {
         let (depth, answer) = (case.number("depth") as usize, case.text("answer"));
         if answer == "refused 15" && depth <= 64 {
             // these lend other than 64 frames, or leave something behind the used ones

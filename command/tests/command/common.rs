@@ -135,9 +135,15 @@ pub fn example(name: &str) -> String {
     format!("{}/../examples/{name}", env!("CARGO_MANIFEST_DIR"))
 }
 
-/// All vectors of a file in `tests/vectors`.
-pub fn vectors(file: &str) -> Vec<json::Json> {
-    let path = format!("{}/../tests/vectors/{file}", env!("CARGO_MANIFEST_DIR"));
-    let text = fs::read_to_string(&path).expect(&path);
+/// All vectors of a kind in `tests/vectors`: those of the base, and those with operators.
+pub fn vectors(kind: &str) -> Vec<json::Json> {
+    let read = |file: String| {
+        let path = format!(
+            "{}/../tests/vectors/{file}.jsonl",
+            env!("CARGO_MANIFEST_DIR")
+        );
+        fs::read_to_string(&path).expect(&path)
+    };
+    let text = read(kind.to_string()) + &read(format!("operators-{kind}"));
     text.lines().map(json::parse).collect()
 }

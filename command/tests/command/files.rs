@@ -51,7 +51,10 @@ fn empty_and_huge_files_are_refused() {
     for (word, no_bytes, too_many) in [("walk", 5, 1), ("ask", 12, 12)] {
         for (file, name, number) in [(&empty, "empty", no_bytes), (&huge, "huge", too_many)] {
             let ran = on(word, file);
-            assert_eq!((ran.status, ran.text()), (1, &format!("refused {number}\n")[..]));
+            assert_eq!(
+                (ran.status, ran.text()),
+                (1, &format!("refused {number}\n")[..])
+            );
             let message = format!("{name}: refused by question {number}: ");
             assert!(ran.err.contains(&message), "{}", ran.err);
         }
@@ -73,5 +76,8 @@ fn names_that_are_not_utf_8_are_names() {
         }
     }
     let printed = on("print", &table);
-    assert_eq!(reader::make_table(&printed.out), reader::make_table(LOOP.as_bytes()));
+    assert_eq!(
+        reader::make_table(&printed.out),
+        reader::make_table(LOOP.as_bytes())
+    );
 }

@@ -8,7 +8,7 @@ const PRINTED: &str = "act a;proc p0=a.p0;init p0;";
 #[test]
 fn tables_of_the_vectors() {
     let mut texts = 0;
-    for case in vectors("prints.jsonl") {
+    for case in vectors("prints") {
         let ran = fed(&["print", "-"], &case.bytes("file"));
         match case.text("answer") {
             "text" => {
@@ -23,7 +23,7 @@ fn tables_of_the_vectors() {
             }
         }
     }
-    assert_eq!(texts, 39);
+    assert_eq!(texts, 39 + 42);
 }
 
 #[test]

@@ -78,7 +78,9 @@ fn too_deep() {
     );
     assert_eq!(ran.status, 1);
     assert!(ran.text().ends_with("63 a 64\nrefused 16\n"));
-    assert!(ran.err.contains("deep: refused by question 16: at most 64 frames"));
+    assert!(ran
+        .err
+        .contains("deep: refused by question 16: at most 64 frames"));
 }
 
 #[test]

@@ -4,7 +4,10 @@ use crate::common::{closed, example, fed, run, run_into, vectors};
 
 #[test]
 fn walks_of_the_vectors() {
-    for case in vectors("sheets.jsonl") {
+    for case in vectors("sheets") {
+        if case.get("walk").is_none() {
+            continue; // asked for its table only
+        }
         let ran = fed(&["walk", "-"], &case.bytes("sheet"));
         let wanted = case.text("walk");
         let refused = wanted.starts_with("refused");

@@ -11,10 +11,16 @@ pub mod random;
 
 use wizbratel::{Frame, Refused};
 
-/// All vectors of a file in `tests/vectors`.
-pub fn vectors(file: &str) -> Vec<json::Json> {
-    let path = format!("{}/../../tests/vectors/{file}", env!("CARGO_MANIFEST_DIR"));
-    let text = std::fs::read_to_string(&path).expect(&path);
+/// All vectors of a kind in `tests/vectors`: those of the base, and those with operators.
+pub fn vectors(kind: &str) -> Vec<json::Json> {
+    let read = |file: String| {
+        let path = format!(
+            "{}/../../tests/vectors/{file}.jsonl",
+            env!("CARGO_MANIFEST_DIR")
+        );
+        std::fs::read_to_string(&path).expect(&path)
+    };
+    let text = read(kind.to_string()) + &read(format!("operators-{kind}"));
     text.lines().map(json::parse).collect()
 }
 
