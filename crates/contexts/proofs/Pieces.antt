@@ -45,13 +45,13 @@ act-right (action a) h =
 abbrev SummandWritten : Summand → ℕ → List ℕ → Done → List ℕ → Type 0
 SummandWritten h w o r o′ =
     (r .ok ≡ true → SummandFits h × Adds (encode-summand h) w o (r .w) o′)
-    × (r .ok ≡ false → SummandFits h → length o < w + length (encode-summand h))
+    × (r .ok ≡ false → SummandFits h → (r .w ≡ length o) × (length o < w + length (encode-summand h)))
 
 one-out : (h : Summand) (hs : List Summand) → hs ≡ h ∷ [] → (w : ℕ) (o : List ℕ) (r : Done) (o′ : List ℕ) → SummandWritten h w o r o′ → SummandsOut hs w o r o′
 unfolding Every all
 one-out h hs e w o r o′ k = subst (λ (l : List Summand). SummandsOut l w o r o′) (sym e) (
   λ ok. ((k .0 ok .0, tt), k .0 ok .1 ∙ ap (λ (l : List ℕ). take w o ++ l) (sym (append-nil (encode-summand h)))),
-  λ bad within. subst (λ (l : List ℕ). length o < w + length l) (sym (append-nil (encode-summand h))) (k .1 bad (within .0)),
+  λ bad within. subst (λ (l : List ℕ). (r .w ≡ length o) × (length o < w + length l)) (sym (append-nil (encode-summand h))) (k .1 bad (within .0)),
 )
 
 abbrev whole : ℕ → List ℕ → ℕ → List ℕ → List ℕ → List ℕ → ℕ → List ℕ → List ℕ
@@ -119,21 +119,23 @@ module _ (cells starts counts firsts : List ℕ) (s : Spot) (slots vars conds ca
 
     -- no room
     pub emit-full : (w : ℕ) (o : List ℕ) → r .ok ≡ true → s .nv ≤ length vars → s .lc ≤ length conds → r .w ≤ length t → length o < w + (4 + s .nv + s .lc + r .w + (length calls - s .top))
-        → (v : ℕ) (o′ : List ℕ) → Written cells starts counts firsts s (arrays slots vars conds calls) w o (record { ok = false; w = v }) (arrays slots vars conds calls) o′
-    emit-full w o ok a b c full v o′ = wrap w o (record { ok = false; w = v }) o′ λ hs em. (
+        → (o′ : List ℕ) → Written cells starts counts firsts s (arrays slots vars conds calls) w o (record { ok = false; w = length o }) (arrays slots vars conds calls) o′
+    emit-full w o ok a b c full o′ = wrap w o (record { ok = false; w = length o }) o′ λ hs em. (
       λ z. never z,
       λ z within.
-          let n = ap length (em .bytes ok) in
-          omega (
-            arith,
-            n,
-            length-append (s .nv ∷ take (s .nv) vars) ((s .nc ∷ take (s .lc) conds) ++ ((act-code (d .number) ∷ take (r .w) t) ++ (s .nk ∷ drop (s .top) calls))),
-            length-append (s .nc ∷ take (s .lc) conds) ((act-code (d .number) ∷ take (r .w) t) ++ (s .nk ∷ drop (s .top) calls)),
-            length-append (act-code (d .number) ∷ take (r .w) t) (s .nk ∷ drop (s .top) calls),
-            length-take-le (s .nv) vars a,
-            length-take-le (s .lc) conds b,
-            length-take-le (r .w) t c,
-            length-drop (s .top) calls,
+          let n = ap length (em .bytes ok) in (
+            refl,
+            omega (
+              arith,
+              n,
+              length-append (s .nv ∷ take (s .nv) vars) ((s .nc ∷ take (s .lc) conds) ++ ((act-code (d .number) ∷ take (r .w) t) ++ (s .nk ∷ drop (s .top) calls))),
+              length-append (s .nc ∷ take (s .lc) conds) ((act-code (d .number) ∷ take (r .w) t) ++ (s .nk ∷ drop (s .top) calls)),
+              length-append (act-code (d .number) ∷ take (r .w) t) (s .nk ∷ drop (s .top) calls),
+              length-take-le (s .nv) vars a,
+              length-take-le (s .lc) conds b,
+              length-take-le (r .w) t c,
+              length-drop (s .top) calls,
+            ),
           ),
     )
 

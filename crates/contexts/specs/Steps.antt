@@ -69,10 +69,11 @@ act-code zero = tau-code
 act-code (suc a) = a % byte-limit
 
 -- Summands written one behind another; or they have not the limits, or there is no room for them.
+-- Not ok and room left: they have not the limits.
 abbrev pub SummandsOut : List Summand → ℕ → List ℕ → Done → List ℕ → Type 0
 SummandsOut hs w o r o′ =
     (r .ok ≡ true → Every SummandFits hs × Adds (all encode-summand hs) w o (r .w) o′)
-    × (r .ok ≡ false → Every SummandFits hs → length o < w + length (all encode-summand hs))
+    × (r .ok ≡ false → Every SummandFits hs → (r .w ≡ length o) × (length o < w + length (all encode-summand hs)))
 
 -- the heads at s written, and its context kept
 abbrev pub Written : List ℕ → List ℕ → List ℕ → List ℕ → Spot → Arrays → ℕ → List ℕ → Done → Arrays → List ℕ → Type 0

@@ -300,7 +300,7 @@ fn code_of(number: usize) -> u8
     ((number - 1) % 256) as u8
 }
 
-// The summand of an action's head in its context.
+// The summand of an action's head in its context. If there is no room for it, w is the end of the lent bytes.
 pub fn emit(
     cells: &[u16],
     d: Node,
@@ -332,7 +332,10 @@ pub fn emit(
     let top = s.top;
     let lk = calls.len() - top;
     if out.len() - w < 4 + nv + lc + la + lk {
-        return Done { ok: false, w: w };
+        return Done {
+            ok: false,
+            w: out.len(),
+        };
     }
     let w1 = piece(nv as u8, vars, 0, nv, &mut *out, w);
     let w2 = piece(s.nc as u8, conds, 0, lc, &mut *out, w1);

@@ -31,9 +31,9 @@ use Rattle.heads.proofs.Accepted.{first-below}
 -- THE COUNT IN FRONT
 
 module _ (cells starts counts firsts : List ℕ) (fuel at c : ℕ) (slots : List ℕ) (n m w : ℕ) (o : List ℕ) where
-  pub list-full : length o ≤ w → (q : ℕ) (o′ : List ℕ) → SummandsWritten cells starts counts firsts fuel at c slots n m w o (record { ok = false; w = q }) o′
+  pub list-full : w ≡ length o → (o′ : List ℕ) → SummandsWritten cells starts counts firsts fuel at c slots n m w o (record { ok = false; w = w }) o′
   unfolding encode-list
-  list-full h q o′ H σ b p rest rd e f s fn nw few = (λ t. never t, λ t within. omega arith)
+  list-full h o′ H σ b p rest rd e f s fn nw few = (λ t. never t, λ t within. omega arith)
 
   pub list-right : (a : ℕ) → HeadsCounted cells counts fuel at a → w < length o → (r : Done) (o′ : List ℕ) → HeadsWritten cells starts counts firsts fuel at c slots n m (w + 1) (set o w (a % byte-limit)) r o′
       → SummandsWritten cells starts counts firsts fuel at c slots n m w o r o′

@@ -44,13 +44,13 @@ HeadsCounted cells counts fuel at r = (H : Sheet) (F : ℕ) (b : Bool) (p : Proc
     → drop at cells ≡ enc b p ++ rest → r ≡ cut (length (heads H fuel σ m c p))
 
 -- The summands of an equation, with their count, of which there are few enough for a byte; or they are not all within their limits, or
--- a call has more terms than an equation may have parameters, or there is no room for them.
+-- a call has more terms than an equation may have parameters, or there is no room for them: then none is left.
 abbrev pub SummandsWritten : List ℕ → List ℕ → List ℕ → List ℕ → ℕ → ℕ → ℕ → List ℕ → ℕ → ℕ → ℕ → List ℕ → Done → List ℕ → Type 0
 SummandsWritten cells starts counts firsts fuel at c slots n m w o r o′ =
     (H : Sheet) (σ : List Data) (b : Bool) (p : Proc) (rest : List ℕ) → Ready H fuel cells starts counts firsts
     → drop at cells ≡ enc b p ++ rest → (kind-of p ≡ seq-kind → b ≡ false) → Slots σ slots n → Fine H n p → c + new-count false p < byte-limit → length (heads H fuel σ m c p) < byte-limit
     → (r .ok ≡ true → Every SummandWithin (heads H fuel σ m c p) × Adds (encode-list encode-summand (heads H fuel σ m c p)) w o (r .w) o′)
-    × (r .ok ≡ false → Every SummandFits (heads H fuel σ m c p) → length o < w + length (encode-list encode-summand (heads H fuel σ m c p)))
+    × (r .ok ≡ false → Every SummandFits (heads H fuel σ m c p) → (r .w ≡ length o) × (length o < w + length (encode-list encode-summand (heads H fuel σ m c p))))
 
 -- The numbers of the first new equations of all processes.
 abbrev pub NumbersFirst : List ℕ → List ℕ → ℕ → List ℕ → Type 0

@@ -56,7 +56,7 @@ unfolding RightSig
 short-names S r = every-weaken (RightAction (S .sorts)) (λ (a : Action). length (a .name) ≤ max-name) (λ a h. short (S .sorts) a h) (S .acts) (r .1 .1 .0 .1)
 
 -- not within the limits
-pub no-table : (H : Sheet) (o o′ : List ℕ) (r : Written) → r .ok ≡ false → (Within (table-of H) → length o < length (encode (table-of H))) → TableWritten H o r o′
+pub no-table : (H : Sheet) (o o′ : List ℕ) (r : Written) → r .ok ≡ false → (Within (table-of H) → (r .length ≡ length o) × (length o < length (encode (table-of H)))) → TableWritten H o r o′
 no-table H o o′ r e h = record { written = λ t. absurd (let z : _≡_ {A = ℕ} 0 1 = cc in omega arith); failed = λ f w. h w }
 
 -- a sheet that is ready is placed
@@ -178,12 +178,14 @@ module _ (s : List ℕ) (A : Arrays) (names : List ℕ) (n : Outline) (o o′ : 
     out-count h H r = let placed = ready-placed H s A names n r in let e = count-within H t (counts H placed) few .0 in absurd (omega (arith, put-params H r .count-is))
 
     pub out-summands : (d : Done) (q′ : List ℕ) → PutsSig s (A .sizes) (A .funcs) (A .values) (A .places) (A .acts) names (n .sorts - 1 + n .funcs) n 0 o a p
-        → PutsSummands (A .procs) (A .cells) (A .starts) n rows′ (x .count) (x .w) q d q′ → d .ok ≡ false → WritesStream s A names n o f o′
-    out-summands d q′ sig sums short-of H r =
+        → PutsSummands (A .procs) (A .cells) (A .starts) n rows′ (x .count) (x .w) q d q′ → d .ok ≡ false → f .length ≡ d .w → WritesStream s A names n o f o′
+    out-summands d q′ sig sums short-of end H r =
         let y = put-params H r in
         let g = sig (H .sig) (r .held .signature) (r .named) (short-names (H .sig) (r .standing .signature)) in
         let l = sums H (r .standing) (ready-placed H s A names n r) (y .count-is) (y .rows-of) in
-        no-table H o o′ f bad (λ w. no-room H o a p (x .w) q (g .same) (y .puts .same) (puts-then g (y .puts)) (l .failed short-of (within-summands H (r .standing) w)))
+        no-table H o o′ f bad λ w.
+        let z = l .failed short-of (within-summands H (r .standing) w) in
+        (end ∙ z .0 ∙ y .puts .same ∙ g .same, no-room H o a p (x .w) q (g .same) (y .puts .same) (puts-then g (y .puts)) (z .1))
 
 -- the whole stream was put
 module _ (s : List ℕ) (A : Arrays) (names : List ℕ) (n : Outline) (o : List ℕ) (t : ℕ) (counts : CountsParts (A .procs) (A .cells) (A .starts) n t) (few : t ≤ max-equations) (rows : List ℕ) (room : row-width * max-equations ≤ length rows)
@@ -205,8 +207,8 @@ module _ (s : List ℕ) (A : Arrays) (names : List ℕ) (n : Outline) (o : List 
       let z = start H (ready-known H s A names n r) (omega (arith, r .standing .few-processes)) (r .standing .start) (r .held .processes .init-at) in
       record { rows-of = y .rows-of; count-is = y .count-is; within = l .0; puts = stream-put H 0 o a p (x .w) q (d .w) q′ e o′ g (y .puts) (l .1) z }
 
-  pub out-room : (f : Written) → f .ok ≡ false → length o < e → WritesStream s A names n o f o′
-  out-room f bad h H r = no-table H o o′ f bad (λ w. elim (decLe (length (encode (table-of H))) (length o)) [ yes k ↦ absurd (omega (arith, whole H r .puts .fits (omega arith) .0)) | no k ↦ omega arith ])
+  pub out-room : (f : Written) → f .ok ≡ false → f .length ≡ length o → length o < e → WritesStream s A names n o f o′
+  out-room f bad full h H r = no-table H o o′ f bad (λ w. (full, elim (decLe (length (encode (table-of H))) (length o)) [ yes k ↦ absurd (omega (arith, whole H r .puts .fits (omega arith) .0)) | no k ↦ omega arith ]))
 
   pub in-table : length o ≤ max-stream → FewMarks rows′ (x .count) → e ≤ length o → WritesStream s A names n o (record { ok = true; length = e }) o′
   in-table most marks h H r =

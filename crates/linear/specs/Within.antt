@@ -27,10 +27,10 @@ use Rattle.linear.specs.declared.Written.{Written}
 abbrev pub FewMarks : List ℕ → ℕ → Type 0
 FewMarks rows n = (k : ℕ) → k < n → count (bits max-scope (getD rows (row-width * k + 2) 0)) ≤ frame-width
 
--- the table of a sheet that is held
+-- the table of a sheet that is held; where it is within its limits and is not written, no room is left
 pub record TableWritten (H : Sheet) (o : List ℕ) (r : Written) (o′ : List ℕ) : Type 0 where
   pub written : r .ok ≡ true → Within (table-of H) × (r .length ≡ length (encode (table-of H))) × (take (r .length) o′ ≡ encode (table-of H)) × (r .length ≤ length o)
-  pub failed : r .ok ≡ false → Within (table-of H) → length o < length (encode (table-of H))
+  pub failed : r .ok ≡ false → Within (table-of H) → (r .length ≡ length o) × (length o < length (encode (table-of H)))
 
 -- a sheet that passes questions 1 to 9, in arrays; s are its bytes, and the cells of its names stand in `names`
 pub record ReadyIn (H : Sheet) (s : List ℕ) (A : Arrays) (names : List ℕ) (n : Outline) : Type 0 where

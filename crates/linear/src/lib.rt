@@ -25,18 +25,18 @@ const FRAME_WIDTH: usize = 4;
 
 const MARKS: usize = 2;
 
-// Not within the limits, or no room; or the length of the stream.
+// The length of the stream. Not ok: not within the limits, or no room; if `length` is below the room, not within the limits.
 pub struct Written {
     pub ok: bool,
     pub length: usize,
 }
 
-fn failed() -> Written
-    ensures { λ r. ⌜ r .ok ≡ false ⌝ }
+fn failed(length: usize) -> Written
+    ensures { λ r. ⌜ (r .ok ≡ false) × (r .length ≡ length) ⌝ }
 {
     Written {
         ok: false,
-        length: 0,
+        length: length,
     }
 }
 
@@ -76,7 +76,7 @@ fn write_stream(
 {
     let total = count_equations(procs, cells, starts, n);
     if total > MAX_EQUATIONS {
-        return failed();
+        return failed(0);
     }
     let first = minus(n.sorts, 1) + n.funcs;
     let a = put_signature(
@@ -94,18 +94,18 @@ fn write_stream(
     );
     let p = put_param_lists(procs, cells, starts, n, total, rows, out, a);
     if p.count > MAX_EQUATIONS {
-        return failed();
+        return failed(0);
     }
     if !few_marks(rows, p.count) {
-        return failed();
+        return failed(0);
     }
     let d = put_summands(procs, cells, starts, n, rows, p.count, out, p.w);
     if !d.ok {
-        return failed();
+        return failed(d.w);
     }
     let e = put_start(sizes, funcs, values, places, cells, n.init, out, d.w);
     if e > out.len() {
-        return failed();
+        return failed(out.len());
     }
     Written {
         ok: true,
@@ -150,7 +150,7 @@ pub fn write_table(
     let starts = rows.starts;
     let names = rows.names;
     if !few_in(rows.outline) {
-        return failed();
+        return failed(0);
     }
     let mut part_rows = [0u32; 192];
     write_stream(

@@ -81,8 +81,8 @@ module _ (procs cells starts : List ℕ) (n : Outline) (rows : List ℕ) (count 
       }
 
 -- there was no room for anything
-pub past-end : (procs cells starts : List ℕ) (n : Outline) (rows : List ℕ) (count w : ℕ) (o : List ℕ) (r : Done) (o′ : List ℕ) → r .ok ≡ false → length o < w → PutsSummands procs cells starts n rows count w o r o′
-past-end procs cells starts n rows count w o r o′ bad h H ok placed ec rs = record {
+pub past-end : (procs cells starts : List ℕ) (n : Outline) (rows : List ℕ) (count w : ℕ) (o : List ℕ) (o′ : List ℕ) → length o < w → PutsSummands procs cells starts n rows count w o (record { ok = false; w = length o }) o′
+past-end procs cells starts n rows count w o o′ h H ok placed ec rs = record {
   listed = λ e. absurd (let z : _≡_ {A = ℕ} 0 1 = cc in omega arith);
   failed = λ e sw. omega arith;
 }

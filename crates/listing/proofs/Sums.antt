@@ -166,10 +166,10 @@ module _ (procs cells starts counts firsts : List ℕ) (n : Outline) (rows : Lis
   unfolding summands-at equation
   at-within H h = at-every (λ (e : Equation). Every SummandWithin (e .summands)) (table-of H .equations) no-equation h
 
-  pub written-wrong : (k : ℕ) (s : Source) (v : ℕ) (p : List ℕ) (r : Done) (q : List ℕ) (u : Done) (o′ : List ℕ) → k < total → Sources procs starts firsts n rows k s → EquationPut cells starts counts firsts f s v p r q → r .ok ≡ false
-      → length p ≡ length o → u .ok ≡ false → Written k v p → PutsAll procs cells starts counts firsts n rows total f w o u o′
+  pub written-wrong : (k : ℕ) (s : Source) (v : ℕ) (p : List ℕ) (r : Done) (q : List ℕ) → k < total → Sources procs starts firsts n rows k s → EquationPut cells starts counts firsts f s v p r q → r .ok ≡ false
+      → length p ≡ length o → Written k v p → PutsAll procs cells starts counts firsts n rows total f w o r q
   unfolding bytes-at
-  written-wrong k s v p r q u o′ l src put bad same ub sofar H g few = record {
+  written-wrong k s v p r q l src put bad same sofar H g few = record {
     right = λ e. absurd (let z : _≡_ {A = ℕ} 0 1 = cc in omega arith);
     wrong = λ e sw.
         let a = sofar H g few in

@@ -92,10 +92,10 @@ abbrev pub CountsAll : (procs cells starts counts firsts : List ℕ) → Outline
 CountsAll procs cells starts counts firsts n rows total f r =
     (H : Sheet) → Posed procs cells starts counts firsts n rows total f H → r ≡ min count-cut (summand-count (table-of H .equations))
 
--- a list with its count is written; or not every summand has the limits, or there is no room
+-- a list with its count is written; or not every summand has the limits, or there is no room: then none is left
 pub record ListPut (hs : List Summand) (w : ℕ) (o : List ℕ) (r : Done) (o′ : List ℕ) : Type 0 where
   pub right : r .ok ≡ true → Every SummandWithin hs × Adds (encode-list encode-summand hs) w o (r .w) o′
-  pub wrong : r .ok ≡ false → Every SummandFits hs → length o < w + length (encode-list encode-summand hs)
+  pub wrong : r .ok ≡ false → Every SummandFits hs → (r .w ≡ length o) × (length o < w + length (encode-list encode-summand hs))
 
 abbrev pub EquationPut : (cells starts counts firsts : List ℕ) (f : ℕ) → Source → (w : ℕ) (o : List ℕ) → Done → List ℕ → Type 0
 EquationPut cells starts counts firsts f s w o r o′ =
@@ -103,7 +103,7 @@ EquationPut cells starts counts firsts f s w o r o′ =
 
 pub record AllPut (H : Sheet) (w : ℕ) (o : List ℕ) (r : Done) (o′ : List ℕ) : Type 0 where
   pub right : r .ok ≡ true → SummandsWithin (table-of H .equations) × (r .w ≡ w + length (summands-bytes (table-of H .equations))) × (take (r .w) o′ ≡ take w o ++ summands-bytes (table-of H .equations)) × (r .w ≤ length o)
-  pub wrong : r .ok ≡ false → SummandsFit (table-of H .equations) → length o < w + length (summands-bytes (table-of H .equations))
+  pub wrong : r .ok ≡ false → SummandsFit (table-of H .equations) → (r .w ≡ length o) × (length o < w + length (summands-bytes (table-of H .equations)))
 
 abbrev pub PutsAll : (procs cells starts counts firsts : List ℕ) → Outline → (rows : List ℕ) (total f w : ℕ) (o : List ℕ) → Done → List ℕ → Type 0
 PutsAll procs cells starts counts firsts n rows total f w o r o′ =

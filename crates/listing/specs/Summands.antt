@@ -1,4 +1,5 @@
--- The summands of all equations, each list with its count; or they are not within their limits, or there is no room for them.
+-- The summands of all equations, each list with its count; or they are not within their limits, or there is no room for them: then
+-- none is left.
 use mathlib.Core.Path.{_≡_}
 use mathlib.Core.List.{List, _++_}
 use mathlib.Core.Bool.{true, false}
@@ -36,7 +37,7 @@ summands-bytes es = all (encode-list encode-summand) (summands-of es)
 
 pub record Listed (H : Sheet) (w : ℕ) (o : List ℕ) (r : Done) (o′ : List ℕ) : Type 0 where
   pub listed : r .ok ≡ true → SummandsWithin (table-of H .equations) × Puts (summands-bytes (table-of H .equations)) w o (r .w) o′
-  pub failed : r .ok ≡ false → SummandsFit (table-of H .equations) → length o < w + length (summands-bytes (table-of H .equations))
+  pub failed : r .ok ≡ false → SummandsFit (table-of H .equations) → (r .w ≡ length o) × (length o < w + length (summands-bytes (table-of H .equations)))
 
 abbrev pub PutsSummands : (procs cells starts : List ℕ) → Outline → (rows : List ℕ) (count w : ℕ) (o : List ℕ) → Done → List ℕ → Type 0
 PutsSummands procs cells starts n rows count w o r o′ =

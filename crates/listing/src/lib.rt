@@ -190,7 +190,7 @@ fn put_all(
         let s = source_of(procs, starts, firsts, n, rows, k);
         let d = put_equation(cells, starts, counts, firsts, fuel, s, out, v);
         if !d.ok {
-            return Done { ok: false, w: v };
+            return d;
         }
         v = d.w;
         k += 1;
@@ -199,7 +199,7 @@ fn put_all(
 }
 
 // The summands of all equations, each list with its count; they are counted before anything is written.
-// Not ok: not within their limits, or no room for them.
+// Not ok: not within their limits, or no room for them; if room is left, not within their limits.
 pub fn put_summands(
     procs: &[u8],
     cells: &[u16],
@@ -214,7 +214,10 @@ pub fn put_summands(
     ensures { λ r. ⌜ PutsSummands (now (procs .entry)) (now (cells .entry)) (now (starts .entry)) n (now (rows .entry)) count w (now (out .entry)) r (now (out .exit)) ⌝ }
 {
     if w > out.len() {
-        return Done { ok: false, w: w };
+        return Done {
+            ok: false,
+            w: out.len(),
+        };
     }
     let fuel = n.procs + 1;
     let total = n.procs + count;

@@ -63,10 +63,10 @@ module _ (s : List ℕ) (a : Answer) (values cells : List ℕ) (reads : Reads (s
     unfolding table-made after
     table-is = rw (found .read)
 
-    pub made-10 : max-stream ≤ length o → w .ok ≡ false → file-made s room ≡ refused 10
+    pub made-10 : ¬ ((length o ≤ w .length) × (length o < max-stream)) → w .ok ≡ false → file-made s room ≡ refused 10
     unfolding file-made after Within
-    made-10 full e =
-        let out : Within (table-of (found .sheet)) → ⊥ = λ y. let l = wrote .failed e y in let m = y .1 .1 .1 in omega arith in
+    made-10 h e =
+        let out : Within (table-of (found .sheet)) → ⊥ = λ y. let l = wrote .failed e y in let m = y .1 .1 .1 in h (omega arith) in
         rw (table-is ∙ question-fails 10 (within? (table-of (found .sheet))) (λ _. accepted (table-of (found .sheet))) out)
 
     pub wrote-length : w .ok ≡ true → w .length ≤ length o

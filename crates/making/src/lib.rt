@@ -4,6 +4,7 @@ ghost use Prim.Native.Nat.{_≤_, _<_};
 ghost use lib.ListN.{length};
 ghost use Rattle.pcrl.specs.Limits.{max-stream};
 ghost use Rattle.pcrl.specs.Answers.{sheet-read, table-made, file-made, output-after};
+ghost use Rattle.laws.specs.Says.{Says};
 ghost use Rattle.nodes.specs.Layout.{cell-limit};
 ghost use Rattle.sheets.specs.Reading.{Room, Reads};
 ghost use Rattle.pcrl.specs.Result.{refusal};
@@ -38,6 +39,19 @@ pub struct Tried {
     pub length: usize,
 }
 
+// Was the stream's array too short? If room is left, or if none is longer, the table is not within its limits.
+fn too_short(length: usize, room: usize) -> bool
+    ensures { λ r. ⌜ Says r ((room ≤ length) × (room < max-stream)) ⌝ }
+{
+    if length < room {
+        return false;
+    }
+    if room >= MAX_STREAM {
+        return false;
+    }
+    true
+}
+
 // Questions 10 and 11 of a sheet that was read, over arrays that are lent.
 fn write(
     sheet: &[u8],
@@ -54,7 +68,7 @@ fn write(
     let rows = a.rows;
     let w = write_table(sheet, rows, values, cells, stream);
     if !w.ok {
-        if stream.len() < MAX_STREAM {
+        if too_short(w.length, stream.len()) {
             return Tried {
                 done: false,
                 refused: 0,

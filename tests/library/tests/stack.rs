@@ -22,8 +22,7 @@ const MOST_WALKING: usize = 648 << 10;
 /// Bytes of stack that printing a table may use, for any input.
 const MOST_PRINTING: usize = 96 << 10;
 
-/// The same as the first for a sheet of up to 64 bytes, but for one that is refused by 10: that one is
-/// tried again with the long arrays.
+/// The same as the first for a sheet of up to 64 bytes.
 const MOST_SHORT: usize = 24 << 10;
 
 /// A sheet of up to so many bytes is short.
@@ -44,7 +43,7 @@ fn held(what: &str, sheet: &[u8]) -> usize {
         black_box(check_sheet(sheet));
     });
     let making = making(sheet);
-    let most = if sheet.len() <= SHORT && check_sheet(sheet) != 10 {
+    let most = if sheet.len() <= SHORT {
         MOST_SHORT
     } else {
         MOST

@@ -49,7 +49,7 @@ same-length-2 c = search needs
 
 returns-3 : tie.Need-returns-3
 returns-3 c = let b = c .before .before .before .before .before .before .before .before .before .before .before .before .before .before .before .pre .0 .0 in let z = c .before .before .before .before .before .before .before .before .before .before .before .before .before .before .before .pre .1 in let u = c .before .before .before .before .before .put-terms .ensures .0 in let kt = c .before .before .before .before .before .put-terms .kept .1 .1 .1 .1 .1 .0 in
-    (omega arith, λ starts counts firsts. emit-full (c .before .before .before .before .before .before .before .before .before .before .before .before .before .before .before .args .cells .now) starts counts firsts (c .before .before .before .before .before .before .before .before .before .before .before .before .before .before .before .args .s) (c .before .before .before .before .before .before .before .before .before .before .before .before .before .before .before .args .slots .now) (c .before .before .before .before .before .before .before .before .before .before .before .before .before .before .before .args .vars .now) (c .before .before .before .before .before .before .before .before .before .before .before .before .before .before .before .args .conds .now) (c .before .before .before .before .before .before .before .before .before .before .before .before .before .before .before .args .calls .now) (c .before .before .before .before .before .before .before .before .before .before .before .before .before .before .before .args .d) (c .before .before .before .before .before .before .before .before .before .before .before .before .before .before .before .pre .0 .2) (c .before .before .before .before .before .before .before .before .before .before .before .before .before .before .before .pre .0 .1) (c .before .before .before .before .before .before .before .before .before .before .before .before .before .before .before .args .terms .now) (c .before .before .before .before .before .put-terms .last .1 .1 .1 .1 .1 .0) (c .before .before .before .before .before .put-terms .result) (c .before .before .before .before .before .put-terms .ensures .1 .1) (c .before .before .before .before .before .before .before .before .before .before .before .before .before .before .before .args .w) (c .before .before .before .before .before .before .before .before .before .before .before .before .before .before .before .args .out .now) (not-false _ (c .before .if2 .left)) (omega (arith, b .nv-few)) (omega (arith, b .lc-few, b .nc-few)) (omega arith) (omega arith) (c .before .before .before .before .before .before .before .before .before .before .before .before .before .before .before .args .w) (c .before .before .before .before .before .before .before .before .before .before .before .before .before .before .before .args .out .now))
+    (omega arith, λ starts counts firsts. emit-full (c .before .before .before .before .before .before .before .before .before .before .before .before .before .before .before .args .cells .now) starts counts firsts (c .before .before .before .before .before .before .before .before .before .before .before .before .before .before .before .args .s) (c .before .before .before .before .before .before .before .before .before .before .before .before .before .before .before .args .slots .now) (c .before .before .before .before .before .before .before .before .before .before .before .before .before .before .before .args .vars .now) (c .before .before .before .before .before .before .before .before .before .before .before .before .before .before .before .args .conds .now) (c .before .before .before .before .before .before .before .before .before .before .before .before .before .before .before .args .calls .now) (c .before .before .before .before .before .before .before .before .before .before .before .before .before .before .before .args .d) (c .before .before .before .before .before .before .before .before .before .before .before .before .before .before .before .pre .0 .2) (c .before .before .before .before .before .before .before .before .before .before .before .before .before .before .before .pre .0 .1) (c .before .before .before .before .before .before .before .before .before .before .before .before .before .before .before .args .terms .now) (c .before .before .before .before .before .put-terms .last .1 .1 .1 .1 .1 .0) (c .before .before .before .before .before .put-terms .result) (c .before .before .before .before .before .put-terms .ensures .1 .1) (c .before .before .before .before .before .before .before .before .before .before .before .before .before .before .before .args .w) (c .before .before .before .before .before .before .before .before .before .before .before .before .before .before .before .args .out .now) (not-false _ (c .before .if2 .left)) (omega (arith, b .nv-few)) (omega (arith, b .lc-few, b .nc-few)) (omega arith) (omega arith) (c .before .before .before .before .before .before .before .before .before .before .before .before .before .before .before .args .out .now))
 
 cast-piece : tie.Need-cast-piece
 cast-piece c = search needs

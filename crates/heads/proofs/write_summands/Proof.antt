@@ -14,7 +14,7 @@ count-heads-requires c κs = search needs
 returns : tie.Need-returns
 returns c =
     let args = c .before .before .before .before .before .before .before .before .args in
-    (omega arith, list-full (args .cells .now) (args .starts .now) (args .counts .now) (args .firsts .now) (args .fuel) (args .at) (args .c) (args .slots .now) (args .n) (args .m) (args .w) (args .out .now) (omega arith) (args .w) (args .out .now))
+    (omega arith, list-full (args .cells .now) (args .starts .now) (args .counts .now) (args .firsts .now) (args .fuel) (args .at) (args .c) (args .slots .now) (args .n) (args .m) (args .w) (args .out .now) (omega arith) (args .out .now))
 
 cast-out : tie.Need-cast-out
 cast-out c = search needs

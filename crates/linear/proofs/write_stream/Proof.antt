@@ -20,7 +20,7 @@ same-length : tie.Need-same-length
 same-length c = search needs
 
 returns : tie.Need-returns
-returns c = let a = c .before .before .before .before .before .before .before .before .before .before .before .before .before .before .before .before .args in out-many (a .s .now) (record { sizes = a .sizes .now; funcs = a .funcs .now; values = a .values .now; places = a .places .now; acts = a .acts .now; procs = a .procs .now; cells = a .cells .now; starts = a .starts .now }) (a .names .now) (a .n) (a .out .now) (a .out .now) (c .failed .result) (c .failed .ensures) (c .before .before .count-equations .result) (c .before .before .count-equations .ensures) (omega arith)
+returns c = let a = c .before .before .before .before .before .before .before .before .before .before .before .before .before .before .before .before .args in out-many (a .s .now) (record { sizes = a .sizes .now; funcs = a .funcs .now; values = a .values .now; places = a .places .now; acts = a .acts .now; procs = a .procs .now; cells = a .cells .now; starts = a .starts .now }) (a .names .now) (a .n) (a .out .now) (a .out .now) (c .failed .result) (c .failed .ensures .0) (c .before .before .count-equations .result) (c .before .before .count-equations .ensures) (omega arith)
 
 minus-requires : tie.Need-minus-requires
 minus-requires c κs = search needs
@@ -47,7 +47,7 @@ same-length-4 : tie.Need-same-length-4
 same-length-4 c = search needs
 
 returns-2 : tie.Need-returns-2
-returns-2 c = let a = c .before .before .before .before .before .before .before .before .before .before .before .before .before .before .before .before .before .before .before .before .before .before .before .before .before .before .before .before .before .before .before .before .args in out-count (a .s .now) (record { sizes = a .sizes .now; funcs = a .funcs .now; values = a .values .now; places = a .places .now; acts = a .acts .now; procs = a .procs .now; cells = a .cells .now; starts = a .starts .now }) (a .names .now) (a .n) (a .out .now) (c .before .before .before .before .before .before .before .put-param-lists .last .1 .1 .1 .1 .1 .1 .0) (c .failed2 .result) (c .failed2 .ensures) (c .before .before .before .before .before .before .before .before .before .before .before .before .before .before .before .before .before .before .count-equations .result) (c .before .before .before .before .before .before .before .before .before .before .before .before .before .before .before .before .before .before .count-equations .ensures) (let i = c .before .before .before .before .before .before .before .before .before .before .before .before .before .before .before .before .before .if1 in omega arith) (a .rows .now) (let z = c .before .before .before .before .before .before .before .before .before .before .before .before .before .before .before .before .before .before .before .before .before .before .before .before .before .before .before .before .before .before .before .before .pre .1 in omega arith) (c .before .before .before .before .before .before .before .before .before .before .before .before .before .put-signature .result) (c .before .before .before .before .before .before .before .before .before .before .before .before .before .put-signature .last .1 .1 .1 .1 .1 .1 .1 .1 .1 .0) (c .before .before .before .before .before .before .before .put-param-lists .result) (c .before .before .before .before .before .before .before .put-param-lists .last .1 .1 .1 .1 .1 .0) (c .before .before .before .before .before .before .before .put-param-lists .last .1 .1 .1 .1 .1 .1 .0) (c .before .before .before .before .before .before .before .put-param-lists .ensures) (omega arith)
+returns-2 c = let a = c .before .before .before .before .before .before .before .before .before .before .before .before .before .before .before .before .before .before .before .before .before .before .before .before .before .before .before .before .before .before .before .before .args in out-count (a .s .now) (record { sizes = a .sizes .now; funcs = a .funcs .now; values = a .values .now; places = a .places .now; acts = a .acts .now; procs = a .procs .now; cells = a .cells .now; starts = a .starts .now }) (a .names .now) (a .n) (a .out .now) (c .before .before .before .before .before .before .before .put-param-lists .last .1 .1 .1 .1 .1 .1 .0) (c .failed2 .result) (c .failed2 .ensures .0) (c .before .before .before .before .before .before .before .before .before .before .before .before .before .before .before .before .before .before .count-equations .result) (c .before .before .before .before .before .before .before .before .before .before .before .before .before .before .before .before .before .before .count-equations .ensures) (let i = c .before .before .before .before .before .before .before .before .before .before .before .before .before .before .before .before .before .if1 in omega arith) (a .rows .now) (let z = c .before .before .before .before .before .before .before .before .before .before .before .before .before .before .before .before .before .before .before .before .before .before .before .before .before .before .before .before .before .before .before .before .pre .1 in omega arith) (c .before .before .before .before .before .before .before .before .before .before .before .before .before .put-signature .result) (c .before .before .before .before .before .before .before .before .before .before .before .before .before .put-signature .last .1 .1 .1 .1 .1 .1 .1 .1 .1 .0) (c .before .before .before .before .before .before .before .put-param-lists .result) (c .before .before .before .before .before .before .before .put-param-lists .last .1 .1 .1 .1 .1 .0) (c .before .before .before .before .before .before .before .put-param-lists .last .1 .1 .1 .1 .1 .1 .0) (c .before .before .before .before .before .before .before .put-param-lists .ensures) (omega arith)
 
 few-marks-requires : tie.Need-few-marks-requires
 few-marks-requires c κs = search needs
@@ -65,7 +65,7 @@ same-length-7 : tie.Need-same-length-7
 same-length-7 c = search needs
 
 returns-3 : tie.Need-returns-3
-returns-3 c = let a = c .before .before .before .before .before .before .before .before .before .before .before .before .before .before .before .before .before .before .before .before .before .before .before .before .before .before .before .before .before .before .before .before .before .before .before .args in out-marks (a .s .now) (record { sizes = a .sizes .now; funcs = a .funcs .now; values = a .values .now; places = a .places .now; acts = a .acts .now; procs = a .procs .now; cells = a .cells .now; starts = a .starts .now }) (a .names .now) (a .n) (a .out .now) (c .before .before .before .before .before .before .before .before .before .before .put-param-lists .last .1 .1 .1 .1 .1 .1 .0) (c .failed3 .result) (c .failed3 .ensures) (c .before .before .before .before .before .before .before .before .before .before .before .before .before .before .before .before .before .before .before .before .before .count-equations .result) (c .before .before .before .before .before .before .before .before .before .before .before .before .before .before .before .before .before .before .before .before .before .count-equations .ensures) (let i = c .before .before .before .before .before .before .before .before .before .before .before .before .before .before .before .before .before .before .before .before .if1 in omega arith) (a .rows .now) (let z = c .before .before .before .before .before .before .before .before .before .before .before .before .before .before .before .before .before .before .before .before .before .before .before .before .before .before .before .before .before .before .before .before .before .before .before .pre .1 in omega arith) (c .before .before .before .before .before .before .before .before .before .before .before .before .before .before .before .before .put-signature .result) (c .before .before .before .before .before .before .before .before .before .before .before .before .before .before .before .before .put-signature .last .1 .1 .1 .1 .1 .1 .1 .1 .1 .0) (c .before .before .before .before .before .before .before .before .before .before .put-param-lists .result) (c .before .before .before .before .before .before .before .before .before .before .put-param-lists .last .1 .1 .1 .1 .1 .0) (c .before .before .before .before .before .before .before .before .before .before .put-param-lists .last .1 .1 .1 .1 .1 .1 .0) (c .before .before .before .before .before .before .before .before .before .before .put-param-lists .ensures) (said-no (c .before .before .few-marks .result) (c .before .before .few-marks .ensures) (not-true _ (c .before .if3 .taken)))
+returns-3 c = let a = c .before .before .before .before .before .before .before .before .before .before .before .before .before .before .before .before .before .before .before .before .before .before .before .before .before .before .before .before .before .before .before .before .before .before .before .args in out-marks (a .s .now) (record { sizes = a .sizes .now; funcs = a .funcs .now; values = a .values .now; places = a .places .now; acts = a .acts .now; procs = a .procs .now; cells = a .cells .now; starts = a .starts .now }) (a .names .now) (a .n) (a .out .now) (c .before .before .before .before .before .before .before .before .before .before .put-param-lists .last .1 .1 .1 .1 .1 .1 .0) (c .failed3 .result) (c .failed3 .ensures .0) (c .before .before .before .before .before .before .before .before .before .before .before .before .before .before .before .before .before .before .before .before .before .count-equations .result) (c .before .before .before .before .before .before .before .before .before .before .before .before .before .before .before .before .before .before .before .before .before .count-equations .ensures) (let i = c .before .before .before .before .before .before .before .before .before .before .before .before .before .before .before .before .before .before .before .before .if1 in omega arith) (a .rows .now) (let z = c .before .before .before .before .before .before .before .before .before .before .before .before .before .before .before .before .before .before .before .before .before .before .before .before .before .before .before .before .before .before .before .before .before .before .before .pre .1 in omega arith) (c .before .before .before .before .before .before .before .before .before .before .before .before .before .before .before .before .put-signature .result) (c .before .before .before .before .before .before .before .before .before .before .before .before .before .before .before .before .put-signature .last .1 .1 .1 .1 .1 .1 .1 .1 .1 .0) (c .before .before .before .before .before .before .before .before .before .before .put-param-lists .result) (c .before .before .before .before .before .before .before .before .before .before .put-param-lists .last .1 .1 .1 .1 .1 .0) (c .before .before .before .before .before .before .before .before .before .before .put-param-lists .last .1 .1 .1 .1 .1 .1 .0) (c .before .before .before .before .before .before .before .before .before .before .put-param-lists .ensures) (said-no (c .before .before .few-marks .result) (c .before .before .few-marks .ensures) (not-true _ (c .before .if3 .taken)))
 
 put-summands-requires : tie.Need-put-summands-requires
 put-summands-requires c κs = let z = c .before .before .before .before .before .before .before .before .before .before .before .before .before .before .before .before .before .before .before .before .before .before .before .before .before .before .before .before .before .before .before .before .before .before .before .before .before .pre in let i = c .before .before .before .before .before .before .if2 in let l = c .before .before .before .before .before .before .before .before .before .before .before .before .put-param-lists .kept .1 .1 .1 .1 .1 .1 .0 ∙ c .before .before .before .before .before .before .before .before .before .before .before .before .before .before .before .before .before .before .put-signature .kept .1 .1 .1 .1 .1 .1 .1 .1 .1 .0 in (z .0 .procs-few, omega arith, omega (arith, z .2))
@@ -83,7 +83,7 @@ same-length-10 : tie.Need-same-length-10
 same-length-10 c = search needs
 
 returns-4 : tie.Need-returns-4
-returns-4 c = let a = c .before .before .before .before .before .before .before .before .before .before .before .before .before .before .before .before .before .before .before .before .before .before .before .before .before .before .before .before .before .before .before .before .before .before .before .before .before .before .before .before .before .before .before .args in let sig : PutsSig (a .s .now) (a .sizes .now) (a .funcs .now) (a .values .now) (a .places .now) (a .acts .now) (a .names .now) (a .n .sorts - 1 + a .n .funcs) (a .n) 0 (a .out .now) (c .before .before .before .before .before .before .before .before .before .before .before .before .before .before .before .before .before .before .before .before .before .before .before .before .put-signature .result) (c .before .before .before .before .before .before .before .before .before .before .before .before .before .before .before .before .before .before .before .before .before .before .before .before .put-signature .last .1 .1 .1 .1 .1 .1 .1 .1 .1 .0) = subst (λ (b : ℕ). PutsSig (a .s .now) (a .sizes .now) (a .funcs .now) (a .values .now) (a .places .now) (a .acts .now) (a .names .now) (b + a .n .funcs) (a .n) 0 (a .out .now) (c .before .before .before .before .before .before .before .before .before .before .before .before .before .before .before .before .before .before .before .before .before .before .before .before .put-signature .result) (c .before .before .before .before .before .before .before .before .before .before .before .before .before .before .before .before .before .before .before .before .before .before .before .before .put-signature .last .1 .1 .1 .1 .1 .1 .1 .1 .1 .0)) (c .before .before .before .before .before .before .before .before .before .before .before .before .before .before .before .before .before .before .before .before .before .before .before .before .before .before .before .minus .ensures) (c .before .before .before .before .before .before .before .before .before .before .before .before .before .before .before .before .before .before .before .before .before .before .before .before .put-signature .ensures) in out-summands (a .s .now) (record { sizes = a .sizes .now; funcs = a .funcs .now; values = a .values .now; places = a .places .now; acts = a .acts .now; procs = a .procs .now; cells = a .cells .now; starts = a .starts .now }) (a .names .now) (a .n) (a .out .now) (c .before .before .before .before .before .put-summands .last .1 .1 .1 .1 .1 .1 .0) (c .failed4 .result) (c .failed4 .ensures) (c .before .before .before .before .before .before .before .before .before .before .before .before .before .before .before .before .before .before .before .before .before .before .before .before .before .before .before .before .before .count-equations .result) (c .before .before .before .before .before .before .before .before .before .before .before .before .before .before .before .before .before .before .before .before .before .before .before .before .before .before .before .before .before .count-equations .ensures) (let i = c .before .before .before .before .before .before .before .before .before .before .before .before .before .before .before .before .before .before .before .before .before .before .before .before .before .before .before .before .if1 in omega arith) (a .rows .now) (let z = c .before .before .before .before .before .before .before .before .before .before .before .before .before .before .before .before .before .before .before .before .before .before .before .before .before .before .before .before .before .before .before .before .before .before .before .before .before .before .before .before .before .before .before .pre .1 in omega arith) (c .before .before .before .before .before .before .before .before .before .before .before .before .before .before .before .before .before .before .before .before .before .before .before .before .put-signature .result) (c .before .before .before .before .before .before .before .before .before .before .before .before .before .before .before .before .before .before .before .before .before .before .before .before .put-signature .last .1 .1 .1 .1 .1 .1 .1 .1 .1 .0) (c .before .before .before .before .before .before .before .before .before .before .before .before .before .before .before .before .before .before .put-param-lists .result) (c .before .before .before .before .before .before .before .before .before .before .before .before .before .before .before .before .before .before .put-param-lists .last .1 .1 .1 .1 .1 .0) (c .before .before .before .before .before .before .before .before .before .before .before .before .before .before .before .before .before .before .put-param-lists .last .1 .1 .1 .1 .1 .1 .0) (c .before .before .before .before .before .before .before .before .before .before .before .before .before .before .before .before .before .before .put-param-lists .ensures) (c .before .before .before .before .before .put-summands .result) (c .before .before .before .before .before .put-summands .last .1 .1 .1 .1 .1 .1 .0) sig (c .before .before .before .before .before .put-summands .ensures) (not-true _ (c .before .if4 .taken))
+returns-4 c = let a = c .before .before .before .before .before .before .before .before .before .before .before .before .before .before .before .before .before .before .before .before .before .before .before .before .before .before .before .before .before .before .before .before .before .before .before .before .before .before .before .before .before .before .before .args in let sig : PutsSig (a .s .now) (a .sizes .now) (a .funcs .now) (a .values .now) (a .places .now) (a .acts .now) (a .names .now) (a .n .sorts - 1 + a .n .funcs) (a .n) 0 (a .out .now) (c .before .before .before .before .before .before .before .before .before .before .before .before .before .before .before .before .before .before .before .before .before .before .before .before .put-signature .result) (c .before .before .before .before .before .before .before .before .before .before .before .before .before .before .before .before .before .before .before .before .before .before .before .before .put-signature .last .1 .1 .1 .1 .1 .1 .1 .1 .1 .0) = subst (λ (b : ℕ). PutsSig (a .s .now) (a .sizes .now) (a .funcs .now) (a .values .now) (a .places .now) (a .acts .now) (a .names .now) (b + a .n .funcs) (a .n) 0 (a .out .now) (c .before .before .before .before .before .before .before .before .before .before .before .before .before .before .before .before .before .before .before .before .before .before .before .before .put-signature .result) (c .before .before .before .before .before .before .before .before .before .before .before .before .before .before .before .before .before .before .before .before .before .before .before .before .put-signature .last .1 .1 .1 .1 .1 .1 .1 .1 .1 .0)) (c .before .before .before .before .before .before .before .before .before .before .before .before .before .before .before .before .before .before .before .before .before .before .before .before .before .before .before .minus .ensures) (c .before .before .before .before .before .before .before .before .before .before .before .before .before .before .before .before .before .before .before .before .before .before .before .before .put-signature .ensures) in out-summands (a .s .now) (record { sizes = a .sizes .now; funcs = a .funcs .now; values = a .values .now; places = a .places .now; acts = a .acts .now; procs = a .procs .now; cells = a .cells .now; starts = a .starts .now }) (a .names .now) (a .n) (a .out .now) (c .before .before .before .before .before .put-summands .last .1 .1 .1 .1 .1 .1 .0) (c .failed4 .result) (c .failed4 .ensures .0) (c .before .before .before .before .before .before .before .before .before .before .before .before .before .before .before .before .before .before .before .before .before .before .before .before .before .before .before .before .before .count-equations .result) (c .before .before .before .before .before .before .before .before .before .before .before .before .before .before .before .before .before .before .before .before .before .before .before .before .before .before .before .before .before .count-equations .ensures) (let i = c .before .before .before .before .before .before .before .before .before .before .before .before .before .before .before .before .before .before .before .before .before .before .before .before .before .before .before .before .if1 in omega arith) (a .rows .now) (let z = c .before .before .before .before .before .before .before .before .before .before .before .before .before .before .before .before .before .before .before .before .before .before .before .before .before .before .before .before .before .before .before .before .before .before .before .before .before .before .before .before .before .before .before .pre .1 in omega arith) (c .before .before .before .before .before .before .before .before .before .before .before .before .before .before .before .before .before .before .before .before .before .before .before .before .put-signature .result) (c .before .before .before .before .before .before .before .before .before .before .before .before .before .before .before .before .before .before .before .before .before .before .before .before .put-signature .last .1 .1 .1 .1 .1 .1 .1 .1 .1 .0) (c .before .before .before .before .before .before .before .before .before .before .before .before .before .before .before .before .before .before .put-param-lists .result) (c .before .before .before .before .before .before .before .before .before .before .before .before .before .before .before .before .before .before .put-param-lists .last .1 .1 .1 .1 .1 .0) (c .before .before .before .before .before .before .before .before .before .before .before .before .before .before .before .before .before .before .put-param-lists .last .1 .1 .1 .1 .1 .1 .0) (c .before .before .before .before .before .before .before .before .before .before .before .before .before .before .before .before .before .before .put-param-lists .ensures) (c .before .before .before .before .before .put-summands .result) (c .before .before .before .before .before .put-summands .last .1 .1 .1 .1 .1 .1 .0) sig (c .before .before .before .before .before .put-summands .ensures) (not-true _ (c .before .if4 .taken)) (c .failed4 .ensures .1)
 
 put-start-requires : tie.Need-put-start-requires
 put-start-requires c κs = search needs
@@ -101,7 +101,7 @@ same-length-13 : tie.Need-same-length-13
 same-length-13 c = c .before .before .before .before .before .before .put-start .kept .1 .1 .1 .1 .1 .1 .0 ∙ c .before .before .before .before .before .before .before .before .before .before .before .before .before .put-summands .kept .1 .1 .1 .1 .1 .1 .0 ∙ c .before .before .before .before .before .before .before .before .before .before .before .before .before .before .before .before .before .before .before .before .before .before .before .before .before .before .put-param-lists .kept .1 .1 .1 .1 .1 .1 .0 ∙ c .before .before .before .before .before .before .before .before .before .before .before .before .before .before .before .before .before .before .before .before .before .before .before .before .before .before .before .before .before .before .before .before .put-signature .kept .1 .1 .1 .1 .1 .1 .1 .1 .1 .0
 
 returns-5 : tie.Need-returns-5
-returns-5 c = let a = c .before .before .before .before .before .before .before .before .before .before .before .before .before .before .before .before .before .before .before .before .before .before .before .before .before .before .before .before .before .before .before .before .before .before .before .before .before .before .before .before .before .before .before .before .before .before .before .before .before .before .before .args in let sig : PutsSig (a .s .now) (a .sizes .now) (a .funcs .now) (a .values .now) (a .places .now) (a .acts .now) (a .names .now) (a .n .sorts - 1 + a .n .funcs) (a .n) 0 (a .out .now) (c .before .before .before .before .before .before .before .before .before .before .before .before .before .before .before .before .before .before .before .before .before .before .before .before .before .before .before .before .before .before .before .before .put-signature .result) (c .before .before .before .before .before .before .before .before .before .before .before .before .before .before .before .before .before .before .before .before .before .before .before .before .before .before .before .before .before .before .before .before .put-signature .last .1 .1 .1 .1 .1 .1 .1 .1 .1 .0) = subst (λ (b : ℕ). PutsSig (a .s .now) (a .sizes .now) (a .funcs .now) (a .values .now) (a .places .now) (a .acts .now) (a .names .now) (b + a .n .funcs) (a .n) 0 (a .out .now) (c .before .before .before .before .before .before .before .before .before .before .before .before .before .before .before .before .before .before .before .before .before .before .before .before .before .before .before .before .before .before .before .before .put-signature .result) (c .before .before .before .before .before .before .before .before .before .before .before .before .before .before .before .before .before .before .before .before .before .before .before .before .before .before .before .before .before .before .before .before .put-signature .last .1 .1 .1 .1 .1 .1 .1 .1 .1 .0)) (c .before .before .before .before .before .before .before .before .before .before .before .before .before .before .before .before .before .before .before .before .before .before .before .before .before .before .before .before .before .before .before .before .before .before .before .minus .ensures) (c .before .before .before .before .before .before .before .before .before .before .before .before .before .before .before .before .before .before .before .before .before .before .before .before .before .before .before .before .before .before .before .before .put-signature .ensures) in out-room (a .s .now) (record { sizes = a .sizes .now; funcs = a .funcs .now; values = a .values .now; places = a .places .now; acts = a .acts .now; procs = a .procs .now; cells = a .cells .now; starts = a .starts .now }) (a .names .now) (a .n) (a .out .now) (c .before .before .before .before .before .before .before .before .before .before .before .before .before .before .before .before .before .before .before .before .before .before .before .before .before .before .before .before .before .before .before .before .before .before .before .before .before .count-equations .result) (c .before .before .before .before .before .before .before .before .before .before .before .before .before .before .before .before .before .before .before .before .before .before .before .before .before .before .before .before .before .before .before .before .before .before .before .before .before .count-equations .ensures) (let i = c .before .before .before .before .before .before .before .before .before .before .before .before .before .before .before .before .before .before .before .before .before .before .before .before .before .before .before .before .before .before .before .before .before .before .before .before .if1 in omega arith) (a .rows .now) (let z = c .before .before .before .before .before .before .before .before .before .before .before .before .before .before .before .before .before .before .before .before .before .before .before .before .before .before .before .before .before .before .before .before .before .before .before .before .before .before .before .before .before .before .before .before .before .before .before .before .before .before .before .pre .1 in omega arith) (c .before .before .before .before .before .before .before .before .before .before .before .before .before .before .before .before .before .before .before .before .before .before .before .before .before .before .before .before .before .before .before .before .put-signature .result) (c .before .before .before .before .before .before .before .before .before .before .before .before .before .before .before .before .before .before .before .before .before .before .before .before .before .before .before .before .before .before .before .before .put-signature .last .1 .1 .1 .1 .1 .1 .1 .1 .1 .0) (c .before .before .before .before .before .before .before .before .before .before .before .before .before .before .before .before .before .before .before .before .before .before .before .before .before .before .put-param-lists .result) (c .before .before .before .before .before .before .before .before .before .before .before .before .before .before .before .before .before .before .before .before .before .before .before .before .before .before .put-param-lists .last .1 .1 .1 .1 .1 .0) (c .before .before .before .before .before .before .before .before .before .before .before .before .before .before .before .before .before .before .before .before .before .before .before .before .before .before .put-param-lists .last .1 .1 .1 .1 .1 .1 .0) (c .before .before .before .before .before .before .before .before .before .before .before .before .before .before .before .before .before .before .before .before .before .before .before .before .before .before .put-param-lists .ensures) (c .before .before .before .before .before .before .before .before .before .before .before .before .before .put-summands .result) (c .before .before .before .before .before .before .before .before .before .before .before .before .before .put-summands .last .1 .1 .1 .1 .1 .1 .0) (c .before .before .before .before .before .before .put-start .result) (c .before .before .before .before .before .before .put-start .last .1 .1 .1 .1 .1 .1 .0) sig (c .before .before .before .before .before .before .before .before .before .before .before .before .before .put-summands .ensures) (not-false _ (c .before .before .before .before .before .before .before .before .before .if4 .left)) (c .before .before .before .before .before .before .put-start .ensures) (c .failed5 .result) (c .failed5 .ensures) (let l = c .before .before .before .before .before .before .put-start .kept .1 .1 .1 .1 .1 .1 .0 ∙ c .before .before .before .before .before .before .before .before .before .before .before .before .before .put-summands .kept .1 .1 .1 .1 .1 .1 .0 ∙ c .before .before .before .before .before .before .before .before .before .before .before .before .before .before .before .before .before .before .before .before .before .before .before .before .before .before .put-param-lists .kept .1 .1 .1 .1 .1 .1 .0 ∙ c .before .before .before .before .before .before .before .before .before .before .before .before .before .before .before .before .before .before .before .before .before .before .before .before .before .before .before .before .before .before .before .before .put-signature .kept .1 .1 .1 .1 .1 .1 .1 .1 .1 .0 in omega arith)
+returns-5 c = let a = c .before .before .before .before .before .before .before .before .before .before .before .before .before .before .before .before .before .before .before .before .before .before .before .before .before .before .before .before .before .before .before .before .before .before .before .before .before .before .before .before .before .before .before .before .before .before .before .before .before .before .before .args in let sig : PutsSig (a .s .now) (a .sizes .now) (a .funcs .now) (a .values .now) (a .places .now) (a .acts .now) (a .names .now) (a .n .sorts - 1 + a .n .funcs) (a .n) 0 (a .out .now) (c .before .before .before .before .before .before .before .before .before .before .before .before .before .before .before .before .before .before .before .before .before .before .before .before .before .before .before .before .before .before .before .before .put-signature .result) (c .before .before .before .before .before .before .before .before .before .before .before .before .before .before .before .before .before .before .before .before .before .before .before .before .before .before .before .before .before .before .before .before .put-signature .last .1 .1 .1 .1 .1 .1 .1 .1 .1 .0) = subst (λ (b : ℕ). PutsSig (a .s .now) (a .sizes .now) (a .funcs .now) (a .values .now) (a .places .now) (a .acts .now) (a .names .now) (b + a .n .funcs) (a .n) 0 (a .out .now) (c .before .before .before .before .before .before .before .before .before .before .before .before .before .before .before .before .before .before .before .before .before .before .before .before .before .before .before .before .before .before .before .before .put-signature .result) (c .before .before .before .before .before .before .before .before .before .before .before .before .before .before .before .before .before .before .before .before .before .before .before .before .before .before .before .before .before .before .before .before .put-signature .last .1 .1 .1 .1 .1 .1 .1 .1 .1 .0)) (c .before .before .before .before .before .before .before .before .before .before .before .before .before .before .before .before .before .before .before .before .before .before .before .before .before .before .before .before .before .before .before .before .before .before .before .minus .ensures) (c .before .before .before .before .before .before .before .before .before .before .before .before .before .before .before .before .before .before .before .before .before .before .before .before .before .before .before .before .before .before .before .before .put-signature .ensures) in let l = c .before .before .before .before .before .before .put-start .kept .1 .1 .1 .1 .1 .1 .0 ∙ c .before .before .before .before .before .before .before .before .before .before .before .before .before .put-summands .kept .1 .1 .1 .1 .1 .1 .0 ∙ c .before .before .before .before .before .before .before .before .before .before .before .before .before .before .before .before .before .before .before .before .before .before .before .before .before .before .put-param-lists .kept .1 .1 .1 .1 .1 .1 .0 ∙ c .before .before .before .before .before .before .before .before .before .before .before .before .before .before .before .before .before .before .before .before .before .before .before .before .before .before .before .before .before .before .before .before .put-signature .kept .1 .1 .1 .1 .1 .1 .1 .1 .1 .0 in out-room (a .s .now) (record { sizes = a .sizes .now; funcs = a .funcs .now; values = a .values .now; places = a .places .now; acts = a .acts .now; procs = a .procs .now; cells = a .cells .now; starts = a .starts .now }) (a .names .now) (a .n) (a .out .now) (c .before .before .before .before .before .before .before .before .before .before .before .before .before .before .before .before .before .before .before .before .before .before .before .before .before .before .before .before .before .before .before .before .before .before .before .before .before .count-equations .result) (c .before .before .before .before .before .before .before .before .before .before .before .before .before .before .before .before .before .before .before .before .before .before .before .before .before .before .before .before .before .before .before .before .before .before .before .before .before .count-equations .ensures) (let i = c .before .before .before .before .before .before .before .before .before .before .before .before .before .before .before .before .before .before .before .before .before .before .before .before .before .before .before .before .before .before .before .before .before .before .before .before .if1 in omega arith) (a .rows .now) (let z = c .before .before .before .before .before .before .before .before .before .before .before .before .before .before .before .before .before .before .before .before .before .before .before .before .before .before .before .before .before .before .before .before .before .before .before .before .before .before .before .before .before .before .before .before .before .before .before .before .before .before .before .pre .1 in omega arith) (c .before .before .before .before .before .before .before .before .before .before .before .before .before .before .before .before .before .before .before .before .before .before .before .before .before .before .before .before .before .before .before .before .put-signature .result) (c .before .before .before .before .before .before .before .before .before .before .before .before .before .before .before .before .before .before .before .before .before .before .before .before .before .before .before .before .before .before .before .before .put-signature .last .1 .1 .1 .1 .1 .1 .1 .1 .1 .0) (c .before .before .before .before .before .before .before .before .before .before .before .before .before .before .before .before .before .before .before .before .before .before .before .before .before .before .put-param-lists .result) (c .before .before .before .before .before .before .before .before .before .before .before .before .before .before .before .before .before .before .before .before .before .before .before .before .before .before .put-param-lists .last .1 .1 .1 .1 .1 .0) (c .before .before .before .before .before .before .before .before .before .before .before .before .before .before .before .before .before .before .before .before .before .before .before .before .before .before .put-param-lists .last .1 .1 .1 .1 .1 .1 .0) (c .before .before .before .before .before .before .before .before .before .before .before .before .before .before .before .before .before .before .before .before .before .before .before .before .before .before .put-param-lists .ensures) (c .before .before .before .before .before .before .before .before .before .before .before .before .before .put-summands .result) (c .before .before .before .before .before .before .before .before .before .before .before .before .before .put-summands .last .1 .1 .1 .1 .1 .1 .0) (c .before .before .before .before .before .before .put-start .result) (c .before .before .before .before .before .before .put-start .last .1 .1 .1 .1 .1 .1 .0) sig (c .before .before .before .before .before .before .before .before .before .before .before .before .before .put-summands .ensures) (not-false _ (c .before .before .before .before .before .before .before .before .before .if4 .left)) (c .before .before .before .before .before .before .put-start .ensures) (c .failed5 .result) (c .failed5 .ensures .0) (c .failed5 .ensures .1 ∙ l) (omega arith)
 
 same-length-14 : tie.Need-same-length-14
 same-length-14 c = search needs

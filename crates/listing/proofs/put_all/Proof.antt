@@ -33,7 +33,7 @@ returns c =
     let l = c .before .before .before .before .before .before .before .before .loop in
     let s = c .before .before .before .before .before .before .source-of in
     let d = c .before .before .before .before .put-equation in
-    written-wrong (a .procs .now) (a .cells .now) (a .starts .now) (a .counts .now) (a .firsts .now) (a .n) (a .rows .now) (a .total) (a .fuel) (a .w) (a .out .now) (l .k) (s .result) (l .v) (l .out) (d .result) (d .last .1 .1 .1 .1 .1 .1 .0) _ _ (omega arith) (s .ensures .1) (d .ensures .1) (not-true _ (c .if1 .taken)) (l .inv .0 .2) refl (l .inv .1)
+    written-wrong (a .procs .now) (a .cells .now) (a .starts .now) (a .counts .now) (a .firsts .now) (a .n) (a .rows .now) (a .total) (a .fuel) (a .w) (a .out .now) (l .k) (s .result) (l .v) (l .out) (d .result) (d .last .1 .1 .1 .1 .1 .1 .0) (omega arith) (s .ensures .1) (d .ensures .1) (not-true _ (c .if1 .taken)) (l .inv .0 .2) (l .inv .1)
 
 add-k : tie.Need-add-k Inv-loop μ-loop
 add-k c = search needs

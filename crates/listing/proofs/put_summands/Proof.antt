@@ -9,7 +9,7 @@ use Rattle.listing.proofs.put_summands.Statement.{statement}
 use Rattle.listing.proofs.put_summands.Tie as tie
 
 returns : tie.Need-returns
-returns c = let a = c .before .before .before .before .before .before .args in past-end (a .procs .now) (a .cells .now) (a .starts .now) (a .n) (a .rows .now) (a .count) (a .w) (a .out .now) _ (a .out .now) refl (omega arith)
+returns c = let a = c .before .before .before .before .before .before .args in past-end (a .procs .now) (a .cells .now) (a .starts .now) (a .n) (a .rows .now) (a .count) (a .w) (a .out .now) (a .out .now) (omega arith)
 
 add-fuel : tie.Need-add-fuel
 add-fuel c = search needs

@@ -8,6 +8,7 @@ use borrow.Author.Tests.{not-true, not-false}
 use lib.ListN.{length, take}
 use Rattle.pcrl.specs.Answers.{stream-filed, output-after}
 use Rattle.pcrl.specs.Result.{Result}
+use Rattle.laws.specs.Says.{said-yes, said-no}
 use Rattle.making.specs.Making.{made-answer}
 use Rattle.making.proofs.MakingLaws.{made-10, made-stream, wrote-length, filed-refused, filed-bytes, answer-refused, output-same}
 use Rattle.making.proofs.write.Statement.{statement}
@@ -16,6 +17,9 @@ use Rattle.making.proofs.write.Tie as tie
 write-table-requires : tie.Need-write-table-requires
 write-table-requires c κs = c .before .before .before .before .before .before .before .before .pre .1 .2
 
+too-short-requires : tie.Need-too-short-requires
+too-short-requires c κs = search needs
+
 same-length : tie.Need-same-length
 same-length c = search needs
 
@@ -23,7 +27,11 @@ same-length-2 : tie.Need-same-length-2
 same-length-2 c = search needs
 
 returns : tie.Need-returns
-returns c = record { answer = λ d. absurd (let z : _≡_ {A = ℕ} 0 1 = cc in omega arith); output = λ d. absurd (let z : _≡_ {A = ℕ} 0 1 = cc in omega arith); same = λ d. refl; full = λ d. absurd (let k = c .before .before .before .before .before .before .before .write-table .kept .1 .1 .1 .1 .0 in let i = c .if2 in omega arith) }
+returns c =
+    let k = c .before .before .before .before .before .before .before .before .write-table .kept .1 .1 .1 .1 .0 in
+    let s = c .before .too-short in
+    let i = said-yes (s .result) (s .ensures) (c .if2 .taken) in
+    record { answer = λ d. absurd (let z : _≡_ {A = ℕ} 0 1 = cc in omega arith); output = λ d. absurd (let z : _≡_ {A = ℕ} 0 1 = cc in omega arith); same = λ d. refl; full = λ d. absurd (omega arith) }
 
 same-length-3 : tie.Need-same-length-3
 same-length-3 c = search needs
@@ -32,10 +40,13 @@ same-length-4 : tie.Need-same-length-4
 same-length-4 c = search needs
 
 returns-2 : tie.Need-returns-2
-returns-2 c = let a = c .before .before .before .before .before .before .before .before .before .before .before .before .before .before .before .before .args in
-    let p = c .before .before .before .before .before .before .before .before .before .before .before .before .before .before .before .before .pre in
-    let t = c .before .before .before .before .before .before .before .write-table in
-    let e = made-10 (a .sheet .now) (a .a) (a .values .now) (a .cells .now) (p .0) (length (a .out .now)) (p .1 .0) (p .1 .1) (a .stream .now) (t .last .1 .1 .1 .1 .0) (t .result) (t .ensures) (p .1 .2) (let k = t .kept .1 .1 .1 .1 .0 in let i = c .if2 in omega arith) (not-true _ (c .before .if1 .taken)) in
+returns-2 c =
+    let a = c .before .before .before .before .before .before .before .before .before .before .before .before .before .before .before .before .before .args in
+    let p = c .before .before .before .before .before .before .before .before .before .before .before .before .before .before .before .before .before .pre in
+    let t = c .before .before .before .before .before .before .before .before .write-table in
+    let k = t .kept .1 .1 .1 .1 .0 in
+    let s = c .before .too-short in
+    let e = made-10 (a .sheet .now) (a .a) (a .values .now) (a .cells .now) (p .0) (length (a .out .now)) (p .1 .0) (p .1 .1) (a .stream .now) (t .last .1 .1 .1 .1 .0) (t .result) (t .ensures) (p .1 .2) (λ h. said-no (s .result) (s .ensures) (c .if2 .left) (omega arith)) (not-true _ (c .before .before .if1 .taken)) in
     record { answer = λ d. answer-refused _ _ e; output = λ d. output-same _ _ (a .out .now) e; same = λ d. absurd (let z : _≡_ {A = ℕ} 0 1 = cc in omega arith); full = λ d. refl }
 
 sub-write-file : tie.Need-sub-write-file
@@ -104,6 +115,7 @@ write-spec =
     tie.close
     (tie.spec
     write-table-requires
+    too-short-requires
     same-length
     same-length-2
     returns
