@@ -50,7 +50,8 @@ fn known(counts: &[u16], base: usize, k: usize) -> usize
     }
 }
 
-fn leaf(counts: &[u16], base: usize, kind: usize, number: usize) -> usize
+// The heads that a node has by itself: an action's, or those of the process that is called.
+pub fn leaf(counts: &[u16], base: usize, kind: usize, number: usize) -> usize
     requires { ⌜ base < cell-limit ⌝ }
     ensures { λ r. ⌜ (r ≡ leaf-of (row base (now (counts .entry))) kind number) × (r < cell-limit) ⌝ }
 {

@@ -1,45 +1,52 @@
 -- Alternatives without heads are passed: what is left has the same heads, in the same context.
-use mathlib.Core.Path.{_≡_, refl, sym, ap, _∙_, subst}
-use mathlib.Core.List.{List, [], _++_}
+use mathlib.Core.Path.{_≡_, refl, sym, ap, ap₂, _∙_, subst}
+use mathlib.Core.List.{List, [], _∷_, _++_}
 use mathlib.Core.Bool.{true, false}
 use mathlib.Core.Logic.{_⊎_, inl, inr}
 use Prim.Native.Nat.{ℕ, _+_, _*_, _<_, _≤_}
 use native.Mathlib.Omega.{arith}
-use lib.ListN.{length, getD}
-use Rattle.pcrl.specs.Sheet.{Data, Proc, call}
-use Rattle.pcrl.specs.Parts.{new-count, new-parts}
+use lib.ListN.{length}
+use Rattle.pcrl.specs.Sheet.{Proc}
+use Rattle.pcrl.specs.Parts.{new-count}
 use Rattle.pcrl.specs.Table.{Summand}
 use Rattle.pcrl.specs.Heads.{heads}
 use Rattle.nodes.specs.declared.Node.{Node}
-use Rattle.nodes.specs.Layout.{byte-limit, alt-kind, call-kind, encs}
-use Rattle.nodes.specs.Nodes.{node-number, node-kids}
+use Rattle.nodes.specs.Layout.{byte-limit, alt-kind, seq-kind, Item, encs}
+use Rattle.nodes.specs.Nodes.{kind-of, node-own, node-kids, node-arity}
 use Rattle.nodes.specs.Views.{Views}
 use Rattle.nodes.proofs.Nodes.{one-item}
+use Rattle.nodes.proofs.NewParts.{new-all, new-open}
 use Rattle.counting.specs.Limits.{row-width, cut, row}
-use Rattle.counting.specs.Count.{count-by}
-use Rattle.counting.specs.Counting.{Counts}
+use Rattle.counting.specs.Count.{count-by, count-all, count-own, count-open}
+use Rattle.counting.specs.Counting.{leaf-of, Counts}
+use Rattle.counting.proofs.Laws.{look-count, leaf-right}
 use Rattle.putting.specs.declared.Done.{Done}
 use Rattle.putting.proofs.PutLaws.{never}
 use Rattle.contexts.specs.declared.Spot.{Spot}
 use Rattle.contexts.specs.declared.Side.{Side}
 use Rattle.contexts.specs.Spots.{Arrays, Bound, Spotted, around, weight}
-use Rattle.contexts.proofs.Spotting.{case-call, map-none, deeper-same, deeper-then}
+use Rattle.contexts.proofs.Spotting.{map-none, deeper-same, deeper-then}
 use Rattle.contexts.proofs.Sides.{sides, side-plain}
 use Rattle.heads.specs.declared.alternatives.Ahead.{Ahead}
-use Rattle.heads.specs.Progress.{Ends, Looked, SecondSide, side-spot, Behind, Past}
+use Rattle.heads.specs.Progress.{Ends, Looked, SecondSide, side-spot, Idle, Behind, Past}
 use Rattle.heads.proofs.Walking.{counted, passed, ends}
 
--- the count of a call without heads, from its node
-pub call-counts : (cells K : List ℕ) (at : ℕ) (d : Node) → Views cells at d → d .kind ≡ call-kind → getD K (d .number) 0 ≡ 0 → Counts cells K at (record { next = d .next; heads = 0; own = 0 })
-unfolding node-number node-kids encs count-by new-count new-parts cut
-call-counts cells K at d vw is none b p rest e =
+nothing : (xs : List Item) → length xs ≡ 0 → xs ≡ []
+nothing [] e = refl
+nothing (x ∷ xs) e = absurd (omega arith)
+
+-- the count of a term whose first node is idle: that is all of it
+pub idle-counts : (cells K : List ℕ) (at : ℕ) (d : Node) → Views cells at d → Idle K d → Counts cells K at (record { next = d .next; heads = 0; own = 0 })
+unfolding encs count-all new-all cut
+idle-counts cells K at d vw (leaf, idle, old) b p rest e =
     let o = vw b p [] rest (e ∙ one-item b p rest) in
-    let (k, ds, same) = case-call (λ q. p ≡ q) ((k : ℕ) × (ds : List Data) × (p ≡ call k ds)) p refl (sym (o .kind-is) ∙ is) (λ k ds q. (k, ds, q)) in
-    let number : d .number ≡ k = o .number-is ∙ ap node-number same in
-    let heads-none : count-by (λ i. getD K i 0) p ≡ 0 = ap (count-by (λ i. getD K i 0)) same ∙ ap (λ (i : ℕ). getD K i 0) (sym number) ∙ none in
-    let new-none : new-count b p ≡ 0 = ap (new-count b) same in (
+    let none : node-kids b p ≡ [] = nothing (node-kids b p) (sym (o .kids-is) ∙ leaf) in
+    let no-seq : kind-of p ≡ seq-kind → ⊥ = λ z. omega (arith, z, node-arity b p, o .kids-is) in
+    let own-heads : count-own (look-count K) p ≡ 0 = sym (ap₂ (leaf-of K) (o .kind-is) (o .number-is) ∙ leaf-right K p) ∙ idle in
+    let heads-none : count-by (look-count K) p ≡ 0 = (let z = count-open (look-count K) b p [] no-seq ∙ ap (λ (l : List Item). count-own (look-count K) p + count-all (look-count K) (l ++ [])) none in omega (arith, z, own-heads)) in
+    let new-none : new-count b p ≡ 0 = (let z = new-open b p [] ∙ ap (λ (l : List Item). node-own b p + new-all (l ++ [])) none in omega (arith, z, o .own-is)) in (
       sym (ap cut heads-none),
-      o .next-is ∙ ap (λ (q : Proc). encs (node-kids b q ++ []) ++ rest) same,
+      o .next-is ∙ ap (λ (l : List Item). encs (l ++ []) ++ rest) none,
       sym (ap cut new-none),
     )
 
@@ -96,9 +103,9 @@ module _ (cells counts : List ℕ) where
             subst (λ (x : Side). Spotted H F cells (side-spot (g .s) x) A hs) (sym ee) (subst (λ (l : List Summand). Spotted H F cells (side-spot (g .s) e₂) A l) (sym u) v);
       }
 
-  -- past a call without heads
-  pub past-call : (s : Spot) (r : ℕ) → s .at < length cells → s .c < byte-limit → Behind cells (row (row-width * s .fuel) counts) (s .at) r → Past cells counts s (side-spot s (record { second = true; at = r; c = s .c }))
-  past-call s r inside small bh =
+  -- past what is idle
+  pub past-idle : (s : Spot) (r : ℕ) → s .at < length cells → s .c < byte-limit → Behind cells (row (row-width * s .fuel) counts) (s .at) r → Past cells counts s (side-spot s (record { second = true; at = r; c = s .c }))
+  past-idle s r inside small bh =
       past-side (record { s = s; d = bh .d; a = record { next = r; heads = 0; own = 0 } }) (record { second = true; at = r; c = s .c })
       (record { inside = inside; on = bh .on; views = bh .views; counts-first = λ t. (bh .further, bh .counted) }) (bh .is) refl (refl, small, λ t. omega arith)
 
@@ -106,8 +113,8 @@ module _ (cells counts : List ℕ) where
   spot-at s p = side-spot s (record { second = true; at = p; c = s .c })
 
   pub past-more : (s : Spot) (p q : ℕ) → s .c < byte-limit → p < length cells → Behind cells (row (row-width * s .fuel) counts) p q → (p ≡ s .at) ⊎ Past cells counts s (spot-at s p) → Past cells counts s (spot-at s q)
-  past-more s p q small inside bh (inl e) = past-call s q (omega arith) small (subst (λ (x : ℕ). Behind cells (row (row-width * s .fuel) counts) x q) e bh)
-  past-more s p q small inside bh (inr pt) = past-then s (spot-at s p) (spot-at s q) pt (past-call (spot-at s p) q inside small bh)
+  past-more s p q small inside bh (inl e) = past-idle s q (omega arith) small (subst (λ (x : ℕ). Behind cells (row (row-width * s .fuel) counts) x q) e bh)
+  past-more s p q small inside bh (inr pt) = past-then s (spot-at s p) (spot-at s q) pt (past-idle (spot-at s p) q inside small bh)
 
   -- the weight does not grow
   pub past-weight : (l : ℕ) (s r : Spot) → Past cells counts s r → weight l (r .fuel) (r .at) ≤ weight l (s .fuel) (s .at)

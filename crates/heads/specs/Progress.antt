@@ -16,7 +16,7 @@ use Rattle.nodes.specs.declared.Node.{Node}
 use Rattle.nodes.specs.Layout.{byte-limit, alt-kind, atom-kind, cond-kind, call-kind, enc}
 use Rattle.nodes.specs.Views.{On, Views}
 use Rattle.counting.specs.Limits.{row-width, row}
-use Rattle.counting.specs.Counting.{Counts, Tallied}
+use Rattle.counting.specs.Counting.{leaf-of, Counts, Tallied}
 use Rattle.putting.specs.declared.Done.{Done}
 use Rattle.putting.specs.Slots.{Adds}
 use Rattle.following.specs.Follows.{calls-room}
@@ -66,6 +66,10 @@ side-spot s e = record { ok = true; at = e .at; fuel = s .fuel; n = s .n; m = s 
 -- the first side of `+` has no heads, and there are cells behind it
 abbrev pub Headless : Ahead → ℕ → Type 0
 Headless g l = (g .d .kind ≡ alt-kind) × (g .a .heads ≡ 0) × (g .a .next < l)
+
+-- a node that has no subterm, no head and no new equation
+abbrev pub Idle : List ℕ → Node → Type 0
+Idle K d = (d .kids ≡ 0) × (leaf-of K (d .kind) (d .number) ≡ 0) × (d .own ≡ 0)
 
 -- the first side of `+` at p has no heads and no new equations, and ends at r
 pub record Behind (cells K : List ℕ) (p r : ℕ) : Type 0 where

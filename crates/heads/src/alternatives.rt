@@ -5,7 +5,7 @@ ghost use Prim.Native.Nat.{_≤_, _<_};
 ghost use lib.ListN.{length};
 ghost use Rattle.nodes.specs.Layout.{cell-limit, byte-limit};
 ghost use Rattle.counting.specs.Limits.{max-fuel, row};
-ghost use Rattle.heads.specs.Progress.{Choice, Looked, SecondSide, side-spot, Headless, Behind, Past};
+ghost use Rattle.heads.specs.Progress.{Choice, Looked, SecondSide, side-spot, Headless, Idle, Behind, Past};
 use contexts::Side;
 use contexts::Spot;
 use counting::Counted;
@@ -91,8 +91,25 @@ fn headless(g: Ahead, l: usize) -> bool
     g.a.next < l
 }
 
-// The second side of `+` whose first side is a call without heads; else the same place.
-fn behind_call(cells: &[u16], counts: &[u16], base: usize, p: usize) -> usize
+// Has the node no subterm, no head and no new equation? `delta`, or a call without heads.
+fn idle(counts: &[u16], base: usize, e: Node) -> bool
+    requires { ⌜ base < cell-limit ⌝ }
+    ensures { λ r. ⌜ (r ≡ true → Idle (row base (now (counts .entry))) e) ⌝ }
+{
+    if e.kids != 0 {
+        return false;
+    }
+    if e.own != 0 {
+        return false;
+    }
+    if counting::leaf(counts, base, e.kind, e.number) != 0 {
+        return false;
+    }
+    true
+}
+
+// The second side of `+` whose first side is idle; else the same place.
+fn behind_idle(cells: &[u16], counts: &[u16], base: usize, p: usize) -> usize
     requires { ⌜ (p < length (now cells)) × (base < cell-limit) ⌝ }
     ensures { λ r. ⌜ (p ≤ r) × (r < length (now (cells .entry))) ⌝ }
     ensures { λ r. ⌜ (p < r → Behind (now (cells .entry)) (row base (now (counts .entry))) p r) ⌝ }
@@ -105,29 +122,25 @@ fn behind_call(cells: &[u16], counts: &[u16], base: usize, p: usize) -> usize
         return p;
     }
     let e = nodes::node_at(cells, d.next);
-    if e.kind != nodes::CALL {
-        return p;
+    if idle(counts, base, e) {
+        if e.next < cells.len() {
+            return e.next;
+        }
     }
-    if e.number >= counting::ROW {
-        return p;
-    }
-    if nodes::cell(counts, base + e.number) != 0 {
-        return p;
-    }
-    if e.next < cells.len() { e.next } else { p }
+    p
 }
 
-// The first alternatives passed that are calls without heads.
-fn pass_calls(cells: &[u16], counts: &[u16], s: Spot) -> Spot
+// The first alternatives passed that are idle.
+fn pass_idle(cells: &[u16], counts: &[u16], s: Spot) -> Spot
     requires { ⌜ (s .at < length (now cells)) × (s .fuel ≤ max-fuel) × (s .c < byte-limit) ⌝ }
     ensures { λ r. ⌜ (r .at < length (now (cells .entry))) × Past (now (cells .entry)) (now (counts .entry)) s r ⌝ }
 {
     let base = counting::ROW * s.fuel;
     let mut p = s.at;
-    let mut q = behind_call(cells, counts, base, p);
+    let mut q = behind_idle(cells, counts, base, p);
     while p < q {
         p = q;
-        q = behind_call(cells, counts, base, p);
+        q = behind_idle(cells, counts, base, p);
     }
     let e = Side {
         second: true,
@@ -143,7 +156,7 @@ pub fn pass_headless(cells: &[u16], counts: &[u16], s: Spot) -> Ahead
     ensures { λ r. ⌜ Looked (now (cells .entry)) (now (counts .entry)) r ⌝ }
     ensures { λ r. ⌜ Past (now (cells .entry)) (now (counts .entry)) s (r .s) ⌝ }
 {
-    let mut g = look(cells, counts, pass_calls(cells, counts, s));
+    let mut g = look(cells, counts, pass_idle(cells, counts, s));
     while headless(g, cells.len()) {
         g = look(cells, counts, beside(g.s, second_side(g)));
     }

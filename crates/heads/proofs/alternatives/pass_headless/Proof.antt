@@ -35,16 +35,16 @@ Inv-loop cells counts g₀ g = Passing cells counts g₀ g
 abbrev μ-loop : tie.MeasureT-loop
 μ-loop cells counts g₀ g = length cells - g .s .at
 
-pass-calls-requires : tie.Need-pass-calls-requires Inv-loop μ-loop
-pass-calls-requires c κs = c .before .before .pre
+pass-idle-requires : tie.Need-pass-idle-requires Inv-loop μ-loop
+pass-idle-requires c κs = c .before .before .pre
 
 look-requires : tie.Need-look-requires Inv-loop μ-loop
-look-requires c κs = let t = c .pass-calls .ensures in (t .0, omega (arith, t .1 .fuel-same, c .before .before .before .pre .1))
+look-requires c κs = let t = c .pass-idle .ensures in (t .0, omega (arith, t .1 .fuel-same, c .before .before .before .pre .1))
 
 loop-holds : tie.Need-loop-holds Inv-loop μ-loop
 loop-holds c =
     let args = c .before .before .before .before .args in
-    let t = c .before .pass-calls .ensures in
+    let t = c .before .pass-idle .ensures in
     let e = c .look .ensures .0 in
     (c .look .ensures .1, past-same (args .cells .now) (args .counts .now) (c .look .result .s), omega (arith, ap (λ (x : Spot). x .c) e, t .1 .small (c .before .before .before .before .pre .2)), omega (arith, ap (λ (x : Spot). x .fuel) e, t .1 .fuel-same, c .before .before .before .before .pre .1))
 
@@ -74,8 +74,8 @@ returns c =
     let here = c .before .before .loop in
     let i = here .inv in
     let a = c .before .before .before .before .before .before .before .args in
-    let t = c .before .before .before .before .pass-calls .result in
-    (i .0, past-then (a .cells .now) (a .counts .now) (a .s) t (here .g .s) (c .before .before .before .before .pass-calls .ensures .1) (subst (λ (x : Spot). Past (a .cells .now) (a .counts .now) x (here .g .s)) (c .before .before .before .look .ensures .0) (i .1)))
+    let t = c .before .before .before .before .pass-idle .result in
+    (i .0, past-then (a .cells .now) (a .counts .now) (a .s) t (here .g .s) (c .before .before .before .before .pass-idle .ensures .1) (subst (λ (x : Spot). Past (a .cells .now) (a .counts .now) x (here .g .s)) (c .before .before .before .look .ensures .0) (i .1)))
 
 pub pass-headless-spec : {M : Type 1} → statement M
 pass-headless-spec =
@@ -83,7 +83,7 @@ pass-headless-spec =
     (tie.spec
     Inv-loop
     μ-loop
-    pass-calls-requires
+    pass-idle-requires
     look-requires
     loop-holds
     headless-requires
