@@ -7,7 +7,7 @@ use Prim.Native.Nat.{ℕ, zero, suc, _+_, _-_, _<_, _≤_}
 use lib.Dec.{eqb, ltb}
 use lib.ListN.{length, getD, take, drop, getElem?}
 use Rattle.pcrl.specs.Tests.{and}
-use Rattle.codec.specs.TermLength.{max-term}
+use Rattle.laws.specs.TermLength.{max-term}
 use Rattle.evaluation.specs.Run.{pick, top, run, peak, foot}
 use Rattle.assignments.specs.Places.{product, places}
 

@@ -5,7 +5,7 @@ use mathlib.Core.Bool.{Bool, true}
 use Prim.Native.Nat.{ℕ, _+_, _-_, _<_, _≤_}
 use lib.Dec.{ltb}
 use lib.ListN.{length, getD, drop}
-use Rattle.codec.specs.TermLength.{max-term}
+use Rattle.laws.specs.TermLength.{max-term}
 use Rattle.evaluation.specs.Run.{pick, peak, foot}
 use Rattle.assignments.specs.Places.{product}
 use Rattle.assignments.specs.Conditions.{code, holds, all-below}

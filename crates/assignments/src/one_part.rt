@@ -4,7 +4,7 @@ ghost use mathlib.Core.Bool.{true, false};
 ghost use Prim.Native.Nat.{ℕ, _+_, _-_, _/_, _≤_, _<_};
 ghost use lib.ListN.{length, getD, drop};
 ghost use Rattle.pcrl.specs.Limits.{frame-width, max-conditions};
-ghost use Rattle.codec.specs.TermLength.{max-term};
+ghost use Rattle.laws.specs.TermLength.{max-term};
 ghost use Rattle.assignments.specs.Places.{product, valuesOf, places, Sizes};
 ghost use Rattle.assignments.specs.Conditions.{env, holds, tried-of, Tested, Finds};
 ghost use Rattle.assignments.specs.Parting.{Standing, asked, part-met, Part, Above};

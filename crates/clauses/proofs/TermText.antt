@@ -10,7 +10,7 @@ use lib.ListN.{length, getD, getElem?, drop, replicate}
 use borrow.Author.Tests.{lt-ltb, le-ltb, eq-eqb, ne-eqb}
 use Rattle.pcrl.specs.Text.{bytes, byte, decimal}
 use Rattle.pcrl.specs.Tests.{Between}
-use Rattle.pcrl.specs.Sheet.{Data, val, var, app, Datas, nil, cons, Sig, Operation, operation, size, func, function, function-at}
+use Rattle.pcrl.specs.Sheet.{Data, val, var, app, Datas, nil, cons, list-of, Sig, Operation, operation, size, func, function, function-at}
 use Rattle.pcrl.specs.Sorts.{HasSort, HaveSorts, IsOperation, IsFunc}
 use Rattle.pcrl.specs.Table.{nodes}
 use Rattle.pcrl.specs.Stream.{variable-code, function-code, codes, encode-data}
@@ -19,6 +19,7 @@ use Rattle.pcrl.specs.Printer.{longest-run, letters, indexed}
 use Rattle.rendering.specs.Texts.{joined-text, bracketed-text, placed, operand-text, operation-text, text-at}
 use Rattle.laws.specs.Lists.{below-some}
 use Rattle.laws.specs.Operations.{Seen, as-written, seen, right-function}
+use Rattle.laws.specs.DataSorts.{have-sorts-many}
 use Rattle.codec.specs.StreamLaws.{small-size}
 use Rattle.terms.proofs.Places.{arity-at}
 use Rattle.evaluation.specs.Run.{pick}
@@ -151,28 +152,16 @@ module _ (s funcs : List ℕ) (m n : ℕ) where
 
   module _ (S : Sig) (known : KnownTerms S s funcs) (Γ : List ℕ) (short : length Γ ≤ variable-code)
       (for-funcs : m ≡ suc (longest-run (byte "f") (action-names (S .acts)))) (for-vars : n ≡ suc (longest-run (byte "v") (action-names (S .acts)))) where
-    no-sort : (Ds : List ℕ) → HaveSorts S (getElem? Γ) nil Ds → length Ds ≡ 0
-    unfolding HaveSorts
-    no-sort [] h = refl
-    no-sort (D ∷ Ds) h = absurd h
-
     one-sort : (d : Data) (Ds : List ℕ) → HaveSorts S (getElem? Γ) (cons d nil) Ds → (E : ℕ) × HasSort S (getElem? Γ) d E × (length Ds ≡ 1)
-    unfolding HaveSorts
+    unfolding HaveSorts list-of
     one-sort d [] h = absurd h
-    one-sort d (D ∷ Ds) h = (D, h .0, ap suc (no-sort Ds (h .1)))
+    one-sort d (D ∷ Ds) h = (D, h .0, sym (have-sorts-many S (getElem? Γ) (cons d nil) (D ∷ Ds) h))
 
     two-sorts : (d e : Data) (Ds : List ℕ) → HaveSorts S (getElem? Γ) (cons d (cons e nil)) Ds
         → (E F : ℕ) × HasSort S (getElem? Γ) d E × HasSort S (getElem? Γ) e F × (length Ds ≡ 2)
     unfolding HaveSorts
     two-sorts d e [] h = absurd h
     two-sorts d e (D ∷ Ds) h = let (F, i, l) = one-sort e Ds (h .1) in (D, F, h .0, i, ap suc l)
-
-    more-sorts : (d e g : Data) (ds : Datas) (Ds : List ℕ) → HaveSorts S (getElem? Γ) (cons d (cons e (cons g ds))) Ds → 3 ≤ length Ds
-    unfolding HaveSorts
-    more-sorts d e g ds [] h = absurd h
-    more-sorts d e g ds (D ∷ []) h = absurd (h .1)
-    more-sorts d e g ds (D ∷ E ∷ []) h = absurd (h .1 .1)
-    more-sorts d e g ds (D ∷ E ∷ F ∷ Ds) h = omega arith
 
     few : (f : ℕ) → IsFunc S f → Between 1 2 (length (function-at S f .takes))
     unfolding RightFunc
@@ -258,17 +247,17 @@ module _ (s funcs : List ℕ) (m n : ℕ) where
     -- By induction on w, more than the nodes.
     pub shown-data : (w : ℕ) (d : Data) (D : ℕ) (c : List ℕ) (bs : Open) (p : ℕ) → HasSort S (getElem? Γ) d D → nodes d < w → bits bs + 2 * nodes d ≤ 62
         → shown 0 (encode-data d ++ c) bs p ≡ ahead (text-at (S .acts) d p) (behind c bs)
-    unfolding shown behind encode-data text-at node-text tail-text turned following passed HasSort size nodes function-at
+    unfolding shown behind encode-data text-at node-text tail-text turned following passed HasSort list-of size nodes function-at
     shown-data zero d D c bs p h k o = absurd (omega arith)
     shown-data (suc w) (val v) D c bs p h k o = rw (sign-value v (omega (arith, small-size (S .sorts) D (known .right-sizes)))) (simp append-assoc)
     shown-data (suc w) (var i) D c bs p h k o =
         let z : variable-code + i - variable-code ≡ i = omega arith in
         rw (sign-variable (variable-code + i) (omega arith) (omega (arith, below-some Γ i D h)), z, variable-text i) (simp append-assoc)
-    shown-data (suc w) (app f nil) D c bs p h k o = absurd (omega (arith, few f (h .0), no-sort (function-at S f .takes) (h .1 .1)))
+    shown-data (suc w) (app f nil) D c bs p h k o = absurd (omega (arith, few f (h .0), have-sorts-many S (getElem? Γ) nil (function-at S f .takes) (h .1 .1)))
     shown-data (suc w) (app f (cons d nil)) D c bs p h k o =
         let (E, g, e) = one-sort d (function-at S f .takes) (h .1 .1) in
         one-told f d c bs p (λ c′ bs′ p′ l. shown-data w d E c′ bs′ p′ g (omega arith) l) (operation f) (seen f) (h .0) e (omega arith)
     shown-data (suc w) (app f (cons d (cons e nil))) D c bs p h k o =
         let (E, F, g, i, l) = two-sorts d e (function-at S f .takes) (h .1 .1) in
         pair-told f d e c bs p (λ c′ bs′ p′ l. shown-data w d E c′ bs′ p′ g (omega arith) l) (λ c′ bs′ p′ l. shown-data w e F c′ bs′ p′ i (omega arith) l) (operation f) (seen f) (h .0) l (omega arith)
-    shown-data (suc w) (app f (cons d (cons e (cons g ds)))) D c bs p h k o = absurd (omega (arith, few f (h .0), more-sorts d e g ds (function-at S f .takes) (h .1 .1)))
+    shown-data (suc w) (app f (cons d (cons e (cons g ds)))) D c bs p h k o = absurd (omega (arith, few f (h .0), have-sorts-many S (getElem? Γ) (cons d (cons e (cons g ds))) (function-at S f .takes) (h .1 .1)))

@@ -1,7 +1,6 @@
 pub mod Lawful
 pub mod Arguments
 pub mod TermLaws
-pub mod TermLength
 pub mod StreamLaws
 pub mod StreamBytes
 pub mod Ambiguous

@@ -2,7 +2,6 @@
 use mathlib.Core.Path.{_≡_, refl, sym, ap, ap₂, subst, _∙_}
 use mathlib.Core.List.{List, [], _∷_, _++_, append-assoc, append-nil}
 use Prim.Native.Nat.{ℕ, zero, suc, _+_, _-_, _*_, _≤_, _<_}
-use native.Mathlib.Nat.{mul-assoc, mul-le-mul-right}
 use native.Mathlib.Omega.{arith}
 use lib.Dec.{eqb, ltb}
 use mathlib.Core.Bool.{Bool, true, false}
@@ -23,24 +22,12 @@ use Rattle.laws.specs.Lists.{below-some}
 use Rattle.laws.specs.Operations.{Seen, as-written, as-not, as-and, as-or, as-equal, as-unsorted, as-none, seen, equal-number}
 use Rattle.codec.specs.TermLaws.{node-value, node-variable, node-function}
 use Rattle.theory.specs.OperatorValues.{same-of, apply-not, apply-and, apply-or, apply-equal}
-use Rattle.theory.specs.ValueSorts.{evals-in}
+use Rattle.theory.specs.ValueSorts.{place-below, evals-in}
 use Rattle.terms.specs.Stands.{Stands}
 use Rattle.terms.proofs.Places.{number-at, behind, arity-at, takes-at}
 use Rattle.evaluation.specs.Run.{pick, top, operator-count, operator-worth, argument-count, looked-up, extent, worth-of, run}
 use Rattle.evaluation.specs.Known.{KnownTerms, Alike}
 use Rattle.evaluation.proofs.Bytes.{run-same}
-
--- values of some sorts have a place below the number of all values of those sorts; n of m places come before
-place-below : (S : Sig) (n m : ℕ) (Ds vs : List ℕ) → n < m → InSorts S Ds vs → place S n Ds vs < m * volume (S .sorts) Ds
-unfolding InSorts Each place volume size
-place-below S n m [] vs w h = omega arith
-place-below S n m (D ∷ Ds) [] w h = absurd h
-place-below S n m (D ∷ Ds) (v ∷ vs) w h =
-    let z = getD (S .sorts) D 0 in
-    let a : v < z = h .0 in
-    let b : n * z + v < m * z = omega (arith, mul-le-mul-right z w) in
-    let c = place-below S (n * z + v) (m * z) Ds vs b (h .1) in
-    rw (mul-assoc m z (volume (S .sorts) Ds)) at c
 
 -- a term has a byte
 pub some-byte : (S : Sig) (Γ : List ℕ) (d : Data) (D : ℕ) → HasSort S (getElem? Γ) d D → 0 < length (encode-data d)

@@ -4,7 +4,7 @@ ghost use Prim.Native.Nat.{_+_, _-_, _*_, _≤_, _<_, max, min};
 ghost use lib.ListN.{length, getD, take, drop};
 ghost use Rattle.pcrl.specs.Limits.{max-stream};
 ghost use Rattle.pcrl.specs.Decode.{node-of};
-ghost use Rattle.codec.specs.TermLength.{max-term};
+ghost use Rattle.laws.specs.TermLength.{max-term};
 ghost use Rattle.evaluation.specs.Run.{pick, operator-code, operator-count, operator-worth, argument-count, worth-of, extent, run, top, named, peak, lowered, foot};
 use terms::AND;
 use terms::EQUAL;

@@ -13,7 +13,7 @@ use Rattle.pcrl.specs.Stream.{encode-data}
 use Rattle.pcrl.specs.Right.{RightTerm}
 use Rattle.laws.specs.Each.{each-at, each-length}
 use Rattle.laws.specs.Lists.{getD-map}
-use Rattle.codec.specs.TermLength.{max-term, term-length}
+use Rattle.laws.specs.TermLength.{max-term, term-length}
 use Rattle.blocks.proofs.Fronts.{copied-more}
 use Rattle.evaluation.specs.Run.{extent, run, top}
 use Rattle.evaluation.proofs.Bytes.{extent-none}

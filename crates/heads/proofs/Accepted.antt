@@ -12,7 +12,9 @@ use Rattle.pcrl.specs.Sheet.{Data, val, var, app, Datas, nil, cons, Act, tau, a
 use Rattle.pcrl.specs.Sorts.{Scope, binding, IsOperation, IsFunc, HasSort, HaveSorts, IsAct, Sorted}
 use Rattle.pcrl.specs.Parts.{NewPart, new-count, if-after, new-parts, all-new-parts, first-new}
 use Rattle.laws.specs.Every.{every-at}
+use Rattle.laws.specs.Each.{each-length}
 use Rattle.laws.specs.Operations.{Seen, seen, equal-number}
+use Rattle.laws.specs.DataSorts.{have-sorts-many}
 use Rattle.nodes.specs.declared.Outline.{Outline}
 use Rattle.nodes.specs.Layout.{byte-limit, act-number}
 use Rattle.nodes.specs.Scoped.{max-scope, ScopedData, ScopedArguments, Scoped}
@@ -54,13 +56,6 @@ equal-takes S f h =
     let z : f ≡ first-equal + (f - first-equal) = omega arith in
     ap (λ (o : Operation). length (function S o .takes)) (ap operation z ∙ equal-number (f - first-equal))
 
-arguments-many : (S : Sig) (Γ : Scope) (ds : Datas) (Ds : List ℕ) → HaveSorts S Γ ds Ds → length (list-of ds) ≡ length Ds
-unfolding HasSort list-of
-arguments-many S Γ nil [] h = refl
-arguments-many S Γ nil (D ∷ Ds) h = absurd h
-arguments-many S Γ (cons d ds) [] h = absurd h
-arguments-many S Γ (cons d ds) (D ∷ Ds) h = ap suc (arguments-many S Γ ds Ds (h .1))
-
 module _ (S : Sig) (few : Small S) (Γ : Scope) (n : ℕ) where
   mutual
     unfolding ScopedData HasSort Writable
@@ -69,7 +64,7 @@ module _ (S : Sig) (few : Small S) (Γ : Scope) (n : ℕ) where
     writable (val v) D s h = omega (arith, few .sizes D)
     writable (var i) D s h = s
     writable (app f ds) D s h =
-        (is-coded S f (h .0), number-small S few f (h .0), λ k. arguments-many S Γ ds (function-at S f .takes) (h .1 .1) ∙ equal-takes S f k, writable-all ds (function-at S f .takes) s (h .1 .1))
+        (is-coded S f (h .0), number-small S few f (h .0), λ k. have-sorts-many S Γ ds (function-at S f .takes) (h .1 .1) ∙ equal-takes S f k, writable-all ds (function-at S f .takes) s (h .1 .1))
 
     writable-all : (ds : Datas) (Ds : List ℕ) → ScopedArguments n ds → HaveSorts S Γ ds Ds → WritableArguments n ds
     writable-all nil Ds s h = tt
@@ -81,13 +76,6 @@ module _ (S : Sig) (few : Small S) (Γ : Scope) (n : ℕ) where
   all-writable [] Ds s h = tt
   all-writable (d ∷ ds) [] s h = absurd h
   all-writable (d ∷ ds) (D ∷ Ds) s h = (writable d D (s .0) (h .0), all-writable ds Ds (s .1) (h .1))
-
-each-length : {A B : Type 0} (R : A → B → Type 0) (l : List A) (m : List B) → Each R l m → length l ≡ length m
-unfolding Each
-each-length R [] [] h = refl
-each-length R [] (b ∷ m) h = absurd h
-each-length R (a ∷ l) [] h = absurd h
-each-length R (a ∷ l) (b ∷ m) h = ap suc (each-length R l m (h .1))
 
 module _ (H : Sheet) (few : Small (H .sig)) where
   act-small : (a : Act) → IsAct (H .sig) a → act-number a < byte-limit

@@ -9,6 +9,7 @@ use Rattle.pcrl.specs.Tests.{Each}
 use Rattle.pcrl.specs.Sheet.{Data, val, var, app, Datas, nil, cons, list-of, Sig, function-at}
 use Rattle.pcrl.specs.Sorts.{closed, IsFunc, HasSort, HaveSorts, Arguments}
 use Rattle.pcrl.specs.Values.{apply, eval, evals}
+use Rattle.laws.specs.DataSorts.{have-sorts-many}
 use Rattle.nodes.specs.Layout.{function-tag, enc-data, enc-arguments, enc-datas}
 use Rattle.initial.specs.Symbols.{Symbol, symbol-cells, cells-of, function, symbols, argument-symbols, all-symbols, after, run}
 use Rattle.initial.specs.Evaluating.{Known}
@@ -22,13 +23,6 @@ function-cells f (suc (suc zero)) h k = refl
 function-cells f (suc (suc (suc n))) h k = absurd (omega arith)
 
 module _ (S : Sig) (sizes funcs values places : List ℕ) (K : Known S sizes funcs values places) where
-  argument-count : (ds : Datas) (Ds : List ℕ) → HaveSorts S closed ds Ds → length (list-of ds) ≡ length Ds
-  unfolding HaveSorts list-of
-  argument-count nil [] h = refl
-  argument-count nil (D ∷ Ds) h = absurd h
-  argument-count (cons d ds) [] h = absurd h
-  argument-count (cons d ds) (D ∷ Ds) h = ap suc (argument-count ds Ds (h .1))
-
   -- THE CELLS
   mutual
     unfolding HasSort enc-data symbols cells-of symbol-cells
@@ -38,7 +32,7 @@ module _ (S : Sig) (sizes funcs values places : List ℕ) (K : Known S sizes fun
     cells-data (var i) D l h = absurd (Option·none-ne-some D h)
     cells-data (app f ds) D l h =
         let some = arity-some S sizes funcs values places K f (h .0) in
-        let n = argument-count ds (function-at S f .takes) (h .1 .1) in
+        let n = have-sorts-many S closed ds (function-at S f .takes) (h .1 .1) in
         cells-arguments ds (function-at S f .takes) (function f (length (list-of ds)) ∷ l) (h .1 .1)
         ∙ append-assoc (cells-of l) (symbol-cells (function f (length (list-of ds)))) (enc-arguments ds)
         ∙ ap (λ (c : List ℕ). cells-of l ++ (c ++ enc-arguments ds)) (function-cells f (length (list-of ds)) (omega arith) (omega arith))

@@ -7,6 +7,8 @@ pub mod Any
 pub mod Optional
 pub mod Numbers
 pub mod Operations
+pub mod DataSorts
+pub mod TermLength
 pub mod Readers
 pub mod Questions
 pub mod Computing

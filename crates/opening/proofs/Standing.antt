@@ -16,7 +16,7 @@ use Rattle.pcrl.specs.Sheet.{Data, Sig}
 use Rattle.pcrl.specs.Stream.{variable-code, encode-data, encode-list, encode-cond}
 use Rattle.pcrl.specs.Right.{RightCond}
 use Rattle.laws.specs.Every.{every-at}
-use Rattle.codec.specs.TermLength.{term-length}
+use Rattle.laws.specs.TermLength.{term-length}
 use Rattle.evaluation.specs.Run.{extent, peak, foot}
 use Rattle.evaluation.specs.Known.{KnownTerms}
 use Rattle.evaluation.proofs.Bytes.{extent-none}

@@ -6,7 +6,7 @@ use lib.ListN.{length, getD, drop, replicate}
 use Rattle.pcrl.specs.Limits.{max-variables}
 use Rattle.pcrl.specs.Sheet.{Data, val, Sig, size}
 use Rattle.pcrl.specs.Stream.{encode-data}
-use Rattle.codec.specs.TermLength.{max-term}
+use Rattle.laws.specs.TermLength.{max-term}
 use Rattle.evaluation.specs.Run.{peak, foot}
 use Rattle.assignments.specs.Places.{product}
 use Rattle.assignments.specs.Conditions.{code}

@@ -15,6 +15,7 @@ use Rattle.pcrl.specs.Right.{RightSizes, RightFunc, RightSig, RightSorts, Right
 use Rattle.laws.specs.Lists.{below-some}
 use Rattle.laws.specs.Every.{every-at, every-weaken, every-of-all, map-every, every-both}
 use Rattle.laws.specs.Each.{each-every}
+use Rattle.laws.specs.DataSorts.{have-sorts-many}
 use Rattle.codec.specs.StreamLaws.{small-size}
 
 -- data over the functions of S and variables of the sorts Γ
@@ -89,13 +90,6 @@ module _ (S : Sig) (ok : RightSig S) (Γ : List ℕ) where
   unfolding RightSig RightFunc func
   some-takes f h = every-at (RightFunc (S .sorts)) (S .funcs) no-func f (ok .1 .0 .1) h .0 .0 .0
 
-  some-datas : (ds : Datas) (Ds : List ℕ) → HaveSorts S (getElem? Γ) ds Ds → length (list-of ds) ≡ length Ds
-  unfolding HasSort list-of
-  some-datas nil [] h = refl
-  some-datas nil (D ∷ Ds) h = absurd h
-  some-datas (cons d ds) [] h = absurd h
-  some-datas (cons d ds) (D ∷ Ds) h = let e = some-datas ds Ds (h .1) in omega arith
-
   own-sort : (D : ℕ) (d : Data) → HasSort S (getElem? Γ) d D → OwnSort S Γ D d
   unfolding OwnSort HasSort
   own-sort D (val v) h = tt
@@ -112,12 +106,12 @@ module _ (S : Sig) (ok : RightSig S) (Γ : List ℕ) where
   unfolding IsOperation PlainUse function Every
   plain-use (Operation.written f) ds h k =
       let a = some-takes f h in
-      let b = some-datas ds (func S f .takes) k in
+      let b = have-sorts-many S (getElem? Γ) ds (func S f .takes) k in
       (h, omega arith)
-  plain-use Operation.not ds h k = some-datas ds (0 ∷ []) k
-  plain-use Operation.and ds h k = some-datas ds (0 ∷ 0 ∷ []) k
-  plain-use Operation.or ds h k = some-datas ds (0 ∷ 0 ∷ []) k
-  plain-use (Operation.equal D) ds h k = (some-datas ds (D ∷ D ∷ []) k, own-sorts D ds (D ∷ D ∷ []) (refl, (refl, tt)) k)
+  plain-use Operation.not ds h k = have-sorts-many S (getElem? Γ) ds (0 ∷ []) k
+  plain-use Operation.and ds h k = have-sorts-many S (getElem? Γ) ds (0 ∷ 0 ∷ []) k
+  plain-use Operation.or ds h k = have-sorts-many S (getElem? Γ) ds (0 ∷ 0 ∷ []) k
+  plain-use (Operation.equal D) ds h k = (have-sorts-many S (getElem? Γ) ds (D ∷ D ∷ []) k, own-sorts D ds (D ∷ D ∷ []) (refl, (refl, tt)) k)
   plain-use Operation.unsorted ds h k = h
 
   mutual

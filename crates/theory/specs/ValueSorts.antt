@@ -17,7 +17,7 @@ use Rattle.laws.specs.Operations.{right-function}
 
 module _ (S : Sig) where
   -- values of some sorts have a place below the number of all values of those sorts; n of m places come before
-  place-below : (n m : ℕ) (Ds vs : List ℕ) → n < m → InSorts S Ds vs → place S n Ds vs < m * volume (S .sorts) Ds
+  pub place-below : (n m : ℕ) (Ds vs : List ℕ) → n < m → InSorts S Ds vs → place S n Ds vs < m * volume (S .sorts) Ds
   unfolding InSorts Each place volume size
   place-below n m [] vs w h = omega arith
   place-below n m (D ∷ Ds) [] w h = absurd h

@@ -10,19 +10,20 @@ use Rattle.pcrl.specs.Sorts.{IsOperation, IsFunc, HasSort, HaveSorts}
 use Rattle.pcrl.specs.Table.{nodes, nodes-all}
 use Rattle.pcrl.specs.Stream.{codes, encode-data, encode-datas}
 use Rattle.pcrl.specs.Right.{RightTerm}
+use Rattle.laws.specs.DataSorts.{have-sorts-many}
 
--- the most bytes of a term within its limits
+-- A node is a byte, and `==`, which has two arguments, is two.
+abbrev pub Narrow : Data → Type 0
+Narrow d = 2 * length (encode-data d) + 1 ≤ 3 * nodes d
+
+-- the most bytes of a narrow term that has no more nodes than a term may have: 31, of which 15 can be `==`
 abbrev pub max-term : ℕ
 max-term = 46
 
-module _ (S : Sig) (Γ : List ℕ) where
-  as-many : (ds : Datas) (Ds : List ℕ) → HaveSorts S (getElem? Γ) ds Ds → length (list-of ds) ≡ length Ds
-  unfolding HasSort list-of
-  as-many nil [] h = omega arith
-  as-many nil (D ∷ Ds) h = absurd h
-  as-many (cons d ds) [] h = absurd h
-  as-many (cons d ds) (D ∷ Ds) h = let e = as-many ds Ds (h .1) in omega arith
+pub narrow-length : (d : Data) → Narrow d → nodes d ≤ max-nodes → length (encode-data d) ≤ max-term
+narrow-length d h k = omega arith
 
+module _ (S : Sig) (Γ : List ℕ) where
   -- a code of two bytes has two terms behind it
   code-length : (o : Operation) → IsOperation S o → 2 * length (codes o) ≤ 2 + length (function S o .takes)
   unfolding IsOperation codes function
@@ -36,12 +37,12 @@ module _ (S : Sig) (Γ : List ℕ) where
   mutual
     unfolding HasSort encode-data nodes list-of function-at
 
-    pub data-length : (d : Data) (D : ℕ) → HasSort S (getElem? Γ) d D → 2 * length (encode-data d) + 1 ≤ 3 * nodes d
+    pub data-length : (d : Data) (D : ℕ) → HasSort S (getElem? Γ) d D → Narrow d
     data-length (val v) D h = omega arith
     data-length (var i) D h = omega arith
     data-length (app f ds) D h =
         let a = code-length (operation f) (h .0) in
-        let b = as-many ds (function-at S f .takes) (h .1 .1) in
+        let b = have-sorts-many S (getElem? Γ) ds (function-at S f .takes) (h .1 .1) in
         let c = datas-length ds (function-at S f .takes) (h .1 .1) in
         let e = length-append (codes (operation f)) (encode-datas ds) in
         omega arith
@@ -57,4 +58,4 @@ module _ (S : Sig) (Γ : List ℕ) where
 
   -- A RIGHT TERM HAS AT MOST 46 BYTES.
   pub term-length : (D : ℕ) (d : Data) → RightTerm S Γ D d → length (encode-data d) ≤ max-term
-  term-length D d h = let a = data-length d D (h .0) in let b = h .1 in omega arith
+  term-length D d h = narrow-length d (data-length d D (h .0)) (h .1)
