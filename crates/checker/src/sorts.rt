@@ -10,12 +10,11 @@ ghost use Rattle.checker.specs.Sorts.{ParamsInScope, ProcessesSay, Sheet
 use crate::functions::functions_complete;
 use crate::terms::Variables;
 use crate::terms::term_right;
+use nodes::MAX_FUNCTIONS;
 use nodes::Outline;
 use nodes::PROC_ROW;
 use nodes::byte;
 use nodes::cell;
-
-const FUNCTIONS: usize = 16;
 
 const PROCESSES: usize = 16;
 
@@ -75,7 +74,7 @@ pub fn rightly_sorted(
 ) -> bool
     ensures { λ r. ⌜ SheetSays (now (sizes .entry)) (now (funcs .entry)) (now (values .entry)) (now (places .entry)) (now (acts .entry)) (now (procs .entry)) (now (cells .entry)) (now (starts .entry)) n r ⌝ }
 {
-    if n.funcs > FUNCTIONS {
+    if n.funcs > MAX_FUNCTIONS {
         return false;
     }
     if n.procs > PROCESSES {

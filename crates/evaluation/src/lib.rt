@@ -12,8 +12,8 @@ use terms::FUNCTION;
 use terms::NOT;
 use terms::VARIABLE;
 
-// Bytes of a term, at the most.
-pub const TERM: usize = 46;
+// The most bytes of a term, `max-term` of crate laws.
+const TERM: usize = 46;
 
 // How many values an operator takes: `==` its sort too.
 fn operator_arguments(n: usize) -> usize

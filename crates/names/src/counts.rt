@@ -12,14 +12,13 @@ ghost use Rattle.names.specs.Items.{far, param-step, numeral-at, item-co
 use crate::find::cell;
 use crate::find::place;
 use lexer::FIRST_NUMERAL;
+use nodes::MAX_FUNCTIONS;
 use parser::Lines;
 use parser::codes::END_TAG;
 
 const MAX_SORT_LINES: usize = 7;
 
 const MAX_SIZE: u16 = 16;
-
-const MAX_FUNCTIONS: usize = 16;
 
 const MAX_ACTIONS: usize = 32;
 

@@ -16,7 +16,10 @@ pub const VARIABLE: usize = 1;
 pub const FUNCTION: usize = 2;
 
 // The numbers of operators among those of functions, as in Sheet; `==` at the sort D is EQUAL + D.
+// UNSORTED, `unsorted-number`, is no function: `equal-at` of Names gives it to `==` over two numerals.
 pub const NOT: usize = 32;
+
+pub const UNSORTED: usize = 33;
 
 pub const AND: usize = 34;
 
@@ -46,6 +49,9 @@ pub const FUNC_ROW: usize = 4;
 pub const ACT_ROW: usize = 3;
 
 pub const PROC_ROW: usize = 5;
+
+// How many functions can be written, as in Limits.
+pub const MAX_FUNCTIONS: usize = 16;
 
 // Numbers of variables in scope, and cells, are below these.
 pub const MAX_SCOPE: usize = 32;

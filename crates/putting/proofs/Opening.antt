@@ -11,9 +11,10 @@ use Rattle.pcrl.specs.Table.{nodes, nodes-all}
 use Rattle.pcrl.specs.Stream.{function-code, codes, encode-data, encode-datas}
 use Rattle.pcrl.specs.Heads.{look}
 use Rattle.laws.specs.Operations.{Seen, seen}
+use Rattle.laws.specs.TermLength.{Narrow}
 use Rattle.nodes.specs.Layout.{byte-limit}
 use Rattle.nodes.specs.Nodes.{data-kids}
-use Rattle.putting.specs.Slots.{Narrow, Slots, Writable, WritableArguments}
+use Rattle.putting.specs.Slots.{Slots, Writable, WritableArguments}
 use Rattle.putting.specs.Puts.{node-nodes, node-bytes}
 
 unfoldable pub put-bytes : List Data → List Data → List ℕ

@@ -15,6 +15,7 @@ use Rattle.pcrl.specs.Values.{put-data}
 use Rattle.pcrl.specs.Table.{nodes}
 use Rattle.pcrl.specs.Stream.{function-code, codes, encode-data}
 use Rattle.pcrl.specs.Heads.{look}
+use Rattle.laws.specs.TermLength.{narrow-length}
 use Rattle.nodes.specs.declared.Datum.{Datum}
 use Rattle.nodes.specs.Layout.{byte-limit, value-tag, variable-tag, function-tag, enc-data, enc-datas}
 use Rattle.nodes.specs.Nodes.{data-tag, data-number, data-kids}
@@ -242,5 +243,5 @@ module _ (cells : List ℕ) (at : ℕ) (slots : List ℕ) (n w : ℕ) (o : List 
               pick (decLe (nodes (put-data (look σ) d)) max-nodes) l
             where
               pick : Dec (nodes (put-data (look σ) d) ≤ max-nodes) → term-bytes < length (encode-data (put-data (look σ) d)) → max-nodes < nodes (put-data (look σ) d)
-              pick (yes few) l = absurd (omega (arith, put-narrow σ slots n s d a))
+              pick (yes few) l = absurd (omega (arith, narrow-length (put-data (look σ) d) (put-narrow σ slots n s d a) few))
               pick (no many) l = let y : nodes (put-data (look σ) d) ≤ max-nodes → ⊥ = many in omega arith

@@ -8,15 +8,12 @@ use Rattle.pcrl.specs.Sheet.{Data, val, var, app, Datas, nil, cons, list-of, Op
 use Rattle.pcrl.specs.Table.{nodes}
 use Rattle.pcrl.specs.Stream.{encode-data}
 use Rattle.pcrl.specs.Heads.{look}
+use Rattle.laws.specs.TermLength.{Narrow, max-term}
 use Rattle.nodes.specs.Layout.{byte-limit}
 
--- A node is a byte, and `==`, which has two arguments, is two: so 31 nodes are at most 46 bytes.
-abbrev pub Narrow : Data → Type 0
-Narrow d = 2 * length (encode-data d) + 1 ≤ 3 * nodes d
-
--- the most bytes of a narrow term that has no more nodes than a term may have
+-- the bytes of a term in a slot, and the slot with its two counts
 abbrev pub term-bytes : ℕ
-term-bytes = 46
+term-bytes = max-term
 
 abbrev pub slot-width : ℕ
 slot-width = 48

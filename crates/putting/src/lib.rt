@@ -12,7 +12,7 @@ ghost use Rattle.putting.specs.Puts.{Shares, NodePut, Puts, PutsAll, Slo
 
 pub const MAX_NODES: usize = 31;
 
-// The most bytes of a term, and a slot: how many nodes, how many bytes, the bytes.
+// The most bytes of a term, `max-term` of crate laws, and a slot: how many nodes, how many bytes, the bytes.
 pub const TERM: usize = 46;
 
 pub const SLOT: usize = 48;
@@ -24,10 +24,8 @@ pub const VARIABLE_CODE: usize = 32;
 
 const FUNCTION_CODE: usize = 64;
 
-// `==` and its sort are two bytes; its number at the sort D is FIRST_EQUAL + D.
+// `==` and its sort are two bytes.
 const EQUAL_CODE: u8 = 0x61;
-
-const FIRST_EQUAL: usize = 256;
 
 // How many nodes and bytes a node comes to.
 pub struct Share {
@@ -64,7 +62,7 @@ fn share_of(slots: &[u8], n: usize, tag: usize, number: usize) -> Share
     ensures { λ r. ⌜ Shares (now (slots .entry)) n tag number r ⌝ }
 {
     if tag != nodes::VARIABLE {
-        if number >= FIRST_EQUAL {
+        if number >= nodes::EQUAL {
             return Share { nodes: 1, bytes: 2 };
         }
         return Share { nodes: 1, bytes: 1 };

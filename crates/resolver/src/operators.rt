@@ -9,13 +9,15 @@ use crate::FIRST_SORT;
 use crate::cells::wide_cell;
 use names::find::cell;
 use nodes::EQUAL;
+use nodes::FUNCTION;
+use nodes::MAX_FUNCTIONS;
+use nodes::UNSORTED;
+use nodes::VALUE;
+use nodes::VARIABLE;
 use parser::cells::short;
 
-// How many functions can be written.
-const MAX_FUNCTIONS: usize = 16;
-
-// `==` over two numerals is function 33, which is not there.
-const UNSORTED_CELL: u16 = (4 * 33 + nodes::FUNCTION) as u16;
+// `==` over two numerals is a function that is not there.
+const UNSORTED_CELL: u16 = (4 * UNSORTED + FUNCTION) as u16;
 
 // One more than the sort of data with this first cell; 0 for a numeral.
 fn own_sort(scope: &[u16], c: u16) -> usize
@@ -23,10 +25,10 @@ fn own_sort(scope: &[u16], c: u16) -> usize
 {
     let k = wide_cell(c % 4);
     let i = wide_cell(c / 4);
-    if k == 0 {
+    if k == VALUE {
         return 0;
     }
-    if k == 1 {
+    if k == VARIABLE {
         return wide_cell(cell(scope, FIRST_SORT + i)) + 1;
     }
     if i < MAX_FUNCTIONS {
@@ -40,11 +42,11 @@ pub fn equal_cell(scope: &[u16], c: u16, d: u16) -> u16
 {
     let a = own_sort(scope, c);
     if a > 0 {
-        return short(4 * (EQUAL + a - 1) + 2);
+        return short(4 * (EQUAL + a - 1) + FUNCTION);
     }
     let b = own_sort(scope, d);
     if b > 0 {
-        return short(4 * (EQUAL + b - 1) + 2);
+        return short(4 * (EQUAL + b - 1) + FUNCTION);
     }
     UNSORTED_CELL
 }

@@ -8,10 +8,9 @@ ghost use Rattle.nodes.specs.Held.{func-width};
 ghost use Rattle.resolver.specs.Sorting.{scope-cells};
 ghost use Rattle.sheets.specs.ScopePuts.{SortsPut, ResultsPut};
 use nodes::FUNC_ROW;
+use nodes::MAX_FUNCTIONS;
 use resolver::FIRST_RESULT;
 use resolver::FIRST_SORT;
-
-const MAX_FUNCTIONS: usize = 16;
 
 fn wide(b: u8) -> u16
     ensures { λ r. ⌜ r ≡ b ⌝ }
