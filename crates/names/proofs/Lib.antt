@@ -1,4 +1,5 @@
 pub mod Runs
+pub mod Lengths
 pub mod Lists
 pub mod Numbers
 pub mod Among

@@ -96,7 +96,7 @@ pub alike-not : (s : List ℕ) (a b p q : ℕ) → Alike s a b p q → (shown (g
 alike-not s a b p q A n k = n (shown-first s p ∙ (ap (λ (w : List ℕ). getD w 0 0) (A .only k) ∙ sym (shown-first s q)))
 
 -- a byte that is shown is itself
-shown-own : (b : ℕ) → (shown b ≡ 0 → ⊥) → shown b ≡ b
+pub shown-own : (b : ℕ) → (shown b ≡ 0 → ⊥) → shown b ≡ b
 unfolding shown
 shown-own b = go (name-byte b)
   where

@@ -155,15 +155,49 @@ pub fn sort_number(s: &[u8], cells: &[u16], places: &[u16], count: usize, c: u16
     number_of(s, cells, places, count, c) + 1
 }
 
+// How many bytes the name of cell c has.
+fn name_length(s: &[u8], c: u16) -> usize
+    ensures { λ r. ⌜ r ≡ length (name-at (now (s .entry)) c) ⌝ }
+{
+    let p = first_byte(c);
+    let mut e = p;
+    while e < s.len() {
+        if letter(s[e]) == 0 {
+            return e - p;
+        }
+        e += 1;
+    }
+    e - p
+}
+
+// Is the name of cell c, of l bytes, that of cell d? From the back: numbered names differ at their ends.
+fn same_run(s: &[u8], c: u16, l: usize, d: u16) -> bool
+    requires { ⌜ l ≡ length (name-at (now s) c) ⌝ }
+    ensures { λ r. ⌜ Says r (name-at (now (s .entry)) c ≡ name-at (now (s .entry)) d) ⌝ }
+{
+    let p = first_byte(c);
+    let q = first_byte(d);
+    let mut i = l;
+    while i > 0 {
+        i -= 1;
+        if s[p + i] != byte_at(s, q + i) {
+            return false;
+        }
+    }
+    // the other one ends there too
+    letter(byte_at(s, q + l)) == 0
+}
+
 // The first of n names in scope that is the name of cell c, or n.
 pub fn scope_number(s: &[u8], scope: &[u16], n: usize, c: u16) -> usize
     requires { ⌜ n ≤ length (now scope) ⌝ }
     ensures most { λ r. ⌜ r ≤ n ⌝ }
     ensures number { λ r. ⌜ r ≡ or-count n (number-of (name-at (now (s .entry)) c) (scope-at (now (s .entry)) (now (scope .entry)) n)) ⌝ }
 {
+    let l = name_length(s, c);
     let mut i: usize = 0;
     while i < n {
-        if same_name(s, c, scope[i]) {
+        if same_run(s, c, l, scope[i]) {
             return i;
         }
         i += 1;
