@@ -1,23 +1,56 @@
 -- The walk that counts heads: what is counted and what is left is the whole, once cut.
-use mathlib.Core.Path.{_≡_, refl, sym, ap, ap₂, _∙_}
+use mathlib.Core.Path.{_≡_, refl, sym, ap, ap₂, subst, _∙_}
 use mathlib.Core.List.{List, [], _∷_, _++_, append-assoc}
 use mathlib.Core.Bool.{Bool, true, false}
-use Prim.Native.Nat.{ℕ, _+_, _-_, _<_, _≤_}
+use Prim.Native.Nat.{ℕ, _+_, _-_, _*_, _<_, _≤_}
 use native.Mathlib.Omega.{arith}
 use lib.ListN.{length, drop, getD, length-append}
 use Rattle.pcrl.specs.Sheet.{Proc, delta, atom, alt, cond, sum, seq, call}
 use Rattle.pcrl.specs.Parts.{new-count}
 use Rattle.nodes.specs.declared.Node.{Node}
 use Rattle.nodes.specs.declared.Skipped.{Skipped}
-use Rattle.nodes.specs.Layout.{Item, enc, encs, seq-kind}
-use Rattle.nodes.specs.Nodes.{kind-of, node-own, node-number, node-kids}
+use Rattle.nodes.specs.Layout.{Item, enc-datas, enc, encs, alt-kind, seq-kind, after-mark}
+use Rattle.nodes.specs.Nodes.{kind-of, node-own, node-number, node-datas, node-kids, open-node, node-arity, kind-small, own-small}
 use Rattle.nodes.specs.Views.{Views, Skips}
+use Rattle.nodes.proofs.Cells.{read-cell}
 use Rattle.nodes.proofs.Nodes.{one-item, items-end}
 use Rattle.nodes.proofs.NewParts.{new-all, new-open}
 use Rattle.counting.specs.declared.Counted.{Counted}
 use Rattle.counting.specs.Limits.{most-heads, cut}
 use Rattle.counting.specs.Count.{count-by, count-all, count-own, count-open, is-seq, cut-sum, cut-cut}
 use Rattle.counting.specs.Counting.{Counts, leaf-of, pick}
+
+alt-plain : (p : Proc) → kind-of p ≡ alt-kind → (node-number p ≡ 0) × (node-datas p ≡ [])
+unfolding kind-of node-number node-datas
+alt-plain delta e = absurd (omega arith)
+alt-plain (atom a ds) e = absurd (omega arith)
+alt-plain (alt p q) e = (refl, refl)
+alt-plain (cond c p q) e = absurd (omega arith)
+alt-plain (sum x D p) e = absurd (omega arith)
+alt-plain (seq p q) e = absurd (omega arith)
+alt-plain (call k ds) e = absurd (omega arith)
+
+-- a choice that gets no new equation is known by its first cell
+view-alt : (s : List ℕ) (at : ℕ) → getD s at 0 ≡ alt-kind → Views s at (record { kind = alt-kind; own = 0; number = 0; terms = at + 3; datas = 0; kids = 2; next = at + 3 })
+unfolding enc-datas
+view-alt s at two b p xs rest e =
+    let tl = encs (node-kids b p ++ xs) in
+    let e₀ = read-cell s at (after-mark * node-own b p + kind-of p) (node-number p ∷ length (node-datas p) ∷ ((enc-datas (node-datas p) ++ tl) ++ rest)) (e ∙ ap (λ (l : List ℕ). l ++ rest) (open-node b p xs)) in
+    let k : kind-of p ≡ alt-kind = omega (arith, e₀ .0, kind-small p) in
+    let (number, datas) = alt-plain p k in
+    let e₁ = read-cell s (at + 1) (node-number p) (length (node-datas p) ∷ ((enc-datas (node-datas p) ++ tl) ++ rest)) (e₀ .1) in
+    let e₂ = read-cell s (at + 1 + 1) (length (node-datas p)) ((enc-datas (node-datas p) ++ tl) ++ rest) (e₁ .1) in
+    let y : at + 1 + 1 + 1 ≡ at + 3 = omega arith in
+    let e₃ : drop (at + 3) s ≡ tl ++ rest = rw (y, datas) at (e₂ .1) in
+    record {
+      kind-is = sym k;
+      own-is = omega (arith, e₀ .0, kind-small p, own-small b p);
+      number-is = sym number;
+      datas-is = rw datas refl;
+      terms-are = rw datas e₃;
+      kids-is = omega (arith, node-arity b p);
+      next-is = e₃;
+    }
 
 -- the walk that counts heads
 module _ (K : List ℕ) where
@@ -78,6 +111,17 @@ module _ (K : List ℕ) where
               (let v : m + d .own + new-all (node-kids b′ x ++ xs) ≡ m + new-all ((b′, x) ∷ xs) = omega (arith, o .own-is, new-open b′ x xs) in
                   cut-sum _ (new-all (node-kids b′ x ++ xs)) _ _ (cut-cut (m + d .own)) refl ∙ ap cut v ∙ h),
             )
+
+    pub count-alt : 0 < need → getD s p 0 ≡ alt-kind → n ≤ most-heads → m ≤ most-heads → CountLeft s at (p + 3) (need + 1) n m
+    unfolding leaf-of pick cut
+    count-alt k two small low =
+        let x : need - 1 + 2 ≡ need + 1 = omega arith in
+        let y : cut (n + 0) ≡ n = omega arith in
+        let z : cut (m + 0) ≡ m = omega arith in
+        subst (λ (i : ℕ). CountLeft s at (p + 3) i n m) x
+        (subst (λ (i : ℕ). CountLeft s at (p + 3) (need - 1 + 2) i m) y
+        (subst (λ (i : ℕ). CountLeft s at (p + 3) (need - 1 + 2) (cut (n + 0)) i) z
+        (count-step k _ (view-alt s p two) (λ z. omega arith))))
 
     pub count-seq : 0 < need → (d : Node) → Views s p d → d .kind ≡ seq-kind → (a : Counted) (k : Skipped) → Counts s K (d .next) a → Skips s (a .next) k
         → CountLeft s at (k .next) (need - 1) (cut (n + a .heads)) (cut (m + cut (a .own + k .own)))

@@ -83,6 +83,12 @@ pub fn count(cells: &[u16], at: usize, counts: &[u16], base: usize) -> Counted
                 own: m,
             };
         }
+        // a choice without a new equation: three cells and no data
+        if nodes::cell(cells, p) == nodes::ALT {
+            need += 1;
+            p += 3;
+            continue;
+        }
         let d = nodes::node_at(cells, p);
         if d.kind == nodes::SEQ {
             let a = count(cells, d.next, counts, base);
