@@ -22,7 +22,8 @@ const MOST_WALKING: usize = 648 << 10;
 /// Bytes of stack that printing a table may use, for any input.
 const MOST_PRINTING: usize = 96 << 10;
 
-/// The same as the first for a sheet of up to 64 bytes.
+/// The same as the first for a sheet of up to 64 bytes, but for one whose stream has no room in 1,024: that one is
+/// tried again with the long arrays.
 const MOST_SHORT: usize = 24 << 10;
 
 /// A sheet of up to so many bytes is short.
@@ -78,6 +79,14 @@ fn dearest_sheets() {
     for (bytes, what) in needs.iter().rev().take(5) {
         println!("{what}: {bytes} of stack");
     }
+}
+
+#[test]
+fn a_short_sheet_that_is_refused_by_10() {
+    let sheet = format!("act a;proc X=a<|{}1|>a;init X;", "!".repeat(31));
+    assert_eq!(check_sheet(sheet.as_bytes()), 10);
+    let bytes = held("refused by 10", sheet.as_bytes());
+    println!("a short sheet, refused by 10: {bytes} of stack");
 }
 
 #[test]
