@@ -28,8 +28,8 @@
 //! ```
 //!
 //! All answers are those of the proved library: nothing here decides anything about a sheet, a table or a stack. There
-//! is no state, and any number of threads may call at once. A sheet needs up to 0.5 MB of the machine's stack, its
-//! walk 0.65 MB, any other use 0.1 MB: a thread of Rust's has 2 MB unless it is made with less.
+//! is no state, and any number of threads may call at once. A sheet needs up to 128 KiB of the machine's stack, its
+//! walk 264 KiB, any other use 96 KiB: a thread of Rust's has 2 MB unless it is made with less.
 
 #![deny(missing_docs)]
 #![deny(unsafe_code)]

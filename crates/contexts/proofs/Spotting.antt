@@ -3,7 +3,6 @@ use mathlib.Core.Path.{_≡_, refl, sym, ap, _∙_, subst}
 use mathlib.Core.List.{List, [], _∷_, _++_, map, append-assoc}
 use mathlib.Core.Bool.{false}
 use Prim.Native.Nat.{ℕ, _+_, _-_, _*_, _<_, _≤_}
-use native.Mathlib.Numerals.{add-one}
 use native.Mathlib.Omega.{arith}
 use lib.ListN.{length, drop, take, set, length-set, length-drop}
 use lib.Seq.{drop-drop, paste, take-paste}
@@ -21,21 +20,8 @@ use Rattle.putting.proofs.Bytes.{cell-more, kept-front}
 use Rattle.putting.proofs.Several.{slot-kept}
 use Rattle.contexts.specs.declared.Spot.{Spot}
 use Rattle.contexts.specs.declared.Side.{Side}
-use Rattle.contexts.specs.Spots.{SummandFits, Bound, Arrays, Context, SpottedAt, Spotted, Deeper, Kept, Beyond, OnSide, weight}
+use Rattle.contexts.specs.Spots.{SummandFits, Bound, Arrays, Context, SpottedAt, Spotted, Deeper, Kept, Beyond, OnSide}
 use Rattle.contexts.specs.Steps.{failed}
-
--- WEIGHTS
-
-pub weight-on : (l f a b : ℕ) → a < l → a < b → weight l f b < weight l f a
-unfolding weight
-weight-on l f a b h k = omega arith
-
-pub weight-same : (l f a g b : ℕ) → g ≡ f → a < l → a < b → weight l g b < weight l f a
-weight-same l f a g b e h k = subst (λ (x : ℕ). weight l x b < weight l f a) (sym e) (weight-on l f a b h k)
-
-pub weight-call : (l g f a b : ℕ) → f ≡ g + 1 → weight l g b < weight l f a
-unfolding weight
-weight-call l g f a b e = let z : f * (l + 1) ≡ g * (l + 1) + (l + 1) = ap (λ (x : ℕ). x * (l + 1)) (e ∙ add-one g) ∙ native.Mathlib.Nat.suc-mul g (l + 1) in omega arith
 
 -- BY KIND
 

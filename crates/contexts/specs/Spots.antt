@@ -15,7 +15,7 @@ use Rattle.pcrl.specs.Stream.{encode-cond, encode-call}
 use Rattle.pcrl.specs.Right.{Small, SummandWithin}
 use Rattle.pcrl.specs.Heads.{look, heads}
 use Rattle.nodes.specs.declared.Node.{Node}
-use Rattle.nodes.specs.Layout.{byte-limit, cond-kind, seq-kind, enc, enc-data}
+use Rattle.nodes.specs.Layout.{byte-limit, cell-limit, cond-kind, seq-kind, enc, enc-data}
 use Rattle.nodes.specs.Nodes.{kind-of}
 use Rattle.nodes.specs.Scoped.{max-scope}
 use Rattle.counting.specs.Limits.{max-fuel}
@@ -48,6 +48,7 @@ pub record Ready (H : Sheet) (F : ℕ) (cells starts counts firsts : List ℕ) :
   pub first-new-are : FirstNew H firsts
   pub rights-fine : (k : ℕ) → k < length (H .procs) → Fine H (length (params H k)) (right H k)
   pub equations-few : (k : ℕ) → k < length (H .procs) → first-new (length (H .procs)) (H .procs) k + new-count false (right H k) < byte-limit
+  pub cells-few : length cells < cell-limit
 
 -- within its limits, and no call has more terms than an equation may have parameters: in a table that is within its limits all have it
 pub record SummandFits (h : Summand) : Type 0 where
@@ -165,7 +166,3 @@ pub record OnSide (H : Sheet) (F : ℕ) (cells : List ℕ) (s : Spot) (A : Array
   pub none : (d .kind ≡ cond-kind → ⊥) → es ≡ []
   pub one : d .kind ≡ cond-kind → CondOf cells s d (e .second) (ctx .σ) es
   pub are : map (around (ctx .vs) (ctx .cs ++ es) (ctx .ks)) (heads H (s .fuel) (ctx .σ) (s .m) (e .c) t) ≡ hs
-
--- falls with each step: the calls left, then the cells left
-unfoldable pub weight : ℕ → ℕ → ℕ → ℕ
-weight l fuel at = fuel * (l + 1) + (l - at)

@@ -80,11 +80,6 @@ abbrev pub Written : List ℕ → List ℕ → List ℕ → List ℕ → Spot �
 Written cells starts counts firsts s A w o r B o′ = (H : Sheet) (F : ℕ) (hs : List Summand) → Ready H F cells starts counts firsts → Spotted H F cells s A hs
     → SummandsOut hs w o r o′ × (r .ok ≡ true → Kept s A B)
 
--- the heads of one side of the choice d at s
-abbrev pub SideWritten : List ℕ → List ℕ → List ℕ → List ℕ → Spot → Arrays → Node → Side → ℕ → List ℕ → Done → Arrays → List ℕ → Type 0
-SideWritten cells starts counts firsts s A d e w o r B o′ = (H : Sheet) (F : ℕ) (hs : List Summand) → Ready H F cells starts counts firsts → OnSide H F cells s A d e hs
-    → SummandsOut hs w o r o′ × (r .ok ≡ true → Kept s A B)
-
 -- an action's head, whatever stands in the other arrays
 abbrev pub Emits : List ℕ → Spot → Arrays → ℕ → List ℕ → Done → List ℕ → Type 0
 Emits cells s A w o r o′ = (starts counts firsts : List ℕ) → Written cells starts counts firsts s A w o r A o′

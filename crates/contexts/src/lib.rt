@@ -10,7 +10,7 @@ ghost use Rattle.nodes.specs.Scoped.{max-scope};
 ghost use Rattle.nodes.specs.Views.{On, Views};
 ghost use Rattle.putting.specs.Slots.{slot-width, Adds};
 ghost use Rattle.following.specs.Follows.{call-bytes, calls-room};
-ghost use Rattle.contexts.specs.Spots.{cond-bytes, conds-room, variable-limit, arrays, Bound, wanted-of, weight};
+ghost use Rattle.contexts.specs.Spots.{cond-bytes, conds-room, variable-limit, arrays, Bound, wanted-of};
 ghost use Rattle.contexts.specs.Steps.{VariablePut, call-room, terms-room, act-code, failed, SumDown, SeqDown, StepDown, SideDown, CallDown, Stays, Emits};
 use nodes::Node;
 use putting::Done;
@@ -267,7 +267,7 @@ pub fn step(
     requires { ⌜ (s .at < length (now cells)) × On (s .at) d × Views (now cells) (s .at) d × Bound (length (now calls)) (length (now slots)) s ⌝ }
     requires { ⌜ (max-variables ≤ length (now vars)) × (calls-room ≤ length (now after)) ⌝ }
     ensures { λ r. ⌜ Bound (length (now (calls .entry))) (length (now (slots .entry))) r ⌝ }
-    ensures { λ r. ⌜ (r .ok ≡ true → weight (length (now (cells .entry))) (r .fuel) (r .at) < weight (length (now (cells .entry))) (s .fuel) (s .at)) ⌝ }
+    ensures { λ r. ⌜ (r .ok ≡ true → (r .fuel ≡ s .fuel) × (s .at < r .at)) ⌝ }
     ensures { λ r. ⌜ ((conds : List ℕ) → StepDown (now (cells .entry)) d s (arrays (now (slots .entry)) (now (vars .entry)) conds (now (calls .entry))) r (arrays (now (slots .exit)) (now (vars .exit)) conds (now (calls .exit)))) ⌝ }
 {
     if d.kind == nodes::SUM {

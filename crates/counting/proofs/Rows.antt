@@ -59,9 +59,17 @@ module _ (H : Sheet) (few : length (H .procs) ≤ row-width) where
   pub filled-none : (f : ℕ) (o : List ℕ) → Tallied H f o → Filled f o o 0
   filled-none f o t = record { old = λ j h. refl; done = λ j h. absurd (omega arith); zeros = λ j h. t .zeros (row-width * (f + 1) + j) (omega arith) }
 
+  -- the row before it stands as it was
+  row-kept : (f : ℕ) (o t : List ℕ) (k : ℕ) → Filled f o t k → (i : ℕ) → getD (row (row-width * f) t) i 0 ≡ getD (row (row-width * f) o) i 0
+  row-kept f o t k g i = go (lt-or-le i row-width)
+    where
+      go : (i < row-width) ⊎ (row-width ≤ i) → getD (row (row-width * f) t) i 0 ≡ getD (row (row-width * f) o) i 0
+      go (inl a) = row-at (row-width * f) t i a ∙ g .old (row-width * f + i) (omega arith) ∙ sym (row-at (row-width * f) o i a)
+      go (inr a) = row-end (row-width * f) t i a ∙ sym (row-end (row-width * f) o i a)
+
   module _ (cells starts : List ℕ) (placed : Placed H cells starts) where
     pub filled-more : (f : ℕ) (o t : List ℕ) (k : ℕ) (r : Counted) → length t ≡ counts-room → f < 17 → k < length (H .procs) → Tallied H f o → Filled f o t k
-        → Counts cells (row (row-width * f) o) (getD starts k 0) r → Filled f o (set t (row-width * (f + 1) + k) (r .heads)) (k + 1)
+        → Counts cells (row (row-width * f) t) (getD starts k 0) r → Filled f o (set t (row-width * (f + 1) + k) (r .heads)) (k + 1)
     unfolding called
     filled-more f o t k r len fl kl tl g c = record {
       old = λ j h. getD-set-other t (row-width * (f + 1) + k) j (r .heads) 0 (other j (row-width * (f + 1) + k) (omega arith)) ∙ g .old j h;
@@ -74,7 +82,7 @@ module _ (H : Sheet) (few : length (H .procs) ≤ row-width) where
 
         low : (j : ℕ) → j < k + 1 → Dec (j ≡ k) → getD (set t (row-width * (f + 1) + k) (r .heads)) (row-width * (f + 1) + j) 0 ≡ cut (called H (suc f) j)
         low j h (yes e) =
-            rw e (getD-set-same t (row-width * (f + 1) + k) (r .heads) 0 (omega arith) ∙ c false (right H k) (placed k kl .0) (placed k kl .1) .0 ∙ row-counts f o tl f (omega arith) (right H k))
+            rw e (getD-set-same t (row-width * (f + 1) + k) (r .heads) 0 (omega arith) ∙ c false (right H k) (placed k kl .0) (placed k kl .1) .0 ∙ cut-known (λ i. getD (row (row-width * f) t) i 0) (λ i. getD (row (row-width * f) o) i 0) (λ i. ap cut (row-kept f o t k g i)) (right H k) ∙ row-counts f o tl f (omega arith) (right H k))
         low j h (no ne) = getD-set-other t (row-width * (f + 1) + k) (row-width * (f + 1) + j) (r .heads) 0 (λ e. ne (omega arith)) ∙ g .done j (let z : j ≢ k = ne in omega arith)
 
   pub filled-all : (f : ℕ) (o t : List ℕ) → Tallied H f o → Filled f o t (length (H .procs)) → Tallied H (f + 1) t

@@ -2,7 +2,7 @@
 ghost use mathlib.Core.Path.{_≡_};
 ghost use mathlib.Core.Bool.{true};
 ghost use Prim.Native.Nat.{ℕ, _+_, _*_, _≤_, _<_};
-ghost use lib.ListN.{length, getD};
+ghost use lib.ListN.{length, getD, replicate};
 ghost use Rattle.pcrl.specs.Sheet.{Sheet};
 ghost use Rattle.nodes.specs.Layout.{cell-limit};
 ghost use Rattle.counting.specs.Limits.{most-heads, row-width, max-fuel, counts-room, cut, row};
@@ -20,11 +20,6 @@ pub struct Counted {
     pub next: usize,
     pub heads: usize,
     pub own: usize,
-}
-
-// The counts of all processes, in rows.
-pub struct Tally {
-    pub at: [u16; ROOM],
 }
 
 fn add(a: usize, b: usize) -> usize
@@ -111,22 +106,18 @@ pub fn count(cells: &[u16], at: usize, counts: &[u16], base: usize) -> Counted
     }
 }
 
-// One row more: calls followed once more.
-fn round(cells: &[u16], starts: &[u16], n: usize, f: usize, old: Tally) -> Tally
-    requires { ⌜ (n ≤ row-width) × (f < max-fuel) × (length (old .at) ≡ counts-room) ⌝ }
-    ensures { λ r. ⌜ length (r .at) ≡ counts-room ⌝ }
-    ensures { λ r. ⌜ ((H : Sheet) → length (H .procs) ≡ n → Placed H (now (cells .entry)) (now (starts .entry)) → Tallied H f (old .at) → Tallied H (f + 1) (r .at)) ⌝ }
+// One row more: calls followed once more. Row f is read while the row behind it is written.
+fn round(cells: &[u16], starts: &[u16], n: usize, f: usize, t: &mut [u16])
+    requires { ⌜ (n ≤ row-width) × (f < max-fuel) × (length (now t) ≡ counts-room) ⌝ }
+    ensures { λ _. ⌜ ((H : Sheet) → length (H .procs) ≡ n → Placed H (now (cells .entry)) (now (starts .entry)) → Tallied H f (now (t .entry)) → Tallied H (f + 1) (now (t .exit))) ⌝ }
 {
-    let o = old.at;
-    let mut t = old.at;
     let mut k: usize = 0;
     while k < n {
         let p = nodes::cell(starts, k);
-        let r = count(cells, p, &o, ROW * f);
+        let r = count(cells, p, &*t, ROW * f);
         t[ROW * (f + 1) + k] = r.heads as u16;
         k += 1;
     }
-    Tally { at: t }
 }
 
 // Are the rows f and f + 1 the same?
@@ -145,39 +136,32 @@ fn same_rows(t: &[u16], f: usize) -> bool
 }
 
 // The row f once more.
-fn repeat(f: usize, old: Tally) -> Tally
-    requires { ⌜ (f < max-fuel) × (length (old .at) ≡ counts-room) ⌝ }
-    ensures { λ r. ⌜ length (r .at) ≡ counts-room ⌝ }
-    ensures { λ r. ⌜ Repeated f (old .at) (r .at) row-width ⌝ }
+fn repeat(f: usize, t: &mut [u16])
+    requires { ⌜ (f < max-fuel) × (length (now t) ≡ counts-room) ⌝ }
+    ensures { λ _. ⌜ Repeated f (now (t .entry)) (now (t .exit)) row-width ⌝ }
 {
-    let mut t = old.at;
     let mut k: usize = 0;
     while k < ROW {
         t[ROW * (f + 1) + k] = t[ROW * f + k];
         k += 1;
     }
-    Tally { at: t }
 }
 
-// The rows 0 to `times`. Once a row is like the one before it, so are those after it.
-pub fn rounds(cells: &[u16], starts: &[u16], n: usize, times: usize) -> Tally
-    requires { ⌜ (n ≤ row-width) × (times ≤ max-fuel) ⌝ }
-    ensures { λ r. ⌜ length (r .at) ≡ counts-room ⌝ }
-    ensures { λ r. ⌜ ((H : Sheet) → length (H .procs) ≡ n → Placed H (now (cells .entry)) (now (starts .entry)) → Tallied H times (r .at)) ⌝ }
+// The rows 0 to `times`, written over zeros. Once a row is like the one before it, so are those after it.
+pub fn rounds(cells: &[u16], starts: &[u16], n: usize, times: usize, t: &mut [u16])
+    requires { ⌜ (n ≤ row-width) × (times ≤ max-fuel) × (now t ≡ replicate counts-room 0) ⌝ }
+    ensures { λ _. ⌜ ((H : Sheet) → length (H .procs) ≡ n → Placed H (now (cells .entry)) (now (starts .entry)) → Tallied H times (now (t .exit))) ⌝ }
 {
-    let mut t = Tally { at: [0u16; ROOM] };
     let mut f: usize = 0;
     let mut still = false;
     while f < times {
         if still {
-            t = repeat(f, t);
+            repeat(f, &mut *t);
             f += 1;
             continue;
         }
-        t = round(cells, starts, n, f, t);
-        let o = t.at;
-        still = same_rows(&o, f);
+        round(cells, starts, n, f, &mut *t);
+        still = same_rows(&*t, f);
         f += 1;
     }
-    t
 }

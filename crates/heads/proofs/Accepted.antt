@@ -16,7 +16,7 @@ use Rattle.laws.specs.Each.{each-length}
 use Rattle.laws.specs.Operations.{Seen, seen, equal-number}
 use Rattle.laws.specs.DataSorts.{have-sorts-many}
 use Rattle.nodes.specs.declared.Outline.{Outline}
-use Rattle.nodes.specs.Layout.{byte-limit, act-number}
+use Rattle.nodes.specs.Layout.{byte-limit, cell-limit, act-number}
 use Rattle.nodes.specs.Scoped.{max-scope, ScopedData, ScopedArguments, Scoped}
 use Rattle.nodes.specs.Held.{HeldProcs, ProcAt}
 use Rattle.counting.specs.Counting.{Placed, Tallied, FirstNew}
@@ -130,9 +130,9 @@ first-below c (p ∷ ps) (suc k) h =
 
 -- what the arrays of an accepted sheet give
 pub ready : (H : Sheet) (procs cells starts : List ℕ) (n : Outline) (F : ℕ) (counts firsts : List ℕ) → HeldProcs H procs cells starts n → Every (λ (p : Process). Sorted H (getElem? (p .params)) (p .right)) (H .procs) → Small (H .sig)
-    → length (H .procs) + length (all-new-parts (H .procs)) < byte-limit → Tallied H F counts → FirstNew H firsts → Ready H F cells starts counts firsts
+    → length (H .procs) + length (all-new-parts (H .procs)) < byte-limit → Tallied H F counts → FirstNew H firsts → length cells < cell-limit → Ready H F cells starts counts firsts
 unfolding right params
-ready H procs cells starts n F counts firsts held sorted few equations tl fn = record {
+ready H procs cells starts n F counts firsts held sorted few equations tl fn short = record {
   placed = λ k h. at k h .right;
   procs-few = omega (arith, held .proc-count, held .few-procs);
   params-four = λ k h. at k h .few;
@@ -141,6 +141,7 @@ ready H procs cells starts n F counts firsts held sorted few equations tl fn = r
   first-new-are = fn;
   rights-fine = λ k h. fine H few (n .procs) _ _ (getD (H .procs) k no-process .right) (at k h .scoped) (every-at (λ (p : Process). Sorted H (getElem? (p .params)) (p .right)) (H .procs) no-process k sorted h);
   equations-few = λ k h. omega (arith, first-below (length (H .procs)) (H .procs) k h);
+  cells-few = short;
 }
   where
     at : (k : ℕ) → k < length (H .procs) → ProcAt (n .procs) (getD (H .procs) k no-process) procs cells starts k

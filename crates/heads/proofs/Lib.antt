@@ -1,6 +1,10 @@
 pub mod Accepted
 pub mod Parameters
+pub mod Stacking
 pub mod Walking
 pub mod Passing
-pub mod Rounds
+pub mod Standing
+pub mod Choosing
+pub mod Resuming
+pub mod Calling
 pub mod Numbers

@@ -2,7 +2,7 @@
 use mathlib.Core.Path.{_≡_, refl, sym, ap, _∙_, subst}
 use mathlib.Core.List.{List, [], _∷_, _++_}
 use mathlib.Core.Logic.{_≢_}
-use mathlib.Core.Bool.{false}
+use mathlib.Core.Bool.{true, false}
 use Prim.Native.Nat.{ℕ, zero, suc, _+_, _-_, _%_, _<_, _≤_}
 use native.Mathlib.Numerals.{add-one}
 use native.Mathlib.Omega.{arith}
@@ -13,6 +13,8 @@ use Rattle.pcrl.specs.Reader.{all}
 use Rattle.pcrl.specs.Sheet.{Process, Sheet, right, no-process}
 use Rattle.pcrl.specs.Parts.{new-count, all-new-parts, first-new}
 use Rattle.pcrl.specs.Stream.{encode-list, encode-summand}
+use Rattle.pcrl.specs.Tests.{Every}
+use Rattle.pcrl.specs.Table.{Summand}
 use Rattle.pcrl.specs.Right.{SummandWithin}
 use Rattle.pcrl.specs.Heads.{heads}
 use Rattle.laws.specs.Every.{every-weaken}
@@ -22,11 +24,13 @@ use Rattle.nodes.specs.Views.{Skips}
 use Rattle.counting.specs.Limits.{cut}
 use Rattle.counting.specs.Counting.{Placed}
 use Rattle.putting.specs.declared.Done.{Done}
+use Rattle.putting.specs.Slots.{Adds}
 use Rattle.putting.proofs.Bytes.{cell-more, adds-then}
 use Rattle.putting.proofs.PutLaws.{never}
 use Rattle.contexts.specs.Spots.{SummandFits}
 use Rattle.heads.specs.Writing.{HeadsWritten, HeadsCounted, SummandsWritten, NumbersFirst}
 use Rattle.heads.proofs.Accepted.{first-below}
+use Rattle.heads.proofs.Walking.{length-none}
 
 -- THE COUNT IN FRONT
 
@@ -35,17 +39,26 @@ module _ (cells starts counts firsts : List ℕ) (fuel at c : ℕ) (slots : List
   unfolding encode-list
   list-full h o′ H σ b p rest rd e f s fn nw few = (λ t. never t, λ t within. omega arith)
 
-  pub list-right : (a : ℕ) → HeadsCounted cells counts fuel at a → w < length o → (r : Done) (o′ : List ℕ) → HeadsWritten cells starts counts firsts fuel at c slots n m (w + 1) (set o w (a % byte-limit)) r o′
+  pub list-right : (a : ℕ) → HeadsCounted cells counts fuel at a → w < length o → (r : Done) (o′ : List ℕ) → (a ≡ 0 → ⊥) → HeadsWritten cells starts counts firsts fuel at c slots n m a (w + 1) (set o w (a % byte-limit)) r o′
       → SummandsWritten cells starts counts firsts fuel at c slots n m w o r o′
   unfolding encode-list cut
-  list-right a ct inside r o′ put H σ b p rest rd e f s fn nw few =
+  list-right a ct inside r o′ some put H σ b p rest rd e f s fn nw few =
       let hs = heads H fuel σ m c p in
       let z = ct H fuel b p rest σ m c (rd .procs-few) (rd .tallied) (omega arith) e in
       let y : a % byte-limit ≡ length hs = omega arith in
-      let u = put H σ b p rest rd e f s fn nw in (
+      let u = put H σ b p rest rd e f s fn nw (omega arith) (omega arith) (omega arith) in (
         λ t. (every-weaken SummandFits SummandWithin (λ h k. k .within) hs (u .0 t .0), adds-then (length hs ∷ []) (all encode-summand hs) w (w + 1) (r .w) o (set o w (a % byte-limit)) o′ (cell-more o w (a % byte-limit) inside ∙ ap (λ (k : ℕ). take w o ++ (k ∷ [])) y) (u .0 t .1)),
         λ t within. let l = u .1 t within in omega (arith, length-set o w (a % byte-limit)),
       )
+
+  -- no heads
+  pub list-none : (a : ℕ) → HeadsCounted cells counts fuel at a → w < length o → a ≡ 0 → SummandsWritten cells starts counts firsts fuel at c slots n m w o (record { ok = true; w = w + 1 }) (set o w (a % byte-limit))
+  unfolding encode-list cut all Every
+  list-none a ct inside none H σ b p rest rd e f s fn nw few =
+      let z = ct H fuel b p rest σ m c (rd .procs-few) (rd .tallied) (omega arith) e in
+      let y : heads H fuel σ m c p ≡ [] = length-none (heads H fuel σ m c p) (omega arith) in
+      let k : a % byte-limit ≡ 0 = omega arith in
+      (λ t. subst (λ (hs : List Summand). Every SummandWithin hs × Adds (encode-list encode-summand hs) w o (w + 1) (set o w (a % byte-limit))) (sym y) (tt, cell-more o w (a % byte-limit) inside ∙ ap (λ (j : ℕ). take w o ++ (j ∷ [])) k), λ t. never (sym t))
 
 -- THE FIRST NEW EQUATIONS
 

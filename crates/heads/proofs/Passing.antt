@@ -9,7 +9,6 @@ use lib.ListN.{length}
 use Rattle.pcrl.specs.Sheet.{Proc}
 use Rattle.pcrl.specs.Parts.{new-count}
 use Rattle.pcrl.specs.Table.{Summand}
-use Rattle.pcrl.specs.Heads.{heads}
 use Rattle.nodes.specs.declared.Node.{Node}
 use Rattle.nodes.specs.Layout.{byte-limit, alt-kind, seq-kind, Item, encs}
 use Rattle.nodes.specs.Nodes.{kind-of, node-own, node-kids, node-arity}
@@ -20,16 +19,14 @@ use Rattle.counting.specs.Limits.{row-width, cut, row}
 use Rattle.counting.specs.Count.{count-by, count-all, count-own, count-open}
 use Rattle.counting.specs.Counting.{leaf-of, Counts}
 use Rattle.counting.proofs.Laws.{look-count, leaf-right}
-use Rattle.putting.specs.declared.Done.{Done}
-use Rattle.putting.proofs.PutLaws.{never}
 use Rattle.contexts.specs.declared.Spot.{Spot}
 use Rattle.contexts.specs.declared.Side.{Side}
-use Rattle.contexts.specs.Spots.{Arrays, Bound, Spotted, around, weight}
-use Rattle.contexts.proofs.Spotting.{map-none, deeper-same, deeper-then}
+use Rattle.contexts.specs.Spots.{Arrays, Bound, Spotted}
+use Rattle.contexts.proofs.Spotting.{deeper-same, deeper-then}
 use Rattle.contexts.proofs.Sides.{sides, side-plain}
 use Rattle.heads.specs.declared.alternatives.Ahead.{Ahead}
-use Rattle.heads.specs.Progress.{Ends, Looked, SecondSide, side-spot, Idle, Behind, Past}
-use Rattle.heads.proofs.Walking.{counted, passed, ends}
+use Rattle.heads.specs.Progress.{Looked, SecondSide, side-spot, Idle, Behind, Past}
+use Rattle.heads.proofs.Walking.{passed, counted-side, length-none}
 
 nothing : (xs : List Item) → length xs ≡ 0 → xs ≡ []
 nothing [] e = refl
@@ -50,10 +47,9 @@ idle-counts cells K at d vw (leaf, idle, old) b p rest e =
       sym (ap cut new-none),
     )
 
--- the count of the first side says whether it has heads
-pub first-ends : (cells counts : List ℕ) (g : Ahead) → Counts cells (row (row-width * g .s .fuel) counts) (g .d .next) (g .a) → (z : Done) → (z .ok ≡ true → g .a .heads ≡ 0) → (z .ok ≡ false → g .a .heads ≡ 0 → ⊥)
-    → Ends cells counts (g .s .fuel) (g .d .next) z
-first-ends cells counts g ct z y n = ends cells counts (g .s .fuel) (g .d .next) (g .a .heads) (counted cells counts (g .d .next) (g .s .fuel) (g .a) ct) z y n
+pub the-other : (A B : Type 0) → A ⊎ B → (A → ⊥) → B
+the-other A B (inl a) n = absurd (n a)
+the-other A B (inr b) n = b
 
 module _ (cells counts : List ℕ) where
   pub past-same : (s : Spot) → Past cells counts s s
@@ -70,6 +66,7 @@ module _ (cells counts : List ℕ) where
   }
 
   pub past-side : (g : Ahead) (e : Side) → Looked cells counts g → g .d .kind ≡ alt-kind → g .a .heads ≡ 0 → SecondSide g e → Past cells counts (g .s) (side-spot (g .s) e)
+  unfolding cut
   past-side g e lk is none (ee, small, ec) =
       let cf = lk .counts-first (inl is) in
       let e₁ : Side = record { second = false; at = g .d .next; c = g .s .c } in
@@ -95,9 +92,8 @@ module _ (cells counts : List ℕ) where
         spotted = λ H F A hs few t sp.
             let b = sides H F cells (g .s) A hs (g .d) (lk .views) (g .a .next) (g .a .own) (passed cells (row (row-width * g .s .fuel) counts) (g .d .next) (g .a) (cf .1)) (e .c) ec (inl is) sp in
             let q = b .on₁ in
-            let z : Done = record { ok = true; w = 0 } in
-            let k = first-ends cells counts g (cf .1) z (λ y. none) (λ y. never (sym y)) H F false (q .t) (q .rest) (q .ctx .σ) (g .s .m) (g .s .c) few t (q .fuel-left) (q .place) .0 refl in
-            let n : b .hs₁ ≡ [] = map-none (around (q .ctx .vs) (q .ctx .cs ++ q .es) (q .ctx .ks)) (heads H (g .s .fuel) (q .ctx .σ) (g .s .m) (g .s .c) (q .t)) (b .hs₁) (q .are) k in
+            let k = counted-side cells counts (g .s) A (g .d) e₁ (g .a) (cf .1) H F (b .hs₁) few t q in
+            let n : b .hs₁ ≡ [] = length-none (b .hs₁) (omega arith) in
             let u : hs ≡ b .hs₂ = b .split ∙ ap (λ (l : List Summand). l ++ b .hs₂) n in
             let v = side-plain cells (g .d) (g .s) e₂ (A .slots) (A .conds) (λ y. omega arith) (A .vars) (A .calls) .2 H F (b .hs₂) (b .on₂) .0 refl in
             subst (λ (x : Side). Spotted H F cells (side-spot (g .s) x) A hs) (sym ee) (subst (λ (l : List Summand). Spotted H F cells (side-spot (g .s) e₂) A l) (sym u) v);
@@ -115,8 +111,3 @@ module _ (cells counts : List ℕ) where
   pub past-more : (s : Spot) (p q : ℕ) → s .c < byte-limit → p < length cells → Behind cells (row (row-width * s .fuel) counts) p q → (p ≡ s .at) ⊎ Past cells counts s (spot-at s p) → Past cells counts s (spot-at s q)
   past-more s p q small inside bh (inl e) = past-idle s q (omega arith) small (subst (λ (x : ℕ). Behind cells (row (row-width * s .fuel) counts) x q) e bh)
   past-more s p q small inside bh (inr pt) = past-then s (spot-at s p) (spot-at s q) pt (past-idle (spot-at s p) q inside small bh)
-
-  -- the weight does not grow
-  pub past-weight : (l : ℕ) (s r : Spot) → Past cells counts s r → weight l (r .fuel) (r .at) ≤ weight l (s .fuel) (s .at)
-  unfolding weight
-  past-weight l s r p = let z : r .fuel * (l + 1) ≡ s .fuel * (l + 1) = ap (λ (x : ℕ). x * (l + 1)) (p .fuel-same) in omega (arith, z, p .further)

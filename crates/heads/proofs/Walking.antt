@@ -1,11 +1,10 @@
 -- The walk over the heads of a term: what is written so far, and what is still to be written.
 use mathlib.Core.Path.{_≡_, refl, sym, ap, _∙_, subst}
-use mathlib.Core.List.{List, [], _∷_, _++_, map, append-assoc, append-nil}
-use mathlib.Core.Logic.{_⊎_}
+use mathlib.Core.List.{List, [], _∷_, _++_, map, append-nil}
 use mathlib.Core.Bool.{Bool, true, false}
 use Prim.Native.Nat.{ℕ, _+_, _*_, _<_, _≤_}
 use native.Mathlib.Omega.{arith}
-use lib.ListN.{length, drop, take, length-append}
+use lib.ListN.{length, drop, take, length-append, length-map}
 use lib.Seq.{drop-length, length-take-le, paste, take-paste}
 use Rattle.pcrl.specs.Tests.{Every}
 use Rattle.pcrl.specs.Reader.{all}
@@ -15,8 +14,7 @@ use Rattle.pcrl.specs.Stream.{encode-summand}
 use Rattle.pcrl.specs.Heads.{look, heads}
 use Rattle.laws.specs.Every.{every-append, every-left, every-right}
 use Rattle.nodes.specs.declared.Node.{Node}
-use Rattle.nodes.specs.Layout.{byte-limit, alt-kind, cond-kind, call-kind, enc}
-use Rattle.nodes.specs.Views.{Views}
+use Rattle.nodes.specs.Layout.{byte-limit, enc}
 use Rattle.counting.specs.declared.Counted.{Counted}
 use Rattle.counting.specs.Limits.{row-width, cut, row}
 use Rattle.counting.specs.Counting.{Counts, Tallied}
@@ -30,12 +28,15 @@ use Rattle.putting.proofs.Several.{slot-kept}
 use Rattle.following.proofs.Parts.{all-append}
 use Rattle.contexts.specs.declared.Spot.{Spot}
 use Rattle.contexts.specs.declared.Side.{Side}
-use Rattle.contexts.specs.Spots.{Ready, SummandFits, Arrays, arrays, around, Spotted, Deeper, Kept, Beyond, Leads}
-use Rattle.contexts.specs.Steps.{SideDown, CallDown, SummandsOut, Written, SideWritten}
-use Rattle.contexts.proofs.Spotting.{map-none, none-map, kept-same, kept-then, kept-up, deeper-same, deeper-then, side-kept, stuck}
-use Rattle.contexts.proofs.Sides.{Passed, Sides, sides}
-use Rattle.heads.specs.Writing.{HeadsCounted, HeadsWritten}
-use Rattle.heads.specs.Progress.{Ends, Past, Onward}
+use Rattle.contexts.specs.Spots.{SummandFits, Arrays, arrays, around, Spotted, Deeper, Kept, Beyond, Leads, OnSide}
+use Rattle.contexts.specs.Steps.{SideDown, SummandsOut}
+use Rattle.contexts.proofs.Spotting.{kept-same, kept-then, kept-up, deeper-same, stuck}
+use Rattle.contexts.proofs.Sides.{Passed}
+use Rattle.heads.specs.Writing.{HeadsWritten}
+use Rattle.heads.specs.declared.walk.Turn.{Turn}
+use Rattle.heads.specs.Stack.{later-cells, Queue}
+use Rattle.heads.specs.Progress.{Past, Start, start, Roomy, Moved, Onward, WrittenBy, Toward, Stands}
+use Rattle.heads.proofs.Stacking.{queue-many, queue-in, queue-kept, queue-same, queue-base}
 
 -- COUNTS
 
@@ -51,17 +52,17 @@ pub passed : (cells K : List ℕ) (at : ℕ) (a : Counted) → Counts cells K at
 unfolding cut
 passed cells K at a h p rest e = let q = h false p rest e in (λ few. let z = q .2 in omega arith, q .1)
 
-length-none : (hs : List Summand) → length hs ≡ 0 → hs ≡ []
+pub length-none : (hs : List Summand) → length hs ≡ 0 → hs ≡ []
 length-none [] e = refl
 length-none (h ∷ hs) e = absurd (omega arith)
 
-pub ends : (cells counts : List ℕ) (fuel at a : ℕ) → HeadsCounted cells counts fuel at a → (z : Done) → (z .ok ≡ true → a ≡ 0) → (z .ok ≡ false → a ≡ 0 → ⊥) → Ends cells counts fuel at z
-unfolding cut
-ends cells counts fuel at a ct z y n H F b p rest σ m c few t l e =
-    let q = ct H F b p rest σ m c few t l e in (
-      λ ok. let k = y ok in length-none (heads H fuel σ m c p) (omega arith),
-      λ bad h. let k = ap length h in n bad (omega arith),
-    )
+-- of one side of a choice
+pub counted-side : (cells counts : List ℕ) (s : Spot) (A : Arrays) (d : Node) (e : Side) (a : Counted) → Counts cells (row (row-width * s .fuel) counts) (e .at) a
+    → (H : Sheet) (F : ℕ) (hs : List Summand) → length (H .procs) ≤ row-width → Tallied H F counts → OnSide H F cells s A d e hs → a .heads ≡ cut (length hs)
+counted-side cells counts s A d e a ct H F hs few t q =
+    let f = around (q .ctx .vs) (q .ctx .cs ++ q .es) (q .ctx .ks) in
+    let xs = heads H (s .fuel) (q .ctx .σ) (s .m) (e .c) (q .t) in
+    counted cells counts (e .at) (s .fuel) a ct H F false (q .t) (q .rest) (q .ctx .σ) (s .m) (e .c) few t (q .fuel-left) (q .place) ∙ ap cut (sym (length-map xs f) ∙ ap length (q .are))
 
 -- SUMMANDS WRITTEN
 
@@ -83,198 +84,183 @@ module _ (w v : ℕ) (o o′ : List ℕ) (r : Done) (o″ : List ℕ) where
         omega (arith, ap length (all-append encode-summand xs ys), length-append (all encode-summand xs) (all encode-summand ys)),
   )
 
-out-none : (v : ℕ) (o : List ℕ) (z : Done) → z .ok ≡ true → z .w ≡ v → SummandsOut [] v o z o
-unfolding Every all
-out-none v o z ok ez = (λ t. (tt, ap (λ (i : ℕ). take i o) ez ∙ sym (append-nil (take v o))), λ t. never (sym t ∙ ok))
-
--- the heads of a term that is not walked
-out-ended : (f : Summand → Summand) (xs hs : List Summand) → map f xs ≡ hs → Beyond hs → (z : Done) → (z .ok ≡ true → xs ≡ []) × (z .ok ≡ false → xs ≡ [] → ⊥) → (v : ℕ) (o : List ℕ) → z .w ≡ v → SummandsOut hs v o z o
-out-ended f xs hs e far z k v o ez = (
-  λ ok. subst (λ (l : List Summand). SummandsOut l v o z o) (sym (map-none f xs hs e (k .0 ok))) (out-none v o z ok ez) .0 ok,
-  λ bad h. absurd (k .1 bad (none-map f xs hs e (far h))),
-)
+-- the same answer, told by its parts
+out-by : (hs : List Summand) (w : ℕ) (o : List ℕ) (x : Done) (o′ : List ℕ) (b : Bool) → x .ok ≡ b → SummandsOut hs w o x o′ → SummandsOut hs w o (record { ok = b; w = x .w }) o′
+out-by hs w o x o′ b e k = subst (λ (c : Bool). SummandsOut hs w o (record { ok = c; w = x .w }) o′) e k
 
 module _ (cells starts counts firsts : List ℕ) where
-  pub on-start : (s : Spot) (A : Arrays) (w : ℕ) (o : List ℕ) → Onward cells starts counts firsts s A w o s A w o
-  unfolding Every all
-  on-start s A w o H F hs rd sp = record { done = []; left = hs; split = refl; within = tt; bytes = sym (append-nil (take w o)); spotted = sp; deeper = deeper-same s; kept = kept-same s A }
+  -- AT A SPOT
 
-  -- one step down
-  pub on-step : (s : Spot) (A : Arrays) (w : ℕ) (o : List ℕ) (t : Spot) (C : Arrays) → t .ok ≡ true → Leads cells starts counts firsts s A t C → Onward cells starts counts firsts s A w o t C w o
-  unfolding Every all
-  on-step s A w o t C ok ld H F hs rd sp = record {
+  pub goes-start : (s : Spot) (A : Arrays) (w : ℕ) (o : List ℕ) (heads q : ℕ) (l : List ℕ) → w ≤ length o → Onward cells starts counts firsts (start s A w o heads q (length l)) s heads heads q w A l o
+  unfolding Every all Queue
+  goes-start s A w o heads q l lw H F hs rd sp ro = record {
     done = [];
-    left = hs;
-    split = refl;
+    here = hs;
+    waiting = [];
+    n = 0;
+    split = sym (append-nil hs);
     within = tt;
     bytes = sym (append-nil (take w o));
-    spotted = ld .2 H F hs rd sp .0 ok;
-    deeper = ld .0;
-    kept = ld .1;
+    spotted = sp;
+    many = ro .many;
+    some = ro .some;
+    both = omega arith;
+    deep = omega arith;
+    queue = (deeper-same s, refl);
+    kept = kept-same s A;
+    fuel-is = refl;
+    start-in = lw;
+    inside = lw;
+    same = refl;
+    long = omega arith;
   }
 
-  module _ (s : Spot) (A : Arrays) (w : ℕ) (o : List ℕ) (r : Spot) (B : Arrays) (v : ℕ) (o′ : List ℕ) (on : Onward cells starts counts firsts s A w o r B v o′) where
-    -- past what has no heads
-    pub on-past : (t : Spot) → Past cells counts r t → Onward cells starts counts firsts s A w o t B v o′
-    on-past t pt H F hs rd sp =
-        let m = on H F hs rd sp in
+  -- heads that have not the limits
+  pub beyond-these : (S : Start) (o : List ℕ) (hs xs here ys : List Summand) → hs ≡ xs ++ (here ++ ys) → Beyond here → 0 < length here → (C : Arrays) (w : ℕ) → SummandsOut hs (S .w) (S .o) (record { ok = false; w = w }) o × (false ≡ true → Kept (S .s) (S .A) C)
+  beyond-these S o hs xs here ys e far some C w = (
+    (
+      λ t. never t,
+      λ t fit.
+          let u : Every SummandFits (xs ++ (here ++ ys)) = subst (λ (x : List Summand). Every SummandFits x) e fit in
+          let z = far (every-left SummandFits here ys (every-right SummandFits xs (here ++ ys) u)) in
+          absurd (omega (arith, ap length z)),
+    ),
+    λ t. never t,
+  )
+
+  module _ (H : Sheet) (F : ℕ) (S : Start) (s : Spot) (heads left q v : ℕ) (B : Arrays) (l o : List ℕ) (hs : List Summand) (m : Moved cells starts counts firsts H F S s heads left q v B l o hs) where
+    -- how many are left
+    pub moved-left : length (m .done) + left ≡ length hs
+    moved-left = omega (arith, ap length (m .split), length-append (m .done) (m .here ++ m .waiting), length-append (m .here) (m .waiting), m .many, m .both)
+
+    pub moved-roomy : Roomy S hs → Roomy (start s B v o heads q (length l)) (m .here)
+    moved-roomy ro =
+        let k = queue-many H F cells (S .s) l (S .s .fuel) (S .q) (m .n) s B (m .waiting) (m .queue) in
+        record { many = m .many; some = m .some; few = omega (arith, moved-left, m .both, ro .many, ro .few); room-for = omega (arith, moved-left, m .both, m .deep, m .long, k, ro .many, ro .room-for) }
+
+    -- deeper, with the same heads
+    pub moved-to : (t : Spot) (C : Arrays) → Spotted H F cells t C (m .here) → Deeper s t → Kept s B C → t .fuel ≡ s .fuel → Moved cells starts counts firsts H F S t heads left q v C l o hs
+    moved-to t C sp dp kp ef = record {
+      done = m .done;
+      here = m .here;
+      waiting = m .waiting;
+      n = m .n;
+      split = m .split;
+      within = m .within;
+      bytes = m .bytes;
+      spotted = sp;
+      many = m .many;
+      some = m .some;
+      both = m .both;
+      deep = m .deep;
+      queue = queue-in H F cells (S .s) l (S .s .fuel) (S .q) (m .n) s t C (m .waiting) dp (queue-kept H F cells (S .s) l (S .s .fuel) (S .q) (m .n) s B C (m .waiting) kp (m .queue));
+      kept = kept-then (S .s) (S .A) B C (m .kept) (kept-up (S .s) s B C (queue-base H F cells (S .s) l (S .s .fuel) (S .q) (m .n) s B (m .waiting) (m .queue)) kp);
+      fuel-is = ef ∙ m .fuel-is;
+      start-in = m .start-in;
+      inside = m .inside;
+      same = m .same;
+      long = m .long;
+    }
+
+    -- the heads here have not the limits
+    pub beyond-out : Beyond (m .here) → (C : Arrays) (w : ℕ) → SummandsOut hs (S .w) (S .o) (record { ok = false; w = w }) o × (false ≡ true → Kept (S .s) (S .A) C)
+    beyond-out far C w = beyond-these S o hs (m .done) (m .here) (m .waiting) (m .split) far (omega (arith, m .many, m .some)) C w
+
+    -- a leaf's heads are written
+    module _ (x : Done) (C : Arrays) (o′ : List ℕ) (k : SummandsOut (m .here) v o x o′) (lx : x .w ≤ length o′) (same : length o′ ≡ length o) where
+      pub leaf-fails : x .ok ≡ false → (b : Arrays) → SummandsOut hs (S .w) (S .o) (record { ok = false; w = x .w }) o′ × (false ≡ true → Kept (S .s) (S .A) b)
+      leaf-fails bad b = (
+        out-by hs (S .w) (S .o) x o′ false bad
+            (subst (λ (y : List Summand). SummandsOut y (S .w) (S .o) x o′) (sym (m .split)) (out-then (S .w) v (S .o) o x o′ (m .done) (m .here ++ m .waiting) (m .within) (m .bytes) (m .start-in) (m .inside) (m .same) (out-short v v o o′ x o′ (m .here) (m .waiting) bad k))),
+        λ t. never t,
+      )
+
+      pub leaf-last : x .ok ≡ true → left ≤ heads → SummandsOut hs (S .w) (S .o) (record { ok = true; w = x .w }) o′
+      leaf-last ok last =
+          let z : m .waiting ≡ [] = length-none (m .waiting) (omega (arith, m .both)) in
+          let e : m .here ≡ m .here ++ m .waiting = sym (append-nil (m .here)) ∙ ap (λ (y : List Summand). m .here ++ y) (sym z) in
+          out-by hs (S .w) (S .o) x o′ true ok
+          (subst (λ (y : List Summand). SummandsOut y (S .w) (S .o) x o′) (sym (m .split)) (out-then (S .w) v (S .o) o x o′ (m .done) (m .here ++ m .waiting) (m .within) (m .bytes) (m .start-in) (m .inside) (m .same) (subst (λ (y : List Summand). SummandsOut y v o x o′) e k)))
+
+  -- ON
+
+  module _ (S : Start) (s : Spot) (heads left q v : ℕ) (B : Arrays) (l o : List ℕ) (on : Onward cells starts counts firsts S s heads left q v B l o) where
+    pub goes-past : (t : Spot) → Past cells counts s t → Onward cells starts counts firsts S t heads left q v B l o
+    goes-past t pt H F hs rd sp ro =
+        let m = on H F hs rd sp ro in
+        moved-to H F S s heads left q v B l o hs m t B (pt .spotted H F B (m .here) (rd .procs-few) (rd .tallied) (m .spotted)) (pt .deeper) (kept-same s B) (pt .fuel-same)
+
+    -- a term that ends outside the cells: there is none
+    pub goes-stuck : length cells ≤ s .at → (x : Done) (C : Arrays) (o′ : List ℕ) → WrittenBy cells starts counts firsts S x C o′
+    goes-stuck out x C o′ H F hs rd sp ro = let m = on H F hs rd sp ro in absurd (stuck H F cells s B (m .here) out (m .spotted))
+
+    pub goes-step : (t : Spot) (C : Arrays) → Leads cells starts counts firsts s B t C → (t .ok ≡ true → t .fuel ≡ s .fuel) → Stands cells starts counts firsts S t heads left q v C l o
+    goes-step t C ld ef = (
+      λ ok H F hs rd sp ro. let m = on H F hs rd sp ro in moved-to H F S s heads left q v B l o hs m t C (ld .2 H F (m .here) rd (m .spotted) .0 ok) (ld .0) (ld .1) (ef ok),
+      λ bad H F hs rd sp ro. let m = on H F hs rd sp ro in beyond-out H F S s heads left q v B l o hs m (ld .2 H F (m .here) rd (m .spotted) .1 bad) C v,
+    )
+
+    -- a stack that is the same so far
+    pub goes-later : (l′ : List ℕ) → later-cells * q ≤ length l → length l′ ≡ length l → take (later-cells * q) l′ ≡ take (later-cells * q) l → Onward cells starts counts firsts S s heads left q v B l′ o
+    goes-later l′ high el same H F hs rd sp ro =
+        let m = on H F hs rd sp ro in
+        let e : take (later-cells * (S .q + m .n)) l′ ≡ take (later-cells * (S .q + m .n)) l = subst (λ (j : ℕ). take (later-cells * j) l′ ≡ take (later-cells * j) l) (m .deep) same in
         record {
           done = m .done;
-          left = m .left;
+          here = m .here;
+          waiting = m .waiting;
+          n = m .n;
           split = m .split;
           within = m .within;
           bytes = m .bytes;
-          spotted = pt .spotted H F B (m .left) (rd .procs-few) (rd .tallied) (m .spotted);
-          deeper = deeper-then s r t (m .deeper) (pt .deeper);
+          spotted = m .spotted;
+          many = m .many;
+          some = m .some;
+          both = m .both;
+          deep = m .deep;
+          queue = queue-same H F cells (S .s) l l′ (S .s .fuel) (S .q) (m .n) s B (m .waiting) (subst (λ (j : ℕ). later-cells * j ≤ length l) (m .deep) high) el e (m .queue);
           kept = m .kept;
+          fuel-is = m .fuel-is;
+          start-in = m .start-in;
+          inside = m .inside;
+          same = m .same;
+          long = omega (arith, m .long, el);
         }
 
-    pub on-then : (t : Spot) (C : Arrays) (u : ℕ) (o″ : List ℕ) → Onward cells starts counts firsts r B v o′ t C u o″ → Onward cells starts counts firsts s A w o t C u o″
-    on-then t C u o″ next H F hs rd sp =
-        let m = on H F hs rd sp in
-        let k = next H F (m .left) rd (m .spotted) in
-        record {
-          done = m .done ++ k .done;
-          left = k .left;
-          split = m .split ∙ ap (λ (l : List Summand). m .done ++ l) (k .split) ∙ sym (append-assoc (m .done) (k .done) (k .left));
-          within = every-append SummandFits (m .done) (k .done) (m .within) (k .within);
-          bytes = adds-then (all encode-summand (m .done)) (all encode-summand (k .done)) w v u o o′ o″ (m .bytes) (k .bytes) ∙ ap (λ (l : List ℕ). take w o ++ l) (sym (all-append encode-summand (m .done) (k .done)));
-          spotted = k .spotted;
-          deeper = deeper-then s r t (m .deeper) (k .deeper);
-          kept = kept-then s A B C (m .kept) (kept-up s r B C (m .deeper) (k .kept));
-        }
-
-    -- all that is left is written
-    pub on-end : w ≤ length o → v ≤ length o′ → length o′ ≡ length o → (x : Done) (C : Arrays) (o″ : List ℕ) → Written cells starts counts firsts r B v o′ x C o″ → Written cells starts counts firsts s A w o x C o″
-    on-end lw lv same x C o″ wr H F hs rd sp =
-        let m = on H F hs rd sp in
-        let k = wr H F (m .left) rd (m .spotted) in (
-          subst (λ (l : List Summand). SummandsOut l w o x o″) (sym (m .split)) (out-then w v o o′ x o″ (m .done) (m .left) (m .within) (m .bytes) lw lv same (k .0)),
-          λ ok. kept-then s A B C (m .kept) (kept-up s r B C (m .deeper) (k .1 ok)),
-        )
-
-  -- AT A SPOT
-
-  module _ (s : Spot) (A : Arrays) (w : ℕ) (o : List ℕ) where
-    -- a term that ends outside the cells: there is none
-    pub stuck-out : length cells ≤ s .at → (x : Done) (B : Arrays) (o′ : List ℕ) → Written cells starts counts firsts s A w o x B o′
-    stuck-out l x B o′ H F hs rd sp = absurd (stuck H F cells s A hs l sp)
-
-    -- a term without heads
-    pub none-out : (z : Done) → z .ok ≡ true → z .w ≡ w → Ends cells counts (s .fuel) (s .at) z → Written cells starts counts firsts s A w o z A o
-    none-out z ok ez en H F hs rd sp =
-        let q = sp .1 in
-        let k = en H F (q .b) (sp .0) (q .rest) (q .ctx .σ) (s .m) (s .c) (rd .procs-few) (rd .tallied) (q .fuel-left) (q .place) in (
-          subst (λ (l : List Summand). SummandsOut l w o z o) (sym (map-none (around (q .ctx .vs) (q .ctx .cs) (q .ctx .ks)) (heads H (s .fuel) (q .ctx .σ) (s .m) (s .c) (sp .0)) hs (q .are) (k .0 ok))) (out-none w o z ok ez),
-          λ t. kept-same s A,
-        )
-
-    -- a step that fails
-    ended-out : (z : Done) → z .w ≡ w → Ends cells counts (s .fuel) (s .at) z → (B : Arrays) → Kept s A B → ((H : Sheet) (F : ℕ) (hs : List Summand) → Ready H F cells starts counts firsts → Spotted H F cells s A hs → Beyond hs)
-        → Written cells starts counts firsts s A w o z B o
-    ended-out z ez en B kp far H F hs rd sp =
-        let q = sp .1 in (
-          out-ended (around (q .ctx .vs) (q .ctx .cs) (q .ctx .ks)) (heads H (s .fuel) (q .ctx .σ) (s .m) (s .c) (sp .0)) hs (q .are) (far H F hs rd sp) z
-              (en H F (q .b) (sp .0) (q .rest) (q .ctx .σ) (s .m) (s .c) (rd .procs-few) (rd .tallied) (q .fuel-left) (q .place)) w o ez,
-          λ t. kp,
-        )
-
-    pub step-fails : (t : Spot) (B : Arrays) → t .ok ≡ false → Leads cells starts counts firsts s A t B → (z : Done) → z .w ≡ w → Ends cells counts (s .fuel) (s .at) z → Written cells starts counts firsts s A w o z B o
-    step-fails t B bad ld z ez en = ended-out z ez en B (ld .1) (λ H F hs rd sp. ld .2 H F hs rd sp .1 bad)
-
-  -- A CALL
-
-  module _ (s : Spot) (slots vars conds calls : List ℕ) (w : ℕ) (o : List ℕ) (d : Node) (vw : Views cells (s .at) d) (is : d .kind ≡ call-kind)
-      (r : Spot) (mine : List ℕ) (cd : CallDown cells starts firsts d s slots r mine) where
-    pub call-fails : r .ok ≡ false → (z : Done) → z .w ≡ w → Ends cells counts (s .fuel) (s .at) z → Written cells starts counts firsts s (arrays slots vars conds calls) w o z (arrays slots vars conds calls) o
-    call-fails bad z ez en = ended-out s (arrays slots vars conds calls) w o z ez en (arrays slots vars conds calls) (kept-same s (arrays slots vars conds calls)) (λ H F hs rd sp. cd counts vars conds calls vw is H F hs rd sp .1 bad)
-
-    pub call-out : r .ok ≡ true → (x : Done) (mine′ vars′ conds′ calls′ o′ : List ℕ) → Written cells starts counts firsts r (arrays mine vars conds calls) w o x (arrays mine′ vars′ conds′ calls′) o′
-        → Written cells starts counts firsts s (arrays slots vars conds calls) w o x (arrays slots vars′ conds′ calls′) o′
-    call-out ok x mine′ vars′ conds′ calls′ o′ wr H F hs rd sp =
-        let (q, e₁, e₂, e₃) = cd counts vars conds calls vw is H F hs rd sp .0 ok in
-        let k = wr H F hs rd q in (
-          k .0,
-          λ t.
-              let p = k .1 t in
-              record {
-                slots-kept = refl;
-                vars-kept = subst (λ (i : ℕ). take i vars′ ≡ take i vars) e₁ (p .vars-kept);
-                conds-kept = subst (λ (i : ℕ). take i conds′ ≡ take i conds) e₂ (p .conds-kept);
-                calls-kept = subst (λ (i : ℕ). drop i calls′ ≡ drop i calls) e₃ (p .calls-kept);
-              },
-        )
-
-  -- A SIDE OF A CHOICE
-
-  module _ (s : Spot) (A : Arrays) (w : ℕ) (o : List ℕ) (d : Node) (e : Side) where
-    pub side-none : (z : Done) → z .ok ≡ true → z .w ≡ w → Ends cells counts (s .fuel) (e .at) z → SideWritten cells starts counts firsts s A d e w o z A o
-    side-none z ok ez en H F hs rd q =
-        let k = en H F false (q .t) (q .rest) (q .ctx .σ) (s .m) (e .c) (rd .procs-few) (rd .tallied) (q .fuel-left) (q .place) in (
-          subst (λ (l : List Summand). SummandsOut l w o z o) (sym (map-none (around (q .ctx .vs) (q .ctx .cs ++ q .es) (q .ctx .ks)) (heads H (s .fuel) (q .ctx .σ) (s .m) (e .c) (q .t)) hs (q .are) (k .0 ok))) (out-none w o z ok ez),
-          λ t. kept-same s A,
-        )
-
-  module _ (s : Spot) (slots vars conds calls : List ℕ) (w : ℕ) (o : List ℕ) (d : Node) (e : Side) (f : Spot) (conds′ : List ℕ) (sd : SideDown cells d s e slots conds f conds′) where
-    pub side-fails : f .ok ≡ false → (z : Done) → z .w ≡ w → Ends cells counts (s .fuel) (e .at) z → SideWritten cells starts counts firsts s (arrays slots vars conds calls) d e w o z (arrays slots vars conds′ calls) o
-    side-fails bad z ez en H F hs rd q = (
-      out-ended (around (q .ctx .vs) (q .ctx .cs ++ q .es) (q .ctx .ks)) (heads H (s .fuel) (q .ctx .σ) (s .m) (e .c) (q .t)) hs (q .are) (sd vars calls .2 H F hs q .1 bad) z
-          (en H F false (q .t) (q .rest) (q .ctx .σ) (s .m) (e .c) (rd .procs-few) (rd .tallied) (q .fuel-left) (q .place)) w o ez,
-      λ t. sd vars calls .1,
-    )
-
-    pub side-out : f .ok ≡ true → (x : Done) (C : Arrays) (o′ : List ℕ) → Written cells starts counts firsts f (arrays slots vars conds′ calls) w o x C o′ → SideWritten cells starts counts firsts s (arrays slots vars conds calls) d e w o x C o′
-    side-out ok x C o′ wr H F hs rd q =
-        let g = sd vars calls in
-        let k = wr H F hs rd (g .2 H F hs q .0 ok) in
-        (k .0, λ t. kept-then s (arrays slots vars conds calls) (arrays slots vars conds′ calls) C (g .1) (kept-up s f (arrays slots vars conds′ calls) C (g .0) (k .1 t)))
-
-  -- BOTH SIDES
-
-  module _ (s : Spot) (A : Arrays) (w : ℕ) (o : List ℕ) (d : Node) (vw : Views cells (s .at) d) (is : (d .kind ≡ alt-kind) ⊎ (d .kind ≡ cond-kind))
-      (x : Done) (B : Arrays) (o′ : List ℕ) (first : SideWritten cells starts counts firsts s A d (record { second = false; at = d .next; c = s .c }) w o x B o′)
-      (next own : ℕ) (sk : Passed cells (d .next) next own) (c′ : ℕ) (ec : s .c + own < byte-limit → c′ ≡ s .c + own) where
-    both : (H : Sheet) (F : ℕ) (hs : List Summand) → Spotted H F cells s A hs → Sides H F cells s A d (record { second = false; at = d .next; c = s .c }) (record { second = true; at = next; c = c′ }) hs
-    both H F hs sp = sides H F cells s A hs d vw next own sk c′ ec is sp
-
-    pub first-fails : x .ok ≡ false → Written cells starts counts firsts s A w o x B o′
-    first-fails bad H F hs rd sp =
-        let g = both H F hs sp in
-        (subst (λ (l : List Summand). SummandsOut l w o x o′) (sym (g .split)) (out-short w (x .w) o o′ x o′ (g .hs₁) (g .hs₂) bad (first H F (g .hs₁) rd (g .on₁) .0)), λ t. never (sym bad ∙ t))
-
-    -- after the first side
-    module _ (ok : x .ok ≡ true) (lw : w ≤ length o) (lx : x .w ≤ length o′) (same : length o′ ≡ length o) (z : Done) (C : Arrays) (o″ : List ℕ)
-        (second : SideWritten cells starts counts firsts s B d (record { second = true; at = next; c = c′ }) (x .w) o′ z C o″) where
-      pub second-out : Written cells starts counts firsts s A w o z C o″
-      second-out H F hs rd sp =
-          let g = both H F hs sp in
-          let f = first H F (g .hs₁) rd (g .on₁) in
-          let kp = f .1 ok in
-          let q = second H F (g .hs₂) rd (side-kept H F cells s A B d (record { second = true; at = next; c = c′ }) (g .hs₂) kp (g .on₂)) in (
-            subst (λ (l : List Summand). SummandsOut l w o z o″) (sym (g .split)) (out-then w (x .w) o o′ z o″ (g .hs₁) (g .hs₂) (f .0 .0 ok .0) (f .0 .0 ok .1) lw lx same (q .0)),
-            λ t. kept-then s A B C kp (q .1 t),
-          )
-
-    -- on to the second side
-    pub on-choice : x .ok ≡ true → (slots vars conds calls : List ℕ) → B ≡ arrays slots vars conds calls → (t : Spot) (conds′ : List ℕ) → t .ok ≡ true → SideDown cells d s (record { second = true; at = next; c = c′ }) slots conds t conds′
-        → Onward cells starts counts firsts s A w o t (arrays slots vars conds′ calls) (x .w) o′
-    on-choice ok slots vars conds calls eb t conds′ tok sd H F hs rd sp =
-        let g = sd vars calls in
-        let C = arrays slots vars conds calls in
-        let C′ = arrays slots vars conds′ calls in
-        let b = both H F hs sp in
-        let f = first H F (b .hs₁) rd (b .on₁) in
-        let kp : Kept s A C = subst (λ (x : Arrays). Kept s A x) eb (f .1 ok) in
-        record {
-          done = b .hs₁;
-          left = b .hs₂;
-          split = b .split;
-          within = f .0 .0 ok .0;
-          bytes = f .0 .0 ok .1;
-          spotted = g .2 H F (b .hs₂) (side-kept H F cells s A C d (record { second = true; at = next; c = c′ }) (b .hs₂) kp (b .on₂)) .0 tok;
-          deeper = g .0;
-          kept = kept-then s A C C′ kp (g .1);
-        }
+  -- down into the side
+  pub toward-down : (S : Start) (k : Turn) (slots vars conds calls l o : List ℕ) → Toward cells starts counts firsts S k (arrays slots vars conds calls) l o → k .over ≡ false → (r : Spot) (conds′ : List ℕ) → SideDown cells (k .d) (k .t) (k .e) slots conds r conds′ → (r .ok ≡ true → r .fuel ≡ k .t .fuel)
+      → Stands cells starts counts firsts S r (k .heads) (k .left) (k .q) (k .done .w) (arrays slots vars conds′ calls) l o
+  toward-down S k slots vars conds calls l o tw still r conds′ sd ef =
+      let B = arrays slots vars conds calls in
+      let C = arrays slots vars conds′ calls in
+      let z = sd vars calls in (
+        λ ok H F hs rd sp ro.
+            let a = tw .0 still H F hs rd sp ro in
+            record {
+              done = a .done;
+              here = a .here;
+              waiting = a .waiting;
+              n = a .n;
+              split = a .split;
+              within = a .within;
+              bytes = a .bytes;
+              spotted = z .2 H F (a .here) (a .side) .0 ok;
+              many = a .many;
+              some = a .some;
+              both = a .both;
+              deep = a .deep;
+              queue = queue-in H F cells (S .s) l (S .s .fuel) (S .q) (a .n) (k .t) r C (a .waiting) (z .0) (queue-kept H F cells (S .s) l (S .s .fuel) (S .q) (a .n) (k .t) B C (a .waiting) (z .1) (a .queue));
+              kept = kept-then (S .s) (S .A) B C (a .kept) (kept-up (S .s) (k .t) B C (queue-base H F cells (S .s) l (S .s .fuel) (S .q) (a .n) (k .t) B (a .waiting) (a .queue)) (z .1));
+              fuel-is = ef ok ∙ a .fuel-is;
+              start-in = a .start-in;
+              inside = a .inside;
+              same = a .same;
+              long = a .long;
+            },
+        λ bad H F hs rd sp ro.
+            let a = tw .0 still H F hs rd sp ro in
+            beyond-these S o hs (a .done) (a .here) (a .waiting) (a .split) (z .2 H F (a .here) (a .side) .1 bad) (omega (arith, a .many, a .some)) C (k .done .w),
+      )
 
   -- THE WHOLE TERM
 
@@ -293,10 +279,10 @@ module _ (cells starts counts firsts : List ℕ) where
   map-around [] = refl
   map-around (h ∷ hs) = ap (λ (x : Summand). x ∷ map (around [] [] []) hs) (around-none h) ∙ ap (λ (l : List Summand). h ∷ l) (map-around hs)
 
-  pub heads-out : (fuel at c : ℕ) (base : List ℕ) (n m w : ℕ) (o work vars conds calls : List ℕ) (top : ℕ) → top ≡ length calls → take (slot-width * n) work ≡ take (slot-width * n) base → (x : Done) (B : Arrays) (o′ : List ℕ)
-      → Written cells starts counts firsts (spot at fuel n m c top) (arrays work vars conds calls) w o x B o′ → HeadsWritten cells starts counts firsts fuel at c base n m w o x o′
+  pub heads-out : (fuel at c : ℕ) (base : List ℕ) (n m many w : ℕ) (o work vars conds calls : List ℕ) (top room : ℕ) → top ≡ length calls → take (slot-width * n) work ≡ take (slot-width * n) base → (x : Done) (B : Arrays) (o′ : List ℕ)
+      → WrittenBy cells starts counts firsts (start (spot at fuel n m c top) (arrays work vars conds calls) w o many 0 room) x B o′ → later-cells * byte-limit ≤ room + later-cells → HeadsWritten cells starts counts firsts fuel at c base n m many w o x o′
   unfolding all Every
-  heads-out fuel at c base n m w o work vars conds calls top et kept x B o′ wr H σ b p rest rd e f s fn nw = wr H fuel (heads H fuel σ m c p) rd (
+  heads-out fuel at c base n m many w o work vars conds calls top room et kept x B o′ wr big H σ b p rest rd e f s fn nw em some few = wr H fuel (heads H fuel σ m c p) rd (
     p,
     record {
       ctx = record {
@@ -323,4 +309,4 @@ module _ (cells starts counts firsts : List ℕ) where
       equations-left = nw;
       are = map-around (heads H fuel σ m c p);
     },
-  ) .0
+  ) (record { many = em; some = some; few = few; room-for = omega arith }) .0

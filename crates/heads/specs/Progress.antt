@@ -1,19 +1,18 @@
 -- What the pieces of the walk over heads say.
 use mathlib.Core.Path.{_≡_}
-use mathlib.Core.List.{List, [], _++_}
+use mathlib.Core.List.{List, _++_}
 use mathlib.Core.Logic.{_⊎_}
 use mathlib.Core.Bool.{Bool, true, false}
 use Prim.Native.Nat.{ℕ, _+_, _*_, _≤_, _<_}
-use lib.ListN.{length, drop}
+use lib.ListN.{length, take}
 use Rattle.pcrl.specs.Limits.{max-variables}
 use Rattle.pcrl.specs.Tests.{Every}
 use Rattle.pcrl.specs.Reader.{all}
-use Rattle.pcrl.specs.Sheet.{Data, Proc, Sheet}
+use Rattle.pcrl.specs.Sheet.{Sheet}
 use Rattle.pcrl.specs.Table.{Summand}
 use Rattle.pcrl.specs.Stream.{encode-summand}
-use Rattle.pcrl.specs.Heads.{heads}
 use Rattle.nodes.specs.declared.Node.{Node}
-use Rattle.nodes.specs.Layout.{byte-limit, alt-kind, atom-kind, cond-kind, call-kind, enc}
+use Rattle.nodes.specs.Layout.{byte-limit, alt-kind, atom-kind, cond-kind, call-kind}
 use Rattle.nodes.specs.Views.{On, Views}
 use Rattle.counting.specs.Limits.{row-width, row}
 use Rattle.counting.specs.Counting.{leaf-of, Counts, Tallied}
@@ -22,10 +21,11 @@ use Rattle.putting.specs.Slots.{Adds}
 use Rattle.following.specs.Follows.{calls-room}
 use Rattle.contexts.specs.declared.Spot.{Spot}
 use Rattle.contexts.specs.declared.Side.{Side}
-use Rattle.contexts.specs.Spots.{conds-room, Ready, SummandFits, Arrays, Bound, Spotted, Deeper, Kept, weight}
-use Rattle.contexts.specs.Steps.{Stays, Written}
+use Rattle.contexts.specs.Spots.{conds-room, Ready, SummandFits, Arrays, Bound, Spotted, Deeper, Kept, OnSide}
+use Rattle.contexts.specs.Steps.{Stays, SummandsOut}
 use Rattle.heads.specs.declared.alternatives.Ahead.{Ahead}
-use Rattle.heads.specs.declared.walk.Reached.{Reached}
+use Rattle.heads.specs.declared.walk.Turn.{Turn}
+use Rattle.heads.specs.Stack.{later-cells, Steady, Queue}
 
 -- rooms of the arrays of a walk: sum variables, conditions, calls after a first part, calls
 pub record Rooms (lv lc la lk : ℕ) : Type 0 where
@@ -41,13 +41,16 @@ Either a b kind r = (r ≡ true → (kind ≡ a) ⊎ (kind ≡ b)) × (r ≡ fal
 abbrev pub Choice : ℕ → Bool → Type 0
 Choice = Either alt-kind cond-kind
 
-abbrev pub LeafKind : ℕ → Bool → Type 0
-LeafKind = Either atom-kind call-kind
+-- an action or a call; or a choice
+abbrev pub Leaf : ℕ → Type 0
+Leaf kind = (kind ≡ atom-kind) ⊎ (kind ≡ call-kind)
 
--- has a term no heads?
-abbrev pub Ends : List ℕ → List ℕ → ℕ → ℕ → Done → Type 0
-Ends cells counts fuel at r = (H : Sheet) (F : ℕ) (b : Bool) (p : Proc) (rest : List ℕ) (σ : List Data) (m c : ℕ) → length (H .procs) ≤ row-width → Tallied H F counts → fuel ≤ F
-    → drop at cells ≡ enc b p ++ rest → (r .ok ≡ true → heads H fuel σ m c p ≡ []) × (r .ok ≡ false → heads H fuel σ m c p ≡ [] → ⊥)
+abbrev pub Parting : ℕ → Type 0
+Parting kind = (kind ≡ alt-kind) ⊎ (kind ≡ cond-kind)
+
+-- is it neither?
+abbrev pub Inner : ℕ → Bool → Type 0
+Inner kind r = (r ≡ true → (kind ≡ atom-kind → ⊥) × (kind ≡ call-kind → ⊥) × (kind ≡ alt-kind → ⊥) × (kind ≡ cond-kind → ⊥)) × (r ≡ false → Leaf kind ⊎ Parting kind)
 
 -- the node at a spot, and the count of the first side of a choice
 pub record Looked (cells counts : List ℕ) (g : Ahead) : Type 0 where
@@ -89,28 +92,123 @@ pub record Past (cells counts : List ℕ) (s r : Spot) : Type 0 where
   pub stays : Stays s r
   pub spotted : (H : Sheet) (F : ℕ) (A : Arrays) (hs : List Summand) → length (H .procs) ≤ row-width → Tallied H F counts → Spotted H F cells s A hs → Spotted H F cells r A hs
 
-abbrev pub Reaches : List ℕ → List ℕ → ℕ → ℕ → Spot → Reached → Type 0
-Reaches cells counts fuel at r x = (x .over ≡ false → r .ok ≡ true) × (x .over ≡ true → (r .ok ≡ false) × Ends cells counts fuel at (x .done))
+-- What a walk begins with: where, the arrays, the place and the bytes of the output, how many heads the term has, the first free place
+-- of the stack, and the stack's cells.
+pub record Start : Type 0 where
+  pub s : Spot
+  pub A : Arrays
+  pub w : ℕ
+  pub o : List ℕ
+  pub heads : ℕ
+  pub q : ℕ
+  pub room : ℕ
 
--- a spot with the same bounds, and less to walk over
-abbrev pub Nearer : ℕ → ℕ → ℕ → Spot → Spot → Type 0
-Nearer l lk ls s r = Bound lk ls r × (weight l (r .fuel) (r .at) < weight l (s .fuel) (s .at))
+abbrev pub start : Spot → Arrays → ℕ → List ℕ → ℕ → ℕ → ℕ → Start
+start s A w o heads q room = record { s = s; A = A; w = w; o = o; heads = heads; q = q; room = room }
+
+-- few heads, and room for each of them on the stack
+pub record Roomy (S : Start) (hs : List Summand) : Type 0 where
+  pub many : length hs ≡ S .heads
+  pub some : 0 < S .heads
+  pub few : S .heads < byte-limit
+  pub room-for : later-cells * (S .q + S .heads) ≤ S .room
 
 module _ (cells starts counts firsts : List ℕ) where
-  -- From s to r: some heads are written, and the others are those at r.
-  pub record Moved (H : Sheet) (F : ℕ) (s : Spot) (A : Arrays) (w : ℕ) (o : List ℕ) (r : Spot) (B : Arrays) (v : ℕ) (o′ : List ℕ) (hs : List Summand) : Type 0 where
+  -- From the start to s: some heads are written, others are those at s, and the others those of the second sides on the stack l.
+  pub record Moved (H : Sheet) (F : ℕ) (S : Start) (s : Spot) (heads left q v : ℕ) (B : Arrays) (l o′ : List ℕ) (hs : List Summand) : Type 0 where
     pub done : List Summand
-    pub left : List Summand
-    pub split : hs ≡ done ++ left
+    pub here : List Summand
+    pub waiting : List Summand
+    pub n : ℕ
+    pub split : hs ≡ done ++ (here ++ waiting)
     pub within : Every SummandFits done
-    pub bytes : Adds (all encode-summand done) w o v o′
-    pub spotted : Spotted H F cells r B left
-    pub deeper : Deeper s r
-    pub kept : Kept s A B
+    pub bytes : Adds (all encode-summand done) (S .w) (S .o) v o′
+    pub spotted : Spotted H F cells s B here
+    pub many : length here ≡ heads
+    pub some : 0 < heads
+    pub both : heads + length waiting ≡ left
+    pub deep : q ≡ S .q + n
+    pub queue : Queue H F cells (S .s) l (S .s .fuel) (S .q) n s B waiting
+    pub kept : Kept (S .s) (S .A) B
+    pub fuel-is : s .fuel ≡ S .s .fuel
+    pub start-in : S .w ≤ length (S .o)
+    pub inside : v ≤ length o′
+    pub same : length o′ ≡ length (S .o)
+    pub long : S .room ≤ length l
 
-  abbrev pub Onward : Spot → Arrays → ℕ → List ℕ → Spot → Arrays → ℕ → List ℕ → Type 0
-  Onward s A w o r B v o′ = (H : Sheet) (F : ℕ) (hs : List Summand) → Ready H F cells starts counts firsts → Spotted H F cells s A hs → Moved H F s A w o r B v o′ hs
+  abbrev pub Onward : Start → Spot → ℕ → ℕ → ℕ → ℕ → Arrays → List ℕ → List ℕ → Type 0
+  Onward S s heads left q v B l o′ = (H : Sheet) (F : ℕ) (hs : List Summand) → Ready H F cells starts counts firsts → Spotted H F cells (S .s) (S .A) hs → Roomy S hs → Moved H F S s heads left q v B l o′ hs
 
-  -- one step of the walk: it goes on, or all is written
-  abbrev pub StepsOn : Spot → Arrays → ℕ → List ℕ → Reached → Arrays → List ℕ → Type 0
-  StepsOn s A w o x B o′ = (x .over ≡ false → Onward s A w o (x .s) B (x .done .w) o′) × (x .over ≡ true → Written cells starts counts firsts s A w o (x .done) B o′)
+  -- all heads are written, and the context is kept
+  abbrev pub WrittenBy : Start → Done → Arrays → List ℕ → Type 0
+  WrittenBy S x B o′ = (H : Sheet) (F : ℕ) (hs : List Summand) → Ready H F cells starts counts firsts → Spotted H F cells (S .s) (S .A) hs → Roomy S hs
+      → SummandsOut hs (S .w) (S .o) x o′ × (x .ok ≡ true → Kept (S .s) (S .A) B)
+
+  -- The same before the step down: others are those of the side e of the choice d at t.
+  pub record Aside (H : Sheet) (F : ℕ) (S : Start) (t : Spot) (d : Node) (e : Side) (heads left q v : ℕ) (B : Arrays) (l o′ : List ℕ) (hs : List Summand) : Type 0 where
+    pub done : List Summand
+    pub here : List Summand
+    pub waiting : List Summand
+    pub n : ℕ
+    pub split : hs ≡ done ++ (here ++ waiting)
+    pub within : Every SummandFits done
+    pub bytes : Adds (all encode-summand done) (S .w) (S .o) v o′
+    pub side : OnSide H F cells t B d e here
+    pub many : length here ≡ heads
+    pub some : 0 < heads
+    pub both : heads + length waiting ≡ left
+    pub deep : q ≡ S .q + n
+    pub queue : Queue H F cells (S .s) l (S .s .fuel) (S .q) n t B waiting
+    pub kept : Kept (S .s) (S .A) B
+    pub fuel-is : t .fuel ≡ S .s .fuel
+    pub start-in : S .w ≤ length (S .o)
+    pub inside : v ≤ length o′
+    pub same : length o′ ≡ length (S .o)
+    pub long : S .room ≤ length l
+
+  -- on into a side, or the walk is over
+  abbrev pub Toward : Start → Turn → Arrays → List ℕ → List ℕ → Type 0
+  Toward S r B l o′ =
+      (r .over ≡ false → (H : Sheet) (F : ℕ) (hs : List Summand) → Ready H F cells starts counts firsts → Spotted H F cells (S .s) (S .A) hs → Roomy S hs → Aside H F S (r .t) (r .d) (r .e) (r .heads) (r .left) (r .q) (r .done .w) B l o′ hs)
+      × (r .over ≡ true → WrittenBy S (r .done) B o′)
+
+  -- after a step down to s: a term with heads for which it failed has not the limits
+  abbrev pub Stands : Start → Spot → ℕ → ℕ → ℕ → ℕ → Arrays → List ℕ → List ℕ → Type 0
+  Stands S s heads left q v B l o′ = (s .ok ≡ true → Onward S s heads left q v B l o′) × (s .ok ≡ false → WrittenBy S (record { ok = false; w = v }) B o′)
+
+  -- the heads at s were written, up to x
+  pub record AfterLeaf (S : Start) (s : Spot) (heads left q : ℕ) (x : Done) (B : Arrays) (l o′ : List ℕ) : Type 0 where
+    pub before : Arrays
+    pub v : ℕ
+    pub o : List ℕ
+    pub onward : Onward S s heads left q v before l o
+    pub written : WrittenBy (start s before v o heads q (length l)) x B o′
+    pub inside : x .w ≤ length o′
+    pub same : length o′ ≡ length o
+
+  -- from s, into a choice or past a leaf
+  abbrev pub Turned : ℕ → Spot → ℕ → ℕ → ℕ → ℕ → Arrays → List ℕ → List ℕ → Turn → Arrays → List ℕ → List ℕ → Type 0
+  Turned q₀ s heads left q w B l o r C l′ o′ = (S : Start) → S .q ≡ q₀ → Onward S s heads left q w B l o → Toward S r C l′ o′
+
+-- less is left, or the side stands further on
+abbrev pub Nearer : Spot → ℕ → Turn → Type 0
+Nearer s left r = (r .e .c < byte-limit) × ((r .left < left) ⊎ ((r .left ≡ left) × (s .at < r .e .at)))
+
+-- bounds, for calls that have room
+abbrev pub Bounded : Spot → Type 0
+Bounded s = (lk : ℕ) × (ls : ℕ) × (lk ≤ calls-room) × Bound lk ls s
+
+-- into a side of the choice at g
+abbrev pub aside-turn : Ahead → Side → ℕ → ℕ → ℕ → ℕ → Turn
+aside-turn g e heads left q w = record { over = false; t = g .s; d = g .d; e = e; heads = heads; left = left; q = q; done = record { ok = false; w = w } }
+
+abbrev pub Chosen : Ahead → ℕ → ℕ → ℕ → ℕ → List ℕ → Turn → List ℕ → Type 0
+Chosen g heads left q w l r l′ = ((r .done .w ≡ w) × (take (later-cells * q) l′ ≡ take (later-cells * q) l)) × ((cells counts : List ℕ) → Looked cells counts g → Parting (g .d .kind) →
+    (r .over ≡ false → Nearer (g .s) left r) × ((lk ls fuel q₀ : ℕ) → lk ≤ calls-room → Steady lk ls fuel q₀ (g .s) q l → r .over ≡ false → Steady lk ls fuel q₀ (r .t) (r .q) l′)
+    × ((starts firsts : List ℕ) (B : Arrays) (o : List ℕ) (S : Start) → Onward cells starts counts firsts S (g .s) heads left q w B l o → Toward cells starts counts firsts S r B l′ o))
+
+-- on after a leaf at s
+abbrev pub Resumed : List ℕ → Spot → ℕ → ℕ → ℕ → ℕ → Done → List ℕ → Turn → Type 0
+Resumed cells s heads left q₀ q x l r =
+    ((lk ls fuel : ℕ) → Steady lk ls fuel q₀ s q l → r .over ≡ false → Steady lk ls fuel q₀ (r .t) (r .q) l × Nearer s left r)
+    × ((starts counts firsts : List ℕ) (B : Arrays) (o : List ℕ) (S : Start) → S .q ≡ q₀ → AfterLeaf cells starts counts firsts S s heads left q x B l o → Toward cells starts counts firsts S r B l o)

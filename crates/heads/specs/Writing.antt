@@ -31,12 +31,13 @@ slots-room = max-scope * slot-width
 abbrev pub work-room : ℕ
 work-room = (max-scope + max-variables) * slot-width
 
--- All heads of the term p written as summands, one behind another; or not every one has the limits, or there is no room for them.
-abbrev pub HeadsWritten : List ℕ → List ℕ → List ℕ → List ℕ → ℕ → ℕ → ℕ → List ℕ → ℕ → ℕ → ℕ → List ℕ → Done → List ℕ → Type 0
-HeadsWritten cells starts counts firsts fuel at c slots n m w o r o′ =
+-- All heads of the term p, of which there are some, written as summands, one behind another; or not every one has the limits, or there is
+-- no room for them.
+abbrev pub HeadsWritten : List ℕ → List ℕ → List ℕ → List ℕ → ℕ → ℕ → ℕ → List ℕ → ℕ → ℕ → ℕ → ℕ → List ℕ → Done → List ℕ → Type 0
+HeadsWritten cells starts counts firsts fuel at c slots n m many w o r o′ =
     (H : Sheet) (σ : List Data) (b : Bool) (p : Proc) (rest : List ℕ) → Ready H fuel cells starts counts firsts
     → drop at cells ≡ enc b p ++ rest → (kind-of p ≡ seq-kind → b ≡ false) → Slots σ slots n → Fine H n p → c + new-count false p < byte-limit
-    → SummandsOut (heads H fuel σ m c p) w o r o′
+    → length (heads H fuel σ m c p) ≡ many → 0 < many → many < byte-limit → SummandsOut (heads H fuel σ m c p) w o r o′
 
 -- How many heads a term has, cut as all counts are.
 abbrev pub HeadsCounted : List ℕ → List ℕ → ℕ → ℕ → ℕ → Type 0

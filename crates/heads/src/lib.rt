@@ -1,6 +1,7 @@
 // The heads of a term written as summands, one after another.
-ghost use Prim.Native.Nat.{_*_, _≤_, _<_};
+ghost use Prim.Native.Nat.{_+_, _*_, _≤_, _<_};
 ghost use lib.ListN.{length};
+ghost use Rattle.pcrl.specs.Limits.{max-variables};
 ghost use Rattle.nodes.specs.Layout.{byte-limit};
 ghost use Rattle.nodes.specs.Scoped.{max-scope};
 ghost use Rattle.counting.specs.Limits.{max-fuel};
@@ -11,6 +12,7 @@ ghost use Rattle.heads.specs.Writing.{HeadsWritten, HeadsCounted, Summan
 pub mod alternatives; // the first alternatives that have no heads are passed
 pub mod numbering; // the numbers of the first new equations
 pub mod params; // the slots of an equation's parameters
+pub mod waiting; // what is walked later
 pub mod walk; // one walk over the term and the right sides that it calls at the head
 
 use contexts::CONDITIONS;
@@ -18,13 +20,14 @@ use contexts::MAX_VARIABLES;
 use contexts::Spot;
 use following::CALLS;
 use putting::Done;
-use putting::SLOT;
+use waiting::LATER;
 use walk::walk;
 
-// Slots for the variables in scope and those that a summand adds.
-const WORK: usize = (nodes::MAX_SCOPE + MAX_VARIABLES) * SLOT;
+// Cells for the heads of an equation: each second side that waits has one of them.
+const LATERS: usize = 255 * LATER;
 
-// All heads of a term written as summands, one behind another. Not ok: not every one has the limits, or there is no room for them.
+// All heads of a term written as summands, one behind another; behind the slots of the variables in scope there is room for those that a
+// summand adds. Not ok: not every one has the limits, or there is no room for them.
 pub fn write_heads(
     cells: &[u16],
     starts: &[u16],
@@ -33,22 +36,22 @@ pub fn write_heads(
     fuel: usize,
     at: usize,
     c: usize,
-    slots: &[u8],
+    slots: &mut [u8],
     n: usize,
     m: usize,
+    heads: usize,
     out: &mut [u8],
     w: usize,
 ) -> Done
-    requires { ⌜ (fuel ≤ max-fuel) × (c < byte-limit) × (n ≤ max-scope) × (slot-width * n ≤ length (now slots)) × (m ≤ variable-limit) × (w ≤ length (now out)) ⌝ }
+    requires { ⌜ (fuel ≤ max-fuel) × (c < byte-limit) × (n ≤ max-scope) × (slot-width * (n + max-variables) ≤ length (now slots)) × (m ≤ variable-limit) × (w ≤ length (now out)) ⌝ }
     ensures { λ r. ⌜ (w ≤ r .w) × (r .w ≤ length (now (out .entry))) ⌝ }
-    ensures { λ r. ⌜ HeadsWritten (now (cells .entry)) (now (starts .entry)) (now (counts .entry)) (now (firsts .entry)) fuel at c (now (slots .entry)) n m w (now (out .entry)) r (now (out .exit)) ⌝ }
+    ensures { λ r. ⌜ HeadsWritten (now (cells .entry)) (now (starts .entry)) (now (counts .entry)) (now (firsts .entry)) fuel at c (now (slots .entry)) n m heads w (now (out .entry)) r (now (out .exit)) ⌝ }
 {
-    let mut work = [0u8; WORK];
     let mut vars = [0u8; MAX_VARIABLES];
     let mut conds = [0u8; CONDITIONS];
     let mut after = [0u8; CALLS];
     let mut calls = [0u8; CALLS];
-    putting::copy(slots, 0, SLOT * n, &mut work, 0);
+    let mut later = [0u16; LATERS];
     let s = Spot {
         ok: true,
         at: at,
@@ -68,11 +71,14 @@ pub fn write_heads(
         counts,
         firsts,
         s,
-        &mut work,
+        heads,
+        &mut *slots,
         &mut vars,
         &mut conds,
         &mut after,
         &mut calls,
+        &mut later,
+        0,
         &mut *out,
         w,
     )
@@ -96,13 +102,13 @@ pub fn write_summands(
     fuel: usize,
     at: usize,
     c: usize,
-    slots: &[u8],
+    slots: &mut [u8],
     n: usize,
     m: usize,
     out: &mut [u8],
     w: usize,
 ) -> Done
-    requires { ⌜ (fuel ≤ max-fuel) × (c < byte-limit) × (n ≤ max-scope) × (slot-width * n ≤ length (now slots)) × (m ≤ variable-limit) × (w ≤ length (now out)) ⌝ }
+    requires { ⌜ (fuel ≤ max-fuel) × (c < byte-limit) × (n ≤ max-scope) × (slot-width * (n + max-variables) ≤ length (now slots)) × (m ≤ variable-limit) × (w ≤ length (now out)) ⌝ }
     ensures { λ r. ⌜ (w ≤ r .w) × (r .w ≤ length (now (out .entry))) ⌝ }
     ensures { λ r. ⌜ SummandsWritten (now (cells .entry)) (now (starts .entry)) (now (counts .entry)) (now (firsts .entry)) fuel at c (now (slots .entry)) n m w (now (out .entry)) r (now (out .exit)) ⌝ }
 {
@@ -111,6 +117,9 @@ pub fn write_summands(
         return Done { ok: false, w: w };
     }
     out[w] = (a % 256) as u8;
+    if a == 0 {
+        return Done { ok: true, w: w + 1 };
+    }
     write_heads(
         cells,
         starts,
@@ -119,9 +128,10 @@ pub fn write_summands(
         fuel,
         at,
         c,
-        slots,
+        &mut *slots,
         n,
         m,
+        a,
         &mut *out,
         w + 1,
     )

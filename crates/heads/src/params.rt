@@ -13,8 +13,8 @@ ghost use Rattle.heads.specs.Writing.{slots-room, BytePut, param-of};
 use putting::SLOT;
 use putting::VARIABLE_CODE;
 
-// Room for a slot for each variable that can be in scope.
-pub const SLOTS: usize = nodes::MAX_SCOPE * SLOT;
+// Room for a slot for each variable that can be in scope, and for one for each that a summand adds.
+pub const SLOTS: usize = (nodes::MAX_SCOPE + contexts::MAX_VARIABLES) * SLOT;
 
 // A term of one byte in slot n.
 fn put_byte(slots: &mut [u8], n: usize, x: u8)

@@ -58,7 +58,7 @@ module _ (procs cells starts : List ℕ) (n : Outline) (rows : List ℕ) (count 
       record {
         placed = placed;
         rows-of = rs;
-        ready = ready H procs cells starts n f counts firsts held sorted (small (H .sig) (ok .signature)) all-few (tally H (sym many) stand) (numbers H (sym many) stand all-few);
+        ready = ready H procs cells starts n f counts firsts held sorted (small (H .sig) (ok .signature)) all-few (tally H (sym many) stand) (numbers H (sym many) stand all-few) (placed .few .cells-few);
         fuel-is = omega arith;
         total-is = omega arith;
         few = omega arith;

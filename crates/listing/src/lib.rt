@@ -159,7 +159,7 @@ fn put_equation(
         fuel,
         s.at,
         s.first,
-        &slots,
+        &mut slots,
         s.scope,
         s.next,
         out,
@@ -221,9 +221,9 @@ pub fn put_summands(
     }
     let fuel = n.procs + 1;
     let total = n.procs + count;
-    let t = counting::rounds(cells, starts, n.procs, fuel);
+    let mut counts = [0u16; counting::ROOM];
+    counting::rounds(cells, starts, n.procs, fuel, &mut counts);
     let f = heads::numbering::first_numbers(cells, starts, n.procs);
-    let counts = t.at;
     let firsts = f.at;
     if count_all(procs, cells, starts, &counts, &firsts, n, rows, total, fuel) > MAX_SUMMANDS {
         return Done { ok: false, w: w };

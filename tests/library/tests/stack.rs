@@ -11,13 +11,13 @@ use library::stepping::{ask, ask_all, start, Answer, ANSWER};
 use library::{check_sheet, check_table, large, make_table, print_table, sheets, walk};
 
 /// Bytes of stack that `make_table` and `check_sheet` may use, for any input.
-const MOST: usize = 512 << 10;
+const MOST: usize = 128 << 10;
 
 /// Bytes of stack that the check of a table file and the stepping functions may use, for any input.
 const MOST_STEPPING: usize = 72 << 10;
 
 /// Bytes of stack that the walk of a sheet may use, for any input.
-const MOST_WALKING: usize = 648 << 10;
+const MOST_WALKING: usize = 264 << 10;
 
 /// Bytes of stack that printing a table may use, for any input.
 const MOST_PRINTING: usize = 96 << 10;

@@ -6,7 +6,7 @@ use mathlib.Core.Path.{sym, _∙_}
 use lib.ListN.{length}
 use Rattle.putting.proofs.PutLaws.{never}
 use Rattle.contexts.specs.Spots.{arrays}
-use Rattle.contexts.proofs.Spotting.{weight-same, bound-failed, failed-ok, kept-same}
+use Rattle.contexts.proofs.Spotting.{bound-failed, failed-ok, kept-same}
 use Rattle.contexts.proofs.Down.{fails, other-none}
 use Rattle.contexts.proofs.step.Statement.{statement}
 use Rattle.contexts.proofs.step.Tie as tie
@@ -25,7 +25,7 @@ returns c = let q = c .before .before .before .before .before .before .before .b
     let o = q .1 in (
       c .before .before .before .before .down-sum .ensures .0 _ _ (q .3),
       (
-        λ t. let y = c .before .before .before .before .down-sum .ensures .1 .0 t in weight-same (length (c .before .before .before .before .before .before .before .before .before .before .before .before .before .before .args .cells .now)) ((c .before .before .before .before .before .before .before .before .before .before .before .before .before .before .args .s) .fuel) ((c .before .before .before .before .before .before .before .before .before .before .before .before .before .before .args .s) .at) _ _ (y .0) (q .0) (omega (arith, y .1, o .on)),
+        λ t. let y = c .before .before .before .before .down-sum .ensures .1 .0 t in (y .0, omega (arith, y .1, o .on)),
         λ conds starts counts firsts n₁ n₂ n₃ n₄. c .before .before .before .before .down-sum .ensures .1 .1 (c .before .before .before .before .before .before .before .before .before .before .before .before .before .before .args .cells .now) starts counts firsts conds (c .before .before .before .before .before .before .before .before .before .before .before .before .before .before .args .calls .now) (q .2) (omega arith),
       ),
     )
@@ -47,7 +47,7 @@ returns-2 c = let q = c .before .before .before .before .before .before .before 
     let o = q .1 in (
       c .before .before .before .before .down-seq .ensures .0 _ (q .3),
       (
-        λ t. let y = c .before .before .before .before .down-seq .ensures .1 .0 t in weight-same (length (c .before .before .before .before .before .before .before .before .before .before .before .before .before .before .before .before .before .args .cells .now)) ((c .before .before .before .before .before .before .before .before .before .before .before .before .before .before .before .before .before .args .s) .fuel) ((c .before .before .before .before .before .before .before .before .before .before .before .before .before .before .before .before .before .args .s) .at) _ _ (y .0) (q .0) (omega (arith, y .1, o .on)),
+        λ t. let y = c .before .before .before .before .down-seq .ensures .1 .0 t in (y .0, omega (arith, y .1, o .on)),
         λ conds starts counts firsts n₁ n₂ n₃ n₄. c .before .before .before .before .down-seq .ensures .1 .1 starts counts firsts (c .before .before .before .before .before .before .before .before .before .before .before .before .before .before .before .before .before .args .vars .now) conds (q .2) (omega arith),
       ),
     )

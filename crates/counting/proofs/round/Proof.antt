@@ -1,33 +1,27 @@
 -- `counting::round` meets its contract.
 use native.Mathlib.Omega.{arith}
-use Prim.Native.Nat.{ℕ, _+_, _-_, _*_, _≤_, _<_}
-use mathlib.Core.Path.{_≡_, refl, sym, subst, ap, _∙_}
-use lib.ListN.{length, set, getD, length-set}
+use Prim.Native.Nat.{ℕ, _-_, _*_, _≤_}
+use mathlib.Core.Path.{_≡_, sym, subst, _∙_}
+use lib.ListN.{length, length-set}
 use Rattle.pcrl.specs.Sheet.{Sheet}
 use Rattle.counting.specs.Limits.{row-width, counts-room, row}
 use Rattle.counting.specs.Counting.{Placed, Counts, Tallied}
 use Rattle.counting.proofs.Rows.{Filled, filled-none, filled-more, filled-all}
 use Rattle.counting.proofs.round.Statement.{statement}
 use Rattle.counting.proofs.round.Tie as tie
-use Rattle.counting.proofs.round.Lts as lts
-use Rattle.nodes.proofs.cell.Reads as cell-reads
 
 abbrev Inv-loop : tie.InvT-loop
-Inv-loop cells starts n f o t₀ k₀ t k =
-    ((k ≤ n) × (length t ≡ counts-room)) × ((H : Sheet) → (e : length (H .procs) ≡ n) → (l : length (H .procs) ≤ row-width) → Placed H cells starts → Tallied H f o → Filled H l f o t k)
+Inv-loop cells starts n f t₀ k₀ t k =
+    ((k ≤ n) × (length t ≡ counts-room)) × ((H : Sheet) → (e : length (H .procs) ≡ n) → (l : length (H .procs) ≤ row-width) → Placed H cells starts → Tallied H f t₀ → Filled H l f t₀ t k)
 
 abbrev μ-loop : tie.MeasureT-loop
-μ-loop cells starts n f o t₀ k₀ t k = n - k
+μ-loop cells starts n f t₀ k₀ t k = n - k
 
 loop-holds : tie.Need-loop-holds Inv-loop μ-loop
-loop-holds c =
-    ((omega arith, c .before .before .before .before .pre .2), λ H e l p t. filled-none H l (c .before .before .before .before .args .f) (c .before .before .before .before .args .old .at) t)
+loop-holds c = ((omega arith, c .before .before .before .pre .2), λ H e l p t. filled-none H l (c .before .before .before .args .f) (c .before .before .before .args .t .now) t)
 
 cell-requires : tie.Need-cell-requires Inv-loop μ-loop
 cell-requires c κs = omega arith
-
-slice-aggregate-count : tie.Need-slice-aggregate-count Inv-loop μ-loop
-slice-aggregate-count c = sym (c .before .before .before .before .before .before .before .before .pre .2)
 
 mul-count : tie.Need-mul-count Inv-loop μ-loop
 mul-count c = omega arith
@@ -50,8 +44,8 @@ add-t-2 c = omega arith
 mul-t-2 : tie.Need-mul-t-2 Inv-loop μ-loop
 mul-t-2 c = omega arith
 
-array-write-t : tie.Need-array-write-t Inv-loop μ-loop
-array-write-t c = omega arith
+slice-write-t : tie.Need-slice-write-t Inv-loop μ-loop
+slice-write-t c = omega arith
 
 add-k : tie.Need-add-k Inv-loop μ-loop
 add-k c = omega arith
@@ -60,20 +54,25 @@ loop-less : tie.Need-loop-less Inv-loop μ-loop
 loop-less c = omega arith
 
 loop-again : tie.Need-loop-again Inv-loop μ-loop
-loop-again c = (
-  (omega arith, length-set (c .before .before .before .before .before .loop .t) _ _ ∙ c .before .before .before .before .before .loop .inv .0 .1),
-  λ H e l p t. filled-more H l (c .before .before .before .before .before .before .before .before .before .before .args .cells .now) (c .before .before .before .before .before .before .before .before .before .before .args .starts .now) p (c .before .before .before .before .before .before .before .before .before .before .args .f) (c .before .before .before .before .before .before .before .before .before .before .args .old .at) (c .before .before .before .before .before .loop .t) (c .before .before .before .before .before .loop .k) (c .before .count .result) (c .before .before .before .before .before .loop .inv .0 .1) (omega arith) (omega arith) t (c .before .before .before .before .before .loop .inv .1 H e l p t)
-      (subst (λ (x : ℕ). Counts (c .before .before .before .before .before .before .before .before .before .before .args .cells .now) (row (row-width * c .before .before .before .before .before .before .before .before .before .before .args .f) (c .before .before .before .before .before .before .before .before .before .before .args .old .at)) x (c .before .count .result)) (c .before .before .before .cell .ensures .0) (c .before .count .ensures .1)),
-)
+loop-again c =
+    let a = c .before .before .before .before .before .before .before .before .before .args in
+    let here = c .before .before .before .before .before .loop in
+    let x = c .before .count in (
+      (omega arith, length-set (here .t) _ _ ∙ here .inv .0 .1),
+      λ H e l p t. filled-more H l (a .cells .now) (a .starts .now) p (a .f) (a .t .now) (here .t) (here .k) (x .result) (here .inv .0 .1) (omega arith) (omega arith) t (here .inv .1 H e l p t)
+          (subst (λ (y : ℕ). Counts (a .cells .now) (row (row-width * a .f) (here .t)) y (x .result)) (c .before .before .before .cell .ensures .0) (x .ensures .1)),
+    )
+
+same-length : tie.Need-same-length Inv-loop μ-loop
+same-length c = c .before .loop .inv .0 .1 ∙ sym (c .before .before .before .before .before .pre .2)
 
 returns : tie.Need-returns Inv-loop μ-loop
-returns c = (
-  c .before .loop .inv .0 .1,
-  λ H e p t.
-      let l : length (H .procs) ≤ row-width = omega arith in
-      let z : c .before .loop .k ≡ length (H .procs) = omega arith in
-      filled-all H l (c .before .before .before .before .before .before .args .f) (c .before .before .before .before .before .before .args .old .at) (c .before .loop .t) t (subst (λ (x : ℕ). Filled H l (c .before .before .before .before .before .before .args .f) (c .before .before .before .before .before .before .args .old .at) (c .before .loop .t) x) z (c .before .loop .inv .1 H e l p t)),
-)
+returns c = λ H e p t.
+    let a = c .before .before .before .before .before .args in
+    let here = c .before .loop in
+    let l : length (H .procs) ≤ row-width = omega arith in
+    let z : here .k ≡ length (H .procs) = omega arith in
+    filled-all H l (a .f) (a .t .now) (here .t) t (subst (λ (x : ℕ). Filled H l (a .f) (a .t .now) (here .t) x) z (here .inv .1 H e l p t))
 
 pub round-spec : {M : Type 1} → statement M
 round-spec =
@@ -83,7 +82,6 @@ round-spec =
     μ-loop
     loop-holds
     cell-requires
-    slice-aggregate-count
     mul-count
     count-requires
     cast-t
@@ -91,8 +89,9 @@ round-spec =
     mul-t
     add-t-2
     mul-t-2
-    array-write-t
+    slice-write-t
     add-k
     loop-less
     loop-again
+    same-length
     returns)

@@ -24,9 +24,9 @@ same-length c = search needs
 
 returns : tie.Need-returns
 returns c =
-    let a = c .before .before .before .before .before .before .before .before .before .before .before .before .before .args in
-    let p = c .before .before .before .before .before .before .put-params in
-    let x = c .before .before .write-summands in
+    let a = c .before .before .before .before .before .before .before .before .before .before .before .before .before .before .args in
+    let p = c .before .before .before .before .before .before .before .put-params in
+    let x = c .before .before .before .write-summands in
     (x .ensures .0, equation-put (a .cells .now) (a .starts .now) (a .counts .now) (a .firsts .now) (a .fuel) (a .s) (p .last .0) (a .w) (a .out .now) (x .result) (x .last .1 .1 .1 .1 .1 .1 .1 .1 .1 .1 .0) (p .ensures) (x .ensures .1))
 
 pub put-equation-spec : {M : Type 1} → statement M

@@ -112,7 +112,11 @@ fn nested() -> Vec<Case> {
     let brackets = format!("{}a{}", "(".repeat(16), ")".repeat(16));
     let data = format!("b({}1{}", "f(".repeat(15), ")".repeat(16));
     let sums = numbered(16, |i| format!("sum(v{i}:Bool,")) + "delta" + &")".repeat(16);
-    let mut cases = ending("nested choices", &[("a", 0), ("delta", 0)], sheet);
+    let mut cases = ending(
+        "nested choices",
+        &[("a", 0), ("delta", 0), ("a.(A+a)", 0)],
+        sheet,
+    );
     cases.extend([
         Case::new("nested brackets", body(brackets, 110), 0),
         Case::new("nested data", body(data, 75), 0),

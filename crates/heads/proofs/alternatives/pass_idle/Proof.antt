@@ -8,8 +8,7 @@ use lib.ListN.{length}
 use Rattle.counting.specs.Limits.{row-width, row}
 use Rattle.contexts.specs.declared.Spot.{Spot}
 use Rattle.heads.specs.Progress.{Behind, Past}
-use Rattle.heads.proofs.Passing.{past-same, spot-at, past-more}
-use Rattle.heads.proofs.Rounds.{the-other}
+use Rattle.heads.proofs.Passing.{past-same, spot-at, past-more, the-other}
 use Rattle.heads.proofs.alternatives.pass_idle.Statement.{statement}
 use Rattle.heads.proofs.alternatives.pass_idle.Tie as tie
 
