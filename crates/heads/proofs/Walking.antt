@@ -264,10 +264,6 @@ module _ (cells starts counts firsts : List ℕ) where
 
   -- THE WHOLE TERM
 
-  -- what is copied to the front
-  pub copied-front : (o s : List ℕ) (l : ℕ) → l ≤ length s → take l (paste o 0 s l) ≡ take l s
-  copied-front o s l h = let z : 0 + l ≡ l = omega arith in ap (λ (k : ℕ). take k (paste o 0 s l)) (sym z) ∙ take-paste o 0 s l (omega arith) h
-
   abbrev pub spot : ℕ → ℕ → ℕ → ℕ → ℕ → ℕ → Spot
   spot at fuel n m c top = record { ok = true; at = at; fuel = fuel; n = n; m = m; c = c; nv = 0; nc = 0; lc = 0; nk = 0; top = top }
 

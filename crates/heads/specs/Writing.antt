@@ -4,7 +4,6 @@ use mathlib.Core.List.{List, [], _∷_, _++_}
 use mathlib.Core.Bool.{Bool, true, false}
 use Prim.Native.Nat.{ℕ, _+_, _*_, _≤_, _<_}
 use lib.ListN.{length, drop}
-use Rattle.pcrl.specs.Limits.{max-variables}
 use Rattle.pcrl.specs.Tests.{Every}
 use Rattle.pcrl.specs.Sheet.{Data, val, var, Proc, Sheet}
 use Rattle.pcrl.specs.Parts.{new-count, all-new-parts}
@@ -26,10 +25,6 @@ use Rattle.contexts.specs.Steps.{SummandsOut}
 -- room for a slot for each variable that can be in scope
 abbrev pub slots-room : ℕ
 slots-room = max-scope * slot-width
-
--- and for one for each variable that a summand adds
-abbrev pub work-room : ℕ
-work-room = (max-scope + max-variables) * slot-width
 
 -- All heads of the term p, of which there are some, written as summands, one behind another; or not every one has the limits, or there is
 -- no room for them.
