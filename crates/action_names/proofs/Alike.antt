@@ -1,27 +1,15 @@
--- Two names are the same byte by byte, and a name is one of some names or not.
-use mathlib.Core.Path.{_≡_, refl, sym, ap, _∙_}
+-- A name is one of some names or not.
+use mathlib.Core.Path.{_≡_, refl, sym, _∙_}
 use mathlib.Core.List.{List, [], _∷_, map}
 use mathlib.Core.Bool.{Bool, true, false}
 use Prim.Native.Nat.{ℕ, suc, _<_, _≤_}
-use lib.ListN.{length, getD, take, drop, drop-of-length-le}
-use lib.Seq.{take-suc, take-all, drop-cons}
+use native.Mathlib.Omega.{arith}
+use lib.ListN.{length, getD, drop, drop-of-length-le}
+use lib.Seq.{drop-cons}
 use Rattle.pcrl.specs.Tests.{same?, among, distinct}
-use Rattle.laws.specs.Says.{Says}
-
--- BYTE BY BYTE
-
-module _ (a b : List ℕ) where
-  pub other-length : ¬ (length a ≡ length b) → ¬ (a ≡ b)
-  other-length n e = n (ap length e)
-
-  pub other-byte : (i : ℕ) → ¬ (getD a i 0 ≡ getD b i 0) → ¬ (a ≡ b)
-  other-byte i n e = n (ap (λ (l : List ℕ). getD l i 0) e)
-
-  pub same-more : (i j : ℕ) → j ≡ suc i → i < length a → i < length b → take i a ≡ take i b → getD a i 0 ≡ getD b i 0 → take j a ≡ take j b
-  same-more i j z h k e f = rw (z, take-suc a i 0 h, take-suc b i 0 k, e, f)
-
-  pub same-all : (i : ℕ) → length a ≤ i → length b ≤ i → take i a ≡ take i b → a ≡ b
-  same-all i h k e = sym (take-all i a h) ∙ e ∙ take-all i b k
+use Rattle.pcrl.specs.Tokens.{words}
+use Rattle.lexer.specs.Classes.{sign-cell}
+use Rattle.lexer.specs.Cells.{first-word}
 
 -- ONE OF SOME NAMES
 
@@ -81,7 +69,20 @@ module _ (name : ℕ → List ℕ) (places : List ℕ) (k : ℕ) where
   unfolding distinct
   distinct-none h = rw (names-none h)
 
--- the last name
-pub among-last : (t : Bool) (l m : List ℕ) → Says t (l ≡ m) → t ≡ among l (m ∷ [])
-among-last true l m h = sym (among-first l m [] h)
-among-last false l m h = sym (among-later l m [] h ∙ among-none l)
+-- a word has a cell, which is not 0 where the first one's is not
+cell-among : (c : ℕ) (vs : List (List ℕ)) (w : List ℕ) → 0 < c → (sign-cell c vs w ≡ 0 → among w vs ≡ false) × (¬ (sign-cell c vs w ≡ 0) → among w vs ≡ true)
+unfolding sign-cell among
+cell-among c [] w h = (λ e. refl, λ n. absurd (n refl))
+cell-among c (v ∷ vs) w h = go (same? w v) (cell-among (suc c) vs w (omega arith))
+  where
+    go : (d : Dec (w ≡ v)) → (sign-cell (suc c) vs w ≡ 0 → among w vs ≡ false) × (¬ (sign-cell (suc c) vs w ≡ 0) → among w vs ≡ true)
+        → (_≡_ {A = ℕ} (elim d as (λ x. ℕ) [ yes e ↦ c | no n ↦ sign-cell (suc c) vs w ]) 0 → elim d as (λ x. Bool) [ yes e ↦ true | no n ↦ among w vs ] ≡ false)
+        × (¬ (_≡_ {A = ℕ} (elim d as (λ x. ℕ) [ yes e ↦ c | no n ↦ sign-cell (suc c) vs w ]) 0) → elim d as (λ x. Bool) [ yes e ↦ true | no n ↦ among w vs ] ≡ true)
+    go (yes e) k = (λ z. absurd (omega arith), λ n. refl)
+    go (no n) k = k
+
+pub word-among : (w : List ℕ) → ¬ (sign-cell first-word words w ≡ 0) → among w words ≡ true
+word-among w = cell-among first-word words w (omega arith) .1
+
+pub word-missing : (w : List ℕ) → sign-cell first-word words w ≡ 0 → among w words ≡ false
+word-missing w = cell-among first-word words w (omega arith) .0

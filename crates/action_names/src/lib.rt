@@ -1,4 +1,12 @@
 // The names of a table's actions: valid by the token rule, no word, not Bool, distinct.
+use elements::cell;
+use elements::peek;
+use lexer::NO_TOKEN;
+use lexer::bytes::LETTER;
+use lexer::bytes::class;
+use lexer::bytes::name_byte;
+use lexer::bytes::same;
+use lexer::token::word;
 use terms::Next;
 ghost use mathlib.Core.Path.{_≡_};
 ghost use mathlib.Core.List.{map, _∷_};
@@ -13,59 +21,10 @@ ghost use Rattle.pcrl.specs.Tokens.{words};
 ghost use Rattle.pcrl.specs.Reader.{one, counted};
 ghost use Rattle.pcrl.specs.Right.{free-name};
 ghost use Rattle.pcrl.specs.Decode.{read-name};
-ghost use Rattle.laws.specs.Says.{Says};
 ghost use Rattle.terms.specs.Stands.{list-at};
 ghost use Rattle.terms.specs.Ends.{rests, ended};
 
-// "the whole run at most 16 characters"
-const NAME: u8 = 16;
-
-fn within(low: u8, high: u8, b: u8) -> bool
-    ensures { λ r. ⌜ r ≡ tests.within low high b ⌝ }
-{
-    if b < low {
-        return false;
-    }
-    b <= high
-}
-
-fn letter(b: u8) -> bool
-    ensures { λ r. ⌜ r ≡ classes.letter b ⌝ }
-{
-    if within(b'A', b'Z', b) {
-        return true;
-    }
-    within(b'a', b'z', b)
-}
-
-// "letters, digits or underscores"
-fn name_byte(b: u8) -> bool
-    ensures { λ r. ⌜ r ≡ classes.name-byte b ⌝ }
-{
-    if letter(b) {
-        return true;
-    }
-    if within(b'0', b'9', b) {
-        return true;
-    }
-    b == b'_'
-}
-
-fn same(a: &[u8], b: &[u8]) -> bool
-    ensures { λ r. ⌜ Says r (now (a .entry) ≡ now (b .entry)) ⌝ }
-{
-    if a.len() != b.len() {
-        return false;
-    }
-    let mut i = 0usize;
-    while i < a.len() {
-        if a[i] != b[i] {
-            return false;
-        }
-        i += 1;
-    }
-    true
-}
+const NAME: u8 = limits::MAX_NAME as u8;
 
 // Bool, or one of the words that are never names.
 fn reserved(n: &[u8]) -> bool
@@ -74,35 +33,17 @@ fn reserved(n: &[u8]) -> bool
     if same(n, b"Bool") {
         return true;
     }
-    if same(n, b"sort") {
-        return true;
+    if word(n) == NO_TOKEN {
+        return false;
     }
-    if same(n, b"func") {
-        return true;
-    }
-    if same(n, b"act") {
-        return true;
-    }
-    if same(n, b"proc") {
-        return true;
-    }
-    if same(n, b"init") {
-        return true;
-    }
-    if same(n, b"sum") {
-        return true;
-    }
-    if same(n, b"delta") {
-        return true;
-    }
-    same(n, b"tau")
+    true
 }
 
 // Begins with a letter, and is no word and not Bool.
 fn free_name(n: &[u8]) -> bool
     ensures { λ r. ⌜ r ≡ free-name (now (n .entry)) ⌝ }
 {
-    if !letter(terms::peek(n, 0)) {
+    if class(peek(n, 0)) != LETTER {
         return false;
     }
     !reserved(n)
@@ -157,7 +98,7 @@ fn among(s: &[u8], name: &[u8], places: &[u16], from: usize) -> bool
 {
     let mut k = from;
     while k < places.len() {
-        let other = terms::list_at(s, terms::place(places, k));
+        let other = terms::list_at(s, cell(places, k));
         if same(name, other) {
             return true;
         }
@@ -172,7 +113,7 @@ pub fn distinct(s: &[u8], places: &[u16]) -> bool
 {
     let mut k = 0usize;
     while k < places.len() {
-        let name = terms::list_at(s, terms::place(places, k));
+        let name = terms::list_at(s, cell(places, k));
         if among(s, name, places, k + 1) {
             return false;
         }

@@ -12,11 +12,15 @@ ghost use Rattle.pcrl.specs.Blocks.{block-bytes, block-stream, low-first, high-
 ghost use Rattle.pcrl.specs.Answers.{stream-filed, output-after, stream-read};
 ghost use Rattle.laws.specs.Says.{Says};
 ghost use Rattle.blocks.specs.Answers.{filed-answer, Hands, Opens};
+use elements::smaller;
+use limits::NO_FILE;
+use limits::NO_ROOM;
+use limits::WRONG_BLOCK;
 
 // "Each 512 bytes: number and block count, two bytes each; 506 stream bytes; CRC-16"
 const BLOCK: usize = 512;
 
-const STREAM: usize = 506;
+pub const BLOCK_STREAM: usize = 506;
 
 // The stream bytes stand from byte 4 to byte 510, and the check behind them, high byte first.
 const STREAM_START: usize = 4;
@@ -30,7 +34,7 @@ const CHECK_LOW: usize = 511;
 // 128 blocks, and their stream.
 pub const MAX_FILE: usize = 65536;
 
-pub const MAX_STREAM: usize = 64768;
+pub const MAX_STREAM: usize = limits::MAX_STREAM;
 
 // 8 blocks, and their stream: a short file takes a short array.
 pub const SHORT_FILE: usize = 4096;
@@ -50,7 +54,7 @@ pub struct Opened {
 }
 
 // Zeros over a whole slice.
-fn fill(s: &mut [u8])
+pub fn fill(s: &mut [u8])
     ensures { λ _. ⌜ now (s .exit) ≡ replicate (length (now (s .entry))) 0 ⌝ }
 {
     let mut i = 0;
@@ -105,13 +109,6 @@ fn write_block(block: &mut [u8], number: usize, count: usize, stream: &[u8])
     tail(&mut block[STREAM_END..BLOCK], x);
 }
 
-// Where a block's part of the stream ends: at its last byte, or with the stream.
-fn least(a: usize, b: usize) -> usize
-    ensures { λ r. ⌜ r ≡ min a b ⌝ }
-{
-    if a < b { a } else { b }
-}
-
 // All blocks of a stream over the front of the lent bytes.
 fn write_blocks(stream: &[u8], out: &mut [u8], count: usize)
     requires { ⌜ (length (now stream) ≤ max-stream) × (count ≡ blocks-for (length (now stream))) × (count * block-bytes ≤ length (now out)) ⌝ }
@@ -119,8 +116,8 @@ fn write_blocks(stream: &[u8], out: &mut [u8], count: usize)
 {
     let mut i = 0;
     while i < count {
-        let from = i * STREAM;
-        let to = least(from + STREAM, stream.len());
+        let from = i * BLOCK_STREAM;
+        let to = smaller(from + BLOCK_STREAM, stream.len());
         let at = i * BLOCK;
         let end = at + BLOCK;
         write_block(&mut out[at..end], i, count, &stream[from..to]);
@@ -135,13 +132,13 @@ pub fn write_file(stream: &[u8], out: &mut [u8]) -> Filed
     ensures answer { λ r. ⌜ r ≡ filed-answer (stream-filed (now (stream .entry)) (length (now (out .entry)))) ⌝ }
     ensures written { λ _. ⌜ now (out .exit) ≡ output-after (stream-filed (now (stream .entry)) (length (now (out .entry)))) (now (out .entry)) ⌝ }
 {
-    let count = (stream.len() + (STREAM - 1)) / STREAM;
+    let count = (stream.len() + (BLOCK_STREAM - 1)) / BLOCK_STREAM;
     let size = count * BLOCK;
     if size <= out.len() {
         write_blocks(stream, out, count);
         Filed::Bytes(size)
     } else {
-        Filed::Refused(11)
+        Filed::Refused(NO_ROOM)
     }
 }
 
@@ -181,8 +178,8 @@ fn read_blocks(file: &[u8], out: &mut [u8]) -> bool
         if !right_block(block, i, count) {
             return false;
         }
-        let to = i * STREAM;
-        let till = to + STREAM;
+        let to = i * BLOCK_STREAM;
+        let till = to + BLOCK_STREAM;
         copy(&mut out[to..till], &block[STREAM_START..STREAM_END]);
         i += 1;
     }
@@ -209,18 +206,18 @@ pub fn read_file(file: &[u8], out: &mut [u8]) -> Opened
 {
     if !right_length(file.len()) {
         return Opened {
-            refused: 12,
+            refused: NO_FILE,
             count: 0,
         };
     }
     if !read_blocks(file, out) {
         return Opened {
-            refused: 13,
+            refused: WRONG_BLOCK,
             count: 0,
         };
     }
     Opened {
         refused: 0,
-        count: file.len() / BLOCK * STREAM,
+        count: file.len() / BLOCK * BLOCK_STREAM,
     }
 }

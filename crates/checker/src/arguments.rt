@@ -6,18 +6,19 @@ ghost use Rattle.pcrl.specs.Sheet.{Sig, size};
 ghost use Rattle.nodes.specs.Layout.{cell-limit, byte-limit, function-tag};
 ghost use Rattle.checker.specs.Known.{KnownSizes};
 ghost use Rattle.checker.specs.Sorts.{start-limit, FitsAt, EachFitsAt, EveryFitsAt, ArgumentsFitAt, AllFitAt, ArgumentsAt};
-use crate::operators::BOOL_SORT;
 use crate::operators::bools;
 use crate::operators::operator_of;
 use crate::operators::run_of;
+use elements::byte;
+use elements::cell;
+use limits::BOOL;
 use nodes::Datum;
 use nodes::FUNC_ROW;
 use nodes::FUNCTION;
+use nodes::GIVES;
 use nodes::Outline;
 use nodes::VALUE;
 use nodes::VARIABLE;
-use nodes::byte;
-use nodes::cell;
 use nodes::data_at;
 use nodes::skip_data;
 
@@ -52,13 +53,13 @@ pub fn fits(
         return cell(scope, d.number) == sort;
     }
     if d.number < n.funcs {
-        return byte(funcs, FUNC_ROW * d.number + 3) == sort;
+        return byte(funcs, FUNC_ROW * d.number + GIVES) == sort;
     }
     let o = operator_of(d.number, n.sorts);
     if !o.there {
         return false;
     }
-    sort == BOOL_SORT
+    sort == BOOL
 }
 
 // Do as many data terms as a row has sorts fit these sorts, one by one?
@@ -196,7 +197,7 @@ pub fn all_fit(
         let takes = bools(d);
         if takes > 0 {
             let r = run_of(cells, d.next, takes);
-            if !every_fits(cells, r.next, r.count, BOOL_SORT, scope, sizes, funcs, n) {
+            if !every_fits(cells, r.next, r.count, BOOL, scope, sizes, funcs, n) {
                 return false;
             }
             need = need - 1 + r.count;

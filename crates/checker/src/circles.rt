@@ -11,18 +11,15 @@ ghost use Rattle.pcrl.specs.Circles.{guarded};
 ghost use Rattle.nodes.specs.Bits.{set-width, bit};
 ghost use Rattle.nodes.specs.Held.{HeldProcs};
 ghost use Rattle.checker.specs.Circles.{WithCall, HeadsAt, HeadsOf, AllPassed, NextRound, PassedAfter, SetOf, numbers-below};
+use elements::cell;
+use limits::MAX_PROCESSES;
 use nodes::CALL;
+use nodes::MAX_SCOPE;
 use nodes::Outline;
 use nodes::SEQ;
-use nodes::cell;
 use nodes::node_at;
 use nodes::skip;
 use nodes::with_bit;
-
-const PROCESSES: usize = 16;
-
-// Sets are the bits of a u32.
-const WIDTH: usize = 32;
 
 // The processes at the head of a term, and the place after the term.
 pub struct Heads {
@@ -32,17 +29,17 @@ pub struct Heads {
 
 // The processes at the head of each right side.
 pub struct HeadSets {
-    pub of: [u32; 16],
+    pub of: [u32; MAX_PROCESSES],
 }
 
-// A call at the head is its process, no other node is one.
+// A call at the head is its process, no other node is one; a set has as many numbers as those of variables.
 fn with_call(set: u32, kind: usize, number: usize) -> u32
     ensures { λ r. ⌜ WithCall set kind number r ⌝ }
 {
     if kind != CALL {
         return set;
     }
-    if number >= WIDTH {
+    if number >= MAX_SCOPE {
         return set;
     }
     with_bit(set, number)
@@ -87,7 +84,7 @@ fn head_sets(cells: &[u16], starts: &[u16], n: Outline) -> HeadSets
     ensures { λ r. ⌜ length (r .of) ≡ max-processes ⌝ }
     ensures { λ r. ⌜ ((H : Sheet) (procs : List ℕ) → HeldProcs H procs (now (cells .entry)) (now (starts .entry)) n → HeadsOf H (n .procs) (r .of)) ⌝ }
 {
-    let mut of = [0u32; 16];
+    let mut of = [0u32; MAX_PROCESSES];
     let mut k: usize = 0;
     while k < n.procs {
         let at = cell(starts, k);
@@ -162,7 +159,7 @@ fn all_processes(procs: usize) -> u32
 pub fn guarded_sheet(cells: &[u16], starts: &[u16], n: Outline) -> bool
     ensures { λ r. ⌜ ((H : Sheet) (procs : List ℕ) → HeldProcs H procs (now (cells .entry)) (now (starts .entry)) n → r ≡ guarded H) ⌝ }
 {
-    if n.procs > PROCESSES {
+    if n.procs > MAX_PROCESSES {
         return false;
     }
     let sets = head_sets(cells, starts, n);

@@ -5,10 +5,11 @@ ghost use Rattle.nodes.specs.Layout.{cell-limit};
 ghost use Rattle.nodes.specs.Held.{func-width};
 ghost use Rattle.checker.specs.Sorts.{VolumeIs, AllBelow, CompleteSays, FunctionsSay};
 use crate::arguments::size_of;
+use elements::byte;
+use elements::cell;
 use nodes::FUNC_ROW;
+use nodes::GIVES;
 use nodes::Outline;
-use nodes::byte;
-use nodes::cell;
 
 // How many values a function has, of one or two sorts.
 pub fn volume(funcs: &[u8], f: usize, sizes: &[u8], sorts: usize) -> usize
@@ -54,7 +55,7 @@ pub fn complete(
     if from + volume(funcs, f, sizes, sorts) != to {
         return false;
     }
-    let gives = byte(funcs, FUNC_ROW * f + 3);
+    let gives = byte(funcs, FUNC_ROW * f + GIVES);
     all_below(values, from, to, size_of(sizes, sorts, gives))
 }
 

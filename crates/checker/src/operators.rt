@@ -2,16 +2,15 @@
 ghost use Prim.Native.Nat.{_≤_};
 ghost use Rattle.nodes.specs.Layout.{cell-limit};
 ghost use Rattle.checker.specs.Sorts.{OperatorSays, TakesBools, BoolsAt};
+use elements::CELL_LIMIT;
+use limits::BOOL;
 use nodes::AND;
-use nodes::CELL_LIMIT;
 use nodes::Datum;
 use nodes::EQUAL;
 use nodes::FUNCTION;
 use nodes::NOT;
 use nodes::OR;
 use nodes::data_at;
-
-pub const BOOL_SORT: usize = 0;
 
 // What a number stands for that is no written function's: is there an operator, how many data does it take, and of which sort?
 pub struct Operator {
@@ -35,27 +34,27 @@ pub fn operator_of(number: usize, sorts: usize) -> Operator
         return Operator {
             there: true,
             count: 1,
-            sort: BOOL_SORT,
+            sort: BOOL,
         };
     }
     if number == AND {
         return Operator {
             there: true,
             count: 2,
-            sort: BOOL_SORT,
+            sort: BOOL,
         };
     }
     if number == OR {
         return Operator {
             there: true,
             count: 2,
-            sort: BOOL_SORT,
+            sort: BOOL,
         };
     }
     Operator {
         there: false,
         count: 0,
-        sort: BOOL_SORT,
+        sort: BOOL,
     }
 }
 
@@ -89,14 +88,14 @@ pub fn bools(d: Datum) -> usize
 }
 
 // Where a run of operators ends, and how many data terms behind it they take.
-pub struct Run {
+pub struct OperatorRun {
     pub count: usize,
     pub next: usize,
 }
 
 // `/\` and `\/` group to the left, so their operators stand together, before all that they take. What a run takes is looked at once,
 // behind it: to go from each operator over its first argument would be quadratic.
-pub fn run_of(cells: &[u16], at: usize, count: usize) -> Run
+pub fn run_of(cells: &[u16], at: usize, count: usize) -> OperatorRun
     requires { ⌜ (1 ≤ count) × (count ≤ cell-limit) ⌝ }
     ensures { λ r. ⌜ (at ≤ r .next) × (r .count ≤ cell-limit) ⌝ }
     ensures { λ r. ⌜ BoolsAt (now (cells .entry)) at count (r .next) (r .count) ⌝ }
@@ -105,7 +104,7 @@ pub fn run_of(cells: &[u16], at: usize, count: usize) -> Run
     let mut left = count;
     while left < CELL_LIMIT {
         if p >= cells.len() {
-            return Run {
+            return OperatorRun {
                 count: left,
                 next: p,
             };
@@ -113,7 +112,7 @@ pub fn run_of(cells: &[u16], at: usize, count: usize) -> Run
         let d = data_at(cells, p);
         let takes = bools(d);
         if takes == 0 {
-            return Run {
+            return OperatorRun {
                 count: left,
                 next: p,
             };
@@ -121,7 +120,7 @@ pub fn run_of(cells: &[u16], at: usize, count: usize) -> Run
         left = left - 1 + takes;
         p = d.next;
     }
-    Run {
+    OperatorRun {
         count: left,
         next: p,
     }

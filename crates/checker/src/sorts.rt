@@ -10,15 +10,14 @@ ghost use Rattle.checker.specs.Sorts.{ParamsInScope, ProcessesSay, Sheet
 use crate::functions::functions_complete;
 use crate::terms::Variables;
 use crate::terms::term_right;
-use nodes::MAX_FUNCTIONS;
+use elements::byte;
+use elements::cell;
+use limits::FRAME_WIDTH;
+use limits::MAX_FUNCTIONS;
+use limits::MAX_PROCESSES;
+use nodes::MAX_SCOPE;
 use nodes::Outline;
 use nodes::PROC_ROW;
-use nodes::byte;
-use nodes::cell;
-
-const PROCESSES: usize = 16;
-
-const PARAMETERS: usize = 4;
 
 // The parameters of process k in scope.
 fn params_of(procs: &[u8], k: usize) -> Variables
@@ -26,10 +25,10 @@ fn params_of(procs: &[u8], k: usize) -> Variables
     ensures { λ r. ⌜ length (r .sorts) ≡ max-scope ⌝ }
     ensures { λ r. ⌜ ParamsInScope (now (procs .entry)) (proc-width * k) (r .sorts) ⌝ }
 {
-    let mut sorts = [0u16; 32];
+    let mut sorts = [0u16; MAX_SCOPE];
     let start = PROC_ROW * k;
     let mut i: usize = 0;
-    while i < PARAMETERS {
+    while i < FRAME_WIDTH {
         sorts[i] = byte(procs, start + 1 + i) as u16;
         i += 1;
     }
@@ -77,7 +76,7 @@ pub fn rightly_sorted(
     if n.funcs > MAX_FUNCTIONS {
         return false;
     }
-    if n.procs > PROCESSES {
+    if n.procs > MAX_PROCESSES {
         return false;
     }
     if !functions_complete(funcs, values, places, sizes, n) {
@@ -89,7 +88,9 @@ pub fn rightly_sorted(
     term_right(
         cells,
         n.init,
-        Variables { sorts: [0u16; 32] },
+        Variables {
+            sorts: [0u16; MAX_SCOPE],
+        },
         sizes,
         funcs,
         acts,

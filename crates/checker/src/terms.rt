@@ -9,23 +9,22 @@ ghost use Rattle.checker.specs.Sorts.{AtomSays, CallSays, CondSays, Node
 use crate::arguments::all_fit;
 use crate::arguments::arguments_right;
 use crate::arguments::fits;
-use crate::operators::BOOL_SORT;
+use elements::cell;
+use limits::BOOL;
 use nodes::ACT_ROW;
 use nodes::ATOM;
 use nodes::CALL;
 use nodes::COND;
+use nodes::MAX_SCOPE;
 use nodes::Node;
 use nodes::Outline;
 use nodes::PROC_ROW;
 use nodes::SUM;
-use nodes::cell;
 use nodes::node_at;
-
-pub const SCOPE: usize = 32;
 
 // The sorts of the variables in scope, by their numbers.
 pub struct Variables {
-    pub sorts: [u16; 32],
+    pub sorts: [u16; MAX_SCOPE],
 }
 
 pub fn atom_right(
@@ -100,7 +99,7 @@ pub fn cond_right(
     requires { ⌜ d .datas < cell-limit ⌝ }
     ensures { λ r. ⌜ ((acts procs : List ℕ) → CondSays (now (cells .entry)) (now (scope .entry)) (now (sizes .entry)) (now (funcs .entry)) acts procs n d r) ⌝ }
 {
-    if !fits(cells, d.terms, BOOL_SORT, scope, sizes, funcs, n) {
+    if !fits(cells, d.terms, BOOL, scope, sizes, funcs, n) {
         return false;
     }
     all_fit(cells, d.terms, d.datas, scope, sizes, funcs, n)
@@ -144,7 +143,7 @@ pub fn bind(cells: &[u16], d: Node, scope: &mut [u16])
         return;
     }
     let x = cell(cells, d.terms) / 4;
-    if x >= SCOPE {
+    if x >= MAX_SCOPE {
         return;
     }
     scope[x] = d.number as u16;

@@ -25,17 +25,21 @@ use crate::operands::close;
 use crate::operands::first_place;
 use crate::operands::joint;
 use crate::operands::marked;
+use elements::cell;
+use elements::peek;
+use elements::smaller;
+use elements::wide;
 use lettering::Letters;
 use lettering::put_name;
-use terms::EQUAL;
-use terms::FUNCTION;
-use terms::NOT;
-use terms::VARIABLE;
+use limits::EQUAL_CODE;
+use limits::FUNCTION_CODE;
+use limits::NOT_CODE;
+use limits::VARIABLE_CODE;
 use texts::put_byte;
 use texts::put_decimal;
 
 // Where the stream was read to, and where the text ends.
-pub struct Put {
+pub struct TermPut {
     pub from: usize,
     pub at: usize,
 }
@@ -45,7 +49,7 @@ fn put_operator(out: &mut [u8], at: usize, n: usize, place: u64) -> usize
     requires { ⌜ (at ≤ length (now out)) × (operator-code ≤ n) ⌝ }
     ensures { λ r. ⌜ ((k l : ℕ) → Wrote (now (out .entry)) at (node-text k l place (sign n)) (now (out .exit)) r) ⌝ }
 {
-    if n == NOT {
+    if n == NOT_CODE {
         return put_byte(out, at, b'!');
     }
     if joint(n) <= place {
@@ -59,15 +63,15 @@ fn put_node(out: &mut [u8], at: usize, l: Letters, b: u8, place: u64) -> usize
     requires { ⌜ at ≤ length (now out) ⌝ }
     ensures { λ r. ⌜ Wrote (now (out .entry)) at (node-text (l .funcs) (l .vars) place (sign b)) (now (out .exit)) r ⌝ }
 {
-    let n = terms::wide(b);
-    if n < VARIABLE {
+    let n = wide(b);
+    if n < VARIABLE_CODE {
         return put_decimal(out, at, n);
     }
-    if n < FUNCTION {
-        return put_name(out, at, b'v', l.vars, n - VARIABLE);
+    if n < FUNCTION_CODE {
+        return put_name(out, at, b'v', l.vars, n - VARIABLE_CODE);
     }
-    if n < NOT {
-        let a = put_name(out, at, b'f', l.funcs, n - FUNCTION);
+    if n < NOT_CODE {
+        let a = put_name(out, at, b'f', l.funcs, n - FUNCTION_CODE);
         return put_byte(out, a, b'(');
     }
     put_operator(out, at, n, place)
@@ -78,8 +82,8 @@ fn opened(s: &[u8], funcs: &[u16], b: u8, opens: u64) -> u64
     requires { ⌜ function-code ≤ b ⌝ }
     ensures { λ r. ⌜ ((bs : Open) → opens ≡ code bs → r ≡ code (deeper (now (s .entry)) (getD (now (funcs .entry)) (b - function-code) 0) bs)) ⌝ }
 {
-    let p = terms::place(funcs, terms::wide(b) - FUNCTION);
-    if terms::peek(s, p) != 1 {
+    let p = cell(funcs, wide(b) - FUNCTION_CODE);
+    if peek(s, p) != 1 {
         return marked(opens, COMMA, ANY);
     }
     if LIMIT <= opens {
@@ -94,18 +98,18 @@ fn turn(s: &[u8], funcs: &[u16], b: u8, opens: u64, place: u64, out: &mut [u8], 
     ensures { λ r. ⌜ (r .at ≤ length (now (out .entry))) × (length (now (out .exit)) ≡ length (now (out .entry))) ⌝ }
     ensures { λ r. ⌜ ((bs : Open) → opens ≡ code bs → Turns (now (s .entry)) (now (funcs .entry)) b place (now (out .entry)) at bs (now (out .exit)) (r .at) (r .opens) (r .place)) ⌝ }
 {
-    let n = terms::wide(b);
-    if n < FUNCTION {
+    let n = wide(b);
+    if n < FUNCTION_CODE {
         return close(out, at, opens);
     }
-    if n < NOT {
+    if n < NOT_CODE {
         return After {
             at: at,
             opens: opened(s, funcs, b, opens),
             place: ANY,
         };
     }
-    if n == NOT {
+    if n == NOT_CODE {
         return After {
             at: at,
             opens: opens,
@@ -125,14 +129,21 @@ fn next_node(n: usize, i: usize, b: u8) -> usize
     requires { ⌜ (i < n) × (n ≤ max-stream) ⌝ }
     ensures { λ r. ⌜ r ≡ min n (i + 1 + passed (sign b)) ⌝ }
 {
-    if terms::wide(b) == EQUAL {
-        return evaluation::smaller(n, i + 2);
+    if wide(b) == EQUAL_CODE {
+        return smaller(n, i + 2);
     }
     i + 1
 }
 
 // A term that stands in the stream.
-pub fn put_term(s: &[u8], funcs: &[u16], l: Letters, from: usize, out: &mut [u8], at: usize) -> Put
+pub fn put_term(
+    s: &[u8],
+    funcs: &[u16],
+    l: Letters,
+    from: usize,
+    out: &mut [u8],
+    at: usize,
+) -> TermPut
     requires { ⌜ (at ≤ length (now out)) × (length (now s) ≤ max-stream) ⌝ }
     ensures { λ r. ⌜ Within (now (s .entry)) (now (out .entry)) from r (now (out .exit)) ⌝ }
     ensures { λ r. ⌜ ((S : Sig) (Γ : List ℕ) (D : ℕ) (d : Data) (rest : List ℕ) → KnownTerms S (now (s .entry)) (now (funcs .entry)) → length Γ ≤ variable-code → RightTerm S Γ D d → Lettered (S .acts) l → drop from (now (s .entry)) ≡ encode-data d ++ rest → Puts (now (s .entry)) (now (out .entry)) at (data-text (S .acts) d) rest r (now (out .exit))) ⌝ }
@@ -150,10 +161,10 @@ pub fn put_term(s: &[u8], funcs: &[u16], l: Letters, from: usize, out: &mut [u8]
         opens = t.opens;
         place = t.place;
         if place == NONE {
-            return Put { from: i, at: p };
+            return TermPut { from: i, at: p };
         }
     }
-    Put { from: i, at: p }
+    TermPut { from: i, at: p }
 }
 
 // What stands before the term number i of several.
@@ -175,22 +186,22 @@ pub fn put_terms(
     n: usize,
     out: &mut [u8],
     at: usize,
-) -> Put
+) -> TermPut
     requires { ⌜ (at ≤ length (now out)) × (length (now s) ≤ max-stream) ⌝ }
     ensures { λ r. ⌜ Within (now (s .entry)) (now (out .entry)) from r (now (out .exit)) ⌝ }
     ensures { λ r. ⌜ ((S : Sig) (Γ Ds : List ℕ) (ds : List Data) (rest : List ℕ) → KnownTerms S (now (s .entry)) (now (funcs .entry)) → length Γ ≤ variable-code → Each (RightTerm S Γ) Ds ds → length ds ≡ n → Lettered (S .acts) l → drop from (now (s .entry)) ≡ all encode-data ds ++ rest → Puts (now (s .entry)) (now (out .entry)) at (given-text (S .acts) ds) rest r (now (out .exit))) ⌝ }
 {
     if n == 0 {
-        return Put { from: from, at: at };
+        return TermPut { from: from, at: at };
     }
-    let mut r = Put { from: from, at: at };
+    let mut r = TermPut { from: from, at: at };
     let mut i: usize = 0;
     while i < n {
         let a = put_byte(out, r.at, led(i));
         r = put_term(s, funcs, l, r.from, out, a);
         i += 1;
     }
-    Put {
+    TermPut {
         from: r.from,
         at: put_byte(out, r.at, b')'),
     }

@@ -20,13 +20,18 @@ ghost use Rattle.clauses.specs.Written.{Ends, Marks, sum-by, SumsPut, Co
 pub mod data; // data terms
 pub mod operands; // what is to be written behind operands
 
-use crate::data::Put;
+use crate::data::TermPut;
 use crate::data::put_term;
 use crate::data::put_terms;
 use assignments::Conditions;
+use elements::cell;
+use elements::peek;
+use elements::smaller;
+use elements::wide;
 use lettering::Letters;
 use lettering::put_name;
 use lettering::put_sort;
+use limits::TAU;
 use texts::put_byte;
 use texts::put_bytes;
 
@@ -48,11 +53,11 @@ fn put_sums(s: &[u8], l: Letters, from: usize, n: usize, out: &mut [u8], at: usi
     ensures { λ r. ⌜ Ends (now (out .entry)) r (now (out .exit)) ⌝ }
     ensures { λ r. ⌜ SumsPut (now (s .entry)) l from n (now (out .entry)) at (now (out .exit)) r ⌝ }
 {
-    let m = terms::wide(terms::peek(s, from));
+    let m = wide(peek(s, from));
     let mut p = at;
     let mut i: usize = 0;
     while i < m {
-        p = put_sum(out, p, l, n + i, terms::peek(s, from + 1 + i));
+        p = put_sum(out, p, l, n + i, peek(s, from + 1 + i));
         i += 1;
     }
     p
@@ -97,7 +102,7 @@ fn put_condition(
     ensures { λ r. ⌜ Ends (now (out .entry)) r (now (out .exit)) ⌝ }
     ensures { λ r. ⌜ CondPut (now (s .entry)) (now (funcs .entry)) l (λ acts c. condition-text acts (c .1)) from (now (out .entry)) at (now (out .exit)) r ⌝ }
 {
-    let b = evaluation::smaller(from, s.len()) + 1;
+    let b = smaller(from, s.len()) + 1;
     let a = put_bytes(out, at, b"<|");
     let r = put_term(s, funcs, l, b, out, a);
     put_bytes(out, r.at, b"|>")
@@ -109,7 +114,7 @@ fn put_first(s: &[u8], funcs: &[u16], l: Letters, from: usize, out: &mut [u8], a
     ensures { λ r. ⌜ Ends (now (out .entry)) r (now (out .exit)) ⌝ }
     ensures { λ r. ⌜ CondPut (now (s .entry)) (now (funcs .entry)) l first-text from (now (out .entry)) at (now (out .exit)) r ⌝ }
 {
-    if terms::peek(s, from) != 0 {
+    if peek(s, from) != 0 {
         return at;
     }
     let a = put_bytes(out, at, b"delta");
@@ -122,7 +127,7 @@ fn put_second(s: &[u8], funcs: &[u16], l: Letters, from: usize, out: &mut [u8], 
     ensures { λ r. ⌜ Ends (now (out .entry)) r (now (out .exit)) ⌝ }
     ensures { λ r. ⌜ CondPut (now (s .entry)) (now (funcs .entry)) l second-text from (now (out .entry)) at (now (out .exit)) r ⌝ }
 {
-    if terms::peek(s, from) == 0 {
+    if peek(s, from) == 0 {
         return at;
     }
     let a = put_condition(s, funcs, l, from, out, at);
@@ -188,21 +193,21 @@ fn put_action(
     from: usize,
     out: &mut [u8],
     at: usize,
-) -> Put
+) -> TermPut
     requires { ⌜ (at ≤ length (now out)) × ((length (now s) ≤ max-stream) × (from ≤ max-stream * 3)) ⌝ }
     ensures { λ r. ⌜ Within (now (s .entry)) (now (out .entry)) (from + 1) r (now (out .exit)) ⌝ }
     ensures { λ r. ⌜ ActionPut (now (s .entry)) (now (funcs .entry)) l (now (acts .entry)) from (now (out .entry)) at (now (out .exit)) r ⌝ }
 {
-    let b = terms::peek(s, from);
-    if b == firing::TAU {
-        return Put {
+    let b = peek(s, from);
+    if b == TAU {
+        return TermPut {
             from: from + 1,
             at: put_bytes(out, at, b"tau"),
         };
     }
-    let p = terms::place(acts, terms::wide(b));
+    let p = cell(acts, wide(b));
     let a = put_bytes(out, at, terms::list_at(s, p));
-    let n = terms::wide(terms::peek(s, p + 1 + terms::wide(terms::peek(s, p))));
+    let n = wide(peek(s, p + 1 + wide(peek(s, p))));
     put_terms(s, funcs, l, from + 1, n, out, a)
 }
 
@@ -215,15 +220,15 @@ fn put_call(
     from: usize,
     out: &mut [u8],
     at: usize,
-) -> Put
+) -> TermPut
     requires { ⌜ (at ≤ length (now out)) × ((length (now s) ≤ max-stream) × (from ≤ max-stream * 5)) ⌝ }
     ensures { λ r. ⌜ Within (now (s .entry)) (now (out .entry)) (from + 1) r (now (out .exit)) ⌝ }
     ensures { λ r. ⌜ CallPut (now (s .entry)) (now (funcs .entry)) l (now (params .entry)) from (now (out .entry)) at (now (out .exit)) r ⌝ }
 {
-    let e = terms::wide(terms::peek(s, from));
+    let e = wide(peek(s, from));
     let a = put_byte(out, at, b'.');
     let b = put_name(out, a, b'p', l.procs, e);
-    let k = terms::wide(terms::peek(s, terms::place(params, e)));
+    let k = wide(peek(s, cell(params, e)));
     put_terms(s, funcs, l, from + 1, k, out, b)
 }
 
@@ -236,13 +241,13 @@ fn put_calls(
     from: usize,
     out: &mut [u8],
     at: usize,
-) -> Put
+) -> TermPut
     requires { ⌜ (at ≤ length (now out)) × ((length (now s) ≤ max-stream) × (from ≤ max-stream * 4)) ⌝ }
     ensures { λ r. ⌜ Ends (now (out .entry)) (r .at) (now (out .exit)) ⌝ }
     ensures { λ r. ⌜ CallsPut (now (s .entry)) (now (funcs .entry)) l (now (params .entry)) from (now (out .entry)) at (now (out .exit)) r ⌝ }
 {
-    let n = terms::wide(terms::peek(s, from));
-    let mut r = Put {
+    let n = wide(peek(s, from));
+    let mut r = TermPut {
         from: from + 1,
         at: at,
     };
@@ -265,20 +270,20 @@ fn put_summand(
     n: usize,
     out: &mut [u8],
     at: usize,
-) -> Put
+) -> TermPut
     requires { ⌜ (at ≤ length (now out)) × ((length (now s) ≤ max-stream) × ((from ≤ 65536) × (n ≤ 255))) ⌝ }
     ensures { λ r. ⌜ Ends (now (out .entry)) (r .at) (now (out .exit)) × (r .from ≤ length (now (s .entry))) ⌝ }
     ensures { λ r. ⌜ SummandPut (now (s .entry)) (now (funcs .entry)) l (now (acts .entry)) (now (params .entry)) from n (now (out .entry)) at (now (out .exit)) r ⌝ }
 {
-    let m = terms::wide(terms::peek(s, from));
+    let m = wide(peek(s, from));
     let c = opening::conditions(s, funcs, from + 1 + m, n, opening::sizes(s, from));
     let a = put_sums(s, l, from, n, out, at);
     let b = put_before(s, funcs, l, c, out, a);
     let d = put_action(s, funcs, acts, l, c.end, out, b);
     let e = put_calls(s, funcs, params, l, d.from, out, d.at);
     let f = put_behind(s, funcs, l, c, out, e.at);
-    Put {
-        from: evaluation::smaller(e.from, s.len()),
+    TermPut {
+        from: smaller(e.from, s.len()),
         at: put_closing(out, f, m),
     }
 }
@@ -299,7 +304,7 @@ pub fn put_right(
     ensures { λ r. ⌜ (r ≤ length (now (out .entry))) × (length (now (out .exit)) ≡ length (now (out .entry))) ⌝ }
     ensures { λ r. ⌜ ((S : Sig) (Ps : List (List ℕ)) (Δ : List ℕ) (hs : List Summand) (rest : List ℕ) → KnownTerms S (now (s .entry)) (now (funcs .entry)) → KnownParts S Ps (now (s .entry)) (now (acts .entry)) (now (params .entry)) → RightSummands S Ps Δ hs → length Δ ≡ n → n ≤ frame-width → Lettered (S .acts) l → drop row (now (s .entry)) ≡ encode-list encode-summand hs ++ rest → Wrote (now (out .entry)) at (right-text (S .acts) n hs) (now (out .exit)) r) ⌝ }
 {
-    let m = terms::wide(terms::peek(s, row));
+    let m = wide(peek(s, row));
     if m == 0 {
         return put_bytes(out, at, b"delta");
     }

@@ -6,8 +6,8 @@ ghost use Prim.Native.Nat.{_-_, _≤_, _<_};
 ghost use lib.ListN.{length};
 ghost use Rattle.texts.specs.Wrote.{Wrote};
 ghost use Rattle.clauses.specs.Brackets.{Mark, mark-text, first-place, number, mark-of, enclosed, mark, Open, code, ended, operator-code, operator-mark, more, Closes};
-use terms::AND;
-use terms::EQUAL;
+use limits::AND_CODE;
+use limits::EQUAL_CODE;
 use texts::put_byte;
 use texts::put_bytes;
 
@@ -99,10 +99,10 @@ pub fn joint(n: usize) -> u64
     requires { ⌜ operator-code < n ⌝ }
     ensures { λ r. ⌜ r ≡ number (operator-mark (n - operator-code - 1)) ⌝ }
 {
-    if n == EQUAL {
+    if n == EQUAL_CODE {
         return EQUAL_MARK;
     }
-    if n == AND {
+    if n == AND_CODE {
         return AND_MARK;
     }
     OR_MARK

@@ -28,7 +28,7 @@ use Rattle.following.specs.Fine.{Fine}
 use Rattle.following.proofs.Parts.{all-append}
 use Rattle.contexts.specs.declared.Spot.{Spot}
 use Rattle.contexts.specs.declared.Side.{Side}
-use Rattle.putting.specs.declared.Put.{Put}
+use Rattle.putting.specs.declared.TermPut.{TermPut}
 use Rattle.putting.specs.Puts.{Puts}
 use Rattle.putting.proofs.Bytes.{kept-front}
 use Rattle.contexts.specs.Spots.{Arrays, arrays, wanted-of, CondSmall, around, SpottedAt, Spotted, Kept, OnSide}
@@ -213,7 +213,7 @@ module _ (cells : List ℕ) (d : Node) (s : Spot) (e : Side) (slots conds : List
           ),
     )
 
-    module _ (r : Put) (o′ : List ℕ) (put : Puts cells (d .terms) slots (s .n) (s .lc + 1) (set conds (s .lc) (wanted-of (e .second))) r o′)
+    module _ (r : TermPut) (o′ : List ℕ) (put : Puts cells (d .terms) slots (s .n) (s .lc + 1) (set conds (s .lc) (wanted-of (e .second))) r o′)
         (same : take (s .lc + 1) o′ ≡ take (s .lc + 1) (set conds (s .lc) (wanted-of (e .second)))) where
       cond-kept : (vars calls : List ℕ) → Kept s (arrays slots vars conds calls) (arrays slots vars o′ calls)
       cond-kept vars calls = record {

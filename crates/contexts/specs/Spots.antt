@@ -20,7 +20,8 @@ use Rattle.nodes.specs.Nodes.{kind-of}
 use Rattle.nodes.specs.Scoped.{max-scope}
 use Rattle.counting.specs.Limits.{max-fuel}
 use Rattle.counting.specs.Counting.{Placed, Tallied, FirstNew}
-use Rattle.putting.specs.Slots.{term-bytes, slot-width, Slots, Writable}
+use Rattle.laws.specs.TermLength.{max-term}
+use Rattle.putting.specs.Slots.{slot-width, Slots, Writable}
 use Rattle.following.specs.Fine.{Fine, Few}
 use Rattle.following.specs.Follows.{call-bytes, calls-room, CallSmall}
 use Rattle.contexts.specs.declared.Spot.{Spot}
@@ -28,7 +29,7 @@ use Rattle.contexts.specs.declared.Side.{Side}
 
 -- the most bytes of a condition
 abbrev pub cond-bytes : ℕ
-cond-bytes = 1 + term-bytes
+cond-bytes = 1 + max-term
 
 abbrev pub conds-room : ℕ
 conds-room = max-conditions * cond-bytes

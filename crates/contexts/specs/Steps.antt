@@ -12,7 +12,8 @@ use Rattle.pcrl.specs.Table.{Summand}
 use Rattle.pcrl.specs.Stream.{tau-code, encode-summand}
 use Rattle.nodes.specs.Layout.{byte-limit}
 use Rattle.putting.specs.declared.Done.{Done}
-use Rattle.putting.specs.Slots.{term-bytes, slot-width, Slots, Adds}
+use Rattle.laws.specs.TermLength.{max-term}
+use Rattle.putting.specs.Slots.{slot-width, Slots, Adds}
 use Rattle.nodes.specs.declared.Node.{Node}
 use Rattle.nodes.specs.Layout.{sum-kind, alt-kind, atom-kind, cond-kind, call-kind, seq-kind}
 use Rattle.nodes.specs.Views.{Views}
@@ -22,7 +23,7 @@ use Rattle.contexts.specs.Spots.{Ready, SummandFits, Arrays, arrays, Bou
 
 -- room for the terms of an action
 abbrev pub terms-room : ℕ
-terms-room = max-arity * term-bytes
+terms-room = max-arity * max-term
 
 -- room for slots for the parameters of a process and the sum variables of a summand
 abbrev pub call-room : ℕ

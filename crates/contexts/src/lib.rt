@@ -12,26 +12,26 @@ ghost use Rattle.putting.specs.Slots.{slot-width, Adds};
 ghost use Rattle.following.specs.Follows.{call-bytes, calls-room};
 ghost use Rattle.contexts.specs.Spots.{cond-bytes, conds-room, variable-limit, arrays, Bound, wanted-of};
 ghost use Rattle.contexts.specs.Steps.{VariablePut, call-room, terms-room, act-code, failed, SumDown, SeqDown, StepDown, SideDown, CallDown, Stays, Emits};
+use elements::BYTE_LIMIT;
+use elements::byte;
+use elements::cell;
+use limits::FRAME_WIDTH;
+use limits::MAX_ARITY;
+use limits::MAX_CONDITIONS;
+use limits::MAX_TERM;
+use limits::MAX_VARIABLES;
+use limits::TAU;
+use limits::VARIABLE_CODE;
 use nodes::Node;
 use putting::Done;
 use putting::SLOT;
-use putting::TERM;
-use putting::VARIABLE_CODE;
-
-const WIDTH: usize = 4;
-
-pub const MAX_VARIABLES: usize = 4;
-
-const MAX_CONDITIONS: usize = 8;
-
-const MAX_ARITY: usize = 2;
 
 // Room for the conditions of a summand, for the terms of an action, and for the slots of a process that is called.
-pub const CONDITIONS: usize = MAX_CONDITIONS * (1 + TERM);
+pub const CONDITIONS: usize = MAX_CONDITIONS * (1 + MAX_TERM);
 
-pub const TERMS: usize = MAX_ARITY * TERM;
+pub const TERMS: usize = MAX_ARITY * MAX_TERM;
 
-pub const MINE: usize = (WIDTH + MAX_VARIABLES) * SLOT;
+pub const MINE: usize = (FRAME_WIDTH + MAX_VARIABLES) * SLOT;
 
 // Where the walk stands: at which node, how many calls may be followed; how many slots there are, the numbers of the next variable
 // and of the first new equation; how many sum variables, conditions and calls stand around it, where the conditions end and the
@@ -108,7 +108,7 @@ fn down_sum(d: Node, s: Spot, slots: &mut [u8], vars: &mut [u8]) -> Spot
         return fail(s);
     }
     put_variable(&mut *slots, n, s.m);
-    vars[nv] = (d.number % 256) as u8;
+    vars[nv] = (d.number % BYTE_LIMIT) as u8;
     Spot {
         ok: true,
         at: d.next,
@@ -233,12 +233,12 @@ pub fn down_call(
     if s.fuel == 0 {
         return fail(s);
     }
-    if count > WIDTH {
+    if count > FRAME_WIDTH {
         return fail(s);
     }
     putting::put_slots(cells, d.terms, count, slots, s.n, &mut *mine);
-    let at = nodes::cell(starts, d.number);
-    let c = nodes::byte(firsts, d.number);
+    let at = cell(starts, d.number);
+    let c = byte(firsts, d.number);
     Spot {
         ok: true,
         at: at,
@@ -295,9 +295,9 @@ fn code_of(number: usize) -> u8
     ensures { λ r. ⌜ r ≡ act-code number ⌝ }
 {
     if number == 0 {
-        return 255;
+        return TAU;
     }
-    ((number - 1) % 256) as u8
+    ((number - 1) % BYTE_LIMIT) as u8
 }
 
 // The summand of an action's head in its context. If there is no room for it, w is the end of the lent bytes.

@@ -7,13 +7,18 @@ ghost use Rattle.pcrl.specs.Sheet.{Sheet};
 ghost use Rattle.nodes.specs.Layout.{cell-limit};
 ghost use Rattle.counting.specs.Limits.{most-heads, row-width, max-fuel, counts-room, cut, row};
 ghost use Rattle.counting.specs.Counting.{leaf-of, Counts, Placed, Tallied, SameRows, Repeated};
+use elements::cell;
+use elements::cut_sum;
+use limits::MAX_PROCESSES;
+use limits::MAX_SUMMANDS;
 
-pub const MOST: usize = 256;
+// From here on counts are not told apart: a table has fewer summands and fewer equations.
+pub const MOST: usize = MAX_SUMMANDS + 1;
 
-// A row of counts for each number of calls that may be followed, as in Limits.
-pub const ROW: usize = 16;
+// A row of counts for each number of calls that may be followed, none to one more than there are processes.
+pub const ROW: usize = MAX_PROCESSES;
 
-pub const ROOM: usize = 288;
+pub const ROOM: usize = (MAX_PROCESSES + 2) * ROW;
 
 // How many heads and new equations a term has, and the place after it.
 pub struct Counted {
@@ -26,11 +31,7 @@ fn add(a: usize, b: usize) -> usize
     requires { ⌜ a ≤ most-heads ⌝ }
     ensures { λ r. ⌜ (r ≡ cut (a + b)) × (r ≤ most-heads) ⌝ }
 {
-    if b >= MOST {
-        return MOST;
-    }
-    let s = a + b;
-    if s < MOST { s } else { MOST }
+    cut_sum(MOST, a, b)
 }
 
 // The count of process k in the row at base, 0 past the row's end.
@@ -38,11 +39,7 @@ fn known(counts: &[u16], base: usize, k: usize) -> usize
     requires { ⌜ base < cell-limit ⌝ }
     ensures { λ r. ⌜ (r ≡ getD (row base (now (counts .entry))) k 0) × (r < cell-limit) ⌝ }
 {
-    if k < ROW {
-        nodes::cell(counts, base + k)
-    } else {
-        0
-    }
+    if k < ROW { cell(counts, base + k) } else { 0 }
 }
 
 // The heads that a node has by itself: an action's, or those of the process that is called.
@@ -79,7 +76,7 @@ pub fn count(cells: &[u16], at: usize, counts: &[u16], base: usize) -> Counted
             };
         }
         // a choice without a new equation: three cells and no data
-        if nodes::cell(cells, p) == nodes::ALT {
+        if cell(cells, p) == nodes::ALT {
             need += 1;
             p += 3;
             continue;
@@ -113,7 +110,7 @@ fn round(cells: &[u16], starts: &[u16], n: usize, f: usize, t: &mut [u16])
 {
     let mut k: usize = 0;
     while k < n {
-        let p = nodes::cell(starts, k);
+        let p = cell(starts, k);
         let r = count(cells, p, &*t, ROW * f);
         t[ROW * (f + 1) + k] = r.heads as u16;
         k += 1;
@@ -127,7 +124,7 @@ fn same_rows(t: &[u16], f: usize) -> bool
 {
     let mut k: usize = 0;
     while k < ROW {
-        if nodes::cell(t, ROW * (f + 1) + k) != nodes::cell(t, ROW * f + k) {
+        if cell(t, ROW * (f + 1) + k) != cell(t, ROW * f + k) {
             return false;
         }
         k += 1;

@@ -19,12 +19,17 @@ ghost use Rattle.firing.specs.Known.{KnownParts};
 ghost use Rattle.texts.specs.Wrote.{Wrote};
 ghost use Rattle.lettering.specs.Named.{sort-by, Lettered};
 ghost use Rattle.declarations.specs.Lines.{sort-line-by, takes-by, func-head-by, colon-before};
+use elements::cell;
+use elements::peek;
+use elements::smaller;
+use elements::wide;
 use lettering::Letters;
 use lettering::put_name;
 use lettering::put_sort;
 use texts::put_byte;
 use texts::put_bytes;
 use texts::put_decimal;
+use texts::put_value;
 
 // "`sort` name size"
 fn put_sort_line(out: &mut [u8], at: usize, l: Letters, d: usize, size: u8) -> usize
@@ -34,7 +39,7 @@ fn put_sort_line(out: &mut [u8], at: usize, l: Letters, d: usize, size: u8) -> u
     let a = put_bytes(out, at, b"sort ");
     let b = put_name(out, a, b's', l.sorts, d);
     let c = put_byte(out, b, b' ');
-    let e = put_decimal(out, c, terms::wide(size));
+    let e = put_decimal(out, c, wide(size));
     put_byte(out, e, b';')
 }
 
@@ -70,13 +75,6 @@ fn put_takes(sorts: &[u8], l: Letters, out: &mut [u8], at: usize) -> usize
     p
 }
 
-fn put_value(out: &mut [u8], at: usize, v: u8) -> usize
-    requires { ⌜ at ≤ length (now out) ⌝ }
-    ensures { λ r. ⌜ Wrote (now (out .entry)) at (decimal v) (now (out .exit)) r ⌝ }
-{
-    put_decimal(out, at, terms::wide(v))
-}
-
 // "values by commas"
 pub fn put_values(vs: &[u8], out: &mut [u8], at: usize) -> usize
     requires { ⌜ at ≤ length (now out) ⌝ }
@@ -98,14 +96,14 @@ pub fn put_values(vs: &[u8], out: &mut [u8], at: usize) -> usize
 fn product(x: u8, y: u8) -> usize
     ensures { λ r. ⌜ (r ≡ x * y) × (r < 65536) ⌝ }
 {
-    terms::wide(x) * terms::wide(y)
+    wide(x) * wide(y)
 }
 
 // The size of the i-th of some sorts.
 fn size_at(s: &[u8], sorts: &[u8], i: usize) -> u8
     ensures { λ r. ⌜ r ≡ getD (now (s .entry)) (1 + getD (now (sorts .entry)) i 0) 0 ⌝ }
 {
-    terms::peek(s, 1 + terms::wide(terms::peek(sorts, i)))
+    peek(s, 1 + wide(peek(sorts, i)))
 }
 
 // How many values a function of these sorts has.
@@ -114,7 +112,7 @@ fn many_values(s: &[u8], sorts: &[u8]) -> usize
 {
     let x = size_at(s, sorts, 0);
     if sorts.len() < 2 {
-        return terms::wide(x);
+        return wide(x);
     }
     product(x, size_at(s, sorts, 1))
 }
@@ -124,8 +122,8 @@ pub fn bytes_at(s: &[u8], from: usize, n: usize) -> &[u8]
     requires { ⌜ (length (now s) ≤ max-stream) × (n < 65536) ⌝ }
     ensures { λ r. ⌜ ((e : List ℕ) → Stands (now (s .entry)) from e → length e ≡ n → now r ≡ e) ⌝ }
 {
-    let v = evaluation::smaller(from, s.len());
-    let w = evaluation::smaller(v + n, s.len());
+    let v = smaller(from, s.len());
+    let w = smaller(v + n, s.len());
     &s[v..w]
 }
 
@@ -157,7 +155,7 @@ fn put_func(s: &[u8], from: usize, f: usize, l: Letters, out: &mut [u8], at: usi
     ensures { λ r. ⌜ ((S : Sig) (funcs : List ℕ) (g : Func) → KnownTerms S (now (s .entry)) funcs → RightFunc (S .sorts) g → Lettered (S .acts) l → f < 256 → Stands (now (s .entry)) from (encode-func g) → Wrote (now (out .entry)) at (func-line-text (S .acts) f g) (now (out .exit)) r) ⌝ }
 {
     let takes = terms::list_at(s, from);
-    let gives = terms::peek(s, from + 1 + takes.len());
+    let gives = peek(s, from + 1 + takes.len());
     let a = put_func_head(takes, f, l, out, at);
     let b = put_sort(out, a, l, gives);
     let c = put_byte(out, b, b'=');
@@ -173,7 +171,7 @@ pub fn put_funcs(s: &[u8], funcs: &[u16], n: usize, l: Letters, out: &mut [u8], 
     let mut p = at;
     let mut f: usize = 0;
     while f < n {
-        p = put_func(s, terms::place(funcs, f), f, l, out, p);
+        p = put_func(s, cell(funcs, f), f, l, out, p);
         f += 1;
     }
     p
@@ -213,7 +211,7 @@ pub fn put_acts(s: &[u8], acts: &[u16], n: usize, l: Letters, out: &mut [u8], at
     let mut p = at;
     let mut i: usize = 0;
     while i < n {
-        p = put_act(s, terms::place(acts, i), l, out, p);
+        p = put_act(s, cell(acts, i), l, out, p);
         i += 1;
     }
     p

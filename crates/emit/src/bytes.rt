@@ -1,14 +1,11 @@
 // Bytes put one behind another into a lent array. Nothing asks for room: a place past the end says that there was none.
 ghost use mathlib.Core.Path.{_≡_};
 ghost use mathlib.Core.List.{[], _∷_};
-ghost use Prim.Native.Nat.{_+_, _-_, _%_};
+ghost use Prim.Native.Nat.{_+_, _-_};
 ghost use lib.ListN.{length, getD};
-ghost use Rattle.nodes.specs.Layout.{byte-limit};
 ghost use Rattle.emit.specs.Putting.{Puts};
 ghost use Rattle.emit.specs.Bytes.{part, row-bytes};
-use nodes::byte;
-
-const BYTE_LIMIT: usize = 256;
+use elements::byte;
 
 // One byte; the next free place.
 pub fn put(out: &mut [u8], w: usize, b: u8) -> usize
@@ -20,13 +17,6 @@ pub fn put(out: &mut [u8], w: usize, b: u8) -> usize
     } else {
         out.len() + 1
     }
-}
-
-// A number's low byte.
-pub fn low(n: usize) -> u8
-    ensures { λ r. ⌜ r ≡ n % byte-limit ⌝ }
-{
-    (n % BYTE_LIMIT) as u8
 }
 
 // What is left of a, 0 where b is larger.

@@ -8,24 +8,21 @@ ghost use Rattle.names.specs.NameCells.{name-at};
 ghost use Rattle.emit.specs.Putting.{Puts};
 ghost use Rattle.emit.specs.Bytes.{sorts-bytes, func-bytes, name-bytes, action-bytes, counted-bytes, PutsSig};
 use crate::bytes::copy;
-use crate::bytes::low;
 use crate::bytes::minus;
 use crate::bytes::put;
 use crate::bytes::put_row;
+use elements::cell;
+use elements::low;
+use elements::peek;
+use elements::peek_cell;
 use lexer::bytes::DIGIT;
 use lexer::bytes::UNDERSCORE;
-use lexer::bytes::byte_at;
 use lexer::bytes::run;
+use names::find::first_byte;
 use nodes::ACT_ROW;
 use nodes::FUNC_ROW;
+use nodes::GIVES;
 use nodes::Outline;
-use nodes::cell;
-
-// Of a function's row, the sort that it gives.
-const GIVES: usize = 3;
-
-// A name's cell is this and the place of its first byte (crate lexer, Cells).
-const FIRST_NAME: usize = 1024;
 
 fn put_sorts(sizes: &[u8], n: usize, out: &mut [u8], w: usize) -> usize
     ensures { λ r. ⌜ Puts (sorts-bytes (now (sizes .entry)) n) w (now (out .entry)) r (now (out .exit)) ⌝ }
@@ -47,7 +44,7 @@ fn put_func(
 {
     let p = FUNC_ROW * i;
     let a = put_row(funcs, p, out, w);
-    let b = put(out, a, byte_at(funcs, p + GIVES));
+    let b = put(out, a, peek(funcs, p + GIVES));
     let from = cell(places, i);
     copy(values, from, minus(cell(places, i + 1), from), out, b)
 }
@@ -73,10 +70,10 @@ fn put_funcs(
 }
 
 // A name, by its cell.
-fn put_name(s: &[u8], c: usize, out: &mut [u8], w: usize) -> usize
+fn put_name(s: &[u8], c: u16, out: &mut [u8], w: usize) -> usize
     ensures { λ r. ⌜ Puts (name-bytes (name-at (now (s .entry)) c)) w (now (out .entry)) r (now (out .exit)) ⌝ }
 {
-    let p = minus(c, FIRST_NAME);
+    let p = first_byte(c);
     let n = run(s, p, DIGIT, UNDERSCORE);
     let v = put(out, w, low(n));
     copy(s, p, n, out, v)
@@ -94,7 +91,7 @@ fn put_action(
     requires { ⌜ (b < cell-limit) × (i < cell-limit) ⌝ }
     ensures { λ r. ⌜ Puts (action-bytes (now (s .entry)) (now (acts .entry)) (now (names .entry)) b i) w (now (out .entry)) r (now (out .exit)) ⌝ }
 {
-    let v = put_name(s, cell(names, b + i), out, w);
+    let v = put_name(s, peek_cell(names, b + i), out, w);
     put_row(acts, ACT_ROW * i, out, v)
 }
 

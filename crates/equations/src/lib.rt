@@ -1,4 +1,8 @@
 // The equations of a table's stream: parameters of all, summands of all, and the start; where each stands is kept.
+use elements::cell;
+use elements::peek;
+use elements::wide;
+use limits::MAX_EQUATIONS;
 use terms::Next;
 ghost use mathlib.Core.Path.{_≡_};
 ghost use mathlib.Core.List.{List};
@@ -17,13 +21,10 @@ ghost use Rattle.terms.specs.Ends.{rests, ended};
 ghost use Rattle.terms.specs.Laid.{Laid};
 ghost use Rattle.equations.specs.Reading.{KnownSig, KnownRows, total-at, EquationsRead};
 
-// "64 equations; 4 parameters"
-const EQUATIONS: usize = 64;
-
-const PARAMETERS: u8 = 4;
+const PARAMETERS: u8 = limits::FRAME_WIDTH as u8;
 
 // Where the summands end, if they are right, and how many they are.
-pub struct Rows {
+pub struct SummandRows {
     pub ok: bool,
     pub at: usize,
     pub total: usize,
@@ -37,11 +38,11 @@ fn read_params(s: &[u8], sizes: &[u8], at: usize, params: &mut [u16]) -> Next
     if s.len() <= at {
         return Next { ok: false, at: 0 };
     }
-    let n = terms::wide(s[at]);
+    let n = wide(s[at]);
     if n < 1 {
         return Next { ok: false, at: 0 };
     }
-    if EQUATIONS < n {
+    if MAX_EQUATIONS < n {
         return Next { ok: false, at: 0 };
     }
     let mut i = at + 1;
@@ -67,7 +68,7 @@ fn read_rows(
     params: &[u16],
     at: usize,
     rows: &mut [u16],
-) -> Rows
+) -> SummandRows
     requires { ⌜ (length (now params) ≤ max-equations) × ((max-equations ≤ length (now rows)) × (length (now s) < 65536)) ⌝ }
     ensures { λ r. ⌜ ((S : Sig) (Ps : List (List ℕ)) → KnownSig S (now (s .entry)) (now (sizes .entry)) (now (funcs .entry)) (now (acts .entry)) → KnownRows S Ps (now (s .entry)) (now (params .entry)) → Laid (r .ok) (each (read-summands S Ps) Ps (drop at (now (s .entry)))) (encode-list encode-summand) (now (s .entry)) (r .at) (take (length (now (params .entry))) (now (rows .exit)))) × (r .ok ≡ true → r .total ≡ total-at (now (s .entry)) (take (length (now (params .entry))) (now (rows .exit)))) ⌝ }
 {
@@ -75,21 +76,21 @@ fn read_rows(
     let mut k = 0usize;
     let mut total = 0usize;
     while k < params.len() {
-        let own = terms::list_at(s, terms::place(params, k));
+        let own = terms::list_at(s, cell(params, k));
         let t = summands::read_summands(s, sizes, funcs, acts, params, own, i);
         if !t.ok {
-            return Rows {
+            return SummandRows {
                 ok: false,
                 at: 0,
                 total: 0,
             };
         }
         rows[k] = i as u16;
-        total += terms::wide(terms::peek(s, i));
+        total += wide(peek(s, i));
         i = t.at;
         k += 1;
     }
-    Rows {
+    SummandRows {
         ok: true,
         at: i,
         total: total,
@@ -105,19 +106,19 @@ pub fn read_equations(
     at: usize,
     params: &mut [u16],
     rows: &mut [u16],
-) -> Rows
+) -> SummandRows
     requires { ⌜ (max-equations ≤ length (now params)) × ((max-equations ≤ length (now rows)) × (length (now s) < 65536)) ⌝ }
     ensures { λ r. ⌜ ((S : Sig) → KnownSig S (now (s .entry)) (now (sizes .entry)) (now (funcs .entry)) (now (acts .entry)) → EquationsRead (r .ok) S (now (s .entry)) at (r .at) (r .total) (take (getD (now (s .entry)) at 0) (now (params .exit))) (take (getD (now (s .entry)) at 0) (now (rows .exit)))) × (r .ok ≡ true → getD (now (s .entry)) at 0 ≤ max-equations) ⌝ }
 {
     let p = read_params(s, sizes, at, params);
     if !p.ok {
-        return Rows {
+        return SummandRows {
             ok: false,
             at: 0,
             total: 0,
         };
     }
-    let n = terms::wide(terms::peek(s, at));
+    let n = wide(peek(s, at));
     read_rows(s, sizes, funcs, acts, &params[0..n], p.at, rows)
 }
 
@@ -131,7 +132,7 @@ fn read_data(s: &[u8], sizes: &[u8], sorts: &[u8], at: usize) -> Next
         if s.len() <= i {
             return Next { ok: false, at: 0 };
         }
-        if terms::peek(sizes, terms::wide(sorts[k])) <= s[i] {
+        if peek(sizes, wide(sorts[k])) <= s[i] {
             return Next { ok: false, at: 0 };
         }
         i += 1;
@@ -147,10 +148,10 @@ pub fn read_start(s: &[u8], sizes: &[u8], params: &[u16], at: usize) -> Next
     if s.len() <= at {
         return Next { ok: false, at: 0 };
     }
-    let e = terms::wide(s[at]);
+    let e = wide(s[at]);
     if params.len() <= e {
         return Next { ok: false, at: 0 };
     }
-    let sorts = terms::list_at(s, terms::place(params, e));
+    let sorts = terms::list_at(s, cell(params, e));
     read_data(s, sizes, sorts, at + 1)
 }

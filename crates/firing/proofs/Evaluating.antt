@@ -1,9 +1,9 @@
 -- Terms one behind another: each is worth its value, and the next one stands where it ends.
 use mathlib.Core.Path.{_≡_, refl, sym, ap, ap₂, _∙_}
-use mathlib.Core.List.{List, [], _∷_, _++_, map, append-nil}
-use Prim.Native.Nat.{ℕ, zero, suc, _+_, _-_, _≤_, _<_}
+use mathlib.Core.List.{List, [], _++_, map}
+use Prim.Native.Nat.{ℕ, _+_, _-_, _≤_, _<_}
 use native.Mathlib.Omega.{arith}
-use lib.ListN.{length, getD, take, drop, set, replicate, length-append, length-drop, length-map, drop-of-length-le}
+use lib.ListN.{length, getD, take, drop, set, length-append, length-drop, length-map, drop-of-length-le}
 use lib.Seq.{drop-drop, take-at, drop-at, take-all}
 use Rattle.pcrl.specs.Tests.{Each}
 use Rattle.pcrl.specs.Reader.{all}
@@ -85,16 +85,3 @@ module _ (s funcs e : List ℕ) (at n : ℕ) (o : List ℕ) where
       let n′ = length-map ds (eval S vs) in
       let whole : take i (map (eval S vs) ds) ≡ map (eval S vs) ds = take-all i (map (eval S vs) ds) (omega arith) in
       (written ∙ ap₂ (λ (x : List ℕ) (k : ℕ). x ++ drop k o) whole z, left ∙ ap (λ (l : List Data). all encode-data l ++ rest) none)
-
--- one more zero
-pub cleared-more : (i : ℕ) (o : List ℕ) → i < length o → set (replicate i 0 ++ drop i o) i 0 ≡ replicate (i + 1) 0 ++ drop (i + 1) o
-cleared-more zero [] h = absurd (omega arith)
-cleared-more zero (x ∷ o) h = refl
-cleared-more (suc i) [] h = absurd (omega arith)
-cleared-more (suc i) (x ∷ o) h =
-    let z : suc i + 1 ≡ suc (i + 1) = omega arith in
-    rw z (ap (λ (l : List ℕ). 0 ∷ l) (cleared-more i o (omega arith)))
-
-pub cleared-all : (i : ℕ) (o out : List ℕ) → out ≡ replicate i 0 ++ drop i o → i ≡ length o → out ≡ replicate (length o) 0
-cleared-all i o out e z =
-    e ∙ ap₂ (λ (k : ℕ) (l : List ℕ). replicate k 0 ++ l) z (drop-of-length-le o {i = i} (omega arith)) ∙ append-nil (replicate (length o) 0)

@@ -1,12 +1,19 @@
 // Step k of an equation, found in the stream: its label, and the frames of its calls.
 use assignments::Eight;
 use assignments::Found;
+use elements::cell;
+use elements::peek;
+use elements::smaller;
+use elements::wide;
+use limits::MAX_ARITY;
+use limits::MAX_CALLS;
+use stacks::FRAME;
 use tables::Index;
 ghost use mathlib.Core.Path.{_≡_};
 ghost use mathlib.Core.List.{List, [], _++_, map};
 ghost use Prim.Native.Nat.{ℕ, _+_, _-_, _*_, _≤_, _<_, max};
 ghost use mathlib.Core.Bool.{false};
-ghost use lib.ListN.{length, getD, getElem?, take, drop, replicate};
+ghost use lib.ListN.{length, getD, getElem?, take, drop};
 ghost use Rattle.pcrl.specs.Limits.{max-stream, max-arity, max-calls, frame-width};
 ghost use Rattle.pcrl.specs.Tests.{Every, Each};
 ghost use Rattle.pcrl.specs.Reader.{all};
@@ -24,25 +31,17 @@ ghost use Rattle.tables.specs.Indexed.{Indexed};
 ghost use Rattle.firing.specs.Known.{Valued, KnownParts, AtRow};
 ghost use Rattle.firing.specs.Fires.{frame-bytes, listing, act-of, InBounds, Gives, Fires};
 
-// The code of tau, where an action's number stands.
-pub const TAU: u8 = 0xFF;
+pub const TAU: u8 = limits::TAU;
 
-// Values of an action, at the most.
-const ARITY: u8 = 2;
+const ARITY: u8 = limits::MAX_ARITY as u8;
 
-// Calls of a summand, at the most.
-const CALLS: usize = 8;
-
-// Values of a frame, and its bytes.
-const WIDTH: u8 = 4;
-
-const FRAME: usize = 5;
+const WIDTH: u8 = limits::FRAME_WIDTH as u8;
 
 // A step: the action's number and its values; how many calls there are. Or none: how many steps there are.
 pub struct Fired {
     pub found: bool,
     pub action: u8,
-    pub values: [u8; 2],
+    pub values: [u8; MAX_ARITY],
     pub arity: u8,
     pub calls: usize,
     pub passed: u64,
@@ -64,21 +63,11 @@ fn terms_at(s: &[u8], funcs: &[u16], e: &[u8], at: usize, n: usize, out: &mut [u
     a
 }
 
-fn clear(out: &mut [u8])
-    ensures { λ r. ⌜ now (out .exit) ≡ replicate (length (now (out .entry))) 0 ⌝ }
-{
-    let mut i: usize = 0;
-    while i < out.len() {
-        out[i] = 0;
-        i += 1;
-    }
-}
-
 // How many parameters the equation with this number has.
 fn parameters(s: &[u8], params: &[u16], e: usize) -> u8
     ensures { λ r. ⌜ (r ≤ frame-width) × ((S : Sig) (Ps : List (List ℕ)) (acts : List ℕ) → KnownParts S Ps (now (s .entry)) acts (now (params .entry)) → e < length Ps → r ≡ length (getD Ps e [])) ⌝ }
 {
-    let n = terms::peek(s, terms::place(params, e));
+    let n = peek(s, cell(params, e));
     if WIDTH < n {
         return WIDTH;
     }
@@ -92,8 +81,8 @@ fn action_arity(s: &[u8], acts: &[u16], b: u8) -> u8
     if b == TAU {
         return 0;
     }
-    let p = terms::place(acts, terms::wide(b));
-    let n = terms::peek(s, p + 1 + terms::wide(terms::peek(s, p)));
+    let p = cell(acts, wide(b));
+    let n = peek(s, p + 1 + wide(peek(s, p)));
     if ARITY < n {
         return ARITY;
     }
@@ -105,9 +94,9 @@ fn frame_at(s: &[u8], funcs: &[u16], params: &[u16], e: &[u8], at: usize, out: &
     requires { ⌜ (length (now s) ≤ max-stream) × ((at ≤ max-stream * 4) × (length (now out) ≡ 1 + frame-width)) ⌝ }
     ensures { λ r. ⌜ (r ≤ max (at + 1) (length (now (s .entry)))) × ((length (now (out .exit)) ≡ length (now (out .entry))) × ((S : Sig) (Ps : List (List ℕ)) (acts Γ vs : List ℕ) (c : ℕ × List Data) (rest : List ℕ) → Valued S (now (s .entry)) (now (funcs .entry)) (now (e .entry)) Γ vs → KnownParts S Ps (now (s .entry)) acts (now (params .entry)) → RightCall S Ps Γ c → drop at (now (s .entry)) ≡ encode-call c ++ rest → (now (out .exit) ≡ frame-bytes (call-frame frame-width S vs c)) × (drop r (now (s .entry)) ≡ rest))) ⌝ }
 {
-    let b = terms::peek(s, at);
-    let n = terms::wide(parameters(s, params, terms::wide(b)));
-    clear(out);
+    let b = peek(s, at);
+    let n = wide(parameters(s, params, wide(b)));
+    blocks::fill(out);
     out[0] = b;
     terms_at(s, funcs, e, at + 1, n, &mut out[1..FRAME])
 }
@@ -140,16 +129,16 @@ fn past(s: &[u8], funcs: &[u16], acts: &[u16], params: &[u16], at: usize) -> usi
     requires { ⌜ (length (now s) ≤ max-stream) × (at ≤ max-stream * 3) ⌝ }
     ensures { λ r. ⌜ (r ≤ length (now (s .entry))) × ((S : Sig) (Ps : List (List ℕ)) (Γ : List ℕ) (a : Act) (ts : List Data) (cs : List (ℕ × List Data)) (rest : List ℕ) → KnownTerms S (now (s .entry)) (now (funcs .entry)) → length Γ ≤ variable-code → KnownParts S Ps (now (s .entry)) (now (acts .entry)) (now (params .entry)) → IsAct S a → Each (RightTerm S Γ) (takes-of S a) ts → Every (RightCall S Ps Γ) cs → length cs ≤ max-calls → drop at (now (s .entry)) ≡ encode-act a ++ (all encode-data ts ++ (encode-list encode-call cs ++ rest)) → drop r (now (s .entry)) ≡ rest) ⌝ }
 {
-    let m = evaluation::skip(s, funcs, at + 1, action_arity(s, acts, terms::peek(s, at)));
-    let n = evaluation::smaller(terms::wide(terms::peek(s, m)), CALLS);
+    let m = evaluation::skip(s, funcs, at + 1, action_arity(s, acts, peek(s, at)));
+    let n = smaller(wide(peek(s, m)), MAX_CALLS);
     let mut a = m + 1;
     let mut i: usize = 0;
     while i < n {
-        let k = parameters(s, params, terms::wide(terms::peek(s, a)));
+        let k = parameters(s, params, wide(peek(s, a)));
         a = evaluation::skip(s, funcs, a + 1, k);
         i += 1;
     }
-    evaluation::smaller(a, s.len())
+    smaller(a, s.len())
 }
 
 // The values of p parameters, and zeros behind them.
@@ -160,7 +149,7 @@ fn first_values(params: &[u8], p: usize) -> Eight
     let mut a = [0u8; 8];
     let mut i: usize = 0;
     while i < p {
-        a[i] = terms::peek(params, i);
+        a[i] = peek(params, i);
         i += 1;
     }
     Eight { at: a }
@@ -179,11 +168,11 @@ fn fire_at(
     requires { ⌜ (length (now s) ≤ max-stream) × ((at ≤ max-stream * 2 + 64) × (max-calls * (1 + frame-width) ≤ length (now made))) ⌝ }
     ensures { λ r. ⌜ InBounds r (now (made .entry)) (now (made .exit)) × ((S : Sig) (Ps : List (List ℕ)) (Γ vs : List ℕ) (a : Act) (ts : List Data) (cs : List (ℕ × List Data)) (rest : List ℕ) → Valued S (now (s .entry)) (now (funcs .entry)) (now (e .entry)) Γ vs → KnownParts S Ps (now (s .entry)) (now (acts .entry)) (now (params .entry)) → IsAct S a → Each (RightTerm S Γ) (takes-of S a) ts → Every (RightCall S Ps Γ) cs → length cs ≤ max-calls → drop at (now (s .entry)) ≡ encode-act a ++ (all encode-data ts ++ (encode-list encode-call cs ++ rest)) → Gives S (label S a (map (eval S vs) ts)) (map (call-frame frame-width S vs) cs) r (now (made .entry)) (now (made .exit))) ⌝ }
 {
-    let b = terms::peek(s, at);
+    let b = peek(s, at);
     let n = action_arity(s, acts, b);
-    let mut v = [0u8; 2];
-    let m = terms_at(s, funcs, e, at + 1, terms::wide(n), &mut v);
-    let k = evaluation::smaller(terms::wide(terms::peek(s, m)), CALLS);
+    let mut v = [0u8; MAX_ARITY];
+    let m = terms_at(s, funcs, e, at + 1, wide(n), &mut v);
+    let k = smaller(wide(peek(s, m)), MAX_CALLS);
     frames_at(s, funcs, params, e, m + 1, k, made);
     Fired {
         found: true,
@@ -212,7 +201,7 @@ fn none(passed: u64) -> Fired
     Fired {
         found: false,
         action: 0,
-        values: [0u8; 2],
+        values: [0u8; MAX_ARITY],
         arity: 0,
         calls: 0,
         passed: passed,
@@ -234,13 +223,13 @@ fn fire_rows(
     requires { ⌜ (length (now s) ≤ max-stream) × ((p ≤ frame-width) × (((i : ℕ) → p ≤ i → getD (first .at) i 0 ≡ 0) × ((row < 65536) × (max-calls * (1 + frame-width) ≤ length (now made))))) ⌝ }
     ensures { λ r. ⌜ InBounds r (now (made .entry)) (now (made .exit)) × ((S : Sig) (Ps : List (List ℕ)) (Δ vs : List ℕ) (hs : List Summand) (rest : List ℕ) → AtRow S Ps (now (s .entry)) (now (funcs .entry)) (now (acts .entry)) (now (params .entry)) Δ vs hs → take p (first .at) ≡ vs → drop row (now (s .entry)) ≡ encode-list encode-summand hs ++ rest → Fires S (getElem? (all (fired frame-width S vs) hs) k) (length (all (fired frame-width S vs) hs)) r (now (made .entry)) (now (made .exit))) ⌝ }
 {
-    let n = terms::wide(terms::peek(s, row));
-    let mut at = evaluation::smaller(row + 1, s.len());
+    let n = wide(peek(s, row));
+    let mut at = smaller(row + 1, s.len());
     let mut left = k;
     let mut i: usize = 0;
     while i < n {
         let z = opening::sizes(s, at);
-        let c = opening::conditions(s, funcs, at + 1 + terms::wide(terms::peek(s, at)), p, z);
+        let c = opening::conditions(s, funcs, at + 1 + wide(peek(s, at)), p, z);
         let l = c.end;
         let f = assignments::find(s, funcs, first, p, z, c, left);
         if f.found {
@@ -264,8 +253,8 @@ pub fn fire(s: &[u8], index: Index, e: usize, params: &[u8], k: u64, made: &mut 
     let acts = index.acts;
     let places = index.params;
     let rows = index.rows;
-    let p = terms::wide(parameters(s, &places, e));
+    let p = wide(parameters(s, &places, e));
     let first = first_values(params, p);
-    let row = terms::place(&rows, e);
+    let row = cell(&rows, e);
     fire_rows(s, &funcs, &acts, &places, first, p, row, k, made)
 }

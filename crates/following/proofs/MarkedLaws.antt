@@ -19,7 +19,8 @@ use Rattle.pcrl.specs.Right.{Small}
 use Rattle.pcrl.specs.Heads.{look}
 use Rattle.nodes.specs.Bits.{odd}
 use Rattle.putting.specs.declared.Done.{Done}
-use Rattle.putting.specs.Slots.{term-bytes, slot-width, Slot, Slots, Adds}
+use Rattle.laws.specs.TermLength.{max-term}
+use Rattle.putting.specs.Slots.{slot-width, Slot, Slots, Adds}
 use Rattle.putting.proofs.PutLaws.{never, short}
 use Rattle.marking.specs.Marks.{bits}
 use Rattle.following.specs.Follows.{OnePut, TermsSmall, MarkedPut}
@@ -30,7 +31,7 @@ module _ (slots : List ℕ) (i w : ℕ) (o : List ℕ) where
   pub one-long : max-nodes < getD slots (slot-width * i) 0 → (v : ℕ) (o′ : List ℕ) → OnePut slots i w o (record { ok = false; w = v }) o′
   one-long h v o′ d s = (λ t. never t, λ t small. let z = s .long h in omega arith)
 
-  pub one-wide : getD slots (slot-width * i) 0 ≤ max-nodes → term-bytes < getD slots (slot-width * i + 1) 0 → (r : Done) (o′ : List ℕ) → OnePut slots i w o r o′
+  pub one-wide : getD slots (slot-width * i) 0 ≤ max-nodes → max-term < getD slots (slot-width * i + 1) 0 → (r : Done) (o′ : List ℕ) → OnePut slots i w o r o′
   one-wide h k r o′ d s = let y = s .whole h in absurd (omega (arith, y .0, y .1, s .narrow))
 
   pub one-put : getD slots (slot-width * i) 0 ≤ max-nodes → (l : ℕ) → l ≡ getD slots (slot-width * i + 1) 0 → slot-width * i + 2 + l ≤ length slots → w ≤ length o

@@ -15,7 +15,8 @@ use Rattle.pcrl.specs.Heads.{calls-of}
 use Rattle.nodes.specs.Layout.{byte-limit, seq-kind, enc}
 use Rattle.nodes.specs.Nodes.{kind-of}
 use Rattle.putting.specs.declared.Done.{Done}
-use Rattle.putting.specs.Slots.{term-bytes, slot-width, Slot, Slots, Adds}
+use Rattle.laws.specs.TermLength.{max-term}
+use Rattle.putting.specs.Slots.{slot-width, Slot, Slots, Adds}
 use Rattle.marking.specs.Marks.{bits}
 use Rattle.following.specs.declared.Calls.{Calls}
 use Rattle.following.specs.declared.Pushed.{Pushed}
@@ -23,7 +24,7 @@ use Rattle.following.specs.Fine.{Fine, Few}
 
 -- the most bytes of a call: its equation, and a term for each parameter that an equation may have
 abbrev pub call-bytes : ℕ
-call-bytes = 1 + frame-width * term-bytes
+call-bytes = 1 + frame-width * max-term
 
 abbrev pub calls-room : ℕ
 calls-room = max-calls * call-bytes

@@ -6,17 +6,19 @@ ghost use lib.ListN.{length, take, drop};
 ghost use Rattle.pcrl.specs.Limits.{max-calls, frame-width};
 ghost use Rattle.nodes.specs.Layout.{byte-limit};
 ghost use Rattle.nodes.specs.Scoped.{max-scope};
-ghost use Rattle.putting.specs.Slots.{term-bytes, slot-width};
+ghost use Rattle.laws.specs.TermLength.{max-term};
+ghost use Rattle.putting.specs.Slots.{slot-width};
 ghost use Rattle.following.specs.Follows.{call-bytes, calls-room, no-calls, OnePut, MarkedPut, CallPut, CallsPut, Pushes};
+use elements::BYTE_LIMIT;
+use elements::byte;
+use limits::FRAME_WIDTH;
+use limits::MAX_CALLS;
+use limits::MAX_NODES;
+use limits::MAX_TERM;
 use putting::Done;
 
-pub const MAX_CALLS: usize = 8;
-
-// The most terms of a call.
-const MAX_TERMS: usize = 4;
-
 // The most bytes of a call, and of all calls of a summand.
-const CALL: usize = 1 + MAX_TERMS * putting::TERM;
+const CALL: usize = 1 + FRAME_WIDTH * MAX_TERM;
 
 pub const CALLS: usize = MAX_CALLS * CALL;
 
@@ -48,22 +50,22 @@ pub fn later(c: usize, more: usize) -> usize
     requires { ⌜ c < byte-limit ⌝ }
     ensures { λ r. ⌜ (r < byte-limit) × (c + more < byte-limit → r ≡ c + more) ⌝ }
 {
-    (c + more % 256) % 256
+    (c + more % BYTE_LIMIT) % BYTE_LIMIT
 }
 
 // The term in slot i, if it is no longer than a term may be.
 fn put_one(slots: &[u8], i: usize, out: &mut [u8], w: usize) -> Done
-    requires { ⌜ (i < max-scope) × (slot-width * i + slot-width ≤ length (now slots)) × (w + term-bytes ≤ length (now out)) ⌝ }
-    ensures { λ r. ⌜ (w ≤ r .w) × (r .w ≤ w + term-bytes) ⌝ }
+    requires { ⌜ (i < max-scope) × (slot-width * i + slot-width ≤ length (now slots)) × (w + max-term ≤ length (now out)) ⌝ }
+    ensures { λ r. ⌜ (w ≤ r .w) × (r .w ≤ w + max-term) ⌝ }
     ensures { λ r. ⌜ take w (now (out .exit)) ≡ take w (now (out .entry)) ⌝ }
     ensures { λ r. ⌜ OnePut (now (slots .entry)) i w (now (out .entry)) r (now (out .exit)) ⌝ }
 {
-    let k = nodes::byte(slots, putting::SLOT * i);
-    if k > putting::MAX_NODES {
+    let k = byte(slots, putting::SLOT * i);
+    if k > MAX_NODES {
         return Done { ok: false, w: w };
     }
-    let l = nodes::byte(slots, putting::SLOT * i + 1);
-    if l > putting::TERM {
+    let l = byte(slots, putting::SLOT * i + 1);
+    if l > MAX_TERM {
         return Done { ok: false, w: w };
     }
     putting::copy(slots, putting::SLOT * i + 2, l, &mut *out, w);
@@ -72,8 +74,8 @@ fn put_one(slots: &[u8], i: usize, out: &mut [u8], w: usize) -> Done
 
 // The terms in the marked slots, "trailing zeros the next one". Not ok: one is too long, or they are too many for a call.
 fn put_marked(m: u32, slots: &[u8], n: usize, out: &mut [u8], w: usize) -> Done
-    requires { ⌜ (n ≤ max-scope) × (slot-width * n ≤ length (now slots)) × (w + term-bytes * frame-width ≤ length (now out)) ⌝ }
-    ensures { λ r. ⌜ (w ≤ r .w) × (r .w ≤ w + term-bytes * frame-width) ⌝ }
+    requires { ⌜ (n ≤ max-scope) × (slot-width * n ≤ length (now slots)) × (w + max-term * frame-width ≤ length (now out)) ⌝ }
+    ensures { λ r. ⌜ (w ≤ r .w) × (r .w ≤ w + max-term * frame-width) ⌝ }
     ensures { λ r. ⌜ take w (now (out .exit)) ≡ take w (now (out .entry)) ⌝ }
     ensures { λ r. ⌜ MarkedPut m (now (slots .entry)) n w (now (out .entry)) r (now (out .exit)) ⌝ }
 {
@@ -87,7 +89,7 @@ fn put_marked(m: u32, slots: &[u8], n: usize, out: &mut [u8], w: usize) -> Done
         if i >= n {
             return Done { ok: true, w: v };
         }
-        if k >= MAX_TERMS {
+        if k >= FRAME_WIDTH {
             return Done { ok: false, w: w };
         }
         let r = put_one(slots, i, &mut *out, v);
@@ -120,10 +122,10 @@ fn put_call(
     let d = nodes::node_at(cells, at);
     if d.kind == nodes::CALL {
         let count = d.datas;
-        if count > MAX_TERMS {
+        if count > FRAME_WIDTH {
             return Done { ok: false, w: w };
         }
-        out[w] = (d.number % 256) as u8;
+        out[w] = (d.number % BYTE_LIMIT) as u8;
         let r = putting::put_terms(cells, d.terms, count, slots, n, &mut *out, w + 1);
         return Done { ok: r.ok, w: r.w };
     }

@@ -5,19 +5,20 @@ ghost use lib.ListN.{length, set};
 ghost use Rattle.pcrl.specs.Limits.{frame-width};
 ghost use Rattle.stacks.specs.Lent.{frame-bytes, frame-at, frames-in, stack-bytes};
 ghost use Rattle.frames.specs.Lists.{no-frames, over, taken, frame-of, frames-of};
+use limits::FRAME_WIDTH;
+use limits::STACK_LIMIT;
 use stacks::FRAME;
-use stacks::LIMIT;
 
 // "A frame is an equation number and four values, spare ones 0."
 #[repr(C)]
 pub struct Frame {
     pub equation: u8,
-    pub values: [u8; 4],
+    pub values: [u8; FRAME_WIDTH],
 }
 
 // 64 frames by value.
 pub struct Stack {
-    pub frames: [Frame; 64],
+    pub frames: [Frame; STACK_LIMIT],
 }
 
 // How many frames change places, with which, and the number of the question that failed, or 0.
@@ -33,8 +34,8 @@ pub fn empty() -> Stack
     Stack {
         frames: [Frame {
             equation: 0,
-            values: [0; 4],
-        }; 64],
+            values: [0; FRAME_WIDTH],
+        }; STACK_LIMIT],
     }
 }
 
@@ -59,9 +60,9 @@ pub fn prepare(n: usize) -> Ready
     ensures { λ r. ⌜ (r .count ≡ taken n) × (r .stack .frames ≡ no-frames) ⌝ }
 {
     let s = empty();
-    if n == LIMIT {
+    if n == STACK_LIMIT {
         return Ready {
-            count: LIMIT,
+            count: STACK_LIMIT,
             stack: s,
             refused: 0,
         };
@@ -101,7 +102,7 @@ pub fn to_bytes(s: Stack, bytes: &mut [u8])
     ensures { λ _. ⌜ frames-in frame-width (now (bytes .exit)) ≡ frames-of (s .frames) ⌝ }
 {
     let mut i = 0;
-    while i < LIMIT {
+    while i < STACK_LIMIT {
         let f = s.frames[i];
         put(bytes, i, f);
         i += 1;
@@ -114,7 +115,7 @@ pub fn from_bytes(bytes: &[u8]) -> Stack
 {
     let mut t = empty();
     let mut i = 0;
-    while i < LIMIT {
+    while i < STACK_LIMIT {
         let f = at(bytes, i);
         t.frames[i] = f;
         i += 1;

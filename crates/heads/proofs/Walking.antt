@@ -35,8 +35,13 @@ use Rattle.contexts.proofs.Sides.{Passed}
 use Rattle.heads.specs.Writing.{HeadsWritten}
 use Rattle.heads.specs.declared.walk.Turn.{Turn}
 use Rattle.heads.specs.Stack.{later-cells, Queue}
-use Rattle.heads.specs.Progress.{Past, Start, start, Roomy, Moved, Onward, WrittenBy, Toward, Stands}
+use Rattle.heads.specs.Progress.{Past, Start, start, Roomy, Moved, Onward, WrittenBy, Toward}
 use Rattle.heads.proofs.Stacking.{queue-many, queue-in, queue-kept, queue-same, queue-base}
+
+-- after a step down to s: a term with heads for which it failed has not the limits
+abbrev pub Stands : (cells starts counts firsts : List ℕ) → Start → Spot → ℕ → ℕ → ℕ → ℕ → Arrays → List ℕ → List ℕ → Type 0
+Stands cells starts counts firsts S s heads left q v B l o′ =
+    (s .ok ≡ true → Onward cells starts counts firsts S s heads left q v B l o′) × (s .ok ≡ false → WrittenBy cells starts counts firsts S (record { ok = false; w = v }) B o′)
 
 -- COUNTS
 

@@ -172,10 +172,6 @@ module _ (cells starts counts firsts : List ℕ) where
       (r .over ≡ false → (H : Sheet) (F : ℕ) (hs : List Summand) → Ready H F cells starts counts firsts → Spotted H F cells (S .s) (S .A) hs → Roomy S hs → Aside H F S (r .t) (r .d) (r .e) (r .heads) (r .left) (r .q) (r .done .w) B l o′ hs)
       × (r .over ≡ true → WrittenBy S (r .done) B o′)
 
-  -- after a step down to s: a term with heads for which it failed has not the limits
-  abbrev pub Stands : Start → Spot → ℕ → ℕ → ℕ → ℕ → Arrays → List ℕ → List ℕ → Type 0
-  Stands S s heads left q v B l o′ = (s .ok ≡ true → Onward S s heads left q v B l o′) × (s .ok ≡ false → WrittenBy S (record { ok = false; w = v }) B o′)
-
   -- the heads at s were written, up to x
   pub record AfterLeaf (S : Start) (s : Spot) (heads left q : ℕ) (x : Done) (B : Arrays) (l o′ : List ℕ) : Type 0 where
     pub before : Arrays

@@ -16,15 +16,17 @@ pub mod waiting; // what is walked later
 pub mod walk; // one walk over the term and the right sides that it calls at the head
 
 use contexts::CONDITIONS;
-use contexts::MAX_VARIABLES;
 use contexts::Spot;
+use elements::BYTE_LIMIT;
 use following::CALLS;
+use limits::MAX_SUMMANDS;
+use limits::MAX_VARIABLES;
 use putting::Done;
 use waiting::LATER;
 use walk::walk;
 
 // Cells for the heads of an equation: each second side that waits has one of them.
-const LATERS: usize = 255 * LATER;
+const LATERS: usize = MAX_SUMMANDS * LATER;
 
 // All heads of a term written as summands, one behind another; behind the slots of the variables in scope there is room for those that a
 // summand adds. Not ok: not every one has the limits, or there is no room for them.
@@ -116,7 +118,7 @@ pub fn write_summands(
     if w >= out.len() {
         return Done { ok: false, w: w };
     }
-    out[w] = (a % 256) as u8;
+    out[w] = (a % BYTE_LIMIT) as u8;
     if a == 0 {
         return Done { ok: true, w: w + 1 };
     }

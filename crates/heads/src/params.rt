@@ -10,11 +10,12 @@ ghost use Rattle.nodes.specs.Bits.{odd};
 ghost use Rattle.marking.specs.Marks.{bits};
 ghost use Rattle.putting.specs.Slots.{slot-width, Slots};
 ghost use Rattle.heads.specs.Writing.{slots-room, BytePut, param-of};
+use limits::MAX_VARIABLES;
+use limits::VARIABLE_CODE;
 use putting::SLOT;
-use putting::VARIABLE_CODE;
 
 // Room for a slot for each variable that can be in scope, and for one for each that a summand adds.
-pub const SLOTS: usize = (nodes::MAX_SCOPE + contexts::MAX_VARIABLES) * SLOT;
+pub const SLOTS: usize = (nodes::MAX_SCOPE + MAX_VARIABLES) * SLOT;
 
 // A term of one byte in slot n.
 fn put_byte(slots: &mut [u8], n: usize, x: u8)

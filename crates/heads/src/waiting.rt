@@ -6,6 +6,8 @@ ghost use Rattle.nodes.specs.Layout.{byte-limit, cell-limit};
 ghost use Rattle.heads.specs.Stack.{later-cells, LaterPut, entry};
 use contexts::Side;
 use contexts::Spot;
+use elements::CELL_LIMIT;
+use elements::cell;
 
 // The cells of one of them.
 pub const LATER: usize = 7;
@@ -20,7 +22,7 @@ pub struct Later {
 fn narrow(n: usize) -> u16
     ensures { λ r. ⌜ r ≡ n % cell-limit ⌝ }
 {
-    (n % 65536) as u16
+    (n % CELL_LIMIT) as u16
 }
 
 // Small numbers stand together in one cell.
@@ -43,13 +45,13 @@ pub fn later_at(later: &[u16], q: usize, fuel: usize) -> Later
     ensures { λ r. ⌜ r ≡ entry (now (later .entry)) q fuel ⌝ }
 {
     let i = LATER * q;
-    let at = nodes::cell(later, i);
-    let x = nodes::cell(later, i + 1);
-    let y = nodes::cell(later, i + 2);
-    let lc = nodes::cell(later, i + 3);
-    let top = nodes::cell(later, i + 4);
-    let next = nodes::cell(later, i + 5);
-    let z = nodes::cell(later, i + 6);
+    let at = cell(later, i);
+    let x = cell(later, i + 1);
+    let y = cell(later, i + 2);
+    let lc = cell(later, i + 3);
+    let top = cell(later, i + 4);
+    let next = cell(later, i + 5);
+    let z = cell(later, i + 6);
     let s = Spot {
         ok: true,
         at: at,

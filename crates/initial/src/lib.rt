@@ -1,32 +1,27 @@
 // "start equation, its data evaluated": the last part of a table's stream.
 // The data are read from the right, and their values stand in the cells that were read.
 ghost use mathlib.Core.Path.{_≡_};
-ghost use Prim.Native.Nat.{_+_, _*_, _<_, _≤_, min};
+ghost use Prim.Native.Nat.{_+_, _*_, _<_, _≤_};
 ghost use lib.ListN.{length, set};
 ghost use Rattle.nodes.specs.Layout.{cell-limit, byte-limit};
 ghost use Rattle.initial.specs.Symbols.{looked-at, second-size, operated, one-value, two-value};
 ghost use Rattle.initial.specs.Evaluating.{far, Further, Steps, Evaluates, PutsValues, PutsStart};
-use emit::bytes::low;
+use elements::byte;
+use elements::cell;
+use elements::low;
+use elements::smaller;
 use emit::bytes::put;
 use nodes::AND;
 use nodes::EQUAL;
 use nodes::FUNC_ROW;
 use nodes::NOT;
 use nodes::VALUE;
-use nodes::byte;
-use nodes::cell;
 use nodes::node_at;
 
 // Where the cells that are left to read end, and where the values begin.
 pub struct Reached {
     pub end: usize,
     pub top: usize,
-}
-
-fn smaller(a: usize, b: usize) -> usize
-    ensures { λ r. ⌜ r ≡ min a b ⌝ }
-{
-    if a < b { a } else { b }
 }
 
 // A cell; past the end nothing is written.

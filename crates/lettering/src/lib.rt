@@ -12,6 +12,9 @@ ghost use Rattle.pcrl.specs.Printer.{longest-run};
 ghost use Rattle.firing.specs.Known.{KnownParts};
 ghost use Rattle.texts.specs.Wrote.{Wrote};
 ghost use Rattle.lettering.specs.Named.{named-by, sort-by, Lettered};
+use elements::cell;
+use elements::larger;
+use elements::wide;
 use texts::put_byte;
 use texts::put_bytes;
 use texts::put_decimal;
@@ -46,8 +49,8 @@ fn longest_run(s: &[u8], acts: &[u16], n: usize, b: u8) -> usize
     let mut most: usize = 0;
     let mut i: usize = 0;
     while i < n {
-        let r = front_run(terms::list_at(s, terms::place(acts, i)), b);
-        most = evaluation::larger(most, r);
+        let r = front_run(terms::list_at(s, cell(acts, i)), b);
+        most = larger(most, r);
         i += 1;
     }
     most
@@ -104,5 +107,5 @@ pub fn put_sort(out: &mut [u8], at: usize, l: Letters, d: u8) -> usize
     if d == 0 {
         return put_bytes(out, at, b"Bool");
     }
-    put_name(out, at, b's', l.sorts, terms::wide(d))
+    put_name(out, at, b's', l.sorts, wide(d))
 }

@@ -9,8 +9,7 @@ ghost use Rattle.laws.specs.Says.{Says};
 ghost use Rattle.lexer.specs.Cells.{cell-token};
 use crate::CLOSE;
 use crate::OPEN;
-
-const MAX_OPEN: usize = 16;
+use limits::MAX_OPEN;
 
 // How many round brackets are open behind a cell.
 fn open_behind(c: u16, n: usize) -> usize

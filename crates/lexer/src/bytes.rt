@@ -4,11 +4,12 @@ ghost use mathlib.Core.Path.{_≡_};
 ghost use Prim.Native.Nat.{ℕ, _+_, _≤_, _<_, min};
 ghost use lib.ListN.{length, drop, getD};
 ghost use Rattle.pcrl.specs.Limits.{max-bytes};
-ghost use Rattle.pcrl.specs.Tests.{and};
 ghost use Rattle.pcrl.specs.Bytes as B;
 ghost use Rattle.pcrl.specs.Tokens as T;
 ghost use Rattle.laws.specs.Says.{Says};
 ghost use Rattle.lexer.specs.Classes.{class-of, in-classes, Classed};
+use elements::both;
+use elements::smaller;
 
 // Classes: those of a name stand one after another.
 pub const SEPARATOR: u8 = 1;
@@ -38,11 +39,14 @@ pub fn class(b: u8) -> u8
     }
 }
 
-// The byte at `at`, or 0 past the end.
-pub fn byte_at(s: &[u8], at: usize) -> u8
-    ensures { λ r. ⌜ r ≡ getD (now (s .entry)) at 0 ⌝ }
+// "letters, digits or underscores": the classes from DIGIT to UNDERSCORE, as one test.
+pub fn name_byte(b: u8) -> bool
+    ensures { λ r. ⌜ r ≡ B.name-byte b ⌝ }
 {
-    if at < s.len() { s[at] } else { 0 }
+    match b {
+        b'0'..=b'9' | b'A'..=b'Z' | b'_' | b'a'..=b'z' => true,
+        _ => false,
+    }
 }
 
 // How many bytes from `at` on have a class from lo to hi, one after another.
@@ -63,18 +67,12 @@ pub fn run(s: &[u8], at: usize, lo: u8, hi: u8) -> usize
     end - at
 }
 
-fn least(a: usize, b: usize) -> usize
-    ensures { λ r. ⌜ r ≡ min a b ⌝ }
-{
-    if a < b { a } else { b }
-}
-
 // The same by a table of the classes, and no more than `most` of them: what stands further on is not looked at.
 pub fn run_within(classes: &[u8], s: &[u8], at: usize, most: usize, lo: u8, hi: u8) -> usize
     requires { ⌜ Classed (now classes) × (at ≤ length (now s)) ⌝ }
     ensures { λ r. ⌜ r ≡ min most (T.run (in-classes lo hi) (drop at (now (s .entry)))) ⌝ }
 {
-    let end = at + least(s.len() - at, most);
+    let end = at + smaller(s.len() - at, most);
     let mut i = at;
     while i < end {
         let k = classes[s[i] as usize];
@@ -134,12 +132,6 @@ pub fn same(a: &[u8], b: &[u8]) -> bool
     true
 }
 
-pub fn wide(b: u8) -> u16
-    ensures { λ r. ⌜ r ≡ b ⌝ }
-{
-    b as u16
-}
-
 fn printable(b: u8) -> bool
     ensures { λ r. ⌜ r ≡ B.printable b ⌝ }
 {
@@ -147,12 +139,6 @@ fn printable(b: u8) -> bool
         0x20..=0x7E | 0x0A => true,
         _ => false,
     }
-}
-
-fn both(a: bool, b: bool) -> bool
-    ensures { λ r. ⌜ r ≡ and a b ⌝ }
-{
-    if a { b } else { false }
 }
 
 // How many bytes are tested before the first answer.
@@ -178,7 +164,7 @@ pub fn all_printable(s: &[u8]) -> bool
 {
     let mut i = 0;
     while i < s.len() {
-        let end = i + least(s.len() - i, BLOCK);
+        let end = i + smaller(s.len() - i, BLOCK);
         if !block_printable(s, i, end) {
             return false;
         }

@@ -14,9 +14,11 @@ pub mod brackets; // brackets that are open
 use brackets::shallow;
 use bytes::all_printable;
 use classes::CLASSES;
+use limits::MAX_BYTES;
+use limits::NOT_TEXT;
+use limits::TOO_LONG;
+use limits::TOO_OPEN;
 use tokens::tokens;
-
-const MAX_BYTES: usize = 4096;
 
 // Cells: 0 for no token, its byte for a mark of one byte.
 pub const NO_TOKEN: u16 = 0;
@@ -95,13 +97,13 @@ pub fn lex(sheet: &[u8], out: &mut [u16]) -> Lexed
 {
     if MAX_BYTES < sheet.len() {
         return Lexed {
-            refused: 1,
+            refused: TOO_LONG,
             count: 0,
         };
     }
     if !all_printable(sheet) {
         return Lexed {
-            refused: 2,
+            refused: NOT_TEXT,
             count: 0,
         };
     }
@@ -113,7 +115,7 @@ pub fn lex(sheet: &[u8], out: &mut [u16]) -> Lexed
     let n = r.count;
     if !shallow(out, n) {
         return Lexed {
-            refused: 4,
+            refused: TOO_OPEN,
             count: 0,
         };
     }

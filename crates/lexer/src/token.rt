@@ -34,23 +34,22 @@ use crate::bytes::LEAD;
 use crate::bytes::LETTER;
 use crate::bytes::MARK;
 use crate::bytes::UNDERSCORE;
-use crate::bytes::byte_at;
 use crate::bytes::run_within;
 use crate::bytes::same;
-use crate::bytes::wide;
+use elements::cell_of;
+use elements::peek;
+use limits::MAX_NAME;
 
-const MAX_NAME: usize = 16;
-
-const MAX_NUMERAL: u16 = 255;
+const MAX_NUMERAL: u16 = limits::MAX_NUMERAL as u16;
 
 // more digits have a zero first, or spell more
 const MAX_DIGITS: usize = 3;
 
 // The cell of a word, or 0: by the first byte, which only `sort` and `sum` share.
-fn word(t: &[u8]) -> u16
+pub fn word(t: &[u8]) -> u16
     ensures { λ r. ⌜ r ≡ sign-cell first-word T.words (now (t .entry)) ⌝ }
 {
-    match byte_at(t, 0) {
+    match peek(t, 0) {
         b's' => if same(t, b"sort") {
             SORT
         } else if same(t, b"sum") {
@@ -95,7 +94,7 @@ fn name_at(classes: &[u8], s: &[u8], at: usize) -> Taken
 fn digit_value(b: u8) -> u16
     ensures { λ r. ⌜ r ≡ b - 48 ⌝ }
 {
-    if b < b'0' { 0 } else { wide(b - b'0') }
+    if b < b'0' { 0 } else { cell_of(b - b'0') }
 }
 
 // The number that digits spell, or 256 where it is above 255.
@@ -119,7 +118,7 @@ fn numeral(t: &[u8]) -> u16
     ensures { λ r. ⌜ ((s : List ℕ) → Reads s (T.numeral-of (now (t .entry))) (record { cell = r; len = length (now (t .entry)) })) ⌝ }
 {
     if t.len() != 1 {
-        if byte_at(t, 0) <= b'0' {
+        if peek(t, 0) <= b'0' {
             return NO_TOKEN;
         }
     }
@@ -171,7 +170,7 @@ fn equals_at(s: &[u8], at: usize) -> Taken
     ensures { λ r. ⌜ Fits (length (now (s .entry))) at r ⌝ }
     ensures { λ r. ⌜ Reads (now (s .entry)) (T.mark-of T.marks (drop at (now (s .entry)))) r ⌝ }
 {
-    if byte_at(s, at + 1) == b'=' {
+    if peek(s, at + 1) == b'=' {
         Taken { cell: SAME, len: 2 }
     } else {
         Taken {
@@ -187,11 +186,11 @@ fn long_mark_at(s: &[u8], at: usize) -> Taken
     ensures { λ r. ⌜ Fits (length (now (s .entry))) at r ⌝ }
     ensures { λ r. ⌜ Reads (now (s .entry)) (T.mark-of T.marks (drop at (now (s .entry)))) r ⌝ }
 {
-    let a = byte_at(s, at);
+    let a = peek(s, at);
     if a == b'=' {
         return equals_at(s, at);
     }
-    let m = long_mark(a, byte_at(s, at + 1));
+    let m = long_mark(a, peek(s, at + 1));
     if m == NO_TOKEN {
         Taken {
             cell: NO_TOKEN,
@@ -214,7 +213,7 @@ pub fn token_at(classes: &[u8], s: &[u8], at: usize) -> Taken
         LETTER => name_at(classes, s, at),
         DIGIT => numeral_at(classes, s, at),
         MARK => Taken {
-            cell: wide(b),
+            cell: cell_of(b),
             len: 1,
         },
         LEAD => long_mark_at(s, at),

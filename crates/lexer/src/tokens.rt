@@ -31,7 +31,7 @@ pub fn tokens(classes: &[u8], sheet: &[u8], out: &mut [u16]) -> Lexed
         let t = token_at(classes, sheet, at);
         if t.cell == NO_TOKEN {
             return Lexed {
-                refused: 3,
+                refused: limits::NO_TOKEN,
                 count: 0,
             };
         }

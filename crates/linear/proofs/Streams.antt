@@ -39,7 +39,7 @@ use Rattle.parts.specs.Walking.{Few}
 use Rattle.parts.specs.Sheets.{count-cut, Placed, CountsParts, all-params, ParamsPut, PutsParams}
 use Rattle.parts.proofs.MarkedLaws.{marked-length}
 use Rattle.parts.proofs.TableParams.{params-are}
-use Rattle.sheets.specs.declared.Rows.{Rows}
+use Rattle.sheets.specs.declared.SheetRows.{SheetRows}
 use Rattle.sheets.specs.Resolving.{arrays}
 use Rattle.putting.specs.declared.Done.{Done}
 use Rattle.linear.specs.declared.Written.{Written}

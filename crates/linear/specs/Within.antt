@@ -18,7 +18,7 @@ use Rattle.nodes.specs.Held.{Arrays, Held}
 use Rattle.emit.specs.Bytes.{NamesAt}
 use Rattle.nodes.specs.Scoped.{max-scope}
 use Rattle.marking.specs.Marks.{bits}
-use Rattle.sheets.specs.declared.Rows.{Rows}
+use Rattle.sheets.specs.declared.SheetRows.{SheetRows}
 use Rattle.sheets.specs.Resolving.{arrays}
 use Rattle.parts.specs.Rows.{row-width}
 use Rattle.linear.specs.declared.Written.{Written}
@@ -49,5 +49,5 @@ pub record FewIn (n : Outline) : Type 0 where
   pub acts-few : n .acts ≤ max-actions
   pub procs-few : n .procs ≤ max-processes
 
-abbrev pub WritesTable : (s : List ℕ) → Rows → (values cells o : List ℕ) → Written → List ℕ → Type 0
+abbrev pub WritesTable : (s : List ℕ) → SheetRows → (values cells o : List ℕ) → Written → List ℕ → Type 0
 WritesTable s rows values cells o r o′ = WritesStream s (arrays rows values cells) (rows .names) (rows .outline) o r o′

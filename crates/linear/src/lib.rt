@@ -7,23 +7,24 @@ ghost use Rattle.pcrl.specs.Limits.{max-stream};
 ghost use Rattle.laws.specs.Says.{Says};
 ghost use Rattle.nodes.specs.Layout.{cell-limit};
 ghost use Rattle.linear.specs.Within.{FewMarks, FewIn, WritesStream, WritesTable};
+use elements::peek_word;
 use emit::bytes::minus;
 use emit::signature::put_signature;
 use initial::put_start;
+use limits::FRAME_WIDTH;
+use limits::MAX_ACTIONS;
+use limits::MAX_EQUATIONS;
+use limits::MAX_FUNCTIONS;
+use limits::MAX_PROCESSES;
+use limits::MAX_SORTS;
 use listing::put_summands;
-use listing::word_at;
 use marking::many;
 use nodes::Outline;
+use parts::row::MARKS;
 use parts::row::ROW;
 use parts::sheet_parts::count_equations;
 use parts::sheet_parts::put_param_lists;
-use sheets::Rows;
-
-const MAX_EQUATIONS: usize = 64;
-
-const FRAME_WIDTH: usize = 4;
-
-const MARKS: usize = 2;
+use sheets::SheetRows;
 
 // The length of the stream. Not ok: not within the limits, or no room; if `length` is below the room, not within the limits.
 pub struct Written {
@@ -47,7 +48,7 @@ fn few_marks(rows: &[u32], n: usize) -> bool
 {
     let mut k: usize = 0;
     while k < n {
-        if many(word_at(rows, ROW * k + MARKS)) > FRAME_WIDTH {
+        if many(peek_word(rows, ROW * k + MARKS)) > FRAME_WIDTH {
             return false;
         }
         k += 1;
@@ -116,16 +117,16 @@ fn write_stream(
 fn few_in(n: Outline) -> bool
     ensures { λ r. ⌜ Says r (FewIn n) ⌝ }
 {
-    if n.sorts > 8 {
+    if n.sorts > MAX_SORTS {
         return false;
     }
-    if n.funcs > 16 {
+    if n.funcs > MAX_FUNCTIONS {
         return false;
     }
-    if n.acts > 32 {
+    if n.acts > MAX_ACTIONS {
         return false;
     }
-    if n.procs > 16 {
+    if n.procs > MAX_PROCESSES {
         return false;
     }
     true
@@ -134,7 +135,7 @@ fn few_in(n: Outline) -> bool
 // The table of a sheet that was read: its stream over the front of the lent bytes; the data of init are lost.
 pub fn write_table(
     s: &[u8],
-    rows: Rows,
+    rows: SheetRows,
     values: &[u8],
     cells: &mut [u16],
     out: &mut [u8],
@@ -152,7 +153,7 @@ pub fn write_table(
     if !few_in(rows.outline) {
         return failed(0);
     }
-    let mut part_rows = [0u32; 192];
+    let mut part_rows = [0u32; ROW * MAX_EQUATIONS];
     write_stream(
         s,
         &sizes,

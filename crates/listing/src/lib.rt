@@ -1,26 +1,26 @@
 // The summands of all equations: the written processes, and behind them the new equations, whose rows are given.
 ghost use mathlib.Core.Path.{_≡_};
-ghost use Prim.Native.Nat.{_+_, _≤_, _<_, min};
-ghost use lib.ListN.{length, getD};
+ghost use Prim.Native.Nat.{_+_, _≤_, _<_};
+ghost use lib.ListN.{length};
 ghost use Rattle.pcrl.specs.Limits.{max-processes, max-equations, max-stream};
 ghost use Rattle.nodes.specs.Layout.{cell-limit, byte-limit};
 ghost use Rattle.nodes.specs.Scoped.{max-scope};
 ghost use Rattle.counting.specs.Limits.{max-fuel};
-ghost use Rattle.listing.specs.Listing.{Bounded, WrittenSource, PartSource, Sources, EquationPut, count-cut, CountsAll, PutsAll};
+ghost use Rattle.listing.specs.Listing.{Bounded, WrittenSource, PartSource, Sources, EquationPut, CountsAll, PutsAll};
 ghost use Rattle.listing.specs.Summands.{PutsSummands};
+use elements::byte;
+use elements::cell;
+use elements::cut_sum;
+use elements::peek_word;
+use limits::MAX_SUMMANDS;
 use marking::many;
 use nodes::MAX_SCOPE;
 use nodes::Outline;
 use nodes::PROC_ROW;
-use nodes::byte;
-use nodes::cell;
+use parts::row::MARKS;
 use parts::row::ROW;
+use parts::row::SCOPE;
 use putting::Done;
-
-const MAX_SUMMANDS: usize = 255;
-
-// One more than there may be summands: counts are cut here.
-const COUNT_CUT: usize = 256;
 
 // Every variable marked.
 const ALL_MARKS: u32 = 4294967295;
@@ -33,13 +33,6 @@ pub struct Source {
     pub marks: u32,
     pub next: usize,
     pub first: usize,
-}
-
-// A number of a row, 0 past the end.
-pub fn word_at(rows: &[u32], i: usize) -> u32
-    ensures { λ r. ⌜ r ≡ getD (now (rows .entry)) i 0 ⌝ }
-{
-    if i < rows.len() { rows[i] } else { 0 }
 }
 
 // A number of variables.
@@ -69,9 +62,9 @@ fn part_source(rows: &[u32], k: usize, j: usize) -> Source
     ensures { λ r. ⌜ Bounded r ⌝ }
     ensures { λ r. ⌜ PartSource (now (rows .entry)) k j r ⌝ }
 {
-    let at = word_at(rows, ROW * j);
-    let n = word_at(rows, ROW * j + 1);
-    let marks = word_at(rows, ROW * j + 2);
+    let at = peek_word(rows, ROW * j);
+    let n = peek_word(rows, ROW * j + SCOPE);
+    let marks = peek_word(rows, ROW * j + MARKS);
     Source {
         at: at as usize,
         scope: in_scope(n as usize),
@@ -100,14 +93,6 @@ fn source_of(
     part_source(rows, k, k - n.procs)
 }
 
-// A sum, cut.
-fn cut_sum(a: usize, b: usize) -> usize
-    requires { ⌜ a ≤ count-cut ⌝ }
-    ensures { λ r. ⌜ r ≡ min count-cut (a + b) ⌝ }
-{
-    if b >= COUNT_CUT - a { COUNT_CUT } else { a + b }
-}
-
 // How many summands all equations have, cut.
 fn count_all(
     procs: &[u8],
@@ -128,7 +113,11 @@ fn count_all(
     while k < total {
         let s = source_of(procs, starts, firsts, n, rows, k);
         let at = s.at;
-        sum = cut_sum(sum, heads::count_heads(cells, counts, fuel, at));
+        sum = cut_sum(
+            counting::MOST,
+            sum,
+            heads::count_heads(cells, counts, fuel, at),
+        );
         k += 1;
     }
     sum

@@ -10,21 +10,23 @@ ghost use Rattle.sheets.specs.Reading.{Room, Reads};
 ghost use Rattle.pcrl.specs.Result.{refusal};
 ghost use Rattle.making.specs.Making.{made-answer, Tries};
 use blocks::Filed;
-use blocks::MAX_STREAM;
 use blocks::write_file;
+use limits::MAX_BYTES;
+use limits::MAX_STREAM;
+use limits::NO_ROOM;
+use limits::NOT_WITHIN;
 use linear::write_table;
 use sheets::Answer;
 use sheets::read::read_sheet;
-
-const NOT_WITHIN: u8 = 10;
-
-const NO_ROOM: u8 = 11;
 
 // Arrays of three sizes: for sheets below these lengths the short and the middle ones. To clear the long ones would take
 // longer than to read a short sheet.
 const SHORT: usize = 65;
 
 const MIDDLE: usize = 513;
+
+// Three cells a byte are room enough for the tokens, the raw tree and the resolved terms.
+const CELLS: usize = 3 * MAX_BYTES;
 
 // The number of the first question that fails, or 0 and how many bytes were written.
 pub struct Made {
@@ -143,25 +145,25 @@ fn make_middle(sheet: &[u8], out: &mut [u8]) -> Tried
 }
 
 // A long sheet read: the raw tree's array is left before that of the stream is needed.
-fn read_long(sheet: &[u8], values: &mut [u8; 4096], cells: &mut [u16; 12288]) -> Answer
+fn read_long(sheet: &[u8], values: &mut [u8; MAX_BYTES], cells: &mut [u16; CELLS]) -> Answer
     ensures { λ r. ⌜ Reads (sheet-read (now (sheet .entry))) (now (sheet .entry)) r (now (values .exit)) (now (cells .exit)) ⌝ }
 {
-    let mut raw = [0u16; 12288];
+    let mut raw = [0u16; CELLS];
     read_sheet(sheet, &mut raw, values, cells)
 }
 
 fn write_long(
     sheet: &[u8],
     a: Answer,
-    values: &[u8; 4096],
-    cells: &mut [u16; 12288],
+    values: &[u8; MAX_BYTES],
+    cells: &mut [u16; CELLS],
     out: &mut [u8],
 ) -> Made
     requires { ⌜ Reads (sheet-read (now sheet)) (now sheet) a (now values) (now cells) × (a .refused ≡ 0) ⌝ }
     ensures answer { λ r. ⌜ r ≡ made-answer (file-made (now (sheet .entry)) (length (now (out .entry)))) ⌝ }
     ensures written { λ r. ⌜ now (out .exit) ≡ output-after (file-made (now (sheet .entry)) (length (now (out .entry)))) (now (out .entry)) ⌝ }
 {
-    let mut stream = [0u8; 64768];
+    let mut stream = [0u8; MAX_STREAM];
     let t = write(sheet, a, values, cells, &mut stream, out);
     Made {
         refused: t.refused,
@@ -173,8 +175,8 @@ fn make_long(sheet: &[u8], out: &mut [u8]) -> Made
     ensures answer { λ r. ⌜ r ≡ made-answer (file-made (now (sheet .entry)) (length (now (out .entry)))) ⌝ }
     ensures written { λ r. ⌜ now (out .exit) ≡ output-after (file-made (now (sheet .entry)) (length (now (out .entry)))) (now (out .entry)) ⌝ }
 {
-    let mut values = [0u8; 4096];
-    let mut cells = [0u16; 12288];
+    let mut values = [0u8; MAX_BYTES];
+    let mut cells = [0u16; CELLS];
     let a = read_long(sheet, &mut values, &mut cells);
     if a.refused != 0 {
         return Made {

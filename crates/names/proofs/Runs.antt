@@ -138,35 +138,22 @@ shown-in-run s p (suc k) q (x ∷ w) e l h = shown-in-run s (suc p) k q w (run-b
 pub run-from : (s : List ℕ) (p x q : ℕ) → shown (getD s p 0) ≡ x → (x ≡ 0 → ⊥) → q ≡ p + 1 → run-at s p ≡ x ∷ run-at s q
 run-from s p x q e n h = rw (h, ← e) (run-goes s p (λ z. n (sym e ∙ z)))
 
--- a test that passes at n numbers from lo on
-abbrev pub from-on : (ℕ → Bool) → ℕ → ℕ → Bool
-from-on test lo zero = true
-from-on test lo (suc n) = and (test lo) (from-on test (suc lo) n)
-
-at-each : (test : ℕ → Bool) (lo n : ℕ) → T (from-on test lo n) → (b : ℕ) → lo ≤ b → b < lo + n → T (test b)
-at-each test lo zero t b l h = absurd (omega arith)
-at-each test lo (suc n) t b l h = go (test lo) refl t (λ u q. at-each test (suc lo) n u b q (omega arith))
-  where
-    go : (v : Bool) → test lo ≡ v → T (and v (from-on test (suc lo) n)) → (T (from-on test (suc lo) n) → lo < b → T (test b)) → T (test b)
-    go false e t ih = absurd t
-    go true e t ih = ⊎-elim (λ q. rw (← q, e) tt) (λ q. ih t q) (eq-or-lt-of-le l)
-
--- a byte of a range that is all name bytes, and one of a range that has none
-pub shown-in : (lo n : ℕ) → T (from-on name-byte lo n) → (b : ℕ) → lo ≤ b → b < lo + n → b ≡ shown b
+-- a byte that names have, and one that they have not
+pub shown-yes : (b : ℕ) → name-byte b ≡ true → b ≡ shown b
 unfolding shown
-shown-in lo n t b l h = go (name-byte b) (at-each name-byte lo n t b l h)
+shown-yes b = go (name-byte b)
   where
-    go : (v : Bool) → T v → b ≡ elim v [ true ↦ b | false ↦ 0 ]
-    go true u = refl
-    go false u = absurd u
+    go : (v : Bool) → v ≡ true → b ≡ elim v [ true ↦ b | false ↦ 0 ]
+    go true e = refl
+    go false e = absurd (let y : _≡_ {A = ℕ} 0 1 = cc in omega arith)
 
-pub shown-out : (lo n : ℕ) → T (from-on (λ b. negated (name-byte b)) lo n) → (b : ℕ) → lo ≤ b → b < lo + n → 0 ≡ shown b
+pub shown-no : (b : ℕ) → name-byte b ≡ false → 0 ≡ shown b
 unfolding shown
-shown-out lo n t b l h = go (name-byte b) (at-each (λ b. negated (name-byte b)) lo n t b l h)
+shown-no b = go (name-byte b)
   where
-    go : (v : Bool) → T (negated v) → _≡_ {A = ℕ} 0 (elim v [ true ↦ b | false ↦ 0 ])
-    go true u = absurd u
-    go false u = refl
+    go : (v : Bool) → v ≡ false → _≡_ {A = ℕ} 0 (elim v [ true ↦ b | false ↦ 0 ])
+    go true e = absurd (let y : _≡_ {A = ℕ} 0 1 = cc in omega arith)
+    go false e = refl
 
 -- "Bool": its four bytes, and then none
 pub spells-bool : (s : List ℕ) (a p : ℕ) → p ≡ a - first-name → shown (getD s p 0) ≡ 66 → shown (getD s (p + 1) 0) ≡ 111 → shown (getD s (p + 2) 0) ≡ 111

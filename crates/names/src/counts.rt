@@ -9,22 +9,21 @@ ghost use Rattle.pcrl.specs.Counts.{Counted};
 ghost use Rattle.laws.specs.Says.{Says};
 ghost use Rattle.names.specs.Standing.{Standing};
 ghost use Rattle.names.specs.Items.{far, param-step, numeral-at, item-count};
-use crate::find::cell;
-use crate::find::place;
+use elements::peek_cell;
+use elements::wide_cell;
 use lexer::FIRST_NUMERAL;
-use nodes::MAX_FUNCTIONS;
+use limits::FRAME_WIDTH;
+use limits::MAX_ACTIONS;
+use limits::MAX_FUNCTIONS;
+use limits::MAX_PROCESSES;
+use limits::MAX_SORTS;
 use parser::Lines;
 use parser::codes::END_TAG;
 
-const MAX_SORT_LINES: usize = 7;
+// Bool has no line.
+const MAX_SORT_LINES: usize = MAX_SORTS - 1;
 
-const MAX_SIZE: u16 = 16;
-
-const MAX_ACTIONS: usize = 32;
-
-const MAX_PROCESSES: usize = 16;
-
-const FRAME_WIDTH: usize = 4;
+const MAX_SIZE: u16 = limits::MAX_SIZE as u16;
 
 // Cells of a list's item and the tag before it: a name or a numeral, a parameter.
 pub const NAME_STEP: usize = 2;
@@ -40,7 +39,7 @@ pub fn items(cells: &[u16], step: usize, at: usize, most: usize) -> usize
     let mut p = at;
     let mut n: usize = 0;
     while n < most {
-        if cell(cells, p) == END_TAG {
+        if peek_cell(cells, p) == END_TAG {
             return n;
         }
         p += step;
@@ -55,7 +54,7 @@ fn sizes_right(cells: &[u16], sorts: &[u16]) -> bool
 {
     let mut i: usize = 0;
     while i < sorts.len() {
-        let v = cell(cells, place(sorts[i]) + 2);
+        let v = peek_cell(cells, wide_cell(sorts[i]) + 2);
         if v <= FIRST_NUMERAL {
             return false;
         }
@@ -73,7 +72,7 @@ fn params_few(cells: &[u16], procs: &[u16]) -> bool
 {
     let mut i: usize = 0;
     while i < procs.len() {
-        if items(cells, PARAM_STEP, place(procs[i]) + 2, FRAME_WIDTH + 1) > FRAME_WIDTH {
+        if items(cells, PARAM_STEP, wide_cell(procs[i]) + 2, FRAME_WIDTH + 1) > FRAME_WIDTH {
             return false;
         }
         i += 1;

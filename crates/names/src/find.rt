@@ -9,22 +9,11 @@ ghost use Rattle.laws.specs.Says.{Says};
 ghost use Rattle.lexer.specs.Cells.{first-name};
 ghost use Rattle.nodes.specs.Layout.{cell-limit};
 ghost use Rattle.names.specs.NameCells.{name-at, names-at, scope-at, or-count, shown};
+use elements::peek;
+use elements::peek_cell;
+use elements::wide_cell;
 use lexer::FIRST_NAME;
-use lexer::bytes::byte_at;
-
-// A cell, 0 past the end.
-pub fn cell(cells: &[u16], i: usize) -> u16
-    ensures { λ r. ⌜ r ≡ getD (now (cells .entry)) i 0 ⌝ }
-{
-    if i < cells.len() { cells[i] } else { 0 }
-}
-
-// A cell as a place.
-pub fn place(c: u16) -> usize
-    ensures { λ r. ⌜ (r ≡ c) × (r < cell-limit) ⌝ }
-{
-    c as usize
-}
+use lexer::bytes::name_byte;
 
 // Where a name's first byte stands in the sheet.
 pub fn first_byte(c: u16) -> usize
@@ -33,7 +22,7 @@ pub fn first_byte(c: u16) -> usize
     if c < FIRST_NAME {
         0
     } else {
-        place(c - FIRST_NAME)
+        wide_cell(c - FIRST_NAME)
     }
 }
 
@@ -41,31 +30,7 @@ pub fn first_byte(c: u16) -> usize
 pub fn letter(b: u8) -> u8
     ensures { λ r. ⌜ r ≡ shown b ⌝ }
 {
-    if b < b'0' {
-        return 0;
-    }
-    if b <= b'9' {
-        return b;
-    }
-    if b < b'A' {
-        return 0;
-    }
-    if b <= b'Z' {
-        return b;
-    }
-    if b < b'_' {
-        return 0;
-    }
-    if b == b'_' {
-        return b;
-    }
-    if b < b'a' {
-        return 0;
-    }
-    if b <= b'z' {
-        return b;
-    }
-    0
+    if name_byte(b) { b } else { 0 }
 }
 
 // The name's byte at a place, 0 behind the name.
@@ -83,8 +48,8 @@ pub fn same_name(s: &[u8], a: u16, b: u16) -> bool
     let q = first_byte(b);
     let mut i: usize = 0;
     while i < s.len() {
-        let x = byte_at(s, p + i);
-        let y = byte_at(s, q + i);
+        let x = peek(s, p + i);
+        let y = peek(s, q + i);
         if x != y {
             // the same only if both names have ended
             if letter(x) != 0 {
@@ -134,8 +99,8 @@ pub fn number_of(s: &[u8], cells: &[u16], places: &[u16], count: usize, c: u16) 
 {
     let mut i: usize = 0;
     while i < count {
-        let p = place(places[i]);
-        if same_name(s, c, cell(cells, p + 1)) {
+        let p = wide_cell(places[i]);
+        if same_name(s, c, peek_cell(cells, p + 1)) {
             return i;
         }
         i += 1;
@@ -180,12 +145,12 @@ fn same_run(s: &[u8], c: u16, l: usize, d: u16) -> bool
     let mut i = l;
     while i > 0 {
         i -= 1;
-        if s[p + i] != byte_at(s, q + i) {
+        if s[p + i] != peek(s, q + i) {
             return false;
         }
     }
     // the other one ends there too
-    letter(byte_at(s, q + l)) == 0
+    letter(peek(s, q + l)) == 0
 }
 
 // The first of n names in scope that is the name of cell c, or n.

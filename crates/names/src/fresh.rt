@@ -7,11 +7,11 @@ ghost use Rattle.pcrl.specs.Text.{bytes};
 ghost use Rattle.pcrl.specs.Tests.{and, negated, among, distinct};
 ghost use Rattle.names.specs.NameCells.{name-at, name-cell, names-at, scope-at};
 ghost use Rattle.names.specs.NameKeys.{Keyed};
-use crate::find::cell;
 use crate::find::is_bool;
-use crate::find::place;
 use crate::find::scope_number;
 use crate::keys::number_in;
+use elements::peek_cell;
+use elements::wide_cell;
 
 // The cells of the names that lines declare, behind n cells.
 fn gather(cells: &[u16], places: &[u16], names: &mut [u16], n: usize) -> usize
@@ -21,7 +21,7 @@ fn gather(cells: &[u16], places: &[u16], names: &mut [u16], n: usize) -> usize
 {
     let mut i: usize = 0;
     while i < places.len() {
-        names[n + i] = cell(cells, place(places[i]) + 1);
+        names[n + i] = peek_cell(cells, wide_cell(places[i]) + 1);
         i += 1;
     }
     n + i

@@ -13,18 +13,14 @@ use crate::find::first_byte;
 use crate::find::is_bool;
 use crate::find::letter;
 use crate::find::same_name;
-
-fn wide(b: u8) -> usize
-    ensures { λ r. ⌜ r ≡ b ⌝ }
-{
-    b as usize
-}
+use elements::low;
+use elements::wide;
 
 // The key of a name that goes on with the byte b.
 fn mixed(k: u8, b: u8) -> u8
     ensures { λ r. ⌜ r ≡ mix k b ⌝ }
 {
-    ((wide(k) * 31 + wide(b)) % 256) as u8
+    low(wide(k) * 31 + wide(b))
 }
 
 // A digest of the name of cell c.

@@ -16,30 +16,23 @@ use crate::Row;
 use crate::counts::NAME_STEP;
 use crate::counts::PARAM_STEP;
 use crate::counts::items;
-use crate::find::cell;
-use crate::find::place;
 use crate::find::sort_number;
 use crate::fresh::new_variable;
+use elements::peek_cell;
+use elements::short;
+use elements::wide_cell;
 use lexer::FIRST_NUMERAL;
+use limits::FRAME_WIDTH;
+use limits::MAX_ARITY;
+use nodes::ACT_ROW;
+use nodes::FUNC_ROW;
+use nodes::GIVES;
 
-const MAX_NUMERAL: u8 = 255;
+const MAX_NUMERAL: u8 = limits::MAX_NUMERAL as u8;
 
-const BYTE_LIMIT: u16 = 256;
+const BYTE_LIMIT: u16 = elements::BYTE_LIMIT as u16;
 
-const CELL_LIMIT: usize = 65536;
-
-const BOOL_SIZE: u8 = 2;
-
-const MAX_ARITY: usize = 2;
-
-// Bytes of a row: how many sorts, the sorts, and of a function the one that it gives.
-const FUNC_WIDTH: usize = 4;
-
-const GIVES: usize = 3;
-
-const ACT_WIDTH: usize = 3;
-
-const FRAME_WIDTH: usize = 4;
+const BOOL_SIZE: u8 = limits::BOOL_SIZE as u8;
 
 // A numeral's value.
 fn value(c: u16) -> u8
@@ -55,13 +48,6 @@ fn value(c: u16) -> u8
     v as u8
 }
 
-// A number as a cell.
-fn short(n: usize) -> u16
-    ensures { λ r. ⌜ (n < cell-limit → r ≡ n) ⌝ }
-{
-    if n < CELL_LIMIT { n as u16 } else { 0 }
-}
-
 // "Bool, size 2, is always there first."
 pub fn sizes(cells: &[u16], sorts: &[u16], out: &mut [u8])
     requires { ⌜ length (now sorts) < length (now out) ⌝ }
@@ -70,7 +56,7 @@ pub fn sizes(cells: &[u16], sorts: &[u16], out: &mut [u8])
     out[0] = BOOL_SIZE;
     let mut i: usize = 0;
     while i < sorts.len() {
-        out[i + 1] = value(cell(cells, place(sorts[i]) + 2));
+        out[i + 1] = value(peek_cell(cells, wide_cell(sorts[i]) + 2));
         i += 1;
     }
 }
@@ -91,7 +77,7 @@ fn sort_row(s: &[u8], cells: &[u16], sorts: &[u16], at: usize, rows: &mut [u8], 
             cells,
             sorts,
             sorts.len(),
-            cell(cells, at + NAME_STEP * k + 1),
+            peek_cell(cells, at + NAME_STEP * k + 1),
         );
         if d > sorts.len() {
             return Row { ok: false, at: at };
@@ -112,7 +98,7 @@ pub fn act_rows(s: &[u8], cells: &[u16], sorts: &[u16], acts: &[u16], rows: &mut
 {
     let mut i: usize = 0;
     while i < acts.len() {
-        let a = sort_row(s, cells, sorts, place(acts[i]) + 2, rows, ACT_WIDTH * i);
+        let a = sort_row(s, cells, sorts, wide_cell(acts[i]) + 2, rows, ACT_ROW * i);
         if !a.ok {
             return false;
         }
@@ -132,7 +118,7 @@ fn func_row(s: &[u8], cells: &[u16], sorts: &[u16], at: usize, rows: &mut [u8], 
     if !a.ok {
         return a;
     }
-    let d = sort_number(s, cells, sorts, sorts.len(), cell(cells, a.at));
+    let d = sort_number(s, cells, sorts, sorts.len(), peek_cell(cells, a.at));
     if d > sorts.len() {
         return Row { ok: false, at: at };
     }
@@ -151,7 +137,7 @@ fn copy_values(cells: &[u16], at: usize, n: usize, values: &mut [u8], w: usize)
 {
     let mut k: usize = 0;
     while k < n {
-        values[w + k] = value(cell(cells, at + NAME_STEP * k + 1));
+        values[w + k] = value(peek_cell(cells, at + NAME_STEP * k + 1));
         k += 1;
     }
 }
@@ -172,7 +158,7 @@ pub fn func_rows(
     let mut w: usize = 0;
     let mut i: usize = 0;
     while i < lines.len() {
-        let f = func_row(s, cells, sorts, place(lines[i]), rows, FUNC_WIDTH * i);
+        let f = func_row(s, cells, sorts, wide_cell(lines[i]), rows, FUNC_ROW * i);
         if !f.ok {
             return false;
         }
@@ -206,7 +192,7 @@ pub fn param_row(
     let m = items(cells, PARAM_STEP, at, FRAME_WIDTH);
     let mut k: usize = 0;
     while k < m {
-        let v = cell(cells, at + PARAM_STEP * k + 1);
+        let v = peek_cell(cells, at + PARAM_STEP * k + 1);
         if !new_variable(s, names, keys, n, scope, k, v) {
             return Params {
                 ok: false,
@@ -219,7 +205,7 @@ pub fn param_row(
             cells,
             sorts,
             sorts.len(),
-            cell(cells, at + PARAM_STEP * k + 2),
+            peek_cell(cells, at + PARAM_STEP * k + 2),
         );
         if d > sorts.len() {
             return Params {

@@ -2,11 +2,12 @@
 ghost use mathlib.Core.Path.{_≡_};
 ghost use Prim.Native.Nat.{ℕ, _+_, _≤_, _<_};
 ghost use lib.Dec.{eqb};
-ghost use lib.ListN.{length, getD};
+ghost use lib.ListN.{length};
 ghost use Rattle.pcrl.specs.Tests.{or};
-ghost use Rattle.nodes.specs.Layout.{cell-limit, byte-limit};
+ghost use Rattle.nodes.specs.Layout.{cell-limit};
 ghost use Rattle.nodes.specs.Bits.{bit, set-width};
 ghost use Rattle.nodes.specs.Views.{OnData, DataViews, SkipsData, On, Views, Skips};
+use elements::cell;
 
 // The tags of data cells and the kinds of nodes, as in Layout.
 pub const VALUE: usize = 0;
@@ -50,13 +51,11 @@ pub const ACT_ROW: usize = 3;
 
 pub const PROC_ROW: usize = 5;
 
-// How many functions can be written, as in Limits.
-pub const MAX_FUNCTIONS: usize = 16;
+// Where in a function's row the sort stands that it gives.
+pub const GIVES: usize = 3;
 
-// Numbers of variables in scope, and cells, are below these.
+// Numbers of variables in scope are below this: a set of them is the bits of a u32.
 pub const MAX_SCOPE: usize = 32;
-
-pub const CELL_LIMIT: usize = 65536;
 
 // How many sorts, functions, actions and processes a held sheet has, and where init stands in its cells.
 pub struct Outline {
@@ -91,24 +90,6 @@ pub struct Node {
 pub struct Skipped {
     pub next: usize,
     pub own: usize,
-}
-
-// A cell, 0 past the end.
-pub fn cell(cells: &[u16], i: usize) -> usize
-    ensures { λ r. ⌜ (r ≡ getD (now (cells .entry)) i 0) × (r < cell-limit) ⌝ }
-{
-    if i < cells.len() {
-        cells[i] as usize
-    } else {
-        0
-    }
-}
-
-// A byte of a row, 0 past the end.
-pub fn byte(row: &[u8], i: usize) -> usize
-    ensures { λ r. ⌜ (r ≡ getD (now (row .entry)) i 0) × (r < byte-limit) ⌝ }
-{
-    if i < row.len() { row[i] as usize } else { 0 }
 }
 
 pub fn data_at(cells: &[u16], at: usize) -> Datum

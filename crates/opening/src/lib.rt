@@ -1,6 +1,11 @@
 // A summand in the stream is opened: the sizes of its variables' sorts, and its conditions.
 use assignments::Conditions;
 use assignments::Four;
+use elements::larger;
+use elements::peek;
+use elements::smaller;
+use elements::wide;
+use limits::MAX_CONDITIONS;
 ghost use mathlib.Core.Path.{_≡_};
 ghost use mathlib.Core.List.{List, _++_};
 ghost use Prim.Native.Nat.{ℕ, _+_, _≤_, _<_};
@@ -15,24 +20,20 @@ ghost use Rattle.evaluation.specs.Known.{KnownTerms};
 ghost use Rattle.assignments.specs.Places.{Sizes};
 ghost use Rattle.opening.specs.Opened.{sizes-of, Prepared};
 
-// Conditions of a summand, at the most.
-const CONDITIONS: usize = 8;
-
 // Variables of a summand with the parameters before them, at the most.
-const VARIABLES: usize = 8;
+const VARIABLES: usize = limits::FRAME_WIDTH + limits::MAX_VARIABLES;
 
-// Values of a sort, at the most.
-const SIZE: u8 = 16;
+const SIZE: u8 = limits::MAX_SIZE as u8;
 
 // The size of the sort of variable i of the summand at a place, 1 where there is no variable.
 fn size_at(s: &[u8], at: usize, i: usize) -> u8
     requires { ⌜ (at ≤ max-stream + max-stream) × (i < max-variables) ⌝ }
     ensures { λ r. ⌜ (0 < r) × ((r ≤ max-size) × ((S : Sig) (funcs vars : List ℕ) → KnownTerms S (now (s .entry)) funcs → Stands (now (s .entry)) at (encode-numbers vars) → AreSorts (S .sorts) vars → length vars ≤ max-variables → r ≡ getD (sizes-of S vars) i 0)) ⌝ }
 {
-    if terms::wide(terms::peek(s, at)) <= i {
+    if wide(peek(s, at)) <= i {
         return 1;
     }
-    let z = terms::peek(s, 1 + terms::wide(terms::peek(s, at + 1 + i)));
+    let z = peek(s, 1 + wide(peek(s, at + 1 + i)));
     if z == 0 {
         return 1;
     }
@@ -68,7 +69,7 @@ pub fn conditions(s: &[u8], funcs: &[u16], at: usize, p: usize, z: Four) -> Cond
     requires { ⌜ (length (now s) ≤ max-stream) × ((at ≤ max-stream + max-stream) × Sizes (z .at)) ⌝ }
     ensures { λ r. ⌜ (r .count ≤ max-conditions) × ((r .end ≤ max-stream + max-stream + 16) × ((S : Sig) (Γ : List ℕ) (cs : List (ℕ × Data)) (rest : List ℕ) → KnownTerms S (now (s .entry)) (now (funcs .entry)) → length Γ ≤ variable-code → Every (RightCond S Γ) cs → length cs ≤ max-conditions → drop at (now (s .entry)) ≡ encode-list encode-cond cs ++ rest → Prepared (now (s .entry)) p (z .at) cs rest r)) ⌝ }
 {
-    let n = evaluation::smaller(terms::wide(terms::peek(s, at)), CONDITIONS);
+    let n = smaller(wide(peek(s, at)), MAX_CONDITIONS);
     let mut froms = [0usize; 8];
     let mut ends = [0usize; 8];
     let mut blocks = [0u32; 8];
@@ -83,8 +84,8 @@ pub fn conditions(s: &[u8], funcs: &[u16], at: usize, p: usize, z: Four) -> Cond
         froms[i] = a;
         ends[i] = end;
         blocks[i] = narrow(assignments::grain(z, v.high, p));
-        reach = evaluation::larger(reach, v.high);
-        low = evaluation::smaller(low, v.low);
+        reach = larger(reach, v.high);
+        low = smaller(low, v.low);
         a = end;
         i += 1;
     }

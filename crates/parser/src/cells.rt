@@ -1,18 +1,13 @@
 // One token read, one cell written. No reader asks for room: a cell past the end is not written.
 ghost use mathlib.Core.Path.{_≡_};
 ghost use Prim.Native.Nat.{_+_, _≤_, _<_};
-ghost use lib.ListN.{length, getD};
+ghost use lib.ListN.{length};
 ghost use Rattle.pcrl.specs.Grammar.{a-name, a-numeral};
 ghost use Rattle.parser.specs.Cells.{first-ors, first-ands, enc-name, enc-numeral};
 ghost use Rattle.parser.specs.Reading.{Ahead, Put, Expected, Read};
 use crate::Step;
-
-// The token at `at`, or 0 past the end: no token is 0.
-pub fn peek(toks: &[u16], at: usize) -> u16
-    ensures { λ r. ⌜ r ≡ getD (now (toks .entry)) at 0 ⌝ }
-{
-    if at < toks.len() { toks[at] } else { 0 }
-}
+use crate::codes::FIRST_ORS;
+use elements::peek_cell;
 
 // Writes a cell; the next free one.
 pub fn put(out: &mut [u16], w: usize, v: u16) -> usize
@@ -42,7 +37,7 @@ pub fn expect(toks: &[u16], at: usize, sign: u16) -> usize
     ensures ahead { λ r. ⌜ Ahead (length (now (toks .entry))) at r ⌝ }
     ensures read { λ r. ⌜ Expected (now (toks .entry)) at sign r ⌝ }
 {
-    if peek(toks, at) == sign {
+    if peek_cell(toks, at) == sign {
         at + 1
     } else {
         toks.len() + 1
@@ -53,7 +48,7 @@ pub fn name(toks: &[u16], at: usize, out: &mut [u16], w: usize) -> Step
     ensures ahead { λ r. ⌜ Ahead (length (now (toks .entry))) at (r .at) ⌝ }
     ensures read { λ r. ⌜ Read 0 enc-name (λ f. a-name) (now (toks .entry)) at w (now (out .entry)) r (now (out .exit)) ⌝ }
 {
-    let t = peek(toks, at);
+    let t = peek_cell(toks, at);
     if t < lexer::FIRST_NAME {
         return lost(toks, w);
     }
@@ -67,7 +62,7 @@ pub fn numeral(toks: &[u16], at: usize, out: &mut [u16], w: usize) -> Step
     ensures ahead { λ r. ⌜ Ahead (length (now (toks .entry))) at (r .at) ⌝ }
     ensures read { λ r. ⌜ Read 0 enc-numeral (λ f. a-numeral) (now (toks .entry)) at w (now (out .entry)) r (now (out .exit)) ⌝ }
 {
-    let t = peek(toks, at);
+    let t = peek_cell(toks, at);
     if t < lexer::FIRST_NUMERAL {
         return lost(toks, w);
     }
@@ -80,15 +75,8 @@ pub fn numeral(toks: &[u16], at: usize, out: &mut [u16], w: usize) -> Step
     }
 }
 
-// A number as a cell.
-pub fn short(w: usize) -> u16
-    ensures { λ r. ⌜ (w < 65536 → r ≡ w) ⌝ }
-{
-    if w < 65536 { w as u16 } else { 0 }
-}
-
 // Counts are below this, so that those of both kinds are told apart.
-const COUNTS: usize = 8192;
+const COUNTS: usize = FIRST_ORS as usize;
 
 // The cell of a count: so many operands stand behind the first.
 pub fn counted(first: u16, n: usize) -> u16

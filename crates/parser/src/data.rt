@@ -11,9 +11,9 @@ use crate::cells::counted;
 use crate::cells::expect;
 use crate::cells::lost;
 use crate::cells::name;
-use crate::cells::peek;
 use crate::cells::put;
 use crate::codes;
+use elements::peek_cell;
 
 // Conjunctions joined by `\/`. Their count stands before them: its cell is set when the last one is read.
 pub fn data_term(toks: &[u16], at: usize, out: &mut [u16], w: usize) -> Step
@@ -25,7 +25,7 @@ pub fn data_term(toks: &[u16], at: usize, out: &mut [u16], w: usize) -> Step
     let mut n: usize = 0;
     loop {
         let a = conjunction(toks, from, out, v);
-        if peek(toks, a.at) != lexer::OR {
+        if peek_cell(toks, a.at) != lexer::OR {
             put(out, w, counted(codes::FIRST_ORS, n));
             return a;
         }
@@ -45,7 +45,7 @@ fn conjunction(toks: &[u16], at: usize, out: &mut [u16], w: usize) -> Step
     let mut n: usize = 0;
     loop {
         let a = comparison(toks, from, out, v);
-        if peek(toks, a.at) != lexer::AND {
+        if peek_cell(toks, a.at) != lexer::AND {
             put(out, w, counted(codes::FIRST_ANDS, n));
             return a;
         }
@@ -62,7 +62,7 @@ fn comparison(toks: &[u16], at: usize, out: &mut [u16], w: usize) -> Step
 {
     let v = put(out, w, codes::ALONE_TAG);
     let a = negation(toks, at, out, v);
-    if peek(toks, a.at) != lexer::SAME {
+    if peek_cell(toks, a.at) != lexer::SAME {
         return a;
     }
     put(out, w, codes::EQUAL_TAG);
@@ -75,7 +75,7 @@ fn negation(toks: &[u16], at: usize, out: &mut [u16], w: usize) -> Step
 {
     let mut from = at;
     let mut v = w;
-    while peek(toks, from) == lexer::BANG {
+    while peek_cell(toks, from) == lexer::BANG {
         v = put(out, v, codes::NOT_TAG);
         from += 1;
     }
@@ -87,7 +87,7 @@ fn atom(toks: &[u16], at: usize, out: &mut [u16], w: usize) -> Step
     ensures ahead { λ r. ⌜ Ahead (length (now (toks .entry))) at (r .at) ⌝ }
     ensures read { λ r. ⌜ Read (5 * left (now (toks .entry)) at) enc-atom atom (now (toks .entry)) at w (now (out .entry)) r (now (out .exit)) ⌝ }
 {
-    let t = peek(toks, at);
+    let t = peek_cell(toks, at);
     if t == lexer::OPEN {
         let v = put(out, w, codes::NEST_TAG);
         let a = data_term(toks, at + 1, out, v);
@@ -109,7 +109,7 @@ fn atom(toks: &[u16], at: usize, out: &mut [u16], w: usize) -> Step
     let x = put(out, w, codes::VARIABLE_TAG);
     let d = put(out, x, t);
     let p = at + 1;
-    if peek(toks, p) != lexer::OPEN {
+    if peek_cell(toks, p) != lexer::OPEN {
         return Step { at: p, w: d };
     }
     put(out, w, codes::APPLY_TAG);
@@ -126,7 +126,7 @@ pub fn data_list(toks: &[u16], at: usize, out: &mut [u16], w: usize) -> Step
     loop {
         let u = put(out, v, codes::ONE_TAG);
         let a = data_term(toks, from, out, u);
-        if peek(toks, a.at) != lexer::COMMA {
+        if peek_cell(toks, a.at) != lexer::COMMA {
             return Step {
                 at: expect(toks, a.at, lexer::CLOSE),
                 w: a.w,
@@ -145,7 +145,7 @@ pub fn named(toks: &[u16], at: usize, out: &mut [u16], w: usize) -> Step
 {
     let x = put(out, w, codes::BARE_TAG);
     let a = name(toks, at, out, x);
-    if peek(toks, a.at) != lexer::OPEN {
+    if peek_cell(toks, a.at) != lexer::OPEN {
         return a;
     }
     put(out, w, codes::GIVEN_TAG);

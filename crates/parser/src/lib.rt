@@ -14,7 +14,11 @@ pub mod process; // choices, conditionals, sequences and parts
 pub mod sheet; // the lines of a sheet
 
 use cells::expect;
-use cells::short;
+use elements::short;
+use limits::MAX_ACTIONS;
+use limits::MAX_FUNCTIONS;
+use limits::MAX_PROCESSES;
+use limits::MAX_SORTS;
 use sheet::init_line;
 use sheet::lines_of;
 use sheet::some_lines;
@@ -32,12 +36,12 @@ pub struct Run {
     pub count: usize,
 }
 
-// How many lines of each kind there are, and where in the cells each of the first 8, 16, 32, 16 stands.
+// How many lines of each kind there are, and where in the cells each stands, of as many as there may be.
 pub struct Lines {
-    pub sorts: [u16; 8],
-    pub funcs: [u16; 16],
-    pub acts: [u16; 32],
-    pub procs: [u16; 16],
+    pub sorts: [u16; MAX_SORTS],
+    pub funcs: [u16; MAX_FUNCTIONS],
+    pub acts: [u16; MAX_ACTIONS],
+    pub procs: [u16; MAX_PROCESSES],
     pub sort_count: usize,
     pub func_count: usize,
     pub act_count: usize,
@@ -56,10 +60,10 @@ pub fn parse(toks: &[u16], out: &mut [u16]) -> Parsed
     requires { ⌜ (3 * length (now toks) ≤ length (now out)) × (length (now out) < 65536) × Few (now toks) ⌝ }
     ensures { λ r. ⌜ ((s : List ℕ) → Parses (parse (map (cell-token s) (now (toks .entry)))) s r (now (out .exit))) ⌝ }
 {
-    let mut sorts = [0u16; 8];
-    let mut funcs = [0u16; 16];
-    let mut acts = [0u16; 32];
-    let mut procs = [0u16; 16];
+    let mut sorts = [0u16; MAX_SORTS];
+    let mut funcs = [0u16; MAX_FUNCTIONS];
+    let mut acts = [0u16; MAX_ACTIONS];
+    let mut procs = [0u16; MAX_PROCESSES];
     let a = lines_of(lexer::SORT, toks, 0, out, 0, &mut sorts, 0);
     let b = lines_of(lexer::FUNC, toks, a.at, out, a.w, &mut funcs, 0);
     let c = lines_of(lexer::ACT, toks, b.at, out, b.w, &mut acts, 0);

@@ -8,11 +8,11 @@ ghost use Rattle.parser.specs.Reading.{Ahead, Read, left};
 use crate::Step;
 use crate::cells::expect;
 use crate::cells::name;
-use crate::cells::peek;
 use crate::cells::put;
 use crate::codes;
 use crate::data::data_term;
 use crate::data::named;
+use elements::peek_cell;
 
 // "A choice is conditionals joined by `+`."
 pub fn choice(toks: &[u16], at: usize, out: &mut [u16], w: usize) -> Step
@@ -24,7 +24,7 @@ pub fn choice(toks: &[u16], at: usize, out: &mut [u16], w: usize) -> Step
     loop {
         let u = put(out, v, codes::ONLY_TAG);
         let a = conditional(toks, from, out, u);
-        if peek(toks, a.at) != lexer::PLUS {
+        if peek_cell(toks, a.at) != lexer::PLUS {
             return a;
         }
         put(out, v, codes::PLUS_TAG);
@@ -40,7 +40,7 @@ fn conditional(toks: &[u16], at: usize, out: &mut [u16], w: usize) -> Step
 {
     let v = put(out, w, codes::PLAIN_TAG);
     let a = sequence(toks, at, out, v);
-    if peek(toks, a.at) != lexer::IF {
+    if peek_cell(toks, a.at) != lexer::IF {
         return a;
     }
     put(out, w, codes::COND_TAG);
@@ -59,7 +59,7 @@ fn sequence(toks: &[u16], at: usize, out: &mut [u16], w: usize) -> Step
     loop {
         let u = put(out, v, codes::LAST_TAG);
         let a = part(toks, from, out, u);
-        if peek(toks, a.at) != lexer::DOT {
+        if peek_cell(toks, a.at) != lexer::DOT {
             return a;
         }
         put(out, v, codes::THEN_TAG);
@@ -73,7 +73,7 @@ fn part(toks: &[u16], at: usize, out: &mut [u16], w: usize) -> Step
     ensures ahead { λ r. ⌜ Ahead (length (now (toks .entry))) at (r .at) ⌝ }
     ensures read { λ r. ⌜ Read (5 * left (now (toks .entry)) at + 1) enc-part part (now (toks .entry)) at w (now (out .entry)) r (now (out .exit)) ⌝ }
 {
-    let t = peek(toks, at);
+    let t = peek_cell(toks, at);
     if t == lexer::DELTA {
         return Step {
             at: at + 1,

@@ -19,12 +19,12 @@ use crate::cells::expect;
 use crate::cells::lost;
 use crate::cells::name;
 use crate::cells::numeral;
-use crate::cells::peek;
 use crate::cells::put;
-use crate::cells::short;
 use crate::codes;
 use crate::data::named;
 use crate::process::choice;
+use elements::peek_cell;
+use elements::short;
 
 // "`sort` name size"
 fn sort_line(toks: &[u16], at: usize, out: &mut [u16], w: usize) -> Step
@@ -46,7 +46,7 @@ fn numerals(toks: &[u16], at: usize, out: &mut [u16], w: usize) -> Step
     loop {
         let u = put(out, v, codes::ITEM_TAG);
         let a = numeral(toks, from, out, u);
-        if peek(toks, a.at) != lexer::COMMA {
+        if peek_cell(toks, a.at) != lexer::COMMA {
             return Step {
                 at: a.at,
                 w: put(out, a.w, codes::END_TAG),
@@ -64,7 +64,7 @@ fn one_or_two(toks: &[u16], at: usize, out: &mut [u16], w: usize) -> Step
 {
     let v = put(out, w, codes::ITEM_TAG);
     let a = name(toks, at, out, v);
-    if peek(toks, a.at) != lexer::HASH {
+    if peek_cell(toks, a.at) != lexer::HASH {
         return Step {
             at: a.at,
             w: put(out, a.w, codes::END_TAG),
@@ -100,7 +100,7 @@ fn act_line(toks: &[u16], at: usize, out: &mut [u16], w: usize) -> Step
 {
     let v = put(out, w, codes::ACT_TAG);
     let x = name(toks, at, out, v);
-    if peek(toks, x.at) != lexer::COLON {
+    if peek_cell(toks, x.at) != lexer::COLON {
         return Step {
             at: x.at,
             w: put(out, x.w, codes::END_TAG),
@@ -121,7 +121,7 @@ fn parameters(toks: &[u16], at: usize, out: &mut [u16], w: usize) -> Step
         let x = name(toks, from, out, u);
         let c = expect(toks, x.at, lexer::COLON);
         let d = name(toks, c, out, x.w);
-        if peek(toks, d.at) != lexer::COMMA {
+        if peek_cell(toks, d.at) != lexer::COMMA {
             return Step {
                 at: expect(toks, d.at, lexer::CLOSE),
                 w: put(out, d.w, codes::END_TAG),
@@ -137,7 +137,7 @@ fn params(toks: &[u16], at: usize, out: &mut [u16], w: usize) -> Step
     ensures onward { λ r. ⌜ Onward (length (now (toks .entry))) at (r .at) ⌝ }
     ensures read { λ r. ⌜ (at ≤ length (now (toks .entry)) → Read (left (now (toks .entry)) at) (enc-items enc-param) params (now (toks .entry)) at w (now (out .entry)) r (now (out .exit))) ⌝ }
 {
-    if peek(toks, at) != lexer::OPEN {
+    if peek_cell(toks, at) != lexer::OPEN {
         return Step {
             at: at,
             w: put(out, w, codes::END_TAG),
@@ -162,10 +162,10 @@ fn proc_line(toks: &[u16], at: usize, out: &mut [u16], w: usize) -> Step
 fn bare(toks: &[u16], at: usize) -> bool
     ensures { λ r. ⌜ ((s : List ℕ) → called (cell-token s (getD (now (toks .entry)) at 0)) (rest s (now (toks .entry)) (at + 1)) ≡ not r) ⌝ }
 {
-    if peek(toks, at) < lexer::FIRST_NAME {
+    if peek_cell(toks, at) < lexer::FIRST_NAME {
         return false;
     }
-    peek(toks, at + 1) != lexer::OPEN
+    peek_cell(toks, at + 1) != lexer::OPEN
 }
 
 // "no name in its data that lacks brackets", from one place to another
@@ -233,7 +233,7 @@ pub fn lines_of(
     let mut from = at;
     let mut v = w;
     let mut i = n;
-    while peek(toks, from) == word {
+    while peek_cell(toks, from) == word {
         put(places, i, short(v));
         let a = line(word, toks, from + 1, out, v);
         from = expect(toks, a.at, lexer::SEMICOLON);

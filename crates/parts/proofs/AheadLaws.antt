@@ -12,7 +12,7 @@ use Rattle.pcrl.specs.Parts.{NewPart, if-after, new-parts}
 use Rattle.nodes.specs.Layout.{after-mark, Item, enc, encs}
 use Rattle.nodes.specs.Nodes.{kind-of, node-own, node-kids, open-node}
 use Rattle.nodes.proofs.Nodes.{one-item, items-end}
-use Rattle.parts.specs.declared.Walk.{Walk}
+use Rattle.parts.specs.declared.PartWalk.{PartWalk}
 use Rattle.parts.specs.Walking.{Fit, parts-of, Below, FitBelow, parts-below, Ahead, Rises}
 
 -- as many levels as stand below
@@ -52,7 +52,7 @@ module _ (cells left sorts : List ℕ) (H : Sheet) (m base : ℕ) (rest : List �
     come = sym (append-nil (new-parts false (take base sorts) p ++ []) ∙ append-nil (new-parts false (take base sorts) p));
   }
 
-  module _ (s : Walk) (parts : List NewPart) (a : Ahead cells left sorts H m base rest s parts) where
+  module _ (s : PartWalk) (parts : List NewPart) (a : Ahead cells left sorts H m base rest s parts) where
     pub ahead-end : length cells ≤ s .at → 0 < s .need → ⊥
     ahead-end h k = items-end cells (s .at) h (a .here) (all encs (a .below) ++ rest) (omega (arith, a .many)) (a .stand)
 
@@ -90,10 +90,10 @@ module _ (cells left sorts : List ℕ) (H : Sheet) (m base : ℕ) (rest : List �
           come = e;
         }
 
-pub rises-none : (left : List ℕ) (base : ℕ) (s : Walk) → Rises left base s s
+pub rises-none : (left : List ℕ) (base : ℕ) (s : PartWalk) → Rises left base s s
 rises-none left base s cells sorts H m rest parts a = a
 
-pub rises-up : (left : List ℕ) (base : ℕ) (s : Walk) (t : Walk) (need : ℕ) → Rises left base s t → t .need ≡ 0 → base < t .level → need ≡ getD left (t .level - 1) 0
+pub rises-up : (left : List ℕ) (base : ℕ) (s : PartWalk) (t : PartWalk) (need : ℕ) → Rises left base s t → t .need ≡ 0 → base < t .level → need ≡ getD left (t .level - 1) 0
     → Rises left base s (record { at = t .at; level = t .level - 1; need = need; count = t .count; w = t .w })
 rises-up left base s t need r z l e cells sorts H m rest parts a =
     subst (λ (k : ℕ). Ahead cells left sorts H m base rest (record { at = t .at; level = t .level - 1; need = k; count = t .count; w = t .w }) parts) (sym e)

@@ -23,7 +23,7 @@ use Rattle.nodes.specs.Scoped.{max-scope, Scoped}
 use Rattle.nodes.specs.Views.{Skips}
 use Rattle.emit.specs.Putting.{Puts}
 use Rattle.emit.proofs.Putting.{puts-none, puts-then, puts-as}
-use Rattle.parts.specs.declared.Walk.{Walk}
+use Rattle.parts.specs.declared.PartWalk.{PartWalk}
 use Rattle.parts.specs.declared.Noted.{Noted}
 use Rattle.parts.specs.Rows.{row-width, params-bytes, RowsKept, RowsOf}
 use Rattle.parts.specs.Walking.{Fit, Few, PartsPut, PutsParts}
@@ -131,7 +131,7 @@ module _ (procs cells starts : List ℕ) (n : Outline) (rows : List ℕ) (w : �
   pub all-far : (k count v : ℕ) (rows₁ o₁ : List ℕ) → length rows < cell-limit → cell-limit ≤ count → AllLeft k count v rows₁ o₁ → PutsAll procs cells starts n rows w o (record { count = count; w = v }) rows₁ o₁
   all-far k count v rows₁ o₁ few far left H p room = absurd (omega (arith, left H p room .count-is, parts-few (H .procs) k))
 
-  pub all-more : (k count v : ℕ) (rows₁ o₁ : List ℕ) (sorts : List ℕ) (base at : ℕ) (s : Walk) (rows₂ o₂ : List ℕ) → k < n .procs → length rows₁ ≡ length rows → Loads procs (proc-width * k) sorts base → at ≡ getD starts k 0
+  pub all-more : (k count v : ℕ) (rows₁ o₁ : List ℕ) (sorts : List ℕ) (base at : ℕ) (s : PartWalk) (rows₂ o₂ : List ℕ) → k < n .procs → length rows₁ ≡ length rows → Loads procs (proc-width * k) sorts base → at ≡ getD starts k 0
       → RowsKept rows₁ count rows₂ → PutsParts cells sorts rows₁ at base count v o₁ s rows₂ o₂ → AllLeft k count v rows₁ o₁ → AllLeft (k + 1) (s .count) (s .w) rows₂ o₂
   all-more k count v rows₁ o₁ sorts base at s rows₂ o₂ h size load ea kept put left H p room =
       let before = left H p room in

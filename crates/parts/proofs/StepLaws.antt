@@ -21,7 +21,7 @@ use Rattle.nodes.specs.Scoped.{max-scope, Scoped}
 use Rattle.nodes.specs.Views.{Opened, Views}
 use Rattle.emit.specs.Putting.{Puts}
 use Rattle.emit.proofs.Putting.{puts-none, puts-then, puts-as}
-use Rattle.parts.specs.declared.Walk.{Walk}
+use Rattle.parts.specs.declared.PartWalk.{PartWalk}
 use Rattle.parts.specs.declared.Noted.{Noted}
 use Rattle.parts.specs.Rows.{row-width, no-part, params-bytes, RowOf, RowsKept, RowsOf}
 use Rattle.parts.specs.Walking.{Fit, parts-of, Below, FitBelow, parts-below, Ahead, Few, Onward, Steps, part-at, Notes, Noting, Enters}
@@ -155,7 +155,7 @@ sum-small m n (sum x D p) e s = s .1 .0
 sum-small m n (seq p q) e s = absurd (omega arith)
 sum-small m n (call k ds) e s = absurd (omega arith)
 
-module _ (cells sorts rows o : List ℕ) (s : Walk) (rows′ o′ : List ℕ) (r : Noted) (own : ℕ) (noting : Noting cells sorts rows o own s rows′ o′ r) where
+module _ (cells sorts rows o : List ℕ) (s : PartWalk) (rows′ o′ : List ℕ) (r : Noted) (own : ℕ) (noting : Noting cells sorts rows o own s rows′ o′ r) where
   -- what a node's own part left
   pub record OwnPart (xs : List NewPart) : Type 0 where
     pub count-is : r .count ≡ s .count + length xs
@@ -189,7 +189,7 @@ module _ (cells sorts rows o : List ℕ) (s : Walk) (rows′ o′ : List ℕ) (r
           each h (suc j) l = absurd (omega arith)
       go (suc (suc k)) z = absurd (omega (arith, own-small b p))
 
-module _ (cells left sorts rows o : List ℕ) (s : Walk) (rows′ o′ : List ℕ) (r : Noted) (d : Node) (views : Views cells (s .at) d) (inside : s .at < length cells) (some : 0 < s .need)
+module _ (cells left sorts rows o : List ℕ) (s : PartWalk) (rows′ o′ : List ℕ) (r : Noted) (d : Node) (views : Views cells (s .at) d) (inside : s .at < length cells) (some : 0 < s .need)
     (noting : Noting cells sorts rows o (d .own) s rows′ o′ r) where
   -- A NODE THAT IS NO SUM
   pub step-other : (d .kind ≡ sum-kind → max-scope ≤ s .level)
@@ -199,7 +199,7 @@ module _ (cells left sorts rows o : List ℕ) (s : Walk) (rows′ o′ : List �
       R : List ℕ
       R = all encs (a .below) ++ rest
 
-      t : Walk
+      t : PartWalk
       t = record { at = d .next; level = s .level; need = s .need - 1 + d .kids; count = r .count; w = r .w }
 
       go : (xs : List Item) → s .need ≡ length xs → drop (s .at) cells ≡ encs xs ++ R → Every (λ (x : Item). Fit H m (s .level) (x .1)) xs
@@ -244,7 +244,7 @@ module _ (cells left sorts rows o : List ℕ) (s : Walk) (rows′ o′ : List �
       R : List ℕ
       R = all encs (a .below) ++ rest
 
-      t : Walk
+      t : PartWalk
       t = record { at = d .next; level = n + 1; need = 1; count = r .count; w = r .w }
 
       go : (xs : List Item) → s .need ≡ length xs → drop (s .at) cells ≡ encs xs ++ R → Every (λ (x : Item). Fit H m n (x .1)) xs

@@ -15,7 +15,7 @@ use Rattle.nodes.specs.Scoped.{max-scope}
 use Rattle.marking.specs.Marks.{bits}
 use Rattle.emit.specs.Putting.{Puts}
 use Rattle.emit.proofs.Putting.{puts-none, puts-then, puts-as}
-use Rattle.parts.specs.declared.Walk.{Walk}
+use Rattle.parts.specs.declared.PartWalk.{PartWalk}
 use Rattle.parts.specs.Rows.{row-width, no-part, params-bytes, RowOf, RowsKept, RowsOf}
 use Rattle.parts.specs.Walking.{Fit, Ahead, Few, Onward, Steps, Rises, PartsPut, PutsParts}
 use Rattle.parts.proofs.AheadLaws.{ahead-start, ahead-end, ahead-many, ahead-done}
@@ -54,11 +54,11 @@ rows-append cells rows rows′ k l xs ys e kept f g = record { each = each }
     ]
 
 -- from one place of the walk to another, for a right side whose parameters are `base`
-abbrev pub Walks : (cells : List ℕ) (base : ℕ) (left sorts rows o : List ℕ) → Walk → (left′ sorts′ rows′ o′ : List ℕ) → Walk → Type 0
+abbrev pub Walks : (cells : List ℕ) (base : ℕ) (left sorts rows o : List ℕ) → PartWalk → (left′ sorts′ rows′ o′ : List ℕ) → PartWalk → Type 0
 Walks cells base left sorts rows o s left′ sorts′ rows′ o′ s′ =
     (H : Sheet) (m : ℕ) (rest : List ℕ) (parts : List NewPart) → Few H cells → Ahead cells left sorts H m base rest s parts → Onward cells left sorts rows o s H m base rest parts left′ sorts′ rows′ o′ s′
 
-pub walks-none : (cells : List ℕ) (base : ℕ) (left sorts rows o : List ℕ) (s : Walk) → Walks cells base left sorts rows o s left sorts rows o s
+pub walks-none : (cells : List ℕ) (base : ℕ) (left sorts rows o : List ℕ) (s : PartWalk) → Walks cells base left sorts rows o s left sorts rows o s
 unfolding all
 walks-none cells base left sorts rows o s H m rest parts few a = record {
   own = [];
@@ -70,9 +70,9 @@ walks-none cells base left sorts rows o s H m rest parts few a = record {
   puts = puts-none (s .w) o;
 }
 
-module _ (cells : List ℕ) (base : ℕ) (left sorts rows o : List ℕ) (s : Walk) (left₁ sorts₁ rows₁ o₁ : List ℕ) (s₁ : Walk) (w : Walks cells base left sorts rows o s left₁ sorts₁ rows₁ o₁ s₁) where
+module _ (cells : List ℕ) (base : ℕ) (left sorts rows o : List ℕ) (s : PartWalk) (left₁ sorts₁ rows₁ o₁ : List ℕ) (s₁ : PartWalk) (w : Walks cells base left sorts rows o s left₁ sorts₁ rows₁ o₁ s₁) where
   -- a step more, and up to a level where something is left
-  pub walks-more : (left₂ sorts₂ rows₂ o₂ : List ℕ) (s₂ s₃ : Walk) → length rows₁ ≡ length rows → Steps cells left₁ sorts₁ rows₁ o₁ s₁ left₂ sorts₂ rows₂ o₂ s₂ → RowsKept rows₁ (s₁ .count) rows₂ → Rises left₂ base s₂ s₃
+  pub walks-more : (left₂ sorts₂ rows₂ o₂ : List ℕ) (s₂ s₃ : PartWalk) → length rows₁ ≡ length rows → Steps cells left₁ sorts₁ rows₁ o₁ s₁ left₂ sorts₂ rows₂ o₂ s₂ → RowsKept rows₁ (s₁ .count) rows₂ → Rises left₂ base s₂ s₃
       → s₃ .count ≡ s₂ .count → s₃ .w ≡ s₂ .w → Walks cells base left sorts rows o s left₂ sorts₂ rows₂ o₂ s₃
   walks-more left₂ sorts₂ rows₂ o₂ s₂ s₃ size step kept rise ec ew H m rest parts few a =
       let f = w H m rest parts few a in
@@ -93,7 +93,7 @@ module _ (cells : List ℕ) (base : ℕ) (left sorts rows o : List ℕ) (s : Wal
       }
 
 -- THE PARTS OF A RIGHT SIDE
-module _ (cells : List ℕ) (at base k w : ℕ) (left sorts rows o left₁ sorts₁ rows₁ o₁ : List ℕ) (s₁ : Walk)
+module _ (cells : List ℕ) (at base k w : ℕ) (left sorts rows o left₁ sorts₁ rows₁ o₁ : List ℕ) (s₁ : PartWalk)
     (walks : Walks cells base left sorts rows o (record { at = at; level = base; need = 1; count = k; w = w }) left₁ sorts₁ rows₁ o₁ s₁) where
   gone : (H : Sheet) (m : ℕ) (p : Proc) (rest : List ℕ) → Few H cells → drop at cells ≡ enc false p ++ rest → Fit H m base p
       → Onward cells left sorts rows o (record { at = at; level = base; need = 1; count = k; w = w }) H m base rest (new-parts false (take base sorts) p) left₁ sorts₁ rows₁ o₁ s₁

@@ -12,7 +12,7 @@ use Rattle.pcrl.specs.Parts.{NewPart, new-parts}
 use Rattle.nodes.specs.Layout.{cell-limit, byte-limit, Item, enc, encs}
 use Rattle.nodes.specs.Scoped.{max-scope, Scoped}
 use Rattle.emit.specs.Putting.{Puts}
-use Rattle.parts.specs.declared.Walk.{Walk}
+use Rattle.parts.specs.declared.PartWalk.{PartWalk}
 use Rattle.parts.specs.declared.Noted.{Noted}
 use Rattle.parts.specs.Rows.{row-width, params-bytes, RowOf, RowsKept, RowsOf}
 
@@ -40,7 +40,7 @@ parts-below sorts n [] = []
 parts-below sorts n (ys ∷ fs) = parts-of sorts (n - 1) ys ++ parts-below sorts (n - 1) fs
 
 -- where the walk is: what is left, and the parts that are to come
-pub record Ahead (cells left sorts : List ℕ) (H : Sheet) (m base : ℕ) (rest : List ℕ) (s : Walk) (parts : List NewPart) : Type 0 where
+pub record Ahead (cells left sorts : List ℕ) (H : Sheet) (m base : ℕ) (rest : List ℕ) (s : PartWalk) (parts : List NewPart) : Type 0 where
   pub here : List Item
   pub below : List (List Item)
   pub many : s .need ≡ length here
@@ -56,7 +56,7 @@ pub record Few (H : Sheet) (cells : List ℕ) : Type 0 where
   pub cells-few : length cells < cell-limit
 
 -- a step of the walk: the parts that it passed have their rows and their bytes
-pub record Onward (cells left sorts rows o : List ℕ) (s : Walk) (H : Sheet) (m base : ℕ) (rest : List ℕ) (parts : List NewPart) (left′ sorts′ rows′ o′ : List ℕ) (s′ : Walk) : Type 0 where
+pub record Onward (cells left sorts rows o : List ℕ) (s : PartWalk) (H : Sheet) (m base : ℕ) (rest : List ℕ) (parts : List NewPart) (left′ sorts′ rows′ o′ : List ℕ) (s′ : PartWalk) : Type 0 where
   pub own : List NewPart
   pub come : List NewPart
   pub whole : parts ≡ own ++ come
@@ -65,12 +65,12 @@ pub record Onward (cells left sorts rows o : List ℕ) (s : Walk) (H : Sheet) (m
   pub rows-of : row-width * (s .count + length own) ≤ length rows → RowsOf cells rows′ (s .count) own
   pub puts : Puts (all params-bytes own) (s .w) o (s′ .w) o′
 
-abbrev pub Steps : (cells left sorts rows o : List ℕ) → Walk → (left′ sorts′ rows′ o′ : List ℕ) → Walk → Type 0
+abbrev pub Steps : (cells left sorts rows o : List ℕ) → PartWalk → (left′ sorts′ rows′ o′ : List ℕ) → PartWalk → Type 0
 Steps cells left sorts rows o s left′ sorts′ rows′ o′ s′ =
     (H : Sheet) (m base : ℕ) (rest : List ℕ) (parts : List NewPart) → Few H cells → Ahead cells left sorts H m base rest s parts → Onward cells left sorts rows o s H m base rest parts left′ sorts′ rows′ o′ s′
 
 -- up to a level where something is left
-abbrev pub Rises : (left : List ℕ) → ℕ → Walk → Walk → Type 0
+abbrev pub Rises : (left : List ℕ) → ℕ → PartWalk → PartWalk → Type 0
 Rises left base s s′ =
     (cells sorts : List ℕ) (H : Sheet) (m : ℕ) (rest : List ℕ) (parts : List NewPart) → Ahead cells left sorts H m base rest s parts → Ahead cells left sorts H m base rest s′ parts
 
@@ -80,7 +80,7 @@ pub record PartsPut (cells rows : List ℕ) (k w : ℕ) (o : List ℕ) (parts : 
   pub rows-of : row-width * (k + length parts) ≤ length rows → RowsOf cells rows′ k parts
   pub puts : Puts (all params-bytes parts) w o w′ o′
 
-abbrev pub PutsParts : (cells sorts rows : List ℕ) → (at base k w : ℕ) (o : List ℕ) → Walk → (rows′ o′ : List ℕ) → Type 0
+abbrev pub PutsParts : (cells sorts rows : List ℕ) → (at base k w : ℕ) (o : List ℕ) → PartWalk → (rows′ o′ : List ℕ) → Type 0
 PutsParts cells sorts rows at base k w o s rows′ o′ =
     (H : Sheet) (m : ℕ) (p : Proc) (rest : List ℕ) → Few H cells → drop at cells ≡ enc false p ++ rest → Fit H m base p
     → PartsPut cells rows k w o (new-parts false (take base sorts) p) (s .count) (s .w) rows′ o′
@@ -97,7 +97,7 @@ Notes cells sorts rows o at n k w rows′ o′ w′ =
     → (row-width * (k + 1) ≤ length rows → RowOf cells rows′ k (part-at sorts n p)) × Puts (params-bytes (part-at sorts n p)) w o w′ o′
 
 -- a node that gets a new equation is noted, another is not
-pub record Noting (cells sorts rows o : List ℕ) (own : ℕ) (s : Walk) (rows′ o′ : List ℕ) (r : Noted) : Type 0 where
+pub record Noting (cells sorts rows o : List ℕ) (own : ℕ) (s : PartWalk) (rows′ o′ : List ℕ) (r : Noted) : Type 0 where
   pub kept : RowsKept rows (s .count) rows′
   pub count-is : own ≡ 1 → r .count ≡ s .count + 1
   pub notes : own ≡ 1 → Notes cells sorts rows o (s .at) (s .level) (s .count) (s .w) rows′ o′ (r .w)

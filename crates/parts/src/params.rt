@@ -7,16 +7,11 @@ ghost use Rattle.pcrl.specs.Stream.{encode-numbers};
 ghost use Rattle.nodes.specs.Scoped.{max-scope};
 ghost use Rattle.marking.specs.Marks.{bits};
 ghost use Rattle.emit.specs.Putting.{Puts};
-use emit::bytes::low;
+use elements::low;
+use elements::peek;
+use elements::wide_word;
 use emit::bytes::put;
-use lexer::bytes::byte_at;
 use marking::many;
-
-fn wide(x: u32) -> usize
-    ensures { λ r. ⌜ r ≡ x ⌝ }
-{
-    x as usize
-}
 
 // The count of the marked variables, and their sorts: the lowest mark is the next one.
 pub fn put_params(m: u32, sorts: &[u8], out: &mut [u8], w: usize) -> usize
@@ -28,9 +23,9 @@ pub fn put_params(m: u32, sorts: &[u8], out: &mut [u8], w: usize) -> usize
     let mut at: usize = 0;
     while rest != 0 {
         let t = u32::trailing_zeros(rest);
-        v = put(out, v, byte_at(sorts, at + wide(t)));
+        v = put(out, v, peek(sorts, at + wide_word(t)));
         rest = (rest >> t) / 2;
-        at = at + wide(t) + 1;
+        at = at + wide_word(t) + 1;
     }
     v
 }

@@ -7,26 +7,19 @@ ghost use Rattle.nodes.specs.Scoped.{max-scope};
 ghost use Rattle.parts.specs.Rows.{RowsKept};
 ghost use Rattle.parts.specs.Walking.{Rises, Notes, Noting, Enters, Steps, PutsParts};
 use crate::Noted;
-use crate::Walk;
+use crate::PartWalk;
 use crate::params::put_params;
 use crate::row::put_part_row;
-use emit::bytes::low;
+use elements::cell;
+use elements::low;
+use elements::short;
 use marking::marks;
-use nodes::CELL_LIMIT;
 use nodes::MAX_SCOPE;
 use nodes::SUM;
-use nodes::cell;
 use nodes::node_at;
 
-// A number as a cell.
-fn short(n: usize) -> u16
-    ensures { λ r. ⌜ (n < cell-limit → r ≡ n) ⌝ }
-{
-    if n < CELL_LIMIT { n as u16 } else { 0 }
-}
-
 // Up to a level where something is left.
-fn rise(left: &[u16], base: usize, s: Walk) -> Walk
+fn rise(left: &[u16], base: usize, s: PartWalk) -> PartWalk
     ensures { λ r. ⌜ (r .at ≡ s .at) × (r .level ≤ s .level) × (r .count ≡ s .count) × (r .w ≡ s .w) × (r .need ≡ 0 → r .level ≤ base) ⌝ }
     ensures { λ r. ⌜ Rises (now (left .entry)) base s r ⌝ }
 {
@@ -39,7 +32,7 @@ fn rise(left: &[u16], base: usize, s: Walk) -> Walk
         level -= 1;
         need = cell(left, level);
     }
-    Walk {
+    PartWalk {
         at: s.at,
         level: level,
         need: need,
@@ -72,7 +65,7 @@ fn note(
 fn own_part(
     cells: &[u16],
     own: usize,
-    s: Walk,
+    s: PartWalk,
     sorts: &[u8],
     rows: &mut [u32],
     out: &mut [u8],
@@ -110,8 +103,8 @@ fn pass(
     sorts: &mut [u8],
     rows: &mut [u32],
     out: &mut [u8],
-    s: Walk,
-) -> Walk
+    s: PartWalk,
+) -> PartWalk
     requires { ⌜ (s .at < length (now cells)) × (0 < s .need) × (s .need ≤ length (now cells)) × (s .level ≤ max-scope) × (s .count < cell-limit + length (now cells)) × (length (now left) ≡ max-scope) × (length (now sorts) ≡ max-scope) ⌝ }
     ensures { λ r. ⌜ (s .at < r .at) × (r .level ≤ max-scope) × (s .count ≤ r .count) × (r .count ≤ s .count + 1) × RowsKept (now (rows .entry)) (s .count) (now (rows .exit)) ⌝ }
     ensures { λ r. ⌜ Steps (now (cells .entry)) (now (left .entry)) (now (sorts .entry)) (now (rows .entry)) (now (out .entry)) s (now (left .exit)) (now (sorts .exit)) (now (rows .exit)) (now (out .exit)) r ⌝ }
@@ -122,7 +115,7 @@ fn pass(
         let n = s.level;
         if n < MAX_SCOPE {
             enter(left, sorts, n, s.need, d.number);
-            return Walk {
+            return PartWalk {
                 at: d.next,
                 level: n + 1,
                 need: 1,
@@ -131,7 +124,7 @@ fn pass(
             };
         }
     }
-    Walk {
+    PartWalk {
         at: d.next,
         level: s.level,
         need: s.need - 1 + d.kids,
@@ -151,12 +144,12 @@ pub fn put_parts(
     k: usize,
     out: &mut [u8],
     w: usize,
-) -> Walk
+) -> PartWalk
     requires { ⌜ (base ≤ max-scope) × (k < cell-limit) × (length (now left) ≡ max-scope) × (length (now sorts) ≡ max-scope) ⌝ }
     ensures { λ r. ⌜ RowsKept (now (rows .entry)) k (now (rows .exit)) ⌝ }
     ensures { λ r. ⌜ PutsParts (now (cells .entry)) (now (sorts .entry)) (now (rows .entry)) at base k w (now (out .entry)) r (now (rows .exit)) (now (out .exit)) ⌝ }
 {
-    let mut s = Walk {
+    let mut s = PartWalk {
         at: at,
         level: base,
         need: 1,

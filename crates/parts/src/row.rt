@@ -3,9 +3,14 @@ ghost use mathlib.Core.Path.{_≡_};
 ghost use Prim.Native.Nat.{_<_};
 ghost use Rattle.nodes.specs.Layout.{cell-limit};
 ghost use Rattle.parts.specs.Rows.{RowPut};
-use nodes::CELL_LIMIT;
+use elements::CELL_LIMIT;
 
+// Where a part stands, how many variables are in scope there, and as bits those that stand free in it.
 pub const ROW: usize = 3;
+
+pub const SCOPE: usize = 1;
+
+pub const MARKS: usize = 2;
 
 // A number below the limit of cells.
 fn word(n: usize) -> u32
@@ -21,7 +26,7 @@ pub fn put_part_row(rows: &mut [u32], k: usize, place: usize, scope: usize, bits
     if k < rows.len() / ROW {
         let i = ROW * k;
         rows[i] = word(place);
-        rows[i + 1] = word(scope);
-        rows[i + 2] = bits;
+        rows[i + SCOPE] = word(scope);
+        rows[i + MARKS] = bits;
     }
 }

@@ -1,6 +1,6 @@
 // The new equations of all right sides, and the lists of parameters of all equations.
 ghost use mathlib.Core.Path.{_≡_};
-ghost use Prim.Native.Nat.{_+_, _*_, _≤_, _<_, min};
+ghost use Prim.Native.Nat.{_*_, _≤_, _<_};
 ghost use lib.ListN.{length};
 ghost use Rattle.pcrl.specs.Limits.{max-processes};
 ghost use Rattle.pcrl.specs.Blocks.{joined};
@@ -9,41 +9,35 @@ ghost use Rattle.nodes.specs.Held.{proc-width};
 ghost use Rattle.nodes.specs.Scoped.{max-scope};
 ghost use Rattle.emit.specs.Putting.{Puts};
 ghost use Rattle.emit.specs.Bytes.{row-bytes};
-ghost use Rattle.parts.specs.Sheets.{count-cut, Loads, CountsParts, PutsAll, PutsParams};
+ghost use Rattle.parts.specs.Sheets.{Loads, CountsParts, PutsAll, PutsParams};
 use crate::Noted;
 use crate::right_side::put_parts;
-use emit::bytes::low;
+use elements::CELL_LIMIT;
+use elements::byte;
+use elements::cell;
+use elements::cut_sum;
+use elements::low;
+use elements::peek;
 use emit::bytes::put;
 use emit::bytes::put_row;
-use lexer::bytes::byte_at;
-use nodes::CELL_LIMIT;
+use limits::MAX_EQUATIONS;
 use nodes::MAX_SCOPE;
 use nodes::Outline;
 use nodes::PROC_ROW;
-use nodes::byte;
-use nodes::cell;
 use nodes::skip;
 
 // One more than there may be equations: counts are cut here.
-const COUNT_CUT: usize = 65;
-
-// A sum, cut.
-fn cut_sum(a: usize, b: usize) -> usize
-    requires { ⌜ a ≤ count-cut ⌝ }
-    ensures { λ r. ⌜ r ≡ min count-cut (a + b) ⌝ }
-{
-    if b >= COUNT_CUT - a { COUNT_CUT } else { a + b }
-}
+const COUNT_CUT: usize = MAX_EQUATIONS + 1;
 
 // How many equations there are, cut.
 pub fn count_equations(procs: &[u8], cells: &[u16], starts: &[u16], n: Outline) -> usize
     ensures { λ r. ⌜ CountsParts (now (procs .entry)) (now (cells .entry)) (now (starts .entry)) n r ⌝ }
 {
-    let mut total = cut_sum(0, n.procs);
+    let mut total = cut_sum(COUNT_CUT, 0, n.procs);
     let mut k: usize = 0;
     while k < n.procs {
         let s = skip(cells, cell(starts, k));
-        total = cut_sum(total, s.own);
+        total = cut_sum(COUNT_CUT, total, s.own);
         k += 1;
     }
     total
@@ -61,7 +55,7 @@ fn load(procs: &[u8], p: usize, sorts: &mut [u8]) -> usize
     }
     let mut i: usize = 0;
     while i < n {
-        sorts[i] = byte_at(procs, p + 1 + i);
+        sorts[i] = peek(procs, p + 1 + i);
         i += 1;
     }
     n
@@ -94,8 +88,8 @@ pub fn put_all_parts(
     requires { ⌜ (n .procs ≤ max-processes) × (length (now rows) < cell-limit) ⌝ }
     ensures { λ r. ⌜ PutsAll (now (procs .entry)) (now (cells .entry)) (now (starts .entry)) n (now (rows .entry)) w (now (out .entry)) r (now (rows .exit)) (now (out .exit)) ⌝ }
 {
-    let mut left = [0u16; 32];
-    let mut sorts = [0u8; 32];
+    let mut left = [0u16; MAX_SCOPE];
+    let mut sorts = [0u8; MAX_SCOPE];
     let mut count: usize = 0;
     let mut v = w;
     let mut k: usize = 0;

@@ -12,22 +12,16 @@ ghost use Rattle.laws.specs.Says.{Says};
 ghost use Rattle.printer.specs.Printing.{text-room, TokensApart, printed-answer};
 use crate::put_sheet;
 use crate::watch::apart;
-use blocks::MAX_STREAM;
 use blocks::SHORT_FILE;
 use blocks::SHORT_STREAM;
-
-// The questions that refuse here.
-const NOT_PRINTED: u8 = 17;
-
-const NO_ROOM: u8 = 11;
-
-// Bytes of a sheet and processes, at the most.
-const MAX_BYTES: usize = 4096;
-
-const MAX_PROCESSES: usize = 16;
+use limits::MAX_BYTES;
+use limits::MAX_PROCESSES;
+use limits::MAX_STREAM;
+use limits::NO_ROOM;
+use limits::NO_TEXT;
 
 // One byte more than a sheet has.
-const TEXT: usize = 4097;
+const TEXT: usize = MAX_BYTES + 1;
 
 // The number of the first question that fails, or 0 and how many bytes were written.
 pub struct Printed {
@@ -48,7 +42,7 @@ fn refuse(n: u8) -> Printed
 fn tokens_apart(text: &[u8]) -> bool
     ensures { λ r. ⌜ Says r (TokensApart (now (text .entry))) ⌝ }
 {
-    let mut cells = [0u16; 4096];
+    let mut cells = [0u16; MAX_BYTES];
     let l = lexer::lex(text, &mut cells);
     if l.refused != 0 {
         return false;
@@ -65,13 +59,13 @@ fn deliver(text: &[u8], n: usize, out: &mut [u8]) -> Printed
 {
     let m = text.len();
     if MAX_BYTES < m {
-        return refuse(NOT_PRINTED);
+        return refuse(NO_TEXT);
     }
     if MAX_PROCESSES < n {
-        return refuse(NOT_PRINTED);
+        return refuse(NO_TEXT);
     }
     if !tokens_apart(text) {
-        return refuse(NOT_PRINTED);
+        return refuse(NO_TEXT);
     }
     if out.len() < m {
         return refuse(NO_ROOM);

@@ -15,6 +15,7 @@ pub mod delivery; // from any bytes
 pub mod lines; // lines of processes, and init
 pub mod watch; // `==` over two values
 
+use elements::smaller;
 use tables::Index;
 
 // How many functions, actions and equations there are, and where the start stands.
@@ -55,7 +56,7 @@ fn put_lines(
     let b = declarations::put_funcs(s, funcs, n.functions, l, out, a);
     let c = declarations::put_acts(s, acts, n.actions, l, out, b);
     let d = lines::put_procs(s, funcs, acts, params, rows, n.equations, l, out, c);
-    lines::put_init(s, params, evaluation::smaller(n.start, s.len()), l, out, d)
+    lines::put_init(s, params, smaller(n.start, s.len()), l, out, d)
 }
 
 // The whole text, as far as there is room; the answer is where it ends.

@@ -16,6 +16,10 @@ ghost use Rattle.printer.specs.Lines.{param-by, proc-head-by, KnownTable
 use clauses::put_right;
 use declarations::bytes_at;
 use declarations::put_values;
+use elements::cell;
+use elements::peek;
+use elements::smaller;
+use elements::wide;
 use lettering::Letters;
 use lettering::put_name;
 use lettering::put_sort;
@@ -78,10 +82,10 @@ fn put_proc(
     ensures { λ r. ⌜ (r ≤ length (now (out .entry))) × (length (now (out .exit)) ≡ length (now (out .entry))) ⌝ }
     ensures { λ r. ⌜ ((T : Table) → KnownTable T (now (s .entry)) (now (funcs .entry)) (now (acts .entry)) (now (params .entry)) (now (rows .entry)) → Lettered (T .sig .acts) l → e < length (T .equations) → Wrote (now (out .entry)) at (proc-line-text (T .sig .acts) e (equation T e)) (now (out .exit)) r) ⌝ }
 {
-    let sorts = terms::list_at(s, terms::place(params, e));
-    let n = evaluation::smaller(sorts.len(), 255);
+    let sorts = terms::list_at(s, cell(params, e));
+    let n = smaller(sorts.len(), 255);
     let a = put_proc_head(sorts, e, l, out, at);
-    let b = put_right(s, funcs, acts, params, l, terms::place(rows, e), n, out, a);
+    let b = put_right(s, funcs, acts, params, l, cell(rows, e), n, out, a);
     put_byte(out, b, b';')
 }
 
@@ -135,8 +139,8 @@ pub fn put_init(
     ensures { λ r. ⌜ (r ≤ length (now (out .entry))) × (length (now (out .exit)) ≡ length (now (out .entry))) ⌝ }
     ensures { λ r. ⌜ ((T : Table) (funcs acts rows : List ℕ) → KnownTable T (now (s .entry)) funcs acts (now (params .entry)) rows → Lettered (T .sig .acts) l → Stands (now (s .entry)) from (encode-start (T .start)) → Wrote (now (out .entry)) at (init-line-text (T .sig .acts) (T .start)) (now (out .exit)) r) ⌝ }
 {
-    let e = terms::wide(terms::peek(s, from));
-    let n = terms::wide(terms::peek(s, terms::place(params, e)));
+    let e = wide(peek(s, from));
+    let n = wide(peek(s, cell(params, e)));
     let vs = bytes_at(s, from + 1, n);
     let a = put_bytes(out, at, b"init ");
     let b = put_name(out, a, b'p', l.procs, e);

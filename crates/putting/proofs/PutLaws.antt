@@ -15,15 +15,15 @@ use Rattle.pcrl.specs.Values.{put-data}
 use Rattle.pcrl.specs.Table.{nodes}
 use Rattle.pcrl.specs.Stream.{function-code, codes, encode-data}
 use Rattle.pcrl.specs.Heads.{look}
-use Rattle.laws.specs.TermLength.{narrow-length}
+use Rattle.laws.specs.TermLength.{narrow-length, max-term}
 use Rattle.nodes.specs.declared.Datum.{Datum}
 use Rattle.nodes.specs.Layout.{byte-limit, value-tag, variable-tag, function-tag, enc-data, enc-datas}
 use Rattle.nodes.specs.Nodes.{data-tag, data-number, data-kids}
 use Rattle.nodes.specs.Views.{DataViews}
 use Rattle.nodes.proofs.Data.{datas-inside}
 use Rattle.putting.specs.declared.Share.{Share}
-use Rattle.putting.specs.declared.Put.{Put}
-use Rattle.putting.specs.Slots.{term-bytes, slot-width, Slot, Slots, Writable, Adds}
+use Rattle.putting.specs.declared.TermPut.{TermPut}
+use Rattle.putting.specs.Slots.{slot-width, Slot, Slots, Writable, Adds}
 use Rattle.putting.specs.Puts.{node-nodes, node-bytes, Shares, NodePut, Puts}
 use Rattle.putting.proofs.Bytes.{cell-more, adds-then}
 use Rattle.putting.proofs.Opening.{put-bytes, put-nodes, bytes-open, nodes-open, nodes-left, by-code, put-narrow, kids-writable}
@@ -169,7 +169,7 @@ module _ (cells : List ℕ) (at : ℕ) (slots : List ℕ) (n w : ℕ) (o : List 
   }
 
   module _ (p need k v : ℕ) (out : List ℕ) (left : PutLeft p need k v out) where
-    pub put-stuck : length cells ≤ p → 0 < need → (r : Put) (o′ : List ℕ) → Puts cells at slots n w o r o′
+    pub put-stuck : length cells ≤ p → 0 < need → (r : TermPut) (o′ : List ℕ) → Puts cells at slots n w o r o′
     put-stuck h j r o′ d rest σ e s a =
         let u = left d rest σ e s a in
         absurd (omega (arith, u .many, datas-inside cells p (u .terms) rest (u .place)))
@@ -228,7 +228,7 @@ module _ (cells : List ℕ) (at : ℕ) (slots : List ℕ) (n w : ℕ) (o : List 
               pick (no large) h = let z : max-nodes < node-nodes σ x = h .1 (let y : r .nodes ≤ max-nodes → ⊥ = large in omega arith) in omega (arith, nodes-open σ x es)
 
       -- too many bytes, so too many nodes
-      pub put-wide : w ≤ length o → v ≤ length out → w + term-bytes < v + r .bytes → r .nodes ≤ max-nodes → (q : ℕ) (o′ : List ℕ) → Puts cells at slots n w o (record { ok = false; nodes = 0; w = q }) o′
+      pub put-wide : w ≤ length o → v ≤ length out → w + max-term < v + r .bytes → r .nodes ≤ max-nodes → (q : ℕ) (o′ : List ℕ) → Puts cells at slots n w o (record { ok = false; nodes = 0; w = q }) o′
       unfolding Every
       put-wide wo vo big small q o′ d rest σ e s a = (λ t. never t, λ t. go (left d rest σ e s a .terms) (left d rest σ e s a .many) (left d rest σ e s a .place) (left d rest σ e s a .writable) (left d rest σ e s a .bytes))
         where
@@ -239,9 +239,9 @@ module _ (cells : List ℕ) (at : ℕ) (slots : List ℕ) (n w : ℕ) (o : List 
               let h = sh x σ (u .tag-is) (u .number-is) s (wr .0) .0 small .1 in
               let m : length (take v out) + length (put-bytes σ (x ∷ es)) ≡ length (take w o) + length (encode-data (put-data (look σ) d)) = simp length-append at (ap length b) in
               let y : length (put-bytes σ (x ∷ es)) ≡ length (node-bytes σ x) + length (put-bytes σ (data-kids x ++ es)) = ap length (bytes-open σ x es) ∙ length-append (node-bytes σ x) (put-bytes σ (data-kids x ++ es)) in
-              let l : term-bytes < length (encode-data (put-data (look σ) d)) = omega (arith, length-take-le v out vo, length-take-le w o wo) in
+              let l : max-term < length (encode-data (put-data (look σ) d)) = omega (arith, length-take-le v out vo, length-take-le w o wo) in
               pick (decLe (nodes (put-data (look σ) d)) max-nodes) l
             where
-              pick : Dec (nodes (put-data (look σ) d) ≤ max-nodes) → term-bytes < length (encode-data (put-data (look σ) d)) → max-nodes < nodes (put-data (look σ) d)
+              pick : Dec (nodes (put-data (look σ) d) ≤ max-nodes) → max-term < length (encode-data (put-data (look σ) d)) → max-nodes < nodes (put-data (look σ) d)
               pick (yes few) l = absurd (omega (arith, narrow-length (put-data (look σ) d) (put-narrow σ slots n s d a) few))
               pick (no many) l = let y : nodes (put-data (look σ) d) ≤ max-nodes → ⊥ = many in omega arith

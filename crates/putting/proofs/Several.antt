@@ -20,9 +20,10 @@ use Rattle.pcrl.specs.Heads.{look}
 use Rattle.laws.specs.Lists.{getD-map}
 use Rattle.nodes.specs.Layout.{enc-data, enc-datas}
 use Rattle.nodes.specs.Views.{SkipsData}
-use Rattle.putting.specs.declared.Put.{Put}
+use Rattle.putting.specs.declared.TermPut.{TermPut}
 use Rattle.putting.specs.declared.Done.{Done}
-use Rattle.putting.specs.Slots.{term-bytes, slot-width, Slot, Slots, Writable, Adds}
+use Rattle.laws.specs.TermLength.{max-term}
+use Rattle.putting.specs.Slots.{slot-width, Slot, Slots, Writable, Adds}
 use Rattle.putting.specs.Puts.{Puts, PutsAll, SlotPut, Fills}
 use Rattle.putting.proofs.PutLaws.{never}
 use Rattle.putting.proofs.Bytes.{kept-front}
@@ -72,7 +73,7 @@ module _ (cells : List ℕ) (at count : ℕ) (slots : List ℕ) (n w : ℕ) (o :
         go [] a g f = (f tt, sym (append-nil (take v out)) ∙ g)
         go (x ∷ es) a g f = absurd (omega arith)
 
-    module _ (k : j < count) (r : Put) (out′ : List ℕ) (h : Puts cells p slots n v out r out′) where
+    module _ (k : j < count) (r : TermPut) (out′ : List ℕ) (h : Puts cells p slots n v out r out′) where
       pub terms-on : r .ok ≡ true → (q : ℕ) → SkipsData cells p 1 q → AllLeft q (j + 1) (r .w) out′
       unfolding all Every
       terms-on ok q sk ds rest σ l e s a = go (left ds rest σ l e s a .terms) (left ds rest σ l e s a .many) (left ds rest σ l e s a .place) (left ds rest σ l e s a .writable) (left ds rest σ l e s a .bytes) (left ds rest σ l e s a .small) (left ds rest σ l e s a .small-left)
@@ -128,13 +129,13 @@ module _ (w : ℕ) (o o′ : List ℕ) (e : take w o′ ≡ take w o) where
       whole : getD o′ b 0 ≤ max-nodes → (getD o′ b 0 ≡ nodes d) × (getD o′ (b + 1) 0 ≡ length (encode-data d)) × (take (getD o′ (b + 1) 0) (drop (b + 2) o′) ≡ encode-data d)
       whole k =
           let y = s .whole (omega (arith, same-at b (omega arith))) in
-          let z : getD o (b + 1) 0 ≤ term-bytes = omega (arith, y .0, y .1, same-at b (omega arith), s .narrow) in (
+          let z : getD o (b + 1) 0 ≤ max-term = omega (arith, y .0, y .1, same-at b (omega arith), s .narrow) in (
             same-at b (omega arith) ∙ y .0,
             same-at (b + 1) (omega arith) ∙ y .1,
             ap (λ (i : ℕ). take i (drop (b + 2) o′)) (same-at (b + 1) (omega arith)) ∙ same-part (b + 2) (getD o (b + 1) 0) (omega arith) ∙ y .2,
           )
 
-module _ (cells : List ℕ) (at : ℕ) (slots : List ℕ) (n b : ℕ) (o : List ℕ) (r : Put) (out : List ℕ) (room : b + slot-width ≤ length out) (put : Puts cells at slots n (b + 2) o r out) where
+module _ (cells : List ℕ) (at : ℕ) (slots : List ℕ) (n b : ℕ) (o : List ℕ) (r : TermPut) (out : List ℕ) (room : b + slot-width ≤ length out) (put : Puts cells at slots n (b + 2) o r out) where
   pub slot-long : r .ok ≡ false → SlotPut cells at slots n (set out b 255) b
   slot-long bad d rest σ e s a = record { whole = λ k. absurd (omega (arith, getD-set-same out b 255 0 (omega arith))); long = λ k. put d rest σ e s a .1 bad; narrow = put-narrow σ slots n s d a }
 

@@ -16,7 +16,7 @@ use Rattle.pcrl.specs.Heads.{look}
 use Rattle.nodes.specs.Layout.{enc-data, enc-datas}
 use Rattle.nodes.specs.Nodes.{data-tag, data-number}
 use Rattle.putting.specs.declared.Share.{Share}
-use Rattle.putting.specs.declared.Put.{Put}
+use Rattle.putting.specs.declared.TermPut.{TermPut}
 use Rattle.putting.specs.declared.Done.{Done}
 use Rattle.putting.specs.Slots.{Slot, Slots, Writable, Adds}
 
@@ -42,7 +42,7 @@ NodePut slots n tag number l v o o′ = (d : Data) (σ : List Data) → tag ≡ 
     → node-nodes σ d ≤ max-nodes → l ≡ length (node-bytes σ d) → Adds (node-bytes σ d) v o (v + l) o′
 
 -- Written, or the term itself has too many nodes.
-abbrev pub Puts : List ℕ → ℕ → List ℕ → ℕ → ℕ → List ℕ → Put → List ℕ → Type 0
+abbrev pub Puts : List ℕ → ℕ → List ℕ → ℕ → ℕ → List ℕ → TermPut → List ℕ → Type 0
 Puts cells at slots n w o r o′ = (d : Data) (rest : List ℕ) (σ : List Data) → drop at cells ≡ enc-data d ++ rest → Slots σ slots n → Writable n d
     → (r .ok ≡ true → (r .nodes ≡ nodes (put-data (look σ) d)) × (nodes (put-data (look σ) d) ≤ max-nodes) × Adds (encode-data (put-data (look σ) d)) w o (r .w) o′)
     × (r .ok ≡ false → max-nodes < nodes (put-data (look σ) d))

@@ -11,12 +11,9 @@ use Rattle.pcrl.specs.Heads.{look}
 use Rattle.laws.specs.TermLength.{Narrow, max-term}
 use Rattle.nodes.specs.Layout.{byte-limit}
 
--- the bytes of a term in a slot, and the slot with its two counts
-abbrev pub term-bytes : ℕ
-term-bytes = max-term
-
+-- a slot: two counts, and the bytes of a term
 abbrev pub slot-width : ℕ
-slot-width = 48
+slot-width = 2 + max-term
 
 -- The slot from b on holds a term, or only that it has too many nodes.
 pub record Slot (d : Data) (s : List ℕ) (b : ℕ) : Type 0 where

@@ -7,25 +7,23 @@ ghost use lib.Seq.{paste};
 ghost use Rattle.pcrl.specs.Limits.{max-nodes};
 ghost use Rattle.nodes.specs.Layout.{cell-limit, byte-limit};
 ghost use Rattle.nodes.specs.Scoped.{max-scope};
-ghost use Rattle.putting.specs.Slots.{term-bytes, slot-width};
+ghost use Rattle.laws.specs.TermLength.{max-term};
+ghost use Rattle.putting.specs.Slots.{slot-width};
 ghost use Rattle.putting.specs.Puts.{Shares, NodePut, Puts, PutsAll, SlotPut, Fills};
+use elements::BYTE_LIMIT;
+use elements::byte;
+use limits::FUNCTION_CODE;
+use limits::MAX_NODES;
+use limits::MAX_TERM;
 
-pub const MAX_NODES: usize = 31;
-
-// The most bytes of a term, `max-term` of crate laws, and a slot: how many nodes, how many bytes, the bytes.
-pub const TERM: usize = 46;
-
-pub const SLOT: usize = 48;
+// A slot: how many nodes a term has, how many bytes, the bytes.
+pub const SLOT: usize = 2 + MAX_TERM;
 
 // The mark of a term with too many nodes.
 const LONG: u8 = 255;
 
-pub const VARIABLE_CODE: usize = 32;
-
-const FUNCTION_CODE: usize = 64;
-
 // `==` and its sort are two bytes.
-const EQUAL_CODE: u8 = 0x61;
+const EQUAL_CODE: u8 = limits::EQUAL_CODE as u8;
 
 // How many nodes and bytes a node comes to.
 pub struct Share {
@@ -34,7 +32,7 @@ pub struct Share {
 }
 
 // A term written: its nodes, and the place behind it.
-pub struct Put {
+pub struct TermPut {
     pub ok: bool,
     pub nodes: usize,
     pub w: usize,
@@ -67,8 +65,8 @@ fn share_of(slots: &[u8], n: usize, tag: usize, number: usize) -> Share
         }
         return Share { nodes: 1, bytes: 1 };
     }
-    let k = nodes::byte(slots, SLOT * number);
-    let l = nodes::byte(slots, SLOT * number + 1);
+    let k = byte(slots, SLOT * number);
+    let l = byte(slots, SLOT * number + 1);
     Share { nodes: k, bytes: l }
 }
 
@@ -82,16 +80,16 @@ fn put_node(slots: &[u8], n: usize, tag: usize, number: usize, l: usize, out: &m
         return;
     }
     if tag == nodes::VALUE {
-        out[v] = (number % 256) as u8;
+        out[v] = (number % BYTE_LIMIT) as u8;
         return;
     }
     if tag == nodes::FUNCTION {
         if l > 1 {
             out[v] = EQUAL_CODE;
-            out[v + 1] = (number % 256) as u8;
+            out[v + 1] = (number % BYTE_LIMIT) as u8;
             return;
         }
-        out[v] = ((FUNCTION_CODE + number) % 256) as u8;
+        out[v] = ((FUNCTION_CODE + number) % BYTE_LIMIT) as u8;
         return;
     }
     let from = SLOT * number + 2;
@@ -102,9 +100,16 @@ fn put_node(slots: &[u8], n: usize, tag: usize, number: usize, l: usize, out: &m
 }
 
 // A data term written from w on: a loop over what is left of it. Not ok: it has too many nodes.
-pub fn put_term(cells: &[u16], at: usize, slots: &[u8], n: usize, out: &mut [u8], w: usize) -> Put
-    requires { ⌜ (w + term-bytes ≤ length (now out)) × (slot-width * n ≤ length (now slots)) ⌝ }
-    ensures { λ r. ⌜ (w ≤ r .w) × (r .w ≤ w + term-bytes) × (r .nodes ≤ max-nodes) ⌝ }
+pub fn put_term(
+    cells: &[u16],
+    at: usize,
+    slots: &[u8],
+    n: usize,
+    out: &mut [u8],
+    w: usize,
+) -> TermPut
+    requires { ⌜ (w + max-term ≤ length (now out)) × (slot-width * n ≤ length (now slots)) ⌝ }
+    ensures { λ r. ⌜ (w ≤ r .w) × (r .w ≤ w + max-term) × (r .nodes ≤ max-nodes) ⌝ }
     ensures { λ r. ⌜ take w (now (out .exit)) ≡ take w (now (out .entry)) ⌝ }
     ensures { λ r. ⌜ Puts (now (cells .entry)) at (now (slots .entry)) n w (now (out .entry)) r (now (out .exit)) ⌝ }
 {
@@ -114,7 +119,7 @@ pub fn put_term(cells: &[u16], at: usize, slots: &[u8], n: usize, out: &mut [u8]
     let mut v = w;
     while need > 0 {
         if p >= cells.len() {
-            return Put {
+            return TermPut {
                 ok: false,
                 nodes: 0,
                 w: w,
@@ -123,15 +128,15 @@ pub fn put_term(cells: &[u16], at: usize, slots: &[u8], n: usize, out: &mut [u8]
         let d = nodes::data_at(cells, p);
         let s = share_of(slots, n, d.tag, d.number);
         if k + s.nodes + need > MAX_NODES + 1 {
-            return Put {
+            return TermPut {
                 ok: false,
                 nodes: 0,
                 w: w,
             };
         }
         let end = v + s.bytes;
-        if end > w + TERM {
-            return Put {
+        if end > w + MAX_TERM {
+            return TermPut {
                 ok: false,
                 nodes: 0,
                 w: w,
@@ -143,7 +148,7 @@ pub fn put_term(cells: &[u16], at: usize, slots: &[u8], n: usize, out: &mut [u8]
         need = need - 1 + d.kids;
         p = d.next;
     }
-    Put {
+    TermPut {
         ok: true,
         nodes: k,
         w: v,
@@ -160,8 +165,8 @@ pub fn put_terms(
     out: &mut [u8],
     w: usize,
 ) -> Done
-    requires { ⌜ (w + term-bytes * count ≤ length (now out)) × (slot-width * n ≤ length (now slots)) ⌝ }
-    ensures { λ r. ⌜ (w ≤ r .w) × (r .w ≤ w + term-bytes * count) ⌝ }
+    requires { ⌜ (w + max-term * count ≤ length (now out)) × (slot-width * n ≤ length (now slots)) ⌝ }
+    ensures { λ r. ⌜ (w ≤ r .w) × (r .w ≤ w + max-term * count) ⌝ }
     ensures { λ r. ⌜ take w (now (out .exit)) ≡ take w (now (out .entry)) ⌝ }
     ensures { λ r. ⌜ PutsAll (now (cells .entry)) at count (now (slots .entry)) n w (now (out .entry)) r (now (out .exit)) ⌝ }
 {

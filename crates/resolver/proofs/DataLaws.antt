@@ -20,8 +20,8 @@ use Rattle.names.specs.declared.Kinds.{Kinds}
 use Rattle.names.proofs.KeyLaws.{scope-most}
 use Rattle.names.specs.Standing.{symbols}
 use Rattle.names.proofs.Symbols.{name-of-cell}
-use Rattle.resolver.specs.declared.Step.{Step}
-use Rattle.resolver.specs.declared.Run.{Run}
+use Rattle.parser.specs.declared.Step.{Step}
+use Rattle.resolver.specs.declared.DataRun.{DataRun}
 use Rattle.resolver.specs.Writing.{Writes}
 use Rattle.resolver.specs.Resolving.{Outcome, lost, took, data-cells, atom-cells, datas-cells, count-of, _⊕_, ResolvesData, ResolvesAtom, ResolvesDatas}
 use Rattle.resolver.specs.Sorting.{scope-sorts, KnownSorts}
@@ -93,7 +93,7 @@ module _ (s raw names : List ℕ) (kinds : Kinds) (scope : List ℕ) (n at w : �
         let u = unknown (name-at s c) (funcs-in s names kinds) i (kinds .funcs) (funcs-most s names kinds) found h in
         became (sym (apply-unknown N S (scope-at s scope n) (scope-sorts scope n) x ds (cc))) (lost l)
 
-    pub apply-took : (a w₁ w₂ w₃ b : ℕ) (l : Run) (o₁ o₂ o₃ o′ : List ℕ) → i < kinds .funcs → a ≡ 4 * i + 2 → Put o w a w₁ o₁ → Put o₁ w₁ 0 w₂ o₂
+    pub apply-took : (a w₁ w₂ w₃ b : ℕ) (l : DataRun) (o₁ o₂ o₃ o′ : List ℕ) → i < kinds .funcs → a ≡ 4 * i + 2 → Put o w a w₁ o₁ → Put o₁ w₁ 0 w₂ o₂
         → ResolvesDatas s raw names kinds scope n (at + 2) w₂ o₂ l o₃ → (l .count < cell-limit → b ≡ l .count) → Put o₃ w₁ b w₃ o′
         → ResolvesAtom s raw names kinds scope n at w o (record { at = l .at; w = l .w }) o′
     unfolding enc-atom
@@ -167,7 +167,7 @@ module _ (s raw names : List ℕ) (kinds : Kinds) (scope : List ℕ) (n at w : �
         by (going (RawDatas.more d es) g dr q m ws) =
             on es g (data-cells N S σ Γ d) (q ∙ ap (λ x. some g ⊕ x) (datas-more N S σ Γ d es)) m ws (term N S d (raw-datas es ++ rest) f so (next s raw p (tag 5) _ dr .behind ∙ append-assoc (raw-data d) (raw-datas es) rest))
 
-    pub list-lost : (getD raw p 0 ≡ 5 → ⊥) → (getD raw p 0 ≡ 4 → ⊥) → (r : Run) → length raw < r .at → ResolvesDatas s raw names kinds scope n at w o r o₁
+    pub list-lost : (getD raw p 0 ≡ 5 → ⊥) → (getD raw p 0 ≡ 4 → ⊥) → (r : DataRun) → length raw < r .at → ResolvesDatas s raw names kinds scope n at w o r o₁
     unfolding raw-datas
     list-lost k₁ k₂ r z N S ds rest f so e = (by (left N S ds rest f so e), λ y. absurd (omega arith))
       where

@@ -21,8 +21,8 @@ use Rattle.names.specs.NameKinds.{procs-in}
 use Rattle.names.specs.declared.Kinds.{Kinds}
 use Rattle.names.specs.Standing.{symbols}
 use Rattle.names.proofs.Symbols.{name-of-cell}
-use Rattle.resolver.specs.declared.Step.{Step}
-use Rattle.resolver.specs.declared.Resolved.{Resolved}
+use Rattle.parser.specs.declared.Step.{Step}
+use Rattle.resolver.specs.declared.RightSide.{RightSide}
 use Rattle.resolver.specs.Raw.{choice, enc-term, resolve-term, term-depth}
 use Rattle.resolver.specs.Sorting.{scope-sorts, scope-results, Gives, KnownSorts}
 use Rattle.resolver.specs.Writing.{Writes}
@@ -71,7 +71,7 @@ module _ (s raw names : List ℕ) (kinds : Kinds) (scope : List ℕ) (at w : ℕ
           let q : at + 2 ≡ at + 1 + 1 = omega arith in
           ap (λ i. name-at s (getD raw i 0)) q ∙ name-of-cell s (getD raw (at + 1 + 1) 0) (l .name) (pair s raw (at + 1) 15 (name (l .name)) _ d .token-cell)
 
-  pub init-unknown : kinds .procs ≤ k → (r : Resolved) (o′ : List ℕ) → r .ok ≡ false → ResolvesInit s raw names kinds scope at w o r o′
+  pub init-unknown : kinds .procs ≤ k → (r : RightSide) (o′ : List ℕ) → r .ok ≡ false → ResolvesInit s raw names kinds scope at w o r o′
   unfolding resolve-init Answers
   init-unknown h r o′ z N S l rest gi f p e =
       let u = unknown (name-at s c) (procs-in s names kinds) k (kinds .procs) (procs-most s names kinds) found h in

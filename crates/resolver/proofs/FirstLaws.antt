@@ -10,7 +10,7 @@ use Rattle.parser.specs.Cells.{Symbol}
 use Rattle.names.specs.NameCells.{scope-at}
 use Rattle.names.specs.declared.Kinds.{Kinds}
 use Rattle.names.specs.Standing.{symbols}
-use Rattle.resolver.specs.declared.Step.{Step}
+use Rattle.parser.specs.declared.Step.{Step}
 use Rattle.resolver.specs.declared.Fork.{Fork}
 use Rattle.resolver.specs.Raw.{enc-term}
 use Rattle.resolver.specs.Sorting.{scope-sorts}

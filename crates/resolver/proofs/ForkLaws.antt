@@ -16,7 +16,7 @@ use Rattle.nodes.specs.Layout.{enc-datas, after-mark, one-if, delta-kind, atom-
 use Rattle.names.specs.NameCells.{scope-at}
 use Rattle.names.specs.declared.Kinds.{Kinds}
 use Rattle.names.specs.Standing.{symbols}
-use Rattle.resolver.specs.declared.Step.{Step}
+use Rattle.parser.specs.declared.Step.{Step}
 use Rattle.resolver.specs.Raw.{Term, choice, conditional, sequence, part, enc-term, resolve-term, sum-depth, term-depth, tokens-of, kids-of, Skips}
 use Rattle.resolver.specs.Sorting.{scope-sorts}
 use Rattle.resolver.specs.Writing.{Writes}

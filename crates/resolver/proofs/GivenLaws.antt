@@ -14,8 +14,8 @@ use Rattle.nodes.specs.Layout.{cell-limit, enc-datas}
 use Rattle.names.specs.NameCells.{scope-at}
 use Rattle.names.specs.declared.Kinds.{Kinds}
 use Rattle.names.specs.Standing.{symbols}
-use Rattle.resolver.specs.declared.Step.{Step}
-use Rattle.resolver.specs.declared.Run.{Run}
+use Rattle.parser.specs.declared.Step.{Step}
+use Rattle.resolver.specs.declared.DataRun.{DataRun}
 use Rattle.resolver.specs.Sorting.{scope-sorts}
 use Rattle.resolver.specs.Resolving.{Outcome, lost, took, datas-cells, given-cells, count-of, _⊕_, ResolvesDatas, ResolvesGiven}
 use Rattle.resolver.proofs.Writing.{writes-then, writes-cell, writes-instead}
@@ -39,7 +39,7 @@ module _ (s raw names : List ℕ) (kinds : Kinds) (scope : List ℕ) (n at first
     given-bare k N S x (some ds) rest f so e = let q = first-tag s raw at 15 _ e in absurd (omega arith)
 
     -- bracketed data, and their count put where it belongs
-    pub given-took : getD raw at 0 ≡ 15 → (l : Run) (o₄ : List ℕ) (b w₄ : ℕ) (o′ : List ℕ) → ResolvesDatas s raw names kinds scope n (at + 2) w₃ o₃ l o₄ → (l .count < cell-limit → b ≡ l .count) → Put o₄ w₂ b w₄ o′
+    pub given-took : getD raw at 0 ≡ 15 → (l : DataRun) (o₄ : List ℕ) (b w₄ : ℕ) (o′ : List ℕ) → ResolvesDatas s raw names kinds scope n (at + 2) w₃ o₃ l o₄ → (l .count < cell-limit → b ≡ l .count) → Put o₄ w₂ b w₄ o′
         → ResolvesGiven s raw names kinds scope n at first number w o (record { at = l .at; w = l .w }) o′
     unfolding enc-call
     given-took k l o₄ b w₄ o′ list short put₄ N S x none rest f so e = let q = first-tag s raw at 14 _ e in absurd (omega arith)

@@ -16,8 +16,8 @@ use Rattle.names.specs.NameKinds.{acts-in, procs-in}
 use Rattle.names.specs.declared.Kinds.{Kinds}
 use Rattle.names.specs.Standing.{symbols}
 use Rattle.names.proofs.Symbols.{name-of-cell}
-use Rattle.resolver.specs.declared.Step.{Step}
-use Rattle.resolver.specs.declared.Found.{Found}
+use Rattle.parser.specs.declared.Step.{Step}
+use Rattle.resolver.specs.declared.Known.{Known}
 use Rattle.resolver.specs.Raw.{Term, part, enc-term, tokens-of}
 use Rattle.resolver.specs.Sorting.{scope-sorts}
 use Rattle.resolver.specs.Resolving.{Outcome, lost, given-cells, term-cells, Naming, ResolvesGiven, ResolvesNamed}
@@ -26,7 +26,7 @@ use Rattle.resolver.proofs.DataLaws.{became}
 use Rattle.resolver.proofs.ProcessCells.{action-cells, process-cells, unnamed-cells}
 use Rattle.resolver.proofs.Terms.{SingleTag, only-tag, plain-tag, last-tag, group-tag, View, single, plus, cond, then, delta, tau, bare, given, sum, seen}
 
-module _ (after : Bool) (o k : Option ℕ) (r : Found) where
+module _ (after : Bool) (o k : Option ℕ) (r : Known) where
   pub naming-action : (i : ℕ) → o ≡ some i → r .known ≡ true → r .first ≡ after-mark * one-if after + atom-kind → r .number ≡ i + 1 → Naming after o k r
   unfolding Naming
   naming-action i e a b c = subst (λ (x : Option ℕ). Naming after x k r) (sym e) (a, b, c)
@@ -61,7 +61,7 @@ module _ (s raw names : List ℕ) (kinds : Kinds) (scope : List ℕ) (n at : ℕ
   by-name P t k rest (given x ds) q h h′ e f = f x (some ds) (name-of-cell s (getD raw (at + 1) 0) x (pair s raw at 15 (name x) _ e .token-cell)) e
   by-name P t k rest (sum v D p) q h h′ e f = absurd (h′ q)
 
-  module _ (c : ℕ) (ec : c ≡ getD raw (at + 1) 0) (f : Found)
+  module _ (c : ℕ) (ec : c ≡ getD raw (at + 1) 0) (f : Known)
       (naming : Naming after (number-of (name-at s c) (acts-in s names kinds)) (number-of (name-at s c) (procs-in s names kinds)) f) where
     pub part-lost : f .known ≡ false → (r : Step) (o′ : List ℕ) → length raw < r .at → ResolvesNamed s raw names kinds scope n at after w o r o′
     unfolding Naming

@@ -23,7 +23,7 @@ use Rattle.names.specs.declared.Kinds.{Kinds}
 use Rattle.names.specs.Standing.{symbols}
 use Rattle.names.proofs.KindLaws.{kinds-joined}
 use Rattle.names.proofs.Symbols.{name-of-cell}
-use Rattle.resolver.specs.declared.Step.{Step}
+use Rattle.parser.specs.declared.Step.{Step}
 use Rattle.resolver.specs.Writing.{Writes}
 use Rattle.resolver.specs.Sorting.{first-sort, first-result, scope-cells, scope-sorts, scope-results, ScopeKept}
 use Rattle.resolver.specs.Resolving.{lost, took, Declared, binder-cells, sort-found, Binds}

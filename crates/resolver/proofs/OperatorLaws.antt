@@ -22,7 +22,7 @@ use Rattle.names.specs.NameKinds.{funcs-in}
 use Rattle.names.specs.declared.Kinds.{Kinds}
 use Rattle.names.specs.Standing.{symbols}
 use Rattle.names.proofs.KeyLaws.{scope-most}
-use Rattle.resolver.specs.declared.Step.{Step}
+use Rattle.parser.specs.declared.Step.{Step}
 use Rattle.resolver.specs.Raw.{disjuncts, conjuncts}
 use Rattle.resolver.specs.Writing.{Written, Writes}
 use Rattle.resolver.specs.Sorting.{scope-cells, scope-sorts, KnownSorts, cell-sort}

@@ -22,7 +22,7 @@ use Rattle.names.specs.NameCells.{or-count, name-at, scope-at}
 use Rattle.names.specs.NameKinds.{sorts-in}
 use Rattle.names.specs.declared.Kinds.{Kinds}
 use Rattle.names.specs.Standing.{symbols}
-use Rattle.resolver.specs.declared.Step.{Step}
+use Rattle.parser.specs.declared.Step.{Step}
 use Rattle.resolver.specs.Raw.{Term, choice, part, enc-term, sum-depth, term-depth, tokens-of, kids-of}
 use Rattle.resolver.specs.Writing.{Writes}
 use Rattle.resolver.specs.Sorting.{first-sort, scope-cells, scope-sorts, scope-results, Gives, KnownSorts, ScopeKept}

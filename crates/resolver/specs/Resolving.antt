@@ -22,11 +22,11 @@ use Rattle.names.specs.NameCells.{or-count, name-at, scope-at}
 use Rattle.names.specs.NameKinds.{sorts-in, funcs-in, acts-in, procs-in}
 use Rattle.names.specs.declared.Kinds.{Kinds}
 use Rattle.names.specs.Standing.{symbols}
-use Rattle.resolver.specs.declared.Step.{Step}
-use Rattle.resolver.specs.declared.Run.{Run}
-use Rattle.resolver.specs.declared.Found.{Found}
+use Rattle.parser.specs.declared.Step.{Step}
+use Rattle.resolver.specs.declared.DataRun.{DataRun}
+use Rattle.resolver.specs.declared.Known.{Known}
 use Rattle.resolver.specs.declared.Fork.{Fork}
-use Rattle.resolver.specs.declared.Resolved.{Resolved}
+use Rattle.resolver.specs.declared.RightSide.{RightSide}
 use Rattle.resolver.specs.Raw.{Term, enc-term, resolve-term, term-depth, sum-depth, tokens-of, kids-of}
 use Rattle.resolver.specs.Writing.{Writes}
 use Rattle.resolver.specs.Sorting.{first-sort, scope-cells, scope-sorts, scope-results, Gives, KnownSorts, cell-sort}
@@ -142,7 +142,7 @@ ResolvesNegation = Resolves enc-negation negation-cells
 abbrev pub ResolvesAtom : (s raw names : List ℕ) (kinds : Kinds) (scope : List ℕ) (n at w : ℕ) (o : List ℕ) → Step → List ℕ → Type 0
 ResolvesAtom = Resolves enc-atom atom-cells
 
-abbrev pub ResolvesDatas : (s raw names : List ℕ) (kinds : Kinds) (scope : List ℕ) (n at w : ℕ) (o : List ℕ) → Run → List ℕ → Type 0
+abbrev pub ResolvesDatas : (s raw names : List ℕ) (kinds : Kinds) (scope : List ℕ) (n at w : ℕ) (o : List ℕ) → DataRun → List ℕ → Type 0
 ResolvesDatas s raw names kinds scope n at w o r o′ = (N : Names) (S : Sig) (ds : RawDatas) (rest : List Symbol) → N .funcs ≡ funcs-in s names kinds → KnownSorts kinds scope n S
     → drop at (symbols s raw) ≡ raw-datas ds ++ rest
     → Outcome raw (symbols s raw) rest w o (r .at) (r .w) o′ (datas-cells N S (scope-at s scope n) (scope-sorts scope n) ds) × (r .at ≤ length raw → (r .count ≡ count-of ds) × (r .count < cell-limit))
@@ -162,7 +162,7 @@ joins c zero = []
 joins c (suc k) = c ∷ 2 ∷ joins c k
 
 -- an action's number, or else a process's
-unfoldable pub Naming : Bool → Option ℕ → Option ℕ → Found → Type 0
+unfoldable pub Naming : Bool → Option ℕ → Option ℕ → Known → Type 0
 Naming after (some a) k r = (r .known ≡ true) × (r .first ≡ after-mark * one-if after + atom-kind) × (r .number ≡ a + 1)
 Naming after none (some k) r = (r .known ≡ true) × (r .first ≡ call-kind) × (r .number ≡ k)
 Naming after none none r = r .known ≡ false
@@ -231,12 +231,12 @@ module _ (s raw names : List ℕ) (kinds : Kinds) (scope : List ℕ) (n : ℕ) w
 
 -- ---- what the layers above are told
 -- Resolved or not. If so: the place behind the raw term, and the term's cells behind those before w, if there was room.
-unfoldable pub Answers : List Symbol → List Symbol → ℕ → List ℕ → Option Proc → Resolved → List ℕ → Type 0
+unfoldable pub Answers : List Symbol → List Symbol → ℕ → List ℕ → Option Proc → RightSide → List ℕ → Type 0
 Answers symbols rest w o none r o′ = r .ok ≡ false
 Answers symbols rest w o (some p) r o′ = (r .ok ≡ true) × (drop (r .next) symbols ≡ rest) × Writes (enc false p) w o (r .w) o′
 
 -- for every choice that stands at `at`
-abbrev pub ResolvesRight : (s raw names : List ℕ) (kinds : Kinds) (scope : List ℕ) (n at w : ℕ) (o : List ℕ) → Resolved → List ℕ → Type 0
+abbrev pub ResolvesRight : (s raw names : List ℕ) (kinds : Kinds) (scope : List ℕ) (n at w : ℕ) (o : List ℕ) → RightSide → List ℕ → Type 0
 ResolvesRight s raw names kinds scope n at w o r o′ = (N : Names) (S : Sig) (t : Choice) (rest : List Symbol) → Declared s names kinds N → KnownSorts kinds scope n S
     → drop at (symbols s raw) ≡ enc-choice t ++ rest → n + sum-depth t ≤ max-scope → Answers (symbols s raw) rest w o (resolve-choice N S (scope-at s scope n) (scope-sorts scope n) t) r o′
 
@@ -245,6 +245,6 @@ called none = none
 called (some s) = some (call (s .0) (s .1))
 
 -- for every line of init that stands at `at`
-abbrev pub ResolvesInit : (s raw names : List ℕ) (kinds : Kinds) (scope : List ℕ) (at w : ℕ) (o : List ℕ) → Resolved → List ℕ → Type 0
+abbrev pub ResolvesInit : (s raw names : List ℕ) (kinds : Kinds) (scope : List ℕ) (at w : ℕ) (o : List ℕ) → RightSide → List ℕ → Type 0
 ResolvesInit s raw names kinds scope at w o r o′ = (N : Names) (S : Sig) (l : InitLine) (rest : List Symbol) → Gives kinds (scope-results scope) S → N .funcs ≡ funcs-in s names kinds → N .procs ≡ procs-in s names kinds
     → drop at (symbols s raw) ≡ enc-init l ++ rest → Answers (symbols s raw) rest w o (called (resolve-init N S l)) r o′

@@ -8,8 +8,9 @@ ghost use Rattle.nodes.specs.Layout.{cell-limit};
 ghost use Rattle.resolver.specs.Raw.{kids-of, tokens-of, Skips};
 ghost use Rattle.resolver.specs.Writing.{Writes};
 ghost use Rattle.resolver.specs.Resolving.{joins};
-use crate::Step;
-use names::find::cell;
+use elements::peek_cell;
+use elements::wide;
+use elements::wide_cell;
 use parser::cells::put;
 use parser::codes::FIRST_ANDS;
 use parser::codes::FIRST_ORS;
@@ -80,16 +81,6 @@ pub fn put_joins(out: &mut [u16], w: usize, c: u16, many: usize) -> usize
     v
 }
 
-// A name is not as it must be: past the end.
-pub fn lost(raw: &[u16], w: usize) -> Step
-    ensures { λ r. ⌜ length (now (raw .entry)) < r .at ⌝ }
-{
-    Step {
-        at: raw.len() + 1,
-        w: w,
-    }
-}
-
 // The first cell of a node that gets a new equation if it stands after a first part.
 pub fn marked(after: bool, kind: u16) -> u16
     requires { ⌜ kind < 16 ⌝ }
@@ -121,18 +112,6 @@ pub fn kids(k: u16) -> u16
     k - FIRST_ANDS + 1
 }
 
-fn wide(b: u8) -> usize
-    ensures { λ r. ⌜ r ≡ b ⌝ }
-{
-    b as usize
-}
-
-pub fn wide_cell(c: u16) -> usize
-    ensures { λ r. ⌜ r ≡ c ⌝ }
-{
-    c as usize
-}
-
 // The place behind the raw term at `at`.
 pub fn skip(raw: &[u16], at: usize) -> usize
     requires { ⌜ length (now raw) < cell-limit ⌝ }
@@ -145,7 +124,7 @@ pub fn skip(raw: &[u16], at: usize) -> usize
         if p >= raw.len() {
             return p;
         }
-        let k = cell(raw, p);
+        let k = peek_cell(raw, p);
         need = need - 1 + wide_cell(kids(k));
         p = p + 1 + wide(tokens(k));
     }

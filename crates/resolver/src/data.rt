@@ -4,20 +4,20 @@ ghost use lib.ListN.{length};
 ghost use Rattle.names.specs.NameKeys.{Keyed};
 ghost use Rattle.names.specs.NameKinds.{total-of};
 ghost use Rattle.resolver.specs.Resolving.{Ahead, Few, ResolvesData, ResolvesConjunction, ResolvesComparison, ResolvesNegation, ResolvesAtom, ResolvesDatas, ResolvesGiven};
-use crate::Run;
-use crate::Step;
-use crate::cells::lost;
+use crate::DataRun;
 use crate::cells::put_joins;
-use crate::cells::wide_cell;
 use crate::operators::equal_cell;
+use elements::peek_cell;
+use elements::short;
+use elements::wide_cell;
 use lexer::FIRST_NAME;
 use lexer::FIRST_NUMERAL;
 use names::Kinds;
-use names::find::cell;
 use names::find::scope_number;
 use names::keys::func_in;
+use parser::Step;
+use parser::cells::lost;
 use parser::cells::put;
-use parser::cells::short;
 use parser::codes::ALONE_TAG;
 use parser::codes::APPLY_TAG;
 use parser::codes::BARE_TAG;
@@ -56,7 +56,7 @@ pub fn data_term(
     ensures ahead { λ r. ⌜ Ahead (length (now (raw .entry))) at (r .at) ⌝ }
     ensures data { λ r. ⌜ ResolvesData (now (s .entry)) (now (raw .entry)) (now (names .entry)) kinds (now (scope .entry)) n at w (now (out .entry)) r (now (out .exit)) ⌝ }
 {
-    let k = cell(raw, at);
+    let k = peek_cell(raw, at);
     if k < FIRST_ORS {
         return lost(raw, w);
     }
@@ -93,7 +93,7 @@ fn conjunction(
     ensures ahead { λ r. ⌜ Ahead (length (now (raw .entry))) at (r .at) ⌝ }
     ensures data { λ r. ⌜ ResolvesConjunction (now (s .entry)) (now (raw .entry)) (now (names .entry)) kinds (now (scope .entry)) n at w (now (out .entry)) r (now (out .exit)) ⌝ }
 {
-    let k = cell(raw, at);
+    let k = peek_cell(raw, at);
     if k < FIRST_ANDS {
         return lost(raw, w);
     }
@@ -127,7 +127,7 @@ fn comparison(
     ensures ahead { λ r. ⌜ Ahead (length (now (raw .entry))) at (r .at) ⌝ }
     ensures data { λ r. ⌜ ResolvesComparison (now (s .entry)) (now (raw .entry)) (now (names .entry)) kinds (now (scope .entry)) n at w (now (out .entry)) r (now (out .exit)) ⌝ }
 {
-    let k = cell(raw, at);
+    let k = peek_cell(raw, at);
     if k == ALONE_TAG {
         return negation(s, raw, names, keys, kinds, scope, n, at + 1, out, w);
     }
@@ -138,8 +138,8 @@ fn comparison(
     let v = put(out, c, 2);
     let a = negation(s, raw, names, keys, kinds, scope, n, at + 1, out, v);
     let b = negation(s, raw, names, keys, kinds, scope, n, a.at, out, a.w);
-    let x = cell(out, v);
-    let y = cell(out, a.w);
+    let x = peek_cell(out, v);
+    let y = peek_cell(out, a.w);
     put(out, w, equal_cell(scope, x, y));
     Step { at: b.at, w: b.w }
 }
@@ -163,7 +163,7 @@ fn negation(
 {
     let mut p = at;
     let mut v = w;
-    while cell(raw, p) == NOT_TAG {
+    while peek_cell(raw, p) == NOT_TAG {
         let a = put(out, v, NOT_CELL);
         v = put(out, a, 1);
         p += 1;
@@ -188,12 +188,12 @@ fn atom(
     ensures ahead { λ r. ⌜ Ahead (length (now (raw .entry))) at (r .at) ⌝ }
     ensures data { λ r. ⌜ ResolvesAtom (now (s .entry)) (now (raw .entry)) (now (names .entry)) kinds (now (scope .entry)) n at w (now (out .entry)) r (now (out .exit)) ⌝ }
 {
-    let k = cell(raw, at);
+    let k = peek_cell(raw, at);
     if k == NEST_TAG {
         return data_term(s, raw, names, keys, kinds, scope, n, at + 1, out, w);
     }
     if k == VALUE_TAG {
-        let c = cell(raw, at + 1);
+        let c = peek_cell(raw, at + 1);
         if c < FIRST_NUMERAL {
             return lost(raw, w);
         }
@@ -206,7 +206,7 @@ fn atom(
         };
     }
     if k == VARIABLE_TAG {
-        let i = scope_number(s, scope, n, cell(raw, at + 1));
+        let i = scope_number(s, scope, n, peek_cell(raw, at + 1));
         if i >= n {
             return lost(raw, w);
         }
@@ -218,7 +218,7 @@ fn atom(
     if k != APPLY_TAG {
         return lost(raw, w);
     }
-    let f = func_in(s, names, keys, kinds, cell(raw, at + 1));
+    let f = func_in(s, names, keys, kinds, peek_cell(raw, at + 1));
     if f >= kinds.funcs {
         return lost(raw, w);
     }
@@ -240,7 +240,7 @@ pub fn data_list(
     at: usize,
     out: &mut [u16],
     w: usize,
-) -> Run
+) -> DataRun
     requires { ⌜ Few (now raw) kinds (now scope) n × Keyed (now s) (now names) (now keys) (total-of kinds) ⌝ }
     ensures ahead { λ r. ⌜ Ahead (length (now (raw .entry))) at (r .at) ⌝ }
     ensures data { λ r. ⌜ ResolvesDatas (now (s .entry)) (now (raw .entry)) (now (names .entry)) kinds (now (scope .entry)) n at w (now (out .entry)) r (now (out .exit)) ⌝ }
@@ -248,22 +248,22 @@ pub fn data_list(
     let mut p = at;
     let mut v = w;
     let mut count: usize = 0;
-    while cell(raw, p) == MORE_TAG {
+    while peek_cell(raw, p) == MORE_TAG {
         let a = data_term(s, raw, names, keys, kinds, scope, n, p + 1, out, v);
         p = a.at;
         v = a.w;
         count += 1;
     }
-    if cell(raw, p) != ONE_TAG {
+    if peek_cell(raw, p) != ONE_TAG {
         let l = lost(raw, v);
-        return Run {
+        return DataRun {
             at: l.at,
             w: v,
             count: count,
         };
     }
     let a = data_term(s, raw, names, keys, kinds, scope, n, p + 1, out, v);
-    Run {
+    DataRun {
         at: a.at,
         w: a.w,
         count: count + 1,
@@ -289,7 +289,7 @@ pub fn given(
     ensures ahead { λ r. ⌜ Ahead (length (now (raw .entry))) at (r .at) ⌝ }
     ensures data { λ r. ⌜ ResolvesGiven (now (s .entry)) (now (raw .entry)) (now (names .entry)) kinds (now (scope .entry)) n at first number w (now (out .entry)) r (now (out .exit)) ⌝ }
 {
-    let k = cell(raw, at);
+    let k = peek_cell(raw, at);
     let a = put(out, w, first);
     let b = put(out, a, number);
     let v = put(out, b, 0);

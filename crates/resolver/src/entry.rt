@@ -5,15 +5,14 @@ ghost use Rattle.names.specs.NameKeys.{Keyed};
 ghost use Rattle.names.specs.NameKinds.{total-of};
 ghost use Rattle.resolver.specs.Sorting.{ScopeKept};
 ghost use Rattle.resolver.specs.Resolving.{Few, ResolvesRight, ResolvesInit};
-use crate::Resolved;
+use crate::RightSide;
 use crate::data::given;
+use crate::process::CALL;
 use crate::process::term;
+use elements::peek_cell;
+use elements::short;
 use names::Kinds;
-use names::find::cell;
 use names::keys::proc_in;
-use parser::cells::short;
-
-const CALL: u16 = nodes::CALL as u16;
 
 // The right side of a process at `at`, with n names in scope.
 pub fn right_side(
@@ -27,13 +26,13 @@ pub fn right_side(
     at: usize,
     out: &mut [u16],
     w: usize,
-) -> Resolved
+) -> RightSide
     requires { ⌜ Few (now raw) kinds (now scope) n × Keyed (now s) (now names) (now keys) (total-of kinds) ⌝ }
     ensures kept { λ r. ⌜ ScopeKept n (now (scope .entry)) (now (scope .exit)) ⌝ }
     ensures resolves { λ r. ⌜ ResolvesRight (now (s .entry)) (now (raw .entry)) (now (names .entry)) kinds (now (scope .entry)) n at w (now (out .entry)) r (now (out .exit)) ⌝ }
 {
     let a = term(s, raw, names, keys, kinds, scope, n, at, false, out, w);
-    Resolved {
+    RightSide {
         ok: a.at <= raw.len(),
         next: a.at,
         w: a.w,
@@ -51,13 +50,13 @@ pub fn init(
     at: usize,
     out: &mut [u16],
     w: usize,
-) -> Resolved
+) -> RightSide
     requires { ⌜ Few (now raw) kinds (now scope) 0 × (at < length (now raw)) × Keyed (now s) (now names) (now keys) (total-of kinds) ⌝ }
     ensures { λ r. ⌜ ResolvesInit (now (s .entry)) (now (raw .entry)) (now (names .entry)) kinds (now (scope .entry)) at w (now (out .entry)) r (now (out .exit)) ⌝ }
 {
-    let k = proc_in(s, names, keys, kinds, cell(raw, at + 2));
+    let k = proc_in(s, names, keys, kinds, peek_cell(raw, at + 2));
     if k >= kinds.procs {
-        return Resolved {
+        return RightSide {
             ok: false,
             next: at,
             w: w,
@@ -77,7 +76,7 @@ pub fn init(
         out,
         w,
     );
-    Resolved {
+    RightSide {
         ok: a.at <= raw.len(),
         next: a.at,
         w: a.w,

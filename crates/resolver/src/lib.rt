@@ -5,28 +5,26 @@ pub mod data; // data terms
 pub mod process; // process terms
 pub mod entry; // a right side, init
 
-// The lent scope has 80 cells: those of the names in scope, then the sorts of these variables, then the sorts that the functions give.
-pub const FIRST_SORT: usize = 32;
+use limits::MAX_FUNCTIONS;
+use nodes::MAX_SCOPE;
 
-pub const FIRST_RESULT: usize = 64;
+// The cells of the lent scope: those of the names in scope, then the sorts of these variables, then the sorts that the functions give.
+pub const FIRST_SORT: usize = MAX_SCOPE;
 
-pub const SCOPE_CELLS: usize = 80;
+pub const FIRST_RESULT: usize = FIRST_SORT + MAX_SCOPE;
 
-// A place among the cells of the raw tree and the next free cell. A place past the end: some name is not as it must be.
-pub struct Step {
-    pub at: usize,
-    pub w: usize,
-}
+pub const SCOPE_CELLS: usize = FIRST_RESULT + MAX_FUNCTIONS;
 
-// The same, and how many data terms there were.
-pub struct Run {
+// A place among the cells of the raw tree, the next free cell, and how many data terms there were. A place past the end, as in a Step:
+// some name is not as it must be.
+pub struct DataRun {
     pub at: usize,
     pub w: usize,
     pub count: usize,
 }
 
 // The first cell and the number of a node for a name, if the name is known.
-pub struct Found {
+pub struct Known {
     pub known: bool,
     pub first: u16,
     pub number: u16,
@@ -40,7 +38,7 @@ pub struct Fork {
 }
 
 // Whether all names were as they must be, the place behind the term, and the next free cell.
-pub struct Resolved {
+pub struct RightSide {
     pub ok: bool,
     pub next: usize,
     pub w: usize,

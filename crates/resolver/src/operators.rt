@@ -6,15 +6,15 @@ ghost use Rattle.resolver.specs.Sorting.{cell-sort, one-more};
 ghost use Rattle.resolver.specs.Resolving.{EqualCell};
 use crate::FIRST_RESULT;
 use crate::FIRST_SORT;
-use crate::cells::wide_cell;
-use names::find::cell;
+use elements::peek_cell;
+use elements::short;
+use elements::wide_cell;
+use limits::MAX_FUNCTIONS;
 use nodes::EQUAL;
 use nodes::FUNCTION;
-use nodes::MAX_FUNCTIONS;
 use nodes::UNSORTED;
 use nodes::VALUE;
 use nodes::VARIABLE;
-use parser::cells::short;
 
 // `==` over two numerals is a function that is not there.
 const UNSORTED_CELL: u16 = (4 * UNSORTED + FUNCTION) as u16;
@@ -29,10 +29,10 @@ fn own_sort(scope: &[u16], c: u16) -> usize
         return 0;
     }
     if k == VARIABLE {
-        return wide_cell(cell(scope, FIRST_SORT + i)) + 1;
+        return wide_cell(peek_cell(scope, FIRST_SORT + i)) + 1;
     }
     if i < MAX_FUNCTIONS {
-        return wide_cell(cell(scope, FIRST_RESULT + i)) + 1;
+        return wide_cell(peek_cell(scope, FIRST_RESULT + i)) + 1;
     }
     1
 }

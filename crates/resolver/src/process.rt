@@ -11,26 +11,26 @@ ghost use Rattle.resolver.specs.Sorting.{ScopeKept};
 ghost use Rattle.resolver.specs.Resolving.{Ahead, Few, Naming, InScope, Binds, ResolvesConstant, ResolvesNamed, Forks, ResolvesFirst, ResolvesTerm};
 use crate::FIRST_SORT;
 use crate::Fork;
-use crate::Found;
-use crate::Step;
+use crate::Known;
 use crate::cells::kids;
-use crate::cells::lost;
 use crate::cells::marked;
 use crate::cells::node;
 use crate::cells::skip;
 use crate::cells::tokens;
 use crate::data::data_term;
 use crate::data::given;
+use elements::peek_cell;
+use elements::short;
 use names::Kinds;
-use names::find::cell;
 use names::fresh::new_variable;
 use names::keys::act_in;
 use names::keys::proc_in;
 use names::keys::sort_in;
 use names::keys::total;
 use nodes::MAX_SCOPE;
+use parser::Step;
+use parser::cells::lost;
 use parser::cells::put;
-use parser::cells::short;
 use parser::codes::DELTA_TAG;
 use parser::codes::PLUS_TAG;
 use parser::codes::SUM_TAG;
@@ -47,18 +47,18 @@ const ATOM: u16 = nodes::ATOM as u16;
 
 const COND: u16 = nodes::COND as u16;
 
-const CALL: u16 = nodes::CALL as u16;
+pub const CALL: u16 = nodes::CALL as u16;
 
 const SEQ: u16 = nodes::SEQ as u16;
 
 // "As a part a name is an action or a process."
-fn named(s: &[u8], names: &[u16], keys: &[u8], kinds: Kinds, x: u16, after: bool) -> Found
+fn named(s: &[u8], names: &[u16], keys: &[u8], kinds: Kinds, x: u16, after: bool) -> Known
     requires { ⌜ (kinds .acts ≤ max-actions) × (kinds .procs ≤ max-processes) × Keyed (now s) (now names) (now keys) (total-of kinds) ⌝ }
     ensures { λ r. ⌜ Naming after (number-of (name-at (now (s .entry)) x) (acts-in (now (s .entry)) (now (names .entry)) kinds)) (number-of (name-at (now (s .entry)) x) (procs-in (now (s .entry)) (now (names .entry)) kinds)) r ⌝ }
 {
     let a = act_in(s, names, keys, kinds, x);
     if a < kinds.acts {
-        return Found {
+        return Known {
             known: true,
             first: marked(after, ATOM),
             number: short(a + 1),
@@ -66,13 +66,13 @@ fn named(s: &[u8], names: &[u16], keys: &[u8], kinds: Kinds, x: u16, after: bool
     }
     let k = proc_in(s, names, keys, kinds, x);
     if k < kinds.procs {
-        return Found {
+        return Known {
             known: true,
             first: CALL,
             number: short(k),
         };
     }
-    Found {
+    Known {
         known: false,
         first: 0,
         number: 0,
@@ -99,11 +99,11 @@ fn binder(
     ensures bound { λ r. ⌜ InScope (now (s .entry)) (now (raw .entry)) (now (names .entry)) kinds (now (scope .entry)) n at r (now (scope .exit)) ⌝ }
     ensures binds { λ r. ⌜ Binds (now (s .entry)) (now (raw .entry)) (now (names .entry)) kinds (now (scope .entry)) n at after w (now (out .entry)) r (now (out .exit)) ⌝ }
 {
-    let x = cell(raw, at + 1);
+    let x = peek_cell(raw, at + 1);
     if !new_variable(s, names, keys, total(kinds), scope, n, x) {
         return lost(raw, w);
     }
-    let d = sort_in(s, names, keys, kinds, cell(raw, at + 2));
+    let d = sort_in(s, names, keys, kinds, peek_cell(raw, at + 2));
     if d > kinds.sorts {
         return lost(raw, w);
     }
@@ -125,7 +125,7 @@ fn constant(raw: &[u16], at: usize, after: bool, out: &mut [u16], w: usize) -> S
     ensures ahead { λ r. ⌜ Ahead (length (now (raw .entry))) at (r .at) ⌝ }
     ensures resolves { λ r. ⌜ ResolvesConstant (now (raw .entry)) at after w (now (out .entry)) r (now (out .exit)) ⌝ }
 {
-    let k = cell(raw, at);
+    let k = peek_cell(raw, at);
     if k == DELTA_TAG {
         return Step {
             at: at + 1,
@@ -158,7 +158,7 @@ fn fork(
     requires { ⌜ Few (now raw) kinds (now scope) n × (at < length (now raw)) × Keyed (now s) (now names) (now keys) (total-of kinds) ⌝ }
     ensures { λ r. ⌜ Forks (now (s .entry)) (now (raw .entry)) (now (names .entry)) kinds (now (scope .entry)) n at after w (now (out .entry)) r (now (out .exit)) ⌝ }
 {
-    let k = cell(raw, at);
+    let k = peek_cell(raw, at);
     if k == THEN_TAG {
         return Fork {
             at: at,
@@ -211,7 +211,7 @@ fn named_part(
     ensures ahead { λ r. ⌜ Ahead (length (now (raw .entry))) at (r .at) ⌝ }
     ensures resolves { λ r. ⌜ ResolvesNamed (now (s .entry)) (now (raw .entry)) (now (names .entry)) kinds (now (scope .entry)) n at after w (now (out .entry)) r (now (out .exit)) ⌝ }
 {
-    let f = named(s, names, keys, kinds, cell(raw, at + 1), after);
+    let f = named(s, names, keys, kinds, peek_cell(raw, at + 1), after);
     if !f.known {
         return lost(raw, w);
     }
@@ -295,7 +295,7 @@ pub fn term(
     let mut r = after;
     let mut v = w;
     while p < raw.len() {
-        let k = cell(raw, p);
+        let k = peek_cell(raw, p);
         if k == SUM_TAG {
             let b = binder(s, raw, names, keys, kinds, scope, m, p, r, out, v);
             p = b.at;

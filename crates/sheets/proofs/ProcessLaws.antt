@@ -24,7 +24,7 @@ use Rattle.names.specs.Rows.{Answers, sorts-at, ParamRow, ParamsRead}
 use Rattle.names.proofs.KindLaws.{kinds-joined}
 use Rattle.names.proofs.Items.{behind}
 use Rattle.names.proofs.Kept.{answered-no, answered-yes}
-use Rattle.resolver.specs.declared.Resolved.{Resolved as Side}
+use Rattle.resolver.specs.declared.RightSide.{RightSide}
 use Rattle.resolver.specs.Raw.{sum-depth}
 use Rattle.resolver.specs.Resolving.{Declared, ResolvesRight}
 use Rattle.resolver.specs.Resolving.{Answers as SideAnswers}
@@ -72,11 +72,11 @@ module _ (s raw sorts names : List ℕ) (kinds : Kinds) (n : ℕ) (total : n ≡
   row-of N l rest d ns e few = read N (l .params) (enc-choice (l .right) ++ rest) ns (all-declared N d ∙ ap (λ (m : ℕ). bytes "Bool" ∷ scope-at s names m) (sym total)) (params-at l rest e) few
 
   -- a parameter is not as it must be
-  pub params-lost : (funcs : List ℕ) (w : ℕ) (o : List ℕ) (r : Side) (o′ : List ℕ) → a .ok ≡ false → r .ok ≡ false → ProcessRead s raw sorts names kinds funcs at rows p w o r o′
+  pub params-lost : (funcs : List ℕ) (w : ℕ) (o : List ℕ) (r : RightSide) (o′ : List ℕ) → a .ok ≡ false → r .ok ≡ false → ProcessRead s raw sorts names kinds funcs at rows p w o r o′
   params-lost funcs w o r o′ lost z N S l rest d gives ns e few deep =
       rw (params-missing N S l (answered-no (Row (enc-choice (l .right) ++ rest)) (resolve-params N [] (l .params)) (a .ok) (row-of N l rest d ns e few) lost)) z
 
-  module _ (w : ℕ) (o : List ℕ) (r : Side) (o′ : List ℕ) where
+  module _ (w : ℕ) (o : List ℕ) (r : RightSide) (o′ : List ℕ) where
     -- the answer of the right side is that of the process
     right-answered : (N : Names) (S : Sig) (l : ProcLine) (rest rest′ : List Symbol) (x : List Name × List ℕ) → Row rest′ x → length (x .1) ≤ frame-width → sum-depth (l .right) ≤ max-open
         → resolve-params N [] (l .params) ≡ some x → SideAnswers (symbols s raw) rest w o (resolve-choice N S (x .0) (x .1) (l .right)) r o′

@@ -23,7 +23,7 @@ use Rattle.names.specs.Standing.{At, LinesAt}
 use Rattle.names.specs.Rows.{Kept, sorts-at}
 use Rattle.names.proofs.Kept.{sorts-kept, answered-no, answered-yes, each-next, every-at}
 use Rattle.names.proofs.Filled.{Gone, gone-none, gone-stops, gone-goes, gone-ends}
-use Rattle.resolver.specs.declared.Resolved.{Resolved as Side}
+use Rattle.resolver.specs.declared.RightSide.{RightSide}
 use Rattle.resolver.specs.Raw.{sum-depth}
 use Rattle.resolver.specs.Resolving.{Declared}
 use Rattle.sheets.specs.declared.ProcRows.{ProcRows}
@@ -79,7 +79,7 @@ module _ (s raw sorts procs names : List ℕ) (kinds : Kinds) (funcs : List ℕ)
       (λ bs m x. record { each = λ j i. x j (omega arith); size = omega arith })
 
   -- the line at k, of which a process was read or not
-  module _ (rows rows′ out out′ starts : List ℕ) (w k at : ℕ) (r : Side) (h : k < length procs) (same : length out′ ≡ length out) (place : at ≡ getD procs k 0) (g : ProcsGone rows out starts w k)
+  module _ (rows rows′ out out′ starts : List ℕ) (w k at : ℕ) (r : RightSide) (h : k < length procs) (same : length out′ ≡ length out) (place : at ≡ getD procs k 0) (g : ProcsGone rows out starts w k)
       (a : ProcessRead s raw sorts names kinds funcs at rows′ (5 * k) w out r out′) where
     pub procs-stop : (R : ProcRows) → r .ok ≡ false → R .ok ≡ false → ProcessesRead s raw sorts procs names kinds funcs R out′
     procs-stop R lost z N S ls d gi ns l f t b =

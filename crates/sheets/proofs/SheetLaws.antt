@@ -34,10 +34,10 @@ use Rattle.names.proofs.NamesOf.{sorts-are, funcs-are, acts-are, procs-are, dec
 use Rattle.resolver.specs.Writing.{Writes}
 use Rattle.resolver.specs.Resolving.{Declared, FewKinds, ResolvesInit, called, Answers as Resolves-to}
 use Rattle.resolver.specs.InScope.{init-scoped}
-use Rattle.resolver.specs.declared.Resolved.{Resolved as Side}
+use Rattle.resolver.specs.declared.RightSide.{RightSide}
 use Rattle.sheets.specs.declared.SigRows.{SigRows}
 use Rattle.sheets.specs.declared.ProcRows.{ProcRows}
-use Rattle.sheets.specs.declared.Rows.{Rows}
+use Rattle.sheets.specs.declared.SheetRows.{SheetRows}
 use Rattle.sheets.specs.ScopePuts.{ResultsPut, GivesRows}
 use Rattle.sheets.specs.Resolving.{FewLines, LinesStand, HoldsSignature, SignatureRead, resolve-signature, ProcessesHeld, ProcessesRead, arrays, Named, LinesResolve}
 use Rattle.sheets.proofs.Asked.{answers-then, answers-last, answers-test}
@@ -59,14 +59,14 @@ signature-then {B} R k = go (for-each (resolve-func (names-of R)) (R .funcs)) (f
     go (some fs) (some as′) = refl
 
 -- what was written of init
-init-answers : (m rest : List Symbol) (w : ℕ) (o : List ℕ) (i : Option (ℕ × List Data)) (r : Side) (o′ : List ℕ) → Resolves-to m rest w o (called i) r o′
+init-answers : (m rest : List Symbol) (w : ℕ) (o : List ℕ) (i : Option (ℕ × List Data)) (r : RightSide) (o′ : List ℕ) → Resolves-to m rest w o (called i) r o′
     → Answers (λ (x : ℕ × List Data). Writes (enc false (call (x .0) (x .1))) w o (r .w) o′) i (r .ok)
 unfolding Resolves-to
 init-answers m rest w o none r o′ h = h
 init-answers m rest w o (some x) r o′ h = (h .0, h .2)
 
 -- the rows of the whole sheet
-abbrev pub rows-of : (sorts funcs acts procs names : List ℕ) → SigRows → ProcRows → Rows
+abbrev pub rows-of : (sorts funcs acts procs names : List ℕ) → SigRows → ProcRows → SheetRows
 rows-of sorts funcs acts procs names a b = record {
   sizes = a .sizes;
   funcs = a .funcs;
@@ -212,11 +212,11 @@ pub kinds-few : (raw sorts funcs acts procs : List ℕ) → FewLines raw sorts f
 kinds-few raw sorts funcs acts procs few = record { sorts-few = omega (arith, few .sorts-few); funcs-few = few .funcs-few; acts-few = few .acts-few; procs-few = few .procs-few }
 
 -- they hold a sheet
-abbrev Holds : List ℕ → Rows → (values cells : List ℕ) → Sheet → Type 0
+abbrev Holds : List ℕ → SheetRows → (values cells : List ℕ) → Sheet → Type 0
 Holds s rows values cells H = Held H (arrays rows values cells) (rows .outline) × Named s rows H
 
 -- THE WHOLE SHEET
-pub lines-resolve : (s raw sorts funcs acts procs : List ℕ) (at : ℕ) (values o o′ names : List ℕ) (n : ℕ) (fresh : Bool) (a : SigRows) (b : ProcRows) (c : Side) (ok : Bool)
+pub lines-resolve : (s raw sorts funcs acts procs : List ℕ) (at : ℕ) (values o o′ names : List ℕ) (n : ℕ) (fresh : Bool) (a : SigRows) (b : ProcRows) (c : RightSide) (ok : Bool)
     → FewLines raw sorts funcs acts procs → length o′ ≡ length o → n ≡ total-of (kinds-of sorts funcs acts procs)
     → scope-at s names n ≡ names-at s raw sorts (length sorts) ++ (names-at s raw funcs (length funcs) ++ (names-at s raw acts (length acts) ++ names-at s raw procs (length procs)))
     → fresh ≡ distinct (bytes "Bool" ∷ scope-at s names n) → SignatureRead s raw sorts funcs acts values a → ProcessesRead s raw sorts procs names (kinds-of sorts funcs acts procs) (a .funcs) b o
@@ -224,7 +224,7 @@ pub lines-resolve : (s raw sorts funcs acts procs : List ℕ) (at : ℕ) (values
     → LinesResolve s raw sorts funcs acts procs at values o′ (record { ok = ok; rows = rows-of sorts funcs acts procs names a b })
 unfolding resolve resolve-terms symbols Counted arrays
 lines-resolve s raw sorts funcs acts procs at values o o′ names n fresh a b c ok few same total scoped new sig procs-read empty scope results init-read e R stand init-at m counted bounded values-room cells-room =
-    let rows : Rows = rows-of sorts funcs acts procs names a b in
+    let rows : SheetRows = rows-of sorts funcs acts procs names a b in
     let D = lines-declare s raw sorts funcs acts procs R stand names n total scoped in
     let known : declared (names-of R) ≡ bytes "Bool" ∷ scope-at s names n = declared-are s raw R sorts funcs acts procs (stand .sorts-at) (stand .funcs-at) (stand .acts-at) (stand .procs-at) names n scoped in
     let both = bounded .processes-few in

@@ -11,7 +11,7 @@ use Rattle.pcrl.specs.Sorts.{rightly-sorted?}
 use Rattle.pcrl.specs.Circles.{guarded}
 use Rattle.nodes.specs.Layout.{cell-limit}
 use Rattle.nodes.specs.Held.{Held}
-use Rattle.sheets.specs.declared.Rows.{Rows}
+use Rattle.sheets.specs.declared.SheetRows.{SheetRows}
 use Rattle.sheets.specs.declared.Answer.{Answer}
 use Rattle.sheets.specs.Resolving.{arrays, Named}
 
@@ -28,7 +28,7 @@ pub record Room (sheet raw values cells : List ℕ) : Type 0 where
 unfoldable pub judged : Sheet → Result Sheet
 judged H = question 8 (rightly-sorted? H) (λ _. question 9 (T? (guarded H)) (λ _. accepted H))
 
-abbrev pub Judges : Rows → (values cells : List ℕ) → ℕ → Type 0
+abbrev pub Judges : SheetRows → (values cells : List ℕ) → ℕ → Type 0
 Judges rows values cells r = (H : Sheet) → Held H (arrays rows values cells) (rows .outline) → r ≡ refusal (judged H)
 
 -- s: the sheet's bytes

@@ -28,11 +28,11 @@ use Rattle.names.specs.Rows.{Answers, InRows, sorts-at}
 use Rattle.resolver.specs.Raw.{sum-depth}
 use Rattle.resolver.specs.Writing.{Writes}
 use Rattle.resolver.specs.Resolving.{Declared, FewKinds}
-use Rattle.resolver.specs.declared.Resolved.{Resolved as Side}
+use Rattle.resolver.specs.declared.RightSide.{RightSide}
 use Rattle.sheets.specs.declared.SigRows.{SigRows}
 use Rattle.sheets.specs.declared.ProcRows.{ProcRows}
-use Rattle.sheets.specs.declared.Rows.{Rows}
-use Rattle.sheets.specs.declared.Resolved.{Resolved}
+use Rattle.sheets.specs.declared.SheetRows.{SheetRows}
+use Rattle.sheets.specs.declared.ResolvedRows.{ResolvedRows}
 use Rattle.sheets.specs.Bounded.{Bounded}
 use Rattle.sheets.specs.ScopePuts.{GivesRows}
 
@@ -86,7 +86,7 @@ pub record ProcessRow (m : ℕ) (q : Process) (rows : List ℕ) (p : ℕ) (w : �
   pub size : length (enc false (q .right)) ≤ most
 
 -- for every process line that stands at `at`
-abbrev pub ProcessRead : (s raw sorts names : List ℕ) (kinds : Kinds) (funcs : List ℕ) (at : ℕ) (rows : List ℕ) (p w : ℕ) (o : List ℕ) → Side → List ℕ → Type 0
+abbrev pub ProcessRead : (s raw sorts names : List ℕ) (kinds : Kinds) (funcs : List ℕ) (at : ℕ) (rows : List ℕ) (p w : ℕ) (o : List ℕ) → RightSide → List ℕ → Type 0
 ProcessRead s raw sorts names kinds funcs at rows p w o r o′ =
     (N : Names) (S : Sig) (l : ProcLine) (rest : List Symbol) → Declared s names kinds N → GivesRows kinds funcs S → N .sorts ≡ sorts-at s raw sorts
     → drop at (symbols s raw) ≡ enc-proc l ++ rest → length (l .params) ≤ frame-width → sum-depth (l .right) ≤ max-open
@@ -105,7 +105,7 @@ ProcessesRead s raw sorts procs names kinds funcs r o′ =
 
 -- ---- the whole sheet
 -- the arrays of a sheet that was read
-unfoldable pub arrays : Rows → List ℕ → List ℕ → Arrays
+unfoldable pub arrays : SheetRows → List ℕ → List ℕ → Arrays
 arrays r values cells = record {
   sizes = r .sizes;
   funcs = r .funcs;
@@ -118,19 +118,19 @@ arrays r values cells = record {
 }
 
 -- the place among the declared names of those of the actions
-abbrev pub first-action : Rows → ℕ
+abbrev pub first-action : SheetRows → ℕ
 first-action r = r .outline .sorts - 1 + r .outline .funcs
 
 -- the actions have the names of their cells, where s are the sheet's bytes
-abbrev pub Named : List ℕ → Rows → Sheet → Type 0
+abbrev pub Named : List ℕ → SheetRows → Sheet → Type 0
 Named s r H = (i : ℕ) → i < length (H .sig .acts) → name-at s (getD (r .names) (first-action r + i) 0) ≡ getD (H .sig .acts) i no-action .name
 
 -- n tokens: room for their values and for the cells of their terms
-abbrev pub Resolves : (s : List ℕ) → RawSheet → (values o : List ℕ) → Resolved → Type 0
+abbrev pub Resolves : (s : List ℕ) → RawSheet → (values o : List ℕ) → ResolvedRows → Type 0
 Resolves s R values o r =
     (n : ℕ) → Counted R → Bounded R n → n ≤ length values → 3 * n ≤ length o → Answers (λ H. Held H (arrays (r .rows) values o) (r .rows .outline) × Named s (r .rows) H) (resolve R) (r .ok)
 
-abbrev pub LinesResolve : (s raw sorts funcs acts procs : List ℕ) (at : ℕ) (values o : List ℕ) → Resolved → Type 0
+abbrev pub LinesResolve : (s raw sorts funcs acts procs : List ℕ) (at : ℕ) (values o : List ℕ) → ResolvedRows → Type 0
 LinesResolve s raw sorts funcs acts procs at values o r =
     (R : RawSheet) → LinesStand s raw sorts funcs acts procs R → At s raw (enc-init (R .start)) at → Resolves s R values o r
 
@@ -143,5 +143,5 @@ pub record FewFound (L : Lines) (raw : List ℕ) : Type 0 where
   pub procs-few : L .«proc_count» ≤ max-processes
   pub init-inside : L .init < length raw
 
-abbrev pub FoundResolve : (s raw : List ℕ) → Lines → (values o : List ℕ) → Resolved → Type 0
+abbrev pub FoundResolve : (s raw : List ℕ) → Lines → (values o : List ℕ) → ResolvedRows → Type 0
 FoundResolve s raw L values o r = (R : RawSheet) → Standing s raw L R → At s raw (enc-init (R .start)) (L .init) → Resolves s R values o r

@@ -5,57 +5,64 @@ pub mod processes; // question 7 on right sides
 pub mod resolve; // question 7 on the whole sheet
 pub mod read; // the questions in their order
 
-ghost use mathlib.Core.Path.{_≡_};
-ghost use Rattle.pcrl.specs.Tests.{and};
+use limits::MAX_ACTIONS;
+use limits::MAX_FUNCTIONS;
+use limits::MAX_PROCESSES;
+use limits::MAX_SORTS;
+use nodes::ACT_ROW;
+use nodes::FUNC_ROW;
 use nodes::Outline;
+use nodes::PROC_ROW;
+
+// The bytes of all rows, and the places of function values: each begins where the one before it ends.
+const FUNC_ROWS: usize = FUNC_ROW * MAX_FUNCTIONS;
+
+const ACT_ROWS: usize = ACT_ROW * MAX_ACTIONS;
+
+const PROC_ROWS: usize = PROC_ROW * MAX_PROCESSES;
+
+const PLACES: usize = MAX_FUNCTIONS + 1;
+
+// How many names can be declared, and Bool.
+const MAX_NAMES: usize = MAX_SORTS + MAX_FUNCTIONS + MAX_ACTIONS + MAX_PROCESSES;
 
 // The rows of sorts, functions and actions (crate nodes, Held), if every name in them is known.
 pub struct SigRows {
     pub ok: bool,
-    pub sizes: [u8; 8],
-    pub funcs: [u8; 64],
-    pub places: [u16; 17],
-    pub acts: [u8; 96],
+    pub sizes: [u8; MAX_SORTS],
+    pub funcs: [u8; FUNC_ROWS],
+    pub places: [u16; PLACES],
+    pub acts: [u8; ACT_ROWS],
 }
 
 // The rows of the processes, where their right sides begin, and the next free cell.
 pub struct ProcRows {
     pub ok: bool,
-    pub procs: [u8; 80],
-    pub starts: [u16; 16],
+    pub procs: [u8; PROC_ROWS],
+    pub starts: [u16; MAX_PROCESSES],
     pub w: usize,
 }
 
 // What holds a resolved sheet beside the cells of its terms and the values of its functions.
-pub struct Rows {
-    pub sizes: [u8; 8],
-    pub funcs: [u8; 64],
-    pub places: [u16; 17],
-    pub acts: [u8; 96],
-    pub procs: [u8; 80],
-    pub starts: [u16; 16],
+pub struct SheetRows {
+    pub sizes: [u8; MAX_SORTS],
+    pub funcs: [u8; FUNC_ROWS],
+    pub places: [u16; PLACES],
+    pub acts: [u8; ACT_ROWS],
+    pub procs: [u8; PROC_ROWS],
+    pub starts: [u16; MAX_PROCESSES],
     // the cells of the declared names, but for Bool: sorts, functions, actions, processes
-    pub names: [u16; 72],
+    pub names: [u16; MAX_NAMES],
     pub outline: Outline,
 }
 
-pub struct Resolved {
+pub struct ResolvedRows {
     pub ok: bool,
-    pub rows: Rows,
+    pub rows: SheetRows,
 }
 
 // The number of the first question that fails, or 0.
 pub struct Answer {
     pub refused: u8,
-    pub rows: Rows,
-}
-
-// Both answers, as one value.
-fn both(a: bool, b: bool) -> bool
-    ensures { λ r. ⌜ r ≡ and a b ⌝ }
-{
-    if a {
-        return b;
-    }
-    false
+    pub rows: SheetRows,
 }

@@ -6,16 +6,18 @@ ghost use Rattle.nodes.specs.Layout.{cell-limit};
 ghost use Rattle.nodes.specs.Held.{func-width};
 ghost use Rattle.names.specs.Rows.{Kept};
 ghost use Rattle.sheets.specs.Resolving.{FewNames, ProcessRead, ProcessesRead};
+use crate::PROC_ROWS;
 use crate::ProcRows;
 use crate::scopes::put_results;
 use crate::scopes::put_sorts;
+use elements::short;
+use elements::wide_cell;
+use limits::MAX_PROCESSES;
 use names::Kinds;
-use names::find::place;
 use names::keys::total;
 use names::rows::param_row;
 use nodes::PROC_ROW;
-use parser::cells::short;
-use resolver::Resolved;
+use resolver::RightSide;
 use resolver::SCOPE_CELLS;
 use resolver::entry::right_side;
 
@@ -33,7 +35,7 @@ fn process(
     p: usize,
     out: &mut [u16],
     w: usize,
-) -> Resolved
+) -> RightSide
     requires { ⌜ FewNames (now s) (now raw) (now sorts) (now names) (now keys) kinds × (func-width * max-functions ≤ length (now funcs)) × (at < cell-limit) × (p + frame-width < length (now rows)) ⌝ }
     ensures kept { λ r. ⌜ Kept p (now (rows .entry)) (now (rows .exit)) ⌝ }
     ensures process { λ r. ⌜ ProcessRead (now (s .entry)) (now (raw .entry)) (now (sorts .entry)) (now (names .entry)) kinds (now (funcs .entry)) at (now (rows .exit)) p w (now (out .entry)) r (now (out .exit)) ⌝ }
@@ -52,7 +54,7 @@ fn process(
         &mut scope,
     );
     if !a.ok {
-        return Resolved {
+        return RightSide {
             ok: false,
             next: at,
             w: w,
@@ -89,8 +91,8 @@ pub fn processes(
     requires { ⌜ FewNames (now s) (now raw) (now sorts) (now names) (now keys) kinds × (func-width * max-functions ≤ length (now funcs)) × (length (now procs) ≤ max-processes) × (length (now out) < cell-limit) ⌝ }
     ensures { λ r. ⌜ ProcessesRead (now (s .entry)) (now (raw .entry)) (now (sorts .entry)) (now (procs .entry)) (now (names .entry)) kinds (now (funcs .entry)) r (now (out .exit)) ⌝ }
 {
-    let mut rows = [0u8; 80];
-    let mut starts = [0u16; 16];
+    let mut rows = [0u8; PROC_ROWS];
+    let mut starts = [0u16; MAX_PROCESSES];
     let mut ok = true;
     let mut w: usize = 0;
     let mut k: usize = 0;
@@ -104,7 +106,7 @@ pub fn processes(
             keys,
             kinds,
             funcs,
-            place(procs[k]),
+            wide_cell(procs[k]),
             &mut rows,
             PROC_ROW * k,
             out,

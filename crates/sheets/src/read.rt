@@ -2,25 +2,27 @@
 ghost use mathlib.Core.Path.{_≡_};
 ghost use Rattle.pcrl.specs.Answers.{sheet-read};
 ghost use Rattle.sheets.specs.Reading.{Room, Judges, Reads};
+use crate::ACT_ROWS;
 use crate::Answer;
-use crate::Rows;
+use crate::FUNC_ROWS;
+use crate::MAX_NAMES;
+use crate::PLACES;
+use crate::PROC_ROWS;
+use crate::SheetRows;
 use crate::resolve::resolve;
 use checker::circles::guarded_sheet;
 use checker::sorts::rightly_sorted;
 use lexer::lex;
+use limits::MAX_PROCESSES;
+use limits::MAX_SORTS;
+use limits::NO_NAME;
+use limits::NO_SHEET;
+use limits::NOT_GUARDED;
+use limits::NOT_SORTED;
+use limits::TOO_MANY;
 use names::counts::counted;
 use nodes::Outline;
 use parser::parse;
-
-const NO_SHEET: u8 = 5;
-
-const TOO_MANY: u8 = 6;
-
-const NO_NAME: u8 = 7;
-
-const NOT_SORTED: u8 = 8;
-
-const NOT_GUARDED: u8 = 9;
 
 // Refused before there are rows.
 fn refusal(n: u8) -> Answer
@@ -28,14 +30,14 @@ fn refusal(n: u8) -> Answer
 {
     Answer {
         refused: n,
-        rows: Rows {
-            sizes: [0u8; 8],
-            funcs: [0u8; 64],
-            places: [0u16; 17],
-            acts: [0u8; 96],
-            procs: [0u8; 80],
-            starts: [0u16; 16],
-            names: [0u16; 72],
+        rows: SheetRows {
+            sizes: [0u8; MAX_SORTS],
+            funcs: [0u8; FUNC_ROWS],
+            places: [0u16; PLACES],
+            acts: [0u8; ACT_ROWS],
+            procs: [0u8; PROC_ROWS],
+            starts: [0u16; MAX_PROCESSES],
+            names: [0u16; MAX_NAMES],
             outline: Outline {
                 sorts: 0,
                 funcs: 0,
@@ -48,7 +50,7 @@ fn refusal(n: u8) -> Answer
 }
 
 // Questions 8 and 9 on the sheet that is held.
-fn judge(rows: Rows, values: &[u8], cells: &[u16]) -> u8
+fn judge(rows: SheetRows, values: &[u8], cells: &[u16]) -> u8
     ensures { λ r. ⌜ Judges rows (now (values .entry)) (now (cells .entry)) r ⌝ }
 {
     let sizes = rows.sizes;

@@ -4,14 +4,15 @@ ghost use Prim.Native.Nat.{_<_};
 ghost use lib.ListN.{length};
 ghost use Rattle.nodes.specs.Layout.{cell-limit};
 ghost use Rattle.sheets.specs.Resolving.{FewLines, LinesResolve, FewFound, FoundResolve};
-use crate::Resolved;
-use crate::Rows;
-use crate::both;
+use crate::MAX_NAMES;
+use crate::ResolvedRows;
+use crate::SheetRows;
 use crate::processes::processes;
 use crate::scopes::put_results;
 use crate::signature::signature;
+use elements::both;
+use elements::wide_cell;
 use names::Kinds;
-use names::find::place;
 use names::fresh::all_new;
 use names::fresh::declared_names;
 use names::keys::put_keys;
@@ -31,13 +32,13 @@ fn resolve_lines(
     at: usize,
     values: &mut [u8],
     out: &mut [u16],
-) -> Resolved
+) -> ResolvedRows
     requires { ⌜ FewLines (now raw) (now sorts) (now funcs) (now acts) (now procs) × (at < length (now raw)) × (length (now values) < cell-limit) × (length (now out) < cell-limit) ⌝ }
     ensures { λ r. ⌜ LinesResolve (now (s .entry)) (now (raw .entry)) (now (sorts .entry)) (now (funcs .entry)) (now (acts .entry)) (now (procs .entry)) at (now (values .exit)) (now (out .exit)) r ⌝ }
 {
-    let mut names = [0u16; 72];
+    let mut names = [0u16; MAX_NAMES];
     let n = declared_names(raw, sorts, funcs, acts, procs, &mut names);
-    let mut keys = [0u8; 72];
+    let mut keys = [0u8; MAX_NAMES];
     put_keys(s, &names, n, &mut keys);
     let fresh = all_new(s, &names, &keys, n);
     let kinds = Kinds {
@@ -57,9 +58,9 @@ fn resolve_lines(
     let act_bytes = a.acts;
     let proc_bytes = b.procs;
     let starts = b.starts;
-    Resolved {
+    ResolvedRows {
         ok: both(fresh, both(a.ok, both(b.ok, c.ok))),
-        rows: Rows {
+        rows: SheetRows {
             sizes: sizes,
             funcs: func_bytes,
             places: places,
@@ -78,7 +79,13 @@ fn resolve_lines(
     }
 }
 
-pub fn resolve(s: &[u8], raw: &[u16], lines: Lines, values: &mut [u8], out: &mut [u16]) -> Resolved
+pub fn resolve(
+    s: &[u8],
+    raw: &[u16],
+    lines: Lines,
+    values: &mut [u8],
+    out: &mut [u16],
+) -> ResolvedRows
     requires { ⌜ FewFound lines (now raw) × (length (now values) < cell-limit) × (length (now out) < cell-limit) ⌝ }
     ensures { λ r. ⌜ FoundResolve (now (s .entry)) (now (raw .entry)) lines (now (values .exit)) (now (out .exit)) r ⌝ }
 {
@@ -97,7 +104,7 @@ pub fn resolve(s: &[u8], raw: &[u16], lines: Lines, values: &mut [u8], out: &mut
         &funcs[0..b],
         &acts[0..c],
         &procs[0..d],
-        place(lines.init),
+        wide_cell(lines.init),
         values,
         out,
     )

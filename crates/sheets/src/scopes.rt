@@ -7,16 +7,12 @@ ghost use Rattle.nodes.specs.Scoped.{max-scope};
 ghost use Rattle.nodes.specs.Held.{func-width};
 ghost use Rattle.resolver.specs.Sorting.{scope-cells};
 ghost use Rattle.sheets.specs.ScopePuts.{SortsPut, ResultsPut};
+use elements::cell_of;
+use limits::MAX_FUNCTIONS;
 use nodes::FUNC_ROW;
-use nodes::MAX_FUNCTIONS;
+use nodes::GIVES;
 use resolver::FIRST_RESULT;
 use resolver::FIRST_SORT;
-
-fn wide(b: u8) -> u16
-    ensures { λ r. ⌜ r ≡ b ⌝ }
-{
-    b as u16
-}
 
 // The sorts that functions give, from their rows; those of rows that are not used do not matter.
 pub fn put_results(funcs: &[u8], scope: &mut [u16])
@@ -25,7 +21,7 @@ pub fn put_results(funcs: &[u8], scope: &mut [u16])
 {
     let mut f: usize = 0;
     while f < MAX_FUNCTIONS {
-        scope[FIRST_RESULT + f] = wide(funcs[FUNC_ROW * f + 3]);
+        scope[FIRST_RESULT + f] = cell_of(funcs[FUNC_ROW * f + GIVES]);
         f += 1;
     }
 }
@@ -37,7 +33,7 @@ pub fn put_sorts(rows: &[u8], p: usize, n: usize, scope: &mut [u16])
 {
     let mut i: usize = 0;
     while i < n {
-        scope[FIRST_SORT + i] = wide(rows[p + 1 + i]);
+        scope[FIRST_SORT + i] = cell_of(rows[p + 1 + i]);
         i += 1;
     }
 }

@@ -1,4 +1,9 @@
 // The signature of a table's stream: sorts, functions, actions, and where each of them stands.
+use elements::peek;
+use elements::wide;
+use limits::MAX_ACTIONS;
+use limits::MAX_FUNCTIONS;
+use limits::MAX_SIZE;
 use terms::Next;
 ghost use mathlib.Core.Path.{_≡_};
 ghost use mathlib.Core.Bool.{true};
@@ -14,19 +19,11 @@ ghost use Rattle.terms.specs.Ends.{rests, ended};
 ghost use Rattle.terms.specs.Laid.{Laid};
 ghost use Rattle.signature.specs.Reading.{SigRead};
 
-// "At most 8 sorts with Bool, sizes 1 to 16; 16 functions; 32 actions"
-const SORTS: u8 = 8;
+const SORTS: u8 = limits::MAX_SORTS as u8;
 
-const SIZE: usize = 16;
+const BOOL_SIZE: u8 = limits::BOOL_SIZE as u8;
 
-const BOOL_SIZE: u8 = 2;
-
-const FUNCTIONS: usize = 16;
-
-const ACTIONS: usize = 32;
-
-// "Functions have one or two sorts, actions none to two."
-const ARITY: u8 = 2;
+const ARITY: u8 = limits::MAX_ARITY as u8;
 
 // Where the signature ends, if it is right; how many sorts, functions and actions there are.
 pub struct Signed {
@@ -40,11 +37,11 @@ pub struct Signed {
 fn read_sizes(s: &[u8], at: usize) -> Next
     ensures { λ r. ⌜ rests (read-sizes (drop at (now (s .entry)))) ≡ ended (now (s .entry)) r ⌝ }
 {
-    let n = terms::read_list(s, at, 1, SORTS, 1, SIZE + 1);
+    let n = terms::read_list(s, at, 1, SORTS, 1, MAX_SIZE + 1);
     if !n.ok {
         return Next { ok: false, at: 0 };
     }
-    if terms::peek(terms::list_at(s, at), 0) != BOOL_SIZE {
+    if peek(terms::list_at(s, at), 0) != BOOL_SIZE {
         return Next { ok: false, at: 0 };
     }
     n
@@ -54,11 +51,11 @@ fn read_sizes(s: &[u8], at: usize) -> Next
 fn volume(sizes: &[u8], sorts: &[u8]) -> usize
     ensures { λ r. ⌜ (Between 1 max-arity (length (now (sorts .entry))) → r ≡ values.volume (now (sizes .entry)) (now (sorts .entry))) ⌝ }
 {
-    let a = terms::wide(terms::peek(sizes, terms::wide(terms::peek(sorts, 0))));
+    let a = wide(peek(sizes, wide(peek(sorts, 0))));
     if sorts.len() == 1 {
         return a;
     }
-    a * terms::wide(terms::peek(sizes, terms::wide(terms::peek(sorts, 1))))
+    a * wide(peek(sizes, wide(peek(sorts, 1))))
 }
 
 // n values below a limit.
@@ -92,7 +89,7 @@ fn read_func(s: &[u8], sizes: &[u8], at: usize) -> Next
     if s.len() <= i {
         return Next { ok: false, at: 0 };
     }
-    let d = terms::wide(s[i]);
+    let d = wide(s[i]);
     if sizes.len() <= d {
         return Next { ok: false, at: 0 };
     }
@@ -108,8 +105,8 @@ fn read_funcs(s: &[u8], sizes: &[u8], at: usize, funcs: &mut [u16]) -> Next
     if s.len() <= at {
         return Next { ok: false, at: 0 };
     }
-    let n = terms::wide(s[at]);
-    if FUNCTIONS < n {
+    let n = wide(s[at]);
+    if MAX_FUNCTIONS < n {
         return Next { ok: false, at: 0 };
     }
     let mut i = at + 1;
@@ -145,8 +142,8 @@ fn read_acts(s: &[u8], sizes: &[u8], at: usize, acts: &mut [u16]) -> Next
     if s.len() <= at {
         return Next { ok: false, at: 0 };
     }
-    let n = terms::wide(s[at]);
-    if ACTIONS < n {
+    let n = wide(s[at]);
+    if MAX_ACTIONS < n {
         return Next { ok: false, at: 0 };
     }
     let mut i = at + 1;
@@ -196,7 +193,7 @@ pub fn read_sig(s: &[u8], funcs: &mut [u16], acts: &mut [u16]) -> Signed
             acts: 0,
         };
     }
-    let n = terms::wide(terms::peek(s, f.at));
+    let n = wide(peek(s, f.at));
     if !action_names::distinct(s, &acts[0..n]) {
         return Signed {
             ok: false,
@@ -208,7 +205,7 @@ pub fn read_sig(s: &[u8], funcs: &mut [u16], acts: &mut [u16]) -> Signed
     Signed {
         ok: true,
         at: a.at,
-        funcs: terms::wide(terms::peek(s, z.at)),
+        funcs: wide(peek(s, z.at)),
         acts: n,
     }
 }

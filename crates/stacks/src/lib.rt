@@ -13,12 +13,16 @@ ghost use Rattle.tables.specs.Indexed.{Indexed};
 ghost use Rattle.stacks.specs.Lent.{frame-bytes, frame-at, frames-at, frames-in, stack-bytes};
 ghost use Rattle.stacks.specs.Fitting.{FitsAt, Fitting};
 ghost use Rattle.stacks.specs.Known.{Known};
+use elements::both;
+use elements::cell;
+use elements::peek;
+use elements::wide;
+use limits::STACK_LIMIT;
 
 // "A frame is an equation number and four values": its bytes.
 pub const FRAME: usize = 5;
 
-// "exactly 64 frames lent"
-pub const LIMIT: usize = 64;
+pub const LIMIT: usize = STACK_LIMIT;
 
 // Bytes of all frames.
 pub const BYTES: usize = 320;
@@ -28,7 +32,7 @@ fn fits(sizes: &[u8], sorts: &[u8], i: usize, v: u8) -> bool
     ensures { λ r. ⌜ Says r (FitsAt (now (sizes .entry)) (now (sorts .entry)) i v) ⌝ }
 {
     if i < sorts.len() {
-        return v < terms::peek(sizes, terms::wide(sorts[i]));
+        return v < peek(sizes, wide(sorts[i]));
     }
     v == 0
 }
@@ -54,11 +58,11 @@ fn right_frame(s: &[u8], sizes: &[u8], params: &[u16], f: &[u8]) -> bool
     requires { ⌜ length (now f) ≡ frame-bytes frame-width ⌝ }
     ensures { λ r. ⌜ ((T : Table) → Known T (now (s .entry)) (now (sizes .entry)) (now (params .entry)) → Says r (RightFrame frame-width T (frame-at frame-width (now (f .entry)) 0))) ⌝ }
 {
-    let e = terms::wide(f[0]);
+    let e = wide(f[0]);
     if params.len() <= e {
         return false;
     }
-    fitting(sizes, terms::list_at(s, terms::place(params, e)), &f[1..])
+    fitting(sizes, terms::list_at(s, cell(params, e)), &f[1..])
 }
 
 // "all unused .. frames zero": the bytes from `at` on and before `end`. The loop has one way out, so that the compiler tests many at once.
@@ -70,7 +74,7 @@ fn zeros(s: &[u8], at: usize, end: usize) -> bool
     let mut i = end;
     while at < i {
         i -= 1;
-        good = tables::both(good, s[i] == 0);
+        good = both(good, s[i] == 0);
     }
     good
 }
@@ -89,10 +93,10 @@ pub fn first(places: &[u16], n: usize) -> &[u16]
 pub fn right_frames(s: &[u8], index: tables::Index, frames: &[u8], depth: usize) -> bool
     ensures { λ r. ⌜ ((T : Table) → Indexed T (now (s .entry)) index → Says r (RightFrames frame-width stack-limit T (frames-in frame-width (now (frames .entry))) depth)) ⌝ }
 {
-    if frames.len() / FRAME != LIMIT {
+    if frames.len() / FRAME != STACK_LIMIT {
         return false;
     }
-    if LIMIT < depth {
+    if STACK_LIMIT < depth {
         return false;
     }
     let sizes = terms::list_at(s, 0);
@@ -162,7 +166,7 @@ fn spread(bytes: &[u8], out: &mut [u8])
 {
     let mut i = 0;
     while i < out.len() {
-        out[i] = terms::peek(bytes, i);
+        out[i] = peek(bytes, i);
         i += 1;
     }
 }
@@ -174,6 +178,6 @@ pub fn start(s: &[u8], index: tables::Index, frames: &mut [u8])
 {
     let at = index.start;
     let places = index.params;
-    let params = terms::list_at(s, terms::place(&places, terms::wide(terms::peek(s, at))));
+    let params = terms::list_at(s, cell(&places, wide(peek(s, at))));
     spread(part(s, at, 1 + params.len()), frames);
 }

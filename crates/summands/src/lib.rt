@@ -1,4 +1,9 @@
 // The summands of a table's stream: each function says where its piece ends.
+use elements::cell;
+use elements::peek;
+use elements::wide;
+use limits::FRAME_WIDTH;
+use limits::TAU;
 use terms::Next;
 ghost use mathlib.Core.Path.{_≡_};
 ghost use mathlib.Core.List.{List, _++_};
@@ -14,18 +19,12 @@ ghost use Rattle.terms.specs.Stands.{KnownData, KnownActs, KnownParams};
 ghost use Rattle.terms.specs.Ends.{rests, ended};
 ghost use Rattle.summands.specs.Parts.{read-label, read-body};
 
-// The code of tau, where an action's number stands.
-const TAU: u8 = 0xFF;
-
 // Per summand.
-const VARIABLES: u8 = 4;
+const VARIABLES: u8 = limits::MAX_VARIABLES as u8;
 
-const CONDITIONS: u8 = 8;
+const CONDITIONS: u8 = limits::MAX_CONDITIONS as u8;
 
-const CALLS: u8 = 8;
-
-// Parameters of an equation.
-const PARAMETERS: usize = 4;
+const CALLS: u8 = limits::MAX_CALLS as u8;
 
 // A condition: the wanted value and a term of Bool.
 fn read_cond(s: &[u8], sizes: &[u8], funcs: &[u16], scope: &[u8], at: usize) -> Next
@@ -70,11 +69,11 @@ fn read_call(s: &[u8], sizes: &[u8], funcs: &[u16], params: &[u16], scope: &[u8]
     if s.len() <= at {
         return Next { ok: false, at: 0 };
     }
-    let e = terms::wide(s[at]);
+    let e = wide(s[at]);
     if params.len() <= e {
         return Next { ok: false, at: 0 };
     }
-    let sorts = terms::list_at(s, terms::place(params, e));
+    let sorts = terms::list_at(s, cell(params, e));
     terms::read_terms(s, sizes, funcs, scope, sorts, at + 1)
 }
 
@@ -122,12 +121,12 @@ fn read_label(s: &[u8], sizes: &[u8], funcs: &[u16], acts: &[u16], scope: &[u8],
             at: at + 1,
         };
     }
-    let k = terms::wide(a);
+    let k = wide(a);
     if acts.len() <= k {
         return Next { ok: false, at: 0 };
     }
-    let p = terms::place(acts, k);
-    let sorts = terms::list_at(s, p + 1 + terms::wide(terms::peek(s, p)));
+    let p = cell(acts, k);
+    let sorts = terms::list_at(s, p + 1 + wide(peek(s, p)));
     terms::read_terms(s, sizes, funcs, scope, sorts, at + 1)
 }
 
@@ -187,7 +186,7 @@ fn read_summand(
 ) -> Next
     ensures { λ r. ⌜ ((S : Sig) (Ps : List (List ℕ)) → KnownData S (now (s .entry)) (now (sizes .entry)) (now (funcs .entry)) → KnownActs S (now (s .entry)) (now (acts .entry)) → KnownParams Ps (now (s .entry)) (now (params .entry)) → length (now (own .entry)) ≤ frame-width → rests (read-summand S Ps (now (own .entry)) (drop at (now (s .entry)))) ≡ ended (now (s .entry)) r) ⌝ }
 {
-    if PARAMETERS < own.len() {
+    if FRAME_WIDTH < own.len() {
         return Next { ok: false, at: 0 };
     }
     let v = terms::read_list(s, at, 0, VARIABLES, 0, sizes.len());

@@ -4,23 +4,25 @@ ghost use mathlib.Core.Bool.{false};
 ghost use Prim.Native.Nat.{_*_, _≤_};
 ghost use lib.ListN.{length, take, drop};
 ghost use Rattle.pcrl.specs.Limits.{max-functions, max-actions, max-equations, max-stream};
-ghost use Rattle.pcrl.specs.Tests.{Every, and};
+ghost use Rattle.pcrl.specs.Tests.{Every};
 ghost use Rattle.pcrl.specs.Blocks.{block-stream, blocks-for, table-read};
 ghost use Rattle.laws.specs.Says.{Says};
 ghost use Rattle.tables.specs.Indexed.{TableRead, Decoded};
-
-// "255 summands in all"
-const SUMMANDS: usize = 255;
-
-// Stream bytes of a block.
-const BLOCK: usize = 506;
+use blocks::BLOCK_STREAM;
+use elements::both;
+use elements::peek;
+use elements::wide;
+use limits::MAX_ACTIONS;
+use limits::MAX_EQUATIONS;
+use limits::MAX_FUNCTIONS;
+use limits::MAX_SUMMANDS;
 
 // Where functions, actions, parameters and summands of the equations, and the start stand in the stream.
 pub struct Index {
-    pub funcs: [u16; 16],
-    pub acts: [u16; 32],
-    pub params: [u16; 64],
-    pub rows: [u16; 64],
+    pub funcs: [u16; MAX_FUNCTIONS],
+    pub acts: [u16; MAX_ACTIONS],
+    pub params: [u16; MAX_EQUATIONS],
+    pub rows: [u16; MAX_EQUATIONS],
     pub functions: usize,
     pub actions: usize,
     pub equations: usize,
@@ -64,12 +66,12 @@ fn read_into(
     if !r.ok {
         return none();
     }
-    let n = terms::wide(terms::peek(s, g.at));
+    let n = wide(peek(s, g.at));
     let t = equations::read_start(s, sizes, &params[0..n], r.at);
     if !t.ok {
         return none();
     }
-    if SUMMANDS < r.total {
+    if MAX_SUMMANDS < r.total {
         return none();
     }
     Read {
@@ -96,12 +98,6 @@ fn none() -> Read
     }
 }
 
-pub fn both(a: bool, b: bool) -> bool
-    ensures { λ r. ⌜ r ≡ and a b ⌝ }
-{
-    if a { b } else { false }
-}
-
 // "zeros after it": the loop has one way out, so that the compiler tests many bytes at once.
 fn zeros(s: &[u8], at: usize) -> bool
     ensures { λ r. ⌜ Says r (Every (λ b. b ≡ 0) (drop at (now (s .entry)))) ⌝ }
@@ -120,7 +116,7 @@ fn filled(s: &[u8], end: usize) -> bool
     requires { ⌜ end ≤ max-stream ⌝ }
     ensures { λ r. ⌜ Says r ((length (now (s .entry)) ≡ blocks-for end * block-stream) × Every (λ b. b ≡ 0) (drop end (now (s .entry)))) ⌝ }
 {
-    if s.len() != (end + (BLOCK - 1)) / BLOCK * BLOCK {
+    if s.len() != (end + (BLOCK_STREAM - 1)) / BLOCK_STREAM * BLOCK_STREAM {
         return false;
     }
     zeros(s, end)
@@ -131,10 +127,10 @@ pub fn read_table(s: &[u8]) -> Tabled
     requires { ⌜ length (now s) ≤ max-stream ⌝ }
     ensures { λ r. ⌜ TableRead (table-read (now (s .entry))) (now (s .entry)) r ⌝ }
 {
-    let mut funcs = [0u16; 16];
-    let mut acts = [0u16; 32];
-    let mut params = [0u16; 64];
-    let mut rows = [0u16; 64];
+    let mut funcs = [0u16; MAX_FUNCTIONS];
+    let mut acts = [0u16; MAX_ACTIONS];
+    let mut params = [0u16; MAX_EQUATIONS];
+    let mut rows = [0u16; MAX_EQUATIONS];
     let r = read_into(s, &mut funcs, &mut acts, &mut params, &mut rows);
     let index = Index {
         funcs: funcs,

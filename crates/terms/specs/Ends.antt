@@ -2,10 +2,9 @@
 use mathlib.Core.List.{List}
 use mathlib.Core.Bool.{Bool, true, false}
 use Prim.Native.Nat.{ℕ}
-use lib.ListN.{getD, drop}
+use lib.ListN.{drop}
 use Rattle.pcrl.specs.Reader.{Got, missing, found}
 use Rattle.terms.specs.declared.Next.{Next}
-use Rattle.terms.specs.declared.Want.{Want}
 
 -- what is left, whatever was read
 unfoldable pub rests : {A : Type 0} → Got ℕ A → Got ℕ (Unit {0})
@@ -19,13 +18,3 @@ ends false xs = missing
 -- where the piece ends
 abbrev pub ended : List ℕ → Next → Got ℕ (Unit {0})
 ended s r = ends (r .ok) (drop (r .at) s)
-
--- the sorts that are still expected, and the first of them
-abbrev pub stack : Want → List ℕ
-stack w = drop (w .top) (w .sorts)
-
-abbrev pub top : List ℕ → ℕ
-top l = getD l 0 0
-
-abbrev pub below : List ℕ → List ℕ
-below l = drop 1 l

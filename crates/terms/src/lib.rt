@@ -9,39 +9,37 @@ ghost use Rattle.pcrl.specs.Reader.{found, each};
 ghost use Rattle.pcrl.specs.Decode.{Node, node-of, read-node, Fits, wants, read-term};
 ghost use Rattle.laws.specs.Says.{Says};
 ghost use Rattle.terms.specs.Stands.{KnownData, list-at};
-ghost use Rattle.terms.specs.Ends.{rests, ended, stack, top, below};
+ghost use Rattle.terms.specs.Ends.{rests, ended};
 ghost use Rattle.terms.specs.Fitting.{NextFits};
 ghost use Rattle.terms.specs.Numbers.{read-list, ListEnds};
+use limits::AND_CODE;
+use limits::EQUAL_CODE;
+use limits::FUNCTION_CODE;
+use limits::MAX_NODES;
+use limits::NOT_CODE;
+use limits::OR_CODE;
+use limits::VARIABLE_CODE;
 
 // The codes of a term's nodes: values, then variables, then functions, then operators.
-pub const VARIABLE: usize = 0x20;
+pub const VARIABLE: usize = VARIABLE_CODE;
 
-pub const FUNCTION: usize = 0x40;
+pub const FUNCTION: usize = FUNCTION_CODE;
 
-pub const NOT: usize = 0x60;
+pub const NOT: usize = NOT_CODE;
 
-// A byte for its sort stands behind it.
-pub const EQUAL: usize = 0x61;
+pub const EQUAL: usize = EQUAL_CODE;
 
-pub const AND: usize = 0x62;
+pub const AND: usize = AND_CODE;
 
-pub const OR: usize = 0x63;
+const BOOL_SORT: u8 = limits::BOOL as u8;
 
-const BOOL_SORT: u8 = 0;
-
-// Nodes of a term, at the most.
-pub const NODES: usize = 31;
+// Sorts that are expected at once, at the most: one at first, and one more with each node.
+const WANTED: usize = limits::MAX_NODES + 1;
 
 // Where a piece ends, if it is right.
 pub struct Next {
     pub ok: bool,
     pub at: usize,
-}
-
-// Sorts that are still expected: from top on.
-pub struct Want {
-    pub sorts: [u8; 32],
-    pub top: usize,
 }
 
 pub fn peek(s: &[u8], i: usize) -> u8
@@ -81,41 +79,21 @@ pub fn list_at(s: &[u8], p: usize) -> &[u8]
         return &s[0..0];
     }
     let b = p + 1;
-    let e = b + wide(s[p]);
+    let e = b + elements::wide(s[p]);
     if s.len() < e {
         return &s[b..];
     }
     &s[b..e]
 }
 
-fn head(s: Want) -> u8
-    ensures { λ r. ⌜ r ≡ top (stack s) ⌝ }
+// One more sort is expected, before those that stand from top on; the answer is where it stands.
+fn push(sorts: &mut [u8], top: usize, v: u8) -> usize
+    requires { ⌜ (0 < top) × (top ≤ length (now sorts)) ⌝ }
+    ensures { λ r. ⌜ (drop r (now (sorts .exit)) ≡ v ∷ drop top (now (sorts .entry))) × (r ≡ top - 1) ⌝ }
 {
-    let t = s.top;
-    if t < 32 { s.sorts[t] } else { 0 }
-}
-
-fn pop(s: Want) -> Want
-    requires { ⌜ s .top < 32 ⌝ }
-    ensures { λ r. ⌜ (stack r ≡ below (stack s)) × (r .top ≡ s .top + 1) × (length (r .sorts) ≡ 32) ⌝ }
-{
-    let t = s.top;
-    let a = s.sorts;
-    Want {
-        sorts: a,
-        top: t + 1,
-    }
-}
-
-fn push(s: Want, v: u8) -> Want
-    requires { ⌜ (0 < s .top) × (s .top ≤ 32) ⌝ }
-    ensures { λ r. ⌜ (stack r ≡ v ∷ stack s) × (r .top ≡ s .top - 1) × (length (r .sorts) ≡ 32) ⌝ }
-{
-    let t = s.top - 1;
-    let mut r = s;
-    r.sorts[t] = v;
-    r.top = t;
-    r
+    let t = top - 1;
+    sorts[t] = v;
+    t
 }
 
 // May this byte of a term stand where the sort d is expected? It is a node by itself and no operator.
@@ -123,42 +101,42 @@ fn fits(s: &[u8], sizes: &[u8], funcs: &[u16], scope: &[u8], b: u8, d: u8) -> bo
     requires { ⌜ b < 0x60 ⌝ }
     ensures { λ r. ⌜ ((S : Sig) → KnownData S (now (s .entry)) (now (sizes .entry)) (now (funcs .entry)) → Says r (Fits S (now (scope .entry)) d (node-of b))) ⌝ }
 {
-    let n = wide(b);
-    if n < VARIABLE {
-        return b < peek(sizes, wide(d));
+    let n = elements::wide(b);
+    if n < VARIABLE_CODE {
+        return b < elements::peek(sizes, elements::wide(d));
     }
-    if n < FUNCTION {
-        let i = n - VARIABLE;
+    if n < FUNCTION_CODE {
+        let i = n - VARIABLE_CODE;
         if i < scope.len() {
             return scope[i] == d;
         }
         return false;
     }
-    let f = n - FUNCTION;
+    let f = n - FUNCTION_CODE;
     if f < funcs.len() {
-        let p = place(funcs, f);
-        return peek(s, p + 1 + wide(peek(s, p))) == d;
+        let p = elements::cell(funcs, f);
+        return elements::peek(s, p + 1 + elements::wide(elements::peek(s, p))) == d;
     }
     false
 }
 
-// The sorts that are expected after the byte b.
-fn after(s: &[u8], funcs: &[u16], b: u8, w: Want) -> Want
-    requires { ⌜ (b < 0x60) × (0 < w .top) × (w .top < 32) ⌝ }
-    ensures { λ r. ⌜ ((S : Sig) (Γ sizes : List ℕ) (D : ℕ) → KnownData S (now (s .entry)) sizes (now (funcs .entry)) → Fits S Γ D (node-of b) → stack r ≡ wants S Γ (node-of b) ++ below (stack w)) × ((w .top ≤ r .top + 1) × (r .top ≤ 32) × (length (r .sorts) ≡ 32)) ⌝ }
+// The sorts that are expected after the byte b, where those from top on are expected before it; the answer is where they stand.
+fn after(sorts: &mut [u8], top: usize, s: &[u8], funcs: &[u16], b: u8) -> usize
+    requires { ⌜ (b < 0x60) × (0 < top) × (top < length (now sorts)) ⌝ }
+    ensures { λ r. ⌜ ((S : Sig) (Γ sizes : List ℕ) (D : ℕ) → KnownData S (now (s .entry)) sizes (now (funcs .entry)) → Fits S Γ D (node-of b) → drop r (now (sorts .exit)) ≡ wants S Γ (node-of b) ++ drop (top + 1) (now (sorts .entry))) × ((top ≤ r + 1) × (r ≤ length (now (sorts .entry)))) ⌝ }
 {
-    let rest = pop(w);
-    let n = wide(b);
-    if n < FUNCTION {
+    let rest = top + 1;
+    let n = elements::wide(b);
+    if n < FUNCTION_CODE {
         return rest;
     }
-    let p = place(funcs, n - FUNCTION);
-    let x = peek(s, p + 1);
-    if peek(s, p) == 1 {
-        return push(rest, x);
+    let p = elements::cell(funcs, n - FUNCTION_CODE);
+    let x = elements::peek(s, p + 1);
+    if elements::peek(s, p) == 1 {
+        return push(sorts, rest, x);
     }
-    let y = peek(s, p + 2);
-    push(push(rest, y), x)
+    let t = push(sorts, rest, elements::peek(s, p + 2));
+    push(sorts, t, x)
 }
 
 // May the operator at i stand where the sort d is expected? It gives Bool.
@@ -166,47 +144,49 @@ fn operator_fits(s: &[u8], sizes: &[u8], i: usize, d: u8) -> bool
     requires { ⌜ (i < length (now s)) × (0x60 ≤ getD (now s) i 0) ⌝ }
     ensures { λ r. ⌜ ((S : Sig) (Γ : List ℕ) → now (sizes .entry) ≡ S .sorts → Says r (NextFits S Γ d (drop i (now (s .entry))))) ⌝ }
 {
-    let n = wide(s[i]);
-    if n == EQUAL {
+    let n = elements::wide(s[i]);
+    if n == EQUAL_CODE {
         let j = i + 1;
         if s.len() <= j {
             return false;
         }
-        if sizes.len() <= wide(s[j]) {
+        if sizes.len() <= elements::wide(s[j]) {
             return false;
         }
         return d == BOOL_SORT;
     }
-    if OR < n {
+    if OR_CODE < n {
         return false;
     }
     d == BOOL_SORT
 }
 
 // The sorts that are expected after the operator at i.
-fn operands(s: &[u8], i: usize, w: Want) -> Want
-    requires { ⌜ (i < length (now s)) × (0x60 ≤ getD (now s) i 0) × (0 < w .top) × (w .top < 32) ⌝ }
-    ensures { λ r. ⌜ ((S : Sig) (Γ : List ℕ) (D : ℕ) (k : NextFits S Γ D (drop i (now (s .entry)))) → stack r ≡ wants S Γ (k .node) ++ below (stack w)) × ((w .top ≤ r .top + 1) × (r .top ≤ 32) × (length (r .sorts) ≡ 32)) ⌝ }
+fn operands(sorts: &mut [u8], top: usize, s: &[u8], i: usize) -> usize
+    requires { ⌜ (i < length (now s)) × (0x60 ≤ getD (now s) i 0) × (0 < top) × (top < length (now sorts)) ⌝ }
+    ensures { λ r. ⌜ ((S : Sig) (Γ : List ℕ) (D : ℕ) (k : NextFits S Γ D (drop i (now (s .entry)))) → drop r (now (sorts .exit)) ≡ wants S Γ (k .node) ++ drop (top + 1) (now (sorts .entry))) × ((top ≤ r + 1) × (r ≤ length (now (sorts .entry)))) ⌝ }
 {
-    let rest = pop(w);
-    let n = wide(s[i]);
-    if n == NOT {
-        return push(rest, BOOL_SORT);
+    let rest = top + 1;
+    let n = elements::wide(s[i]);
+    if n == NOT_CODE {
+        return push(sorts, rest, BOOL_SORT);
     }
-    if n == EQUAL {
-        let d = peek(s, i + 1);
-        return push(push(rest, d), d);
+    if n == EQUAL_CODE {
+        let d = elements::peek(s, i + 1);
+        let t = push(sorts, rest, d);
+        return push(sorts, t, d);
     }
-    push(push(rest, BOOL_SORT), BOOL_SORT)
+    let t = push(sorts, rest, BOOL_SORT);
+    push(sorts, t, BOOL_SORT)
 }
 
-// Where the operator at i ends.
+// Where the operator at i ends: behind `==` a byte for its sort follows.
 fn past(s: &[u8], i: usize) -> usize
     requires { ⌜ i < length (now s) ⌝ }
     ensures { λ r. ⌜ ((x : Node) (ys : List ℕ) → read-node (drop i (now (s .entry))) ≡ found x ys → drop r (now (s .entry)) ≡ ys) ⌝ }
 {
     let j = i + 1;
-    if wide(s[i]) == EQUAL {
+    if elements::wide(s[i]) == EQUAL_CODE {
         if j < s.len() {
             return j + 1;
         }
@@ -218,13 +198,11 @@ fn past(s: &[u8], i: usize) -> usize
 pub fn read_term(s: &[u8], sizes: &[u8], funcs: &[u16], scope: &[u8], at: usize, sort: u8) -> Next
     ensures { λ r. ⌜ ((S : Sig) → KnownData S (now (s .entry)) (now (sizes .entry)) (now (funcs .entry)) → rests (read-term S (now (scope .entry)) sort (drop at (now (s .entry)))) ≡ ended (now (s .entry)) r) ⌝ }
 {
-    let mut w = Want {
-        sorts: [sort; 32],
-        top: 31,
-    };
+    let mut sorts = [sort; WANTED];
+    let mut top = WANTED - 1;
     let mut i = at;
-    let mut left = NODES;
-    while w.top < 32 {
+    let mut left = MAX_NODES;
+    while top < WANTED {
         if left == 0 {
             return Next { ok: false, at: 0 };
         }
@@ -233,19 +211,19 @@ pub fn read_term(s: &[u8], sizes: &[u8], funcs: &[u16], scope: &[u8], at: usize,
         }
         left -= 1;
         let b = s[i];
-        let d = head(w);
-        if wide(b) < NOT {
+        let d = sorts[top];
+        if elements::wide(b) < NOT_CODE {
             if !fits(s, sizes, funcs, scope, b, d) {
                 return Next { ok: false, at: 0 };
             }
-            w = after(s, funcs, b, w);
+            top = after(&mut sorts, top, s, funcs, b);
             i += 1;
             continue;
         }
         if !operator_fits(s, sizes, i, d) {
             return Next { ok: false, at: 0 };
         }
-        w = operands(s, i, w);
+        top = operands(&mut sorts, top, s, i);
         i = past(s, i);
     }
     Next { ok: true, at: i }
@@ -298,7 +276,7 @@ pub fn read_list(s: &[u8], at: usize, least: u8, most: u8, low: u8, limit: usize
         if s[i] < low {
             return Next { ok: false, at: 0 };
         }
-        if limit <= wide(s[i]) {
+        if limit <= elements::wide(s[i]) {
             return Next { ok: false, at: 0 };
         }
         i += 1;

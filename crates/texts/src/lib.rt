@@ -11,7 +11,9 @@ ghost use Rattle.tables.specs.Indexed.{Indexed};
 ghost use Rattle.labels.specs.Labels.{label-of};
 ghost use Rattle.texts.specs.Wrote.{Wrote};
 ghost use Rattle.texts.specs.Pieces.{bracketed};
-use firing::TAU;
+use elements::cell;
+use elements::wide;
+use limits::TAU;
 
 pub fn put_byte(out: &mut [u8], at: usize, b: u8) -> usize
     requires { ⌜ at ≤ length (now out) ⌝ }
@@ -62,11 +64,11 @@ pub fn put_decimal(out: &mut [u8], at: usize, n: usize) -> usize
     put_byte(out, q, digit(m % 10))
 }
 
-fn put_value(out: &mut [u8], at: usize, v: u8) -> usize
+pub fn put_value(out: &mut [u8], at: usize, v: u8) -> usize
     requires { ⌜ at ≤ length (now out) ⌝ }
     ensures { λ r. ⌜ Wrote (now (out .entry)) at (decimal v) (now (out .exit)) r ⌝ }
 {
-    put_decimal(out, at, terms::wide(v))
+    put_decimal(out, at, wide(v))
 }
 
 // "bracketed values by commas, no blanks"
@@ -90,12 +92,12 @@ pub fn put_values(out: &mut [u8], at: usize, arity: u8, v: u8, w: u8) -> usize
 pub fn name(s: &[u8], index: tables::Index, action: u8) -> &[u8]
     ensures { λ r. ⌜ ((T : Table) → Indexed T (now (s .entry)) index → now r ≡ getD (T .sig .acts) action no-action .name) ⌝ }
 {
-    let a = terms::wide(action);
+    let a = wide(action);
     if index.actions <= a {
         return &s[0..0];
     }
     let places = index.acts;
-    terms::list_at(s, terms::place(&places, a))
+    terms::list_at(s, cell(&places, a))
 }
 
 // "label (name, bracketed values by commas, no blanks; tau as `tau`)"

@@ -17,9 +17,10 @@ ghost use Rattle.asking.specs.Replies.{label-told};
 ghost use Rattle.texts.specs.Wrote.{Wrote};
 ghost use Rattle.walker.specs.Moves.{moved-by};
 use blocks::MAX_FILE;
-use blocks::MAX_STREAM;
 use blocks::SHORT_FILE;
 use blocks::SHORT_STREAM;
+use elements::wide;
+use limits::MAX_STREAM;
 use stacks::BYTES;
 
 // "takes step 0 up to 8 times"
@@ -151,7 +152,7 @@ fn put_refused(out: &mut [u8], n: u8) -> usize
     ensures { λ p. ⌜ Wrote (now (out .entry)) 0 (line (bytes "refused " ++ decimal n)) (now (out .exit)) p ⌝ }
 {
     let a = texts::put_bytes(out, 0, b"refused ");
-    let b = texts::put_decimal(out, a, terms::wide(n));
+    let b = texts::put_decimal(out, a, wide(n));
     texts::put_byte(out, b, b'\n')
 }
 

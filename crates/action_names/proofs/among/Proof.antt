@@ -7,10 +7,7 @@ use lib.ListN.{drop, length}
 use borrow.Author.Needs.{needs}
 use Rattle.action_names.proofs.Alike.{found-among, none-among, passed-among}
 use Rattle.pcrl.specs.Tests.{among}
-use Rattle.pcrl.specs.Tokens.{before}
-use Rattle.pcrl.specs.Values.{place}
 use Rattle.laws.specs.Says.{said-yes, said-no}
-use Rattle.terms.proofs.Stack.{places}
 use Rattle.terms.specs.Stands.{list-at}
 use Rattle.action_names.proofs.among.Statement.{statement}
 use Rattle.action_names.proofs.among.Tie as tie
@@ -24,8 +21,8 @@ abbrev μ-loop : tie.MeasureT-loop
 loop-holds : tie.Need-loop-holds Inv-loop μ-loop
 loop-holds c = refl
 
-place-requires : tie.Need-place-requires Inv-loop μ-loop
-place-requires c κs = search needs
+cell-requires : tie.Need-cell-requires Inv-loop μ-loop
+cell-requires c κs = search needs
 
 list-at-requires : tie.Need-list-at-requires Inv-loop μ-loop
 list-at-requires c κs = search needs
@@ -34,7 +31,7 @@ same-requires : tie.Need-same-requires Inv-loop μ-loop
 same-requires c κs = search needs
 
 returns : tie.Need-returns Inv-loop μ-loop
-returns c = sym (c .before .before .before .before .before .loop .inv ∙ found-among (list-at (c .before .before .before .before .before .before .before .before .before .args .s .now)) (c .before .before .before .before .before .before .before .before .before .args .places .now) (c .before .before .before .before .before .loop .k) (c .before .before .before .before .before .before .before .before .before .args .name .now) (c .before .before .list-at .result .now) (omega arith) (c .before .before .list-at .ensures ∙ ap (λ (p : ℕ). list-at (c .before .before .before .before .before .before .before .before .before .args .s .now) p) (c .before .before .before .place .ensures .0)) (said-yes (c .before .same .result) (c .before .same .ensures) (c .if1 .taken)))
+returns c = sym (c .before .before .before .before .before .loop .inv ∙ found-among (list-at (c .before .before .before .before .before .before .before .before .before .args .s .now)) (c .before .before .before .before .before .before .before .before .before .args .places .now) (c .before .before .before .before .before .loop .k) (c .before .before .before .before .before .before .before .before .before .args .name .now) (c .before .before .list-at .result .now) (omega arith) (c .before .before .list-at .ensures ∙ ap (λ (p : ℕ). list-at (c .before .before .before .before .before .before .before .before .before .args .s .now) p) (c .before .before .before .cell .ensures .0)) (said-yes (c .before .same .result) (c .before .same .ensures) (c .if1 .taken)))
 
 add-k : tie.Need-add-k Inv-loop μ-loop
 add-k c = omega arith
@@ -43,7 +40,7 @@ loop-less : tie.Need-loop-less Inv-loop μ-loop
 loop-less c = omega arith
 
 loop-again : tie.Need-loop-again Inv-loop μ-loop
-loop-again c = c .before .before .before .before .before .loop .inv ∙ passed-among (list-at (c .before .before .before .before .before .before .before .before .before .args .s .now)) (c .before .before .before .before .before .before .before .before .before .args .places .now) (c .before .before .before .before .before .loop .k) (c .before .before .before .before .before .before .before .before .before .args .name .now) (c .before .before .list-at .result .now) ((c .before .before .before .before .before .loop .k) + 1) (omega arith) (omega arith) (c .before .before .list-at .ensures ∙ ap (λ (p : ℕ). list-at (c .before .before .before .before .before .before .before .before .before .args .s .now) p) (c .before .before .before .place .ensures .0)) (said-no (c .before .same .result) (c .before .same .ensures) (c .if1 .left))
+loop-again c = c .before .before .before .before .before .loop .inv ∙ passed-among (list-at (c .before .before .before .before .before .before .before .before .before .args .s .now)) (c .before .before .before .before .before .before .before .before .before .args .places .now) (c .before .before .before .before .before .loop .k) (c .before .before .before .before .before .before .before .before .before .args .name .now) (c .before .before .list-at .result .now) ((c .before .before .before .before .before .loop .k) + 1) (omega arith) (omega arith) (c .before .before .list-at .ensures ∙ ap (λ (p : ℕ). list-at (c .before .before .before .before .before .before .before .before .before .args .s .now) p) (c .before .before .before .cell .ensures .0)) (said-no (c .before .same .result) (c .before .same .ensures) (c .if1 .left))
 
 returns-2 : tie.Need-returns-2 Inv-loop μ-loop
 returns-2 c = sym (c .before .loop .inv ∙ none-among (list-at (c .before .before .before .before .before .args .s .now)) (c .before .before .before .before .before .args .places .now) (c .before .loop .k) (c .before .before .before .before .before .args .name .now) (omega arith))
@@ -55,7 +52,7 @@ among-spec =
     Inv-loop
     μ-loop
     loop-holds
-    place-requires
+    cell-requires
     list-at-requires
     same-requires
     returns

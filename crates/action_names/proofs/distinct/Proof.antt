@@ -7,9 +7,6 @@ use lib.ListN.{drop, length}
 use borrow.Author.Needs.{needs}
 use Rattle.action_names.proofs.Alike.{distinct-more, distinct-none, not-distinct}
 use Rattle.pcrl.specs.Tests.{among, distinct}
-use Rattle.pcrl.specs.Tokens.{before}
-use Rattle.pcrl.specs.Values.{place}
-use Rattle.terms.proofs.Stack.{places}
 use Rattle.terms.specs.Stands.{list-at}
 use Rattle.action_names.proofs.distinct.Statement.{statement}
 use Rattle.action_names.proofs.distinct.Tie as tie
@@ -23,8 +20,8 @@ abbrev μ-loop : tie.MeasureT-loop
 loop-holds : tie.Need-loop-holds Inv-loop μ-loop
 loop-holds c = refl
 
-place-requires : tie.Need-place-requires Inv-loop μ-loop
-place-requires c κs = search needs
+cell-requires : tie.Need-cell-requires Inv-loop μ-loop
+cell-requires c κs = search needs
 
 list-at-requires : tie.Need-list-at-requires Inv-loop μ-loop
 list-at-requires c κs = search needs
@@ -36,7 +33,7 @@ among-requires : tie.Need-among-requires Inv-loop μ-loop
 among-requires c κs = search needs
 
 returns : tie.Need-returns Inv-loop μ-loop
-returns c = sym (c .before .before .before .before .before .loop .inv ∙ not-distinct (list-at (c .before .before .before .before .before .before .before .before .args .s .now)) (c .before .before .before .before .before .before .before .before .args .places .now) (c .before .before .before .before .before .loop .k) (c .before .before .list-at .result .now) ((c .before .before .before .before .before .loop .k) + 1) (omega arith) (omega arith) (c .before .before .list-at .ensures ∙ ap (λ (p : ℕ). list-at (c .before .before .before .before .before .before .before .before .args .s .now) p) (c .before .before .before .place .ensures .0)) (sym (c .before .among .ensures) ∙ c .if1 .taken))
+returns c = sym (c .before .before .before .before .before .loop .inv ∙ not-distinct (list-at (c .before .before .before .before .before .before .before .before .args .s .now)) (c .before .before .before .before .before .before .before .before .args .places .now) (c .before .before .before .before .before .loop .k) (c .before .before .list-at .result .now) ((c .before .before .before .before .before .loop .k) + 1) (omega arith) (omega arith) (c .before .before .list-at .ensures ∙ ap (λ (p : ℕ). list-at (c .before .before .before .before .before .before .before .before .args .s .now) p) (c .before .before .before .cell .ensures .0)) (sym (c .before .among .ensures) ∙ c .if1 .taken))
 
 add-k : tie.Need-add-k Inv-loop μ-loop
 add-k c = omega arith
@@ -45,7 +42,7 @@ loop-less : tie.Need-loop-less Inv-loop μ-loop
 loop-less c = omega arith
 
 loop-again : tie.Need-loop-again Inv-loop μ-loop
-loop-again c = c .before .before .before .before .before .loop .inv ∙ distinct-more (list-at (c .before .before .before .before .before .before .before .before .args .s .now)) (c .before .before .before .before .before .before .before .before .args .places .now) (c .before .before .before .before .before .loop .k) (c .before .before .list-at .result .now) ((c .before .before .before .before .before .loop .k) + 1) (omega arith) (omega arith) (c .before .before .list-at .ensures ∙ ap (λ (p : ℕ). list-at (c .before .before .before .before .before .before .before .before .args .s .now) p) (c .before .before .before .place .ensures .0)) (sym (c .before .among .ensures) ∙ c .if1 .left)
+loop-again c = c .before .before .before .before .before .loop .inv ∙ distinct-more (list-at (c .before .before .before .before .before .before .before .before .args .s .now)) (c .before .before .before .before .before .before .before .before .args .places .now) (c .before .before .before .before .before .loop .k) (c .before .before .list-at .result .now) ((c .before .before .before .before .before .loop .k) + 1) (omega arith) (omega arith) (c .before .before .list-at .ensures ∙ ap (λ (p : ℕ). list-at (c .before .before .before .before .before .before .before .before .args .s .now) p) (c .before .before .before .cell .ensures .0)) (sym (c .before .among .ensures) ∙ c .if1 .left)
 
 returns-2 : tie.Need-returns-2 Inv-loop μ-loop
 returns-2 c = sym (c .before .loop .inv ∙ distinct-none (list-at (c .before .before .before .before .args .s .now)) (c .before .before .before .before .args .places .now) (c .before .loop .k) (omega arith))
@@ -57,7 +54,7 @@ distinct-spec =
     Inv-loop
     μ-loop
     loop-holds
-    place-requires
+    cell-requires
     list-at-requires
     add-among
     among-requires

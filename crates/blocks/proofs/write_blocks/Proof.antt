@@ -21,13 +21,13 @@ mul-from : tie.Need-mul-from Inv-loop μ-loop
 unfolding blocks-for
 mul-from c = omega arith
 
-add-least : tie.Need-add-least Inv-loop μ-loop
+add-smaller : tie.Need-add-smaller Inv-loop μ-loop
 unfolding blocks-for
-add-least c = omega arith
+add-smaller c = omega arith
 
-least-requires : tie.Need-least-requires Inv-loop μ-loop
+smaller-requires : tie.Need-smaller-requires Inv-loop μ-loop
 unfolding blocks-for
-least-requires c κs = search needs
+smaller-requires c κs = search needs
 
 mul-at : tie.Need-mul-at Inv-loop μ-loop
 unfolding blocks-for
@@ -66,7 +66,7 @@ write-block-requires c κs =
     let l = c .before .before .before .before .loop in
     let a = c .before .before .before .before .before .before .before .args in
     let p = c .before .before .before .before .before .before .before .pre in
-    block-fits (a .stream .now) (a .out .now) (l .out) (a .count) (l .i) (c .before .before .least .result) (p .1) (p .2) (omega arith) (c .before .before .least .ensures) (l .inv)
+    block-fits (a .stream .now) (a .out .now) (l .out) (a .count) (l .i) (c .before .before .smaller .result) (p .1) (p .2) (omega arith) (c .before .before .smaller .ensures) (l .inv)
 
 add-i : tie.Need-add-i Inv-loop μ-loop
 unfolding blocks-for
@@ -81,7 +81,7 @@ loop-again c =
     let l = c .before .before .before .before .before .before .before .loop in
     let a = c .before .before .before .before .before .before .before .before .before .before .args in
     let p = c .before .before .before .before .before .before .before .before .before .before .pre in
-    write-more (a .stream .now) (a .out .now) (l .out) (a .count) (l .i) (c .before .before .before .before .before .least .result) (p .1) (p .2) (omega arith) (c .before .before .before .before .before .least .ensures) (l .inv) (c .before .before .write-block .last .0) (c .before .before .write-block .ensures)
+    write-more (a .stream .now) (a .out .now) (l .out) (a .count) (l .i) (c .before .before .before .before .before .smaller .result) (p .1) (p .2) (omega arith) (c .before .before .before .before .before .smaller .ensures) (l .inv) (c .before .before .write-block .last .0) (c .before .before .write-block .ensures)
 
 same-length : tie.Need-same-length Inv-loop μ-loop
 same-length c = omega arith
@@ -101,8 +101,8 @@ write-blocks-spec =
     μ-loop
     loop-holds
     mul-from
-    add-least
-    least-requires
+    add-smaller
+    smaller-requires
     mul-at
     add-end
     sub-write-block

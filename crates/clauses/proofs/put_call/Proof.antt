@@ -20,8 +20,8 @@ put-byte-requires c κs = search needs
 put-name-requires : tie.Need-put-name-requires
 put-name-requires c κs = search needs
 
-place-requires : tie.Need-place-requires
-place-requires c κs = search needs
+cell-requires : tie.Need-cell-requires
+cell-requires c κs = search needs
 
 peek-requires-2 : tie.Need-peek-requires-2
 peek-requires-2 c κs = search needs
@@ -41,7 +41,7 @@ same-length c = search needs
 returns : tie.Need-returns
 returns c = let args = c .before .before .before .before .before .before .before .before .before .before .before .before .before .before .before .before .before .before .before .before .before .args in let point = c .before .before .before .before .before .before .before .before .before .before .before .before .before .put-byte .ensures in let name = c .before .before .before .before .before .before .before .before .before .put-name .ensures in let t = c .before .before .put-terms .ensures in (
   within-more (ends-more (wrote-ends point) (wrote-ends name)) (t .0),
-  call-put _ _ _ _ _ _ _ (c .before .before .before .before .before .before .before .before .before .before .before .before .before .before .before .before .before .before .before .before .before .pre .0) (c .before .before .before .before .before .before .before .before .before .before .before .before .before .before .before .wide .result) _ _ _ _ _ _ _ (c .before .before .before .before .before .before .before .before .before .before .before .before .before .before .before .wide .ensures .0 ∙ c .before .before .before .before .before .before .before .before .before .before .before .before .before .before .before .before .peek .ensures) (c .before .before .before .before .before .before .before .before .before .before .before .before .before .before .before .wide .ensures .1) (c .before .before .before .before .wide2 .ensures .0 ∙ c .before .before .before .before .before .peek2 .ensures ∙ ap (λ (x : ℕ). getD (args .s .now) x 0) (c .before .before .before .before .before .before .place .ensures .0)) point name (t .1),
+  call-put _ _ _ _ _ _ _ (c .before .before .before .before .before .before .before .before .before .before .before .before .before .before .before .before .before .before .before .before .before .pre .0) (c .before .before .before .before .before .before .before .before .before .before .before .before .before .before .before .wide .result) _ _ _ _ _ _ _ (c .before .before .before .before .before .before .before .before .before .before .before .before .before .before .before .wide .ensures .0 ∙ c .before .before .before .before .before .before .before .before .before .before .before .before .before .before .before .before .peek .ensures) (c .before .before .before .before .before .before .before .before .before .before .before .before .before .before .before .wide .ensures .1) (c .before .before .before .before .wide2 .ensures .0 ∙ c .before .before .before .before .before .peek2 .ensures ∙ ap (λ (x : ℕ). getD (args .s .now) x 0) (c .before .before .before .before .before .before .cell .ensures .0)) point name (t .1),
 )
 
 pub put-call-spec : {M : Type 1} → statement M
@@ -52,7 +52,7 @@ put-call-spec =
     wide-requires
     put-byte-requires
     put-name-requires
-    place-requires
+    cell-requires
     peek-requires-2
     wide-requires-2
     add-put-terms

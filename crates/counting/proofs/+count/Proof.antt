@@ -15,7 +15,7 @@ use Rattle.counting.proofs.count.Kinds as count-kinds
 use Rattle.counting.proofs.+count.Lts-count as count-lts
 use Rattle.counting.proofs.add.Reads as add-reads
 use Rattle.counting.proofs.leaf.Reads as leaf-reads
-use Rattle.nodes.proofs.cell.Reads as cell-reads
+use Rattle.elements.proofs.cell.Reads as cell-reads
 use Rattle.nodes.proofs.node_at.Reads as node-at-reads
 use Rattle.nodes.proofs.skip.Reads as skip-reads
 use Rattle.counting.proofs.+count.{statement}

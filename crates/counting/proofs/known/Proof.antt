@@ -6,7 +6,6 @@ use borrow.Author.Needs.{needs}
 use Rattle.counting.proofs.known.Statement.{statement}
 use Rattle.counting.proofs.known.Tie as tie
 use Rattle.counting.proofs.known.Lts as lts
-use Rattle.nodes.proofs.cell.Reads as cell-reads
 
 add-cell : tie.Need-add-cell
 add-cell c = search needs

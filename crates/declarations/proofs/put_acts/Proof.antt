@@ -35,11 +35,11 @@ loop-holds : tie.Need-loop-holds Inv-loop μ-loop
 unfolding all
 loop-holds c = (omega arith, ((omega (arith, c .before .before .before .pre), refl), λ S Ps params k few r x e. wrote-nothing _ _ (omega (arith, c .before .before .before .pre))))
 
-place-requires : tie.Need-place-requires Inv-loop μ-loop
-place-requires c κs = search needs
+cell-requires : tie.Need-cell-requires Inv-loop μ-loop
+cell-requires c κs = search needs
 
 put-act-requires : tie.Need-put-act-requires Inv-loop μ-loop
-put-act-requires c κs = (omega (arith, c .before .before .before .loop .inv .1 .0), (omega (arith, c .before .before .before .before .before .before .before .pre), omega (arith, c .before .place .ensures .1)))
+put-act-requires c κs = (omega (arith, c .before .before .before .loop .inv .1 .0), (omega (arith, c .before .before .before .before .before .before .before .pre), omega (arith, c .before .cell .ensures .1)))
 
 add-i : tie.Need-add-i Inv-loop μ-loop
 add-i c = omega arith
@@ -60,7 +60,7 @@ loop-again c =
             let inside : now .i < length (S .acts) = omega (arith, test) in
             let b = getD (S .acts) (now .i) no-action in
             let right = every-at (RightAction (S .sorts)) (S .acts) no-action (now .i) r inside in
-            let there = subst (λ (q : ℕ). Stands (a .s .now) q (encode-action b)) (sym (c .before .before .before .before .place .ensures .0)) (k .act-at (now .i) inside) in
+            let there = subst (λ (q : ℕ). Stands (a .s .now) q (encode-action b)) (sym (c .before .before .before .before .cell .ensures .0)) (k .act-at (now .i) inside) in
             wrote-as _ _ _ _ _ _ (sym (all-more (act-line-text (S .acts)) (S .acts) no-action (now .i) inside))
             (wrote-more _ _ _ (now .out) (now .p) _ _ _ (omega (arith, c .before .before .before .before .before .before .before .before .before .before .pre)) (now .inv .1 .1 S Ps params k few r x e) (next .1 (S .acts) (S .sorts) b few right x there)),
       ),
@@ -81,7 +81,7 @@ put-acts-spec =
     Inv-loop
     μ-loop
     loop-holds
-    place-requires
+    cell-requires
     put-act-requires
     add-i
     loop-less

@@ -35,11 +35,11 @@ loop-holds : tie.Need-loop-holds Inv-loop μ-loop
 unfolding numbered concat all
 loop-holds c = (omega arith, ((omega (arith, c .before .before .before .pre), refl), λ S k few x e. wrote-nothing _ _ (omega (arith, c .before .before .before .pre))))
 
-place-requires : tie.Need-place-requires Inv-loop μ-loop
-place-requires c κs = search needs
+cell-requires : tie.Need-cell-requires Inv-loop μ-loop
+cell-requires c κs = search needs
 
 put-func-requires : tie.Need-put-func-requires Inv-loop μ-loop
-put-func-requires c κs = (omega (arith, c .before .before .before .loop .inv .1 .0), (omega (arith, c .before .before .before .before .before .before .before .pre), omega (arith, c .before .place .ensures .1)))
+put-func-requires c κs = (omega (arith, c .before .before .before .loop .inv .1 .0), (omega (arith, c .before .before .before .before .before .before .before .pre), omega (arith, c .before .cell .ensures .1)))
 
 add-f : tie.Need-add-f Inv-loop μ-loop
 add-f c = omega arith
@@ -62,7 +62,7 @@ loop-again c =
             let start : 0 + now .f ≡ now .f = omega arith in
             let g = func S (now .f) in
             let right = every-at (RightFunc (S .sorts)) (S .funcs) no-func (now .f) (k .right-funcs) inside in
-            let there = subst (λ (q : ℕ). Stands (a .s .now) q (encode-func g)) (sym (c .before .before .before .before .place .ensures .0)) (k .func-at (now .f) inside) in
+            let there = subst (λ (q : ℕ). Stands (a .s .now) q (encode-func g)) (sym (c .before .before .before .before .cell .ensures .0)) (k .func-at (now .f) inside) in
             wrote-as _ _ _ _ _ _ (sym (numbered-more (func-line-text (S .acts)) 0 (S .funcs) no-func (now .f) inside ∙ ap (λ (i : ℕ). concat (numbered (func-line-text (S .acts)) 0 (take (now .f) (S .funcs))) ++ func-line-text (S .acts) i g) start))
             (wrote-more _ _ _ (now .out) (now .p) _ _ _ (omega (arith, c .before .before .before .before .before .before .before .before .before .before .pre)) (now .inv .1 .1 S k few x e) (next .1 S (a .funcs .now) g k right x (omega arith) there)),
       ),
@@ -83,7 +83,7 @@ put-funcs-spec =
     Inv-loop
     μ-loop
     loop-holds
-    place-requires
+    cell-requires
     put-func-requires
     add-f
     loop-less

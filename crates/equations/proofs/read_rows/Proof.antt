@@ -35,8 +35,8 @@ loop-holds : tie.Need-loop-holds Inv-loop μ-loop
 unfolding total-at
 loop-holds c = (omega arith, refl, c .before .before .before .before .before .before .pre .0, c .before .before .before .before .before .before .pre .1 .0, c .before .before .before .before .before .before .pre .1 .1, refl, omega arith, λ S Ps g q. lay-start (each (read-summands S Ps) Ps (drop (c .before .before .before .before .before .before .args .at) (c .before .before .before .before .before .before .args .s .now))) (encode-list encode-summand) (c .before .before .before .before .before .before .args .s .now) (each (read-summands S Ps) Ps (drop (c .before .before .before .before .before .before .args .at) (c .before .before .before .before .before .before .args .s .now))) refl)
 
-place-requires : tie.Need-place-requires Inv-loop μ-loop
-place-requires c κs = search needs
+cell-requires : tie.Need-cell-requires Inv-loop μ-loop
+cell-requires c κs = search needs
 
 list-at-requires : tie.Need-list-at-requires Inv-loop μ-loop
 list-at-requires c κs = search needs
@@ -48,7 +48,7 @@ same-length : tie.Need-same-length Inv-loop μ-loop
 same-length c = c .before .before .before .before .before .before .loop .inv .1
 
 returns : tie.Need-returns Inv-loop μ-loop
-returns c = (λ S Ps g q. not-laid (each (read-summands S Ps) Ps (drop (c .before .before .before .before .before .before .before .before .before .before .before .before .before .args .at) (c .before .before .before .before .before .before .before .before .before .before .before .before .before .args .s .now))) (encode-list encode-summand) (c .before .before .before .before .before .before .before .before .before .before .before .before .before .args .s .now) 0 _ (row-fail S Ps (c .before .before .before .before .before .before .before .before .before .before .before .before .before .args .s .now) (c .before .before .before .before .before .before .before .before .before .before .before .before .before .args .sizes .now) (c .before .before .before .before .before .before .before .before .before .before .before .before .before .args .funcs .now) (c .before .before .before .before .before .before .before .before .before .before .before .before .before .args .acts .now) (c .before .before .before .before .before .before .before .before .before .before .before .before .before .args .params .now) g q (c .before .before .before .before .before .before .before .before .before .before .before .before .before .args .at) (c .before .before .before .before .before .before .loop .k) (c .before .before .before .before .before .before .loop .i) (c .before .before .before .list-at .result .now) (c .before .before .before .before .before .before .loop .rows) (omega arith) (c .before .before .before .list-at .ensures ∙ ap (λ (p : ℕ). list-at (c .before .before .before .before .before .before .before .before .before .before .before .before .before .args .s .now) p) (c .before .before .before .before .place .ensures .0)) (c .before .before .before .before .before .before .loop .inv .7 S Ps g q) (failed (read-summands S Ps (c .before .before .before .list-at .result .now) (drop (c .before .before .before .before .before .before .loop .i) (c .before .before .before .before .before .before .before .before .before .before .before .before .before .args .s .now))) ((c .before .before .read-summands .result) .ok) (drop ((c .before .before .read-summands .result) .at) (c .before .before .before .before .before .before .before .before .before .before .before .before .before .args .s .now)) (c .before .before .read-summands .ensures .0 S Ps (g .data-known) (g .acts-known) (q .params-known) (own-short S Ps (c .before .before .before .before .before .before .before .before .before .before .before .before .before .args .s .now) (c .before .before .before .before .before .before .before .before .before .before .before .before .before .args .sizes .now) (c .before .before .before .before .before .before .before .before .before .before .before .before .before .args .funcs .now) (c .before .before .before .before .before .before .before .before .before .before .before .before .before .args .acts .now) (c .before .before .before .before .before .before .before .before .before .before .before .before .before .args .params .now) g q (c .before .before .before .before .before .before .before .before .before .before .before .before .before .args .at) (c .before .before .before .before .before .before .loop .k) (c .before .before .before .before .before .before .loop .i) (c .before .before .before .list-at .result .now) (c .before .before .before .before .before .before .loop .rows) (omega arith) (c .before .before .before .list-at .ensures ∙ ap (λ (p : ℕ). list-at (c .before .before .before .before .before .before .before .before .before .before .before .before .before .args .s .now) p) (c .before .before .before .before .place .ensures .0)) (c .before .before .before .before .before .before .loop .inv .7 S Ps g q))) (not-true _ (c .if1 .taken)))), λ h. not-so h)
+returns c = (λ S Ps g q. not-laid (each (read-summands S Ps) Ps (drop (c .before .before .before .before .before .before .before .before .before .before .before .before .before .args .at) (c .before .before .before .before .before .before .before .before .before .before .before .before .before .args .s .now))) (encode-list encode-summand) (c .before .before .before .before .before .before .before .before .before .before .before .before .before .args .s .now) 0 _ (row-fail S Ps (c .before .before .before .before .before .before .before .before .before .before .before .before .before .args .s .now) (c .before .before .before .before .before .before .before .before .before .before .before .before .before .args .sizes .now) (c .before .before .before .before .before .before .before .before .before .before .before .before .before .args .funcs .now) (c .before .before .before .before .before .before .before .before .before .before .before .before .before .args .acts .now) (c .before .before .before .before .before .before .before .before .before .before .before .before .before .args .params .now) g q (c .before .before .before .before .before .before .before .before .before .before .before .before .before .args .at) (c .before .before .before .before .before .before .loop .k) (c .before .before .before .before .before .before .loop .i) (c .before .before .before .list-at .result .now) (c .before .before .before .before .before .before .loop .rows) (omega arith) (c .before .before .before .list-at .ensures ∙ ap (λ (p : ℕ). list-at (c .before .before .before .before .before .before .before .before .before .before .before .before .before .args .s .now) p) (c .before .before .before .before .cell .ensures .0)) (c .before .before .before .before .before .before .loop .inv .7 S Ps g q) (failed (read-summands S Ps (c .before .before .before .list-at .result .now) (drop (c .before .before .before .before .before .before .loop .i) (c .before .before .before .before .before .before .before .before .before .before .before .before .before .args .s .now))) ((c .before .before .read-summands .result) .ok) (drop ((c .before .before .read-summands .result) .at) (c .before .before .before .before .before .before .before .before .before .before .before .before .before .args .s .now)) (c .before .before .read-summands .ensures .0 S Ps (g .data-known) (g .acts-known) (q .params-known) (own-short S Ps (c .before .before .before .before .before .before .before .before .before .before .before .before .before .args .s .now) (c .before .before .before .before .before .before .before .before .before .before .before .before .before .args .sizes .now) (c .before .before .before .before .before .before .before .before .before .before .before .before .before .args .funcs .now) (c .before .before .before .before .before .before .before .before .before .before .before .before .before .args .acts .now) (c .before .before .before .before .before .before .before .before .before .before .before .before .before .args .params .now) g q (c .before .before .before .before .before .before .before .before .before .before .before .before .before .args .at) (c .before .before .before .before .before .before .loop .k) (c .before .before .before .before .before .before .loop .i) (c .before .before .before .list-at .result .now) (c .before .before .before .before .before .before .loop .rows) (omega arith) (c .before .before .before .list-at .ensures ∙ ap (λ (p : ℕ). list-at (c .before .before .before .before .before .before .before .before .before .before .before .before .before .args .s .now) p) (c .before .before .before .before .cell .ensures .0)) (c .before .before .before .before .before .before .loop .inv .7 S Ps g q))) (not-true _ (c .if1 .taken)))), λ h. not-so h)
 
 cast-rows : tie.Need-cast-rows Inv-loop μ-loop
 cast-rows c = let h = c .before .before .read-summands .ensures .1 (not-false _ (c .if1 .left)) in omega arith
@@ -83,7 +83,7 @@ loop-again c = (
   c .before .before .before .before .before .before .before .before .loop .inv .4,
   total-more (c .before .before .before .before .before .before .before .before .before .before .before .before .before .before .before .args .s .now) (c .before .before .before .before .before .before .before .before .loop .rows) (c .before .before .before .before .before .before .before .before .loop .k) ((c .before .before .before .before .before .before .before .before .loop .k) + 1) (c .before .before .before .before .before .before .before .before .loop .i) (c .before .before .before .before .before .before .before .before .loop .total) (c .wide .result) (omega arith) (omega arith) (c .before .before .before .before .before .before .before .before .loop .inv .5) (c .wide .ensures .0 ∙ c .before .peek .ensures),
   omega arith,
-  λ S Ps g q. row-pass S Ps (c .before .before .before .before .before .before .before .before .before .before .before .before .before .before .before .args .s .now) (c .before .before .before .before .before .before .before .before .before .before .before .before .before .before .before .args .sizes .now) (c .before .before .before .before .before .before .before .before .before .before .before .before .before .before .before .args .funcs .now) (c .before .before .before .before .before .before .before .before .before .before .before .before .before .before .before .args .acts .now) (c .before .before .before .before .before .before .before .before .before .before .before .before .before .before .before .args .params .now) g q (c .before .before .before .before .before .before .before .before .before .before .before .before .before .before .before .args .at) (c .before .before .before .before .before .before .before .before .loop .k) (c .before .before .before .before .before .before .before .before .loop .i) (c .before .before .before .before .before .list-at .result .now) (c .before .before .before .before .before .before .before .before .loop .rows) (omega arith) (c .before .before .before .before .before .list-at .ensures ∙ ap (λ (p : ℕ). list-at (c .before .before .before .before .before .before .before .before .before .before .before .before .before .before .before .args .s .now) p) (c .before .before .before .before .before .before .place .ensures .0)) (c .before .before .before .before .before .before .before .before .loop .inv .7 S Ps g q) ((c .before .before .before .before .before .before .before .before .loop .k) + 1) ((c .before .before .before .before .read-summands .result) .at) (omega arith) (omega arith) (passed (read-summands S Ps (c .before .before .before .before .before .list-at .result .now) (drop (c .before .before .before .before .before .before .before .before .loop .i) (c .before .before .before .before .before .before .before .before .before .before .before .before .before .before .before .args .s .now))) ((c .before .before .before .before .read-summands .result) .ok) (drop ((c .before .before .before .before .read-summands .result) .at) (c .before .before .before .before .before .before .before .before .before .before .before .before .before .before .before .args .s .now)) (c .before .before .before .before .read-summands .ensures .0 S Ps (g .data-known) (g .acts-known) (q .params-known) (own-short S Ps (c .before .before .before .before .before .before .before .before .before .before .before .before .before .before .before .args .s .now) (c .before .before .before .before .before .before .before .before .before .before .before .before .before .before .before .args .sizes .now) (c .before .before .before .before .before .before .before .before .before .before .before .before .before .before .before .args .funcs .now) (c .before .before .before .before .before .before .before .before .before .before .before .before .before .before .before .args .acts .now) (c .before .before .before .before .before .before .before .before .before .before .before .before .before .before .before .args .params .now) g q (c .before .before .before .before .before .before .before .before .before .before .before .before .before .before .before .args .at) (c .before .before .before .before .before .before .before .before .loop .k) (c .before .before .before .before .before .before .before .before .loop .i) (c .before .before .before .before .before .list-at .result .now) (c .before .before .before .before .before .before .before .before .loop .rows) (omega arith) (c .before .before .before .before .before .list-at .ensures ∙ ap (λ (p : ℕ). list-at (c .before .before .before .before .before .before .before .before .before .before .before .before .before .before .before .args .s .now) p) (c .before .before .before .before .before .before .place .ensures .0)) (c .before .before .before .before .before .before .before .before .loop .inv .7 S Ps g q))) (not-false _ (c .before .before .if1 .left))),
+  λ S Ps g q. row-pass S Ps (c .before .before .before .before .before .before .before .before .before .before .before .before .before .before .before .args .s .now) (c .before .before .before .before .before .before .before .before .before .before .before .before .before .before .before .args .sizes .now) (c .before .before .before .before .before .before .before .before .before .before .before .before .before .before .before .args .funcs .now) (c .before .before .before .before .before .before .before .before .before .before .before .before .before .before .before .args .acts .now) (c .before .before .before .before .before .before .before .before .before .before .before .before .before .before .before .args .params .now) g q (c .before .before .before .before .before .before .before .before .before .before .before .before .before .before .before .args .at) (c .before .before .before .before .before .before .before .before .loop .k) (c .before .before .before .before .before .before .before .before .loop .i) (c .before .before .before .before .before .list-at .result .now) (c .before .before .before .before .before .before .before .before .loop .rows) (omega arith) (c .before .before .before .before .before .list-at .ensures ∙ ap (λ (p : ℕ). list-at (c .before .before .before .before .before .before .before .before .before .before .before .before .before .before .before .args .s .now) p) (c .before .before .before .before .before .before .cell .ensures .0)) (c .before .before .before .before .before .before .before .before .loop .inv .7 S Ps g q) ((c .before .before .before .before .before .before .before .before .loop .k) + 1) ((c .before .before .before .before .read-summands .result) .at) (omega arith) (omega arith) (passed (read-summands S Ps (c .before .before .before .before .before .list-at .result .now) (drop (c .before .before .before .before .before .before .before .before .loop .i) (c .before .before .before .before .before .before .before .before .before .before .before .before .before .before .before .args .s .now))) ((c .before .before .before .before .read-summands .result) .ok) (drop ((c .before .before .before .before .read-summands .result) .at) (c .before .before .before .before .before .before .before .before .before .before .before .before .before .before .before .args .s .now)) (c .before .before .before .before .read-summands .ensures .0 S Ps (g .data-known) (g .acts-known) (q .params-known) (own-short S Ps (c .before .before .before .before .before .before .before .before .before .before .before .before .before .before .before .args .s .now) (c .before .before .before .before .before .before .before .before .before .before .before .before .before .before .before .args .sizes .now) (c .before .before .before .before .before .before .before .before .before .before .before .before .before .before .before .args .funcs .now) (c .before .before .before .before .before .before .before .before .before .before .before .before .before .before .before .args .acts .now) (c .before .before .before .before .before .before .before .before .before .before .before .before .before .before .before .args .params .now) g q (c .before .before .before .before .before .before .before .before .before .before .before .before .before .before .before .args .at) (c .before .before .before .before .before .before .before .before .loop .k) (c .before .before .before .before .before .before .before .before .loop .i) (c .before .before .before .before .before .list-at .result .now) (c .before .before .before .before .before .before .before .before .loop .rows) (omega arith) (c .before .before .before .before .before .list-at .ensures ∙ ap (λ (p : ℕ). list-at (c .before .before .before .before .before .before .before .before .before .before .before .before .before .before .before .args .s .now) p) (c .before .before .before .before .before .before .cell .ensures .0)) (c .before .before .before .before .before .before .before .before .loop .inv .7 S Ps g q))) (not-false _ (c .before .before .if1 .left))),
 )
 
 same-length-2 : tie.Need-same-length-2 Inv-loop μ-loop
@@ -102,7 +102,7 @@ read-rows-spec =
     Inv-loop
     μ-loop
     loop-holds
-    place-requires
+    cell-requires
     list-at-requires
     read-summands-requires
     same-length

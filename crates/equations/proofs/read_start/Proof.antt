@@ -23,8 +23,8 @@ wide-requires c κs = search needs
 returns-2 : tie.Need-returns-2
 returns-2 c = (λ S es z q. start-bad S es (c .before .before .before .before .before .before .before .args .s .now) (c .before .before .before .before .before .before .before .args .sizes .now) (c .before .before .before .before .before .before .before .args .params .now) z q (c .before .before .before .before .before .before .before .args .at) (omega arith) (omega arith), omega arith)
 
-place-requires : tie.Need-place-requires
-place-requires c κs = search needs
+cell-requires : tie.Need-cell-requires
+cell-requires c κs = search needs
 
 list-at-requires : tie.Need-list-at-requires
 list-at-requires c κs = search needs
@@ -36,7 +36,7 @@ read-data-requires : tie.Need-read-data-requires
 read-data-requires c κs = search needs
 
 returns-3 : tie.Need-returns-3
-returns-3 c = (λ S es z q. start-pass S es (c .before .before .before .before .before .before .before .before .before .before .args .s .now) (c .before .before .before .before .before .before .before .before .before .before .args .sizes .now) (c .before .before .before .before .before .before .before .before .before .before .args .params .now) z q (c .before .before .before .before .before .before .before .before .before .before .args .at) ((c .before .before .before .before .before .before .before .before .before .before .args .at) + 1) (c .before .before .place .result) (c .before .list-at .result .now) (omega arith) (omega arith) (omega arith) (c .before .before .place .ensures .0 ∙ ap (λ (i : ℕ). getD (c .before .before .before .before .before .before .before .before .before .before .args .params .now) i 0) (c .before .before .before .before .wide .ensures .0)) (c .before .list-at .ensures) ∙ c .read-data .ensures .0, c .read-data .ensures .1 (omega arith))
+returns-3 c = (λ S es z q. start-pass S es (c .before .before .before .before .before .before .before .before .before .before .args .s .now) (c .before .before .before .before .before .before .before .before .before .before .args .sizes .now) (c .before .before .before .before .before .before .before .before .before .before .args .params .now) z q (c .before .before .before .before .before .before .before .before .before .before .args .at) ((c .before .before .before .before .before .before .before .before .before .before .args .at) + 1) (c .before .before .cell .result) (c .before .list-at .result .now) (omega arith) (omega arith) (omega arith) (c .before .before .cell .ensures .0 ∙ ap (λ (i : ℕ). getD (c .before .before .before .before .before .before .before .before .before .before .args .params .now) i 0) (c .before .before .before .before .wide .ensures .0)) (c .before .list-at .ensures) ∙ c .read-data .ensures .0, c .read-data .ensures .1 (omega arith))
 
 pub read-start-spec : {M : Type 1} → statement M
 read-start-spec =
@@ -46,7 +46,7 @@ read-start-spec =
     shared-slice-read-wide
     wide-requires
     returns-2
-    place-requires
+    cell-requires
     list-at-requires
     add-read-data
     read-data-requires

@@ -14,8 +14,8 @@ returns c = (omega arith, λ S Ps params known is. tau-count S Ps (c .before .be
 wide-requires : tie.Need-wide-requires
 wide-requires c κs = search needs
 
-place-requires : tie.Need-place-requires
-place-requires c κs = search needs
+cell-requires : tie.Need-cell-requires
+cell-requires c κs = search needs
 
 add-peek : tie.Need-add-peek
 add-peek c = search needs
@@ -36,18 +36,18 @@ returns-2 : tie.Need-returns-2
 returns-2 c = (
   omega arith,
   λ S Ps params known is. let a = c .before .before .before .before .before .before .before .before .before .args in
-      let ep = c .before .before .before .before .place .ensures .0 ∙ ap (λ (x : ℕ). getD (a .acts .now) x 0) (c .before .before .before .before .before .wide .ensures .0) in
-      let en = c .before .peek2 .ensures ∙ ap (λ (x : ℕ). getD (a .s .now) (c .before .before .before .before .place .result + 1 + x) 0) (c .before .before .wide2 .ensures .0 ∙ c .before .before .before .peek .ensures) in
-      let f = action-few S Ps (a .s .now) (a .acts .now) params known (a .b) (c .before .before .before .before .place .result) (c .before .peek2 .result) (c .before .before .before .before .before .before .if1 .left) is ep en in absurd (omega (arith, c .if2 .taken)),
+      let ep = c .before .before .before .before .cell .ensures .0 ∙ ap (λ (x : ℕ). getD (a .acts .now) x 0) (c .before .before .before .before .before .wide .ensures .0) in
+      let en = c .before .peek2 .ensures ∙ ap (λ (x : ℕ). getD (a .s .now) (c .before .before .before .before .cell .result + 1 + x) 0) (c .before .before .wide2 .ensures .0 ∙ c .before .before .before .peek .ensures) in
+      let f = action-few S Ps (a .s .now) (a .acts .now) params known (a .b) (c .before .before .before .before .cell .result) (c .before .peek2 .result) (c .before .before .before .before .before .before .if1 .left) is ep en in absurd (omega (arith, c .if2 .taken)),
 )
 
 returns-3 : tie.Need-returns-3
 returns-3 c = (
   omega (arith, c .if2 .left),
   λ S Ps params known is. let a = c .before .before .before .before .before .before .before .before .before .args in
-      let ep = c .before .before .before .before .place .ensures .0 ∙ ap (λ (x : ℕ). getD (a .acts .now) x 0) (c .before .before .before .before .before .wide .ensures .0) in
-      let en = c .before .peek2 .ensures ∙ ap (λ (x : ℕ). getD (a .s .now) (c .before .before .before .before .place .result + 1 + x) 0) (c .before .before .wide2 .ensures .0 ∙ c .before .before .before .peek .ensures) in
-      action-count S Ps (a .s .now) (a .acts .now) params known (a .b) (c .before .before .before .before .place .result) (c .before .peek2 .result) (c .before .before .before .before .before .before .if1 .left) is ep en,
+      let ep = c .before .before .before .before .cell .ensures .0 ∙ ap (λ (x : ℕ). getD (a .acts .now) x 0) (c .before .before .before .before .before .wide .ensures .0) in
+      let en = c .before .peek2 .ensures ∙ ap (λ (x : ℕ). getD (a .s .now) (c .before .before .before .before .cell .result + 1 + x) 0) (c .before .before .wide2 .ensures .0 ∙ c .before .before .before .peek .ensures) in
+      action-count S Ps (a .s .now) (a .acts .now) params known (a .b) (c .before .before .before .before .cell .result) (c .before .peek2 .result) (c .before .before .before .before .before .before .if1 .left) is ep en,
 )
 
 pub action-arity-spec : {M : Type 1} → statement M
@@ -56,7 +56,7 @@ action-arity-spec =
     (tie.spec
     returns
     wide-requires
-    place-requires
+    cell-requires
     add-peek
     peek-requires
     wide-requires-2

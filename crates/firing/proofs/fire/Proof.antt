@@ -24,11 +24,11 @@ wide-requires c κs = search needs
 first-values-requires : tie.Need-first-values-requires
 first-values-requires c κs = search needs
 
-slice-aggregate-place : tie.Need-slice-aggregate-place
-slice-aggregate-place c = search needs
+slice-aggregate-cell : tie.Need-slice-aggregate-cell
+slice-aggregate-cell c = search needs
 
-place-requires : tie.Need-place-requires
-place-requires c κs = search needs
+cell-requires : tie.Need-cell-requires
+cell-requires c κs = search needs
 
 slice-aggregate-fire-rows : tie.Need-slice-aggregate-fire-rows
 slice-aggregate-fire-rows c = search needs
@@ -40,7 +40,7 @@ slice-aggregate-fire-rows-3 : tie.Need-slice-aggregate-fire-rows-3
 slice-aggregate-fire-rows-3 c = search needs
 
 fire-rows-requires : tie.Need-fire-rows-requires
-fire-rows-requires c κs = (c .before .before .before .before .before .before .before .before .before .before .before .before .before .before .before .before .before .pre .0, (omega (arith, c .before .before .before .before .before .before .before .before .parameters .ensures .0, c .before .before .before .before .before .before .before .wide .ensures .0), (c .before .before .before .before .before .before .first-values .ensures .1 .1, (c .before .before .before .before .place .ensures .1, c .before .before .before .before .before .before .before .before .before .before .before .before .before .before .before .before .before .pre .1))))
+fire-rows-requires c κs = (c .before .before .before .before .before .before .before .before .before .before .before .before .before .before .before .before .before .pre .0, (omega (arith, c .before .before .before .before .before .before .before .before .parameters .ensures .0, c .before .before .before .before .before .before .before .wide .ensures .0), (c .before .before .before .before .before .before .first-values .ensures .1 .1, (c .before .before .before .before .cell .ensures .1, c .before .before .before .before .before .before .before .before .before .before .before .before .before .before .before .before .before .pre .1))))
 
 same-length : tie.Need-same-length
 same-length c = search needs
@@ -50,7 +50,7 @@ unfolding listing
 returns c = (
   c .before .before .fire-rows .ensures .0,
   λ T vs indexed right below in-sorts taken. let a = c .before .before .before .before .before .before .before .before .before .before .before .before .before .before .before .before .before .before .before .before .args in let s = a .s .now in let x = a .index in
-      let (rest, here) = row-here T s x indexed right (a .e) below vs in-sorts (c .before .before .before .before .before .before .before .place .result) (c .before .before .before .before .before .before .before .place .ensures .0) in
+      let (rest, here) = row-here T s x indexed right (a .e) below vs in-sorts (c .before .before .before .before .before .before .before .cell .result) (c .before .before .before .before .before .before .before .cell .ensures .0) in
       let n = params-length T in
       let count : c .before .before .before .before .before .before .before .before .before .before .wide .result ≡ length (getD (params-of (T .equations)) (a .e) []) = c .before .before .before .before .before .before .before .before .before .before .wide .ensures .0 ∙ c .before .before .before .before .before .before .before .before .before .before .before .parameters .ensures .1 (T .sig) (params-of (T .equations)) (x .acts) (parts-known T s x indexed right) (omega arith) in
       let same = values-first T s x indexed right (a .e) below vs in-sorts (c .before .before .before .before .before .before .before .before .before .before .wide .result) (c .before .before .before .before .before .before .before .before .before .first-values .result .at) (a .params .now) count (c .before .before .before .before .before .before .before .before .before .first-values .ensures .0) (omega (arith, c .before .before .before .before .before .before .before .before .before .before .before .parameters .ensures .0, c .before .before .before .before .before .before .before .before .before .before .wide .ensures .0)) (c .before .before .before .before .before .before .before .before .before .first-values .ensures .1 .0) taken in
@@ -65,8 +65,8 @@ fire-spec =
     parameters-requires
     wide-requires
     first-values-requires
-    slice-aggregate-place
-    place-requires
+    slice-aggregate-cell
+    cell-requires
     slice-aggregate-fire-rows
     slice-aggregate-fire-rows-2
     slice-aggregate-fire-rows-3

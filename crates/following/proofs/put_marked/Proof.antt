@@ -7,14 +7,14 @@ use borrow.Author.Tests.{not-true, not-false}
 use lib.ListN.{length, take}
 use lib.Count.{trailingZeros, trailing-le}
 use Rattle.pcrl.specs.Limits.{frame-width}
-use Rattle.putting.specs.Slots.{term-bytes}
+use Rattle.laws.specs.TermLength.{max-term}
 use Rattle.putting.proofs.Bytes.{kept-front}
 use Rattle.following.proofs.MarkedLaws.{Left, marked-start, marked-done, marked-out, marked-many, marked-on, marked-long, rest-less}
 use Rattle.following.proofs.put_marked.Statement.{statement}
 use Rattle.following.proofs.put_marked.Tie as tie
 
 abbrev Inv-loop : tie.InvT-loop
-Inv-loop m slots n out₀ w rest₀ at₀ k₀ v₀ out rest at k v = ((at ≤ n) × (w ≤ v) × (v ≤ w + term-bytes * k) × (k ≤ frame-width) × (rest < 2 ^ 32) × (length out ≡ length out₀)) × (take w out ≡ take w out₀) × Left m slots n w out₀ rest at k v out
+Inv-loop m slots n out₀ w rest₀ at₀ k₀ v₀ out rest at k v = ((at ≤ n) × (w ≤ v) × (v ≤ w + max-term * k) × (k ≤ frame-width) × (rest < 2 ^ 32) × (length out ≡ length out₀)) × (take w out ≡ take w out₀) × Left m slots n w out₀ rest at k v out
 
 abbrev μ-loop : tie.MeasureT-loop
 μ-loop m slots n out₀ w rest₀ at₀ k₀ v₀ out rest at k v = rest

@@ -14,7 +14,6 @@ use borrow.Author.Needs.{needs}
 use Rattle.following.proofs.put_one.Statement.{statement}
 use Rattle.following.proofs.put_one.Tie as tie
 use Rattle.following.proofs.put_one.Lts as lts
-use Rattle.nodes.proofs.byte.Reads as byte-reads
 use Rattle.putting.proofs.copy.Reads as copy-reads
 
 mul-byte : tie.Need-mul-byte

@@ -26,8 +26,8 @@ abbrev μ-loop : tie.MeasureT-loop
 loop-holds : tie.Need-loop-holds Inv-loop μ-loop
 loop-holds c = (omega arith, (omega arith, λ S Ps params k e. omega arith))
 
-place-requires : tie.Need-place-requires Inv-loop μ-loop
-place-requires c κs = search needs
+cell-requires : tie.Need-cell-requires Inv-loop μ-loop
+cell-requires c κs = search needs
 
 list-at-requires : tie.Need-list-at-requires Inv-loop μ-loop
 list-at-requires c κs = search needs
@@ -49,10 +49,10 @@ loop-again c =
     let a = c .before .before .before .before .before .before .before .before .args in
     let i = c .before .before .before .before .before .loop .i in
     let test = c .before .before .before .before .loop-test in
-    let place = c .before .before .before .place .ensures .0 in
+    let place = c .before .before .before .cell .ensures .0 in
     let there = c .before .before .list-at .ensures in
     let counted = c .before .front-run .ensures in
-    let short = list-short (a .s .now) (c .before .before .before .place .result) in
+    let short = list-short (a .s .now) (c .before .before .before .cell .result) in
     let long = ap length there in (
       omega (arith, test),
       (
@@ -81,7 +81,7 @@ longest-run-spec =
     Inv-loop
     μ-loop
     loop-holds
-    place-requires
+    cell-requires
     list-at-requires
     front-run-requires
     larger-requires

@@ -19,20 +19,20 @@ abbrev μ-loop : tie.MeasureT-loop
 loop-holds : tie.Need-loop-holds Inv-loop μ-loop
 loop-holds c = (omega arith, λ j h. absurd (omega arith))
 
-mul-word-at : tie.Need-mul-word-at Inv-loop μ-loop
-mul-word-at c = omega (arith, c .before .before .before .pre)
+mul-peek-word : tie.Need-mul-peek-word Inv-loop μ-loop
+mul-peek-word c = omega (arith, c .before .before .before .pre)
 
-add-word-at : tie.Need-add-word-at Inv-loop μ-loop
-add-word-at c = omega (arith, c .before .before .before .pre)
+add-peek-word : tie.Need-add-peek-word Inv-loop μ-loop
+add-peek-word c = omega (arith, c .before .before .before .pre)
 
-word-at-requires : tie.Need-word-at-requires Inv-loop μ-loop
-word-at-requires c κs = search needs
+peek-word-requires : tie.Need-peek-word-requires Inv-loop μ-loop
+peek-word-requires c κs = search needs
 
 many-requires : tie.Need-many-requires Inv-loop μ-loop
 many-requires c κs = search needs
 
 returns : tie.Need-returns Inv-loop μ-loop
-returns c = let a = c .before .before .before .before .before .before .args in let l = c .before .before .before .before .loop in few-not (a .rows .now) (a .n) (l .k) (c .before .many .result) (omega arith) (c .before .many .ensures ∙ ap (λ (x : ℕ). count (bits 32 x)) (c .before .before .word-at .ensures)) (omega arith)
+returns c = let a = c .before .before .before .before .before .before .args in let l = c .before .before .before .before .loop in few-not (a .rows .now) (a .n) (l .k) (c .before .many .result) (omega arith) (c .before .many .ensures ∙ ap (λ (x : ℕ). count (bits 32 x)) (c .before .before .peek-word .ensures)) (omega arith)
 
 add-k : tie.Need-add-k Inv-loop μ-loop
 add-k c = search needs
@@ -41,7 +41,7 @@ loop-less : tie.Need-loop-less Inv-loop μ-loop
 loop-less c = search needs
 
 loop-again : tie.Need-loop-again Inv-loop μ-loop
-loop-again c = let a = c .before .before .before .before .before .before .args in let l = c .before .before .before .before .loop in (omega arith, few-more (a .rows .now) (l .k) (c .before .many .result) (c .before .many .ensures ∙ ap (λ (x : ℕ). count (bits 32 x)) (c .before .before .word-at .ensures)) (omega arith) (l .inv .1))
+loop-again c = let a = c .before .before .before .before .before .before .args in let l = c .before .before .before .before .loop in (omega arith, few-more (a .rows .now) (l .k) (c .before .many .result) (c .before .many .ensures ∙ ap (λ (x : ℕ). count (bits 32 x)) (c .before .before .peek-word .ensures)) (omega arith) (l .inv .1))
 
 returns-2 : tie.Need-returns-2 Inv-loop μ-loop
 returns-2 c = let a = c .before .before .before .args in let l = c .before .loop in few-all (a .rows .now) (a .n) (l .k) (omega arith) (l .inv .1)
@@ -53,9 +53,9 @@ few-marks-spec =
     Inv-loop
     μ-loop
     loop-holds
-    mul-word-at
-    add-word-at
-    word-at-requires
+    mul-peek-word
+    add-peek-word
+    peek-word-requires
     many-requires
     returns
     add-k

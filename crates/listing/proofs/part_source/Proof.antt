@@ -6,29 +6,29 @@ use native.Mathlib.Omega.{arith}
 use Rattle.listing.proofs.part_source.Statement.{statement}
 use Rattle.listing.proofs.part_source.Tie as tie
 
-mul-word-at : tie.Need-mul-word-at
-mul-word-at c = search needs
+mul-peek-word : tie.Need-mul-peek-word
+mul-peek-word c = search needs
 
-word-at-requires : tie.Need-word-at-requires
-word-at-requires c κs = search needs
+peek-word-requires : tie.Need-peek-word-requires
+peek-word-requires c κs = search needs
 
-mul-word-at-2 : tie.Need-mul-word-at-2
-mul-word-at-2 c = search needs
+mul-peek-word-2 : tie.Need-mul-peek-word-2
+mul-peek-word-2 c = search needs
 
-add-word-at : tie.Need-add-word-at
-add-word-at c = search needs
+add-peek-word : tie.Need-add-peek-word
+add-peek-word c = search needs
 
-word-at-requires-2 : tie.Need-word-at-requires-2
-word-at-requires-2 c κs = search needs
+peek-word-requires-2 : tie.Need-peek-word-requires-2
+peek-word-requires-2 c κs = search needs
 
-mul-word-at-3 : tie.Need-mul-word-at-3
-mul-word-at-3 c = search needs
+mul-peek-word-3 : tie.Need-mul-peek-word-3
+mul-peek-word-3 c = search needs
 
-add-word-at-2 : tie.Need-add-word-at-2
-add-word-at-2 c = search needs
+add-peek-word-2 : tie.Need-add-peek-word-2
+add-peek-word-2 c = search needs
 
-word-at-requires-3 : tie.Need-word-at-requires-3
-word-at-requires-3 c κs = search needs
+peek-word-requires-3 : tie.Need-peek-word-requires-3
+peek-word-requires-3 c κs = search needs
 
 cast-t7 : tie.Need-cast-t7
 cast-t7 c = search needs
@@ -55,12 +55,12 @@ returns c =
     let m = c .before .before .in-scope in
     let m2 = c .in-scope2 in
     let many = c .before .many in
-    let n = c .before .before .before .before .word-at2 in (
+    let n = c .before .before .before .before .peek-word2 in (
       record { scope-few = m .ensures .0; next-few = m2 .ensures .0; first-few = omega arith },
       record {
-        at-is = c .before .before .before .before .before .word-at .ensures;
+        at-is = c .before .before .before .before .before .peek-word .ensures;
         scope-is = λ h. m .ensures .1 (omega (arith, n .ensures)) ∙ n .ensures;
-        marks-are = c .before .before .before .word-at3 .ensures;
+        marks-are = c .before .before .before .peek-word3 .ensures;
         next-is = λ h. m2 .ensures .1 (omega (arith, many .ensures)) ∙ many .ensures;
         first-is = refl;
       },
@@ -70,14 +70,14 @@ pub part-source-spec : {M : Type 1} → statement M
 part-source-spec =
     tie.close
     (tie.spec
-    mul-word-at
-    word-at-requires
-    mul-word-at-2
-    add-word-at
-    word-at-requires-2
-    mul-word-at-3
-    add-word-at-2
-    word-at-requires-3
+    mul-peek-word
+    peek-word-requires
+    mul-peek-word-2
+    add-peek-word
+    peek-word-requires-2
+    mul-peek-word-3
+    add-peek-word-2
+    peek-word-requires-3
     cast-t7
     cast-in-scope
     in-scope-requires

@@ -6,7 +6,7 @@ use mathlib.Core.Bool.{false}
 use lib.ListN.{length, take}
 use Rattle.pcrl.specs.Limits.{max-nodes}
 use Rattle.nodes.specs.Layout.{cell-limit}
-use Rattle.putting.specs.Slots.{term-bytes}
+use Rattle.laws.specs.TermLength.{max-term}
 use Rattle.putting.proofs.Bytes.{kept-front}
 use Rattle.putting.proofs.PutLaws.{PutLeft, put-start, put-stuck, put-done, put-on, put-long, put-wide}
 use Rattle.putting.proofs.put_term.Statement.{statement}
@@ -17,7 +17,7 @@ use Rattle.putting.proofs.share_of.Reads as share-of-reads
 
 abbrev Inv-loop : tie.InvT-loop
 Inv-loop cells at slots n out₀ w p₀ need₀ k₀ v₀ out p need k v =
-    ((at ≤ p) × (k ≤ max-nodes) × (need + k ≤ max-nodes + cell-limit) × (w ≤ v) × (v ≤ w + term-bytes) × (length out ≡ length out₀)) × (take w out ≡ take w out₀) × PutLeft cells at slots n w out₀ p need k v out
+    ((at ≤ p) × (k ≤ max-nodes) × (need + k ≤ max-nodes + cell-limit) × (w ≤ v) × (v ≤ w + max-term) × (length out ≡ length out₀)) × (take w out ≡ take w out₀) × PutLeft cells at slots n w out₀ p need k v out
 
 abbrev μ-loop : tie.MeasureT-loop
 μ-loop cells at slots n out₀ w p₀ need₀ k₀ v₀ out p need k v = length cells - p

@@ -4,7 +4,7 @@ use borrow.Author.Tests.{not-true, not-false}
 use Prim.Native.Nat.{ℕ, _+_, _*_, _-_, _≤_, _<_}
 use mathlib.Core.Path.{_≡_, refl, sym, ap, _∙_}
 use lib.ListN.{length, take}
-use Rattle.putting.specs.Slots.{term-bytes}
+use Rattle.laws.specs.TermLength.{max-term}
 use Rattle.putting.proofs.Bytes.{kept-front}
 use Rattle.putting.proofs.Several.{AllLeft, terms-start, terms-done, terms-on, terms-long}
 use Rattle.putting.proofs.put_terms.Statement.{statement}
@@ -14,7 +14,7 @@ use Rattle.putting.proofs.put_term.Reads as put-term-reads
 
 abbrev Inv-loop : tie.InvT-loop
 Inv-loop cells at count slots n out₀ w p₀ j₀ v₀ out p j v =
-    ((j ≤ count) × (w ≤ v) × (v ≤ w + term-bytes * j) × (length out ≡ length out₀)) × (take w out ≡ take w out₀) × AllLeft cells at count slots n w out₀ p j v out
+    ((j ≤ count) × (w ≤ v) × (v ≤ w + max-term * j) × (length out ≡ length out₀)) × (take w out ≡ take w out₀) × AllLeft cells at count slots n w out₀ p j v out
 
 abbrev μ-loop : tie.MeasureT-loop
 μ-loop cells at count slots n out₀ w p₀ j₀ v₀ out p j v = count - j

@@ -20,8 +20,8 @@ wide-requires c κs = search needs
 returns : tie.Need-returns
 returns c = λ T k. no-equation-there frame-width T _ _ _ k (c .before .before .before .before .before .before .before .args .f .now) (c .before .before .before .before .before .before .before .pre) (omega (arith, c .before .wide .ensures .0))
 
-place-requires : tie.Need-place-requires
-place-requires c κs = search needs
+cell-requires : tie.Need-cell-requires
+cell-requires c κs = search needs
 
 list-at-requires : tie.Need-list-at-requires
 list-at-requires c κs = search needs
@@ -43,7 +43,7 @@ returns-2 c = λ T k.
     let a = c .before .before .before .before .before .before .before .before .before .before .before .args in
     let f = a .f .now in
     let ps = a .params .now in
-    let e : c .before .before .before .place .result ≡ getD ps (getD f 0 0) 0 = c .before .before .before .place .ensures .0 ∙ ap (λ (x : ℕ). getD ps x 0) (c .before .before .before .before .before .wide .ensures .0) in
+    let e : c .before .before .before .cell .result ≡ getD ps (getD f 0 0) 0 = c .before .before .before .cell .ensures .0 ∙ ap (λ (x : ℕ). getD ps x 0) (c .before .before .before .before .before .wide .ensures .0) in
     frame-says frame-width T (a .s .now) (a .sizes .now) ps k f (c .before .before .before .before .before .before .before .before .before .before .before .pre) (c .fitting .result) _ _ (omega (arith, c .before .before .before .before .before .wide .ensures .0)) (c .before .before .list-at .ensures ∙ ap (list-at (a .s .now)) e)
     (take-all (length f - 1) (drop 1 f) (omega (arith, length-drop 1 f))) (c .fitting .ensures)
 
@@ -54,7 +54,7 @@ right-frame-spec =
     shared-slice-read-wide
     wide-requires
     returns
-    place-requires
+    cell-requires
     list-at-requires
     sub-fitting
     part-fitting-start

@@ -10,8 +10,8 @@ use lib.ListN.{length, getD, take, drop}
 use Rattle.terms.specs.Stands.{list-at}
 use Rattle.stacks.proofs.StartLaws.{started-frames}
 
-slice-aggregate-place : tie.Need-slice-aggregate-place
-slice-aggregate-place c = search needs
+slice-aggregate-cell : tie.Need-slice-aggregate-cell
+slice-aggregate-cell c = search needs
 
 peek-requires : tie.Need-peek-requires
 peek-requires c κs = search needs
@@ -19,8 +19,8 @@ peek-requires c κs = search needs
 wide-requires : tie.Need-wide-requires
 wide-requires c κs = search needs
 
-place-requires : tie.Need-place-requires
-place-requires c κs = search needs
+cell-requires : tie.Need-cell-requires
+cell-requires c κs = search needs
 
 list-at-requires : tie.Need-list-at-requires
 list-at-requires c κs = search needs
@@ -41,7 +41,7 @@ returns : tie.Need-returns
 returns c = λ T r x.
     let a = c .before .before .before .before .before .before .before .before .before .before .before .before .before .args in
     let s = a .s .now in
-    let place : c .before .before .before .before .before .before .place .result ≡ getD (a .index .params) (c .before .before .before .before .before .before .before .before .peek .result) 0 = c .before .before .before .before .before .before .place .ensures .0 ∙ ap (λ (i : ℕ). getD (a .index .params) i 0) (c .before .before .before .before .before .before .before .wide .ensures .0) in
+    let place : c .before .before .before .before .before .before .cell .result ≡ getD (a .index .params) (c .before .before .before .before .before .before .before .before .peek .result) 0 = c .before .before .before .before .before .before .cell .ensures .0 ∙ ap (λ (i : ℕ). getD (a .index .params) i 0) (c .before .before .before .before .before .before .before .wide .ensures .0) in
     started-frames T s (a .index) r x (c .before .before .before .before .before .before .before .before .peek .result) _ _ _ (c .before .before .before .before .before .before .before .before .peek .ensures) (ap (λ (l : List ℕ). 1 + length l) (c .before .before .before .before .before .list-at .ensures ∙ ap (list-at s) place)) (c .before .before .before .before .part .ensures)
     (c .before .before .spread .kept .1 .0 ∙ c .before .before .before .before .before .before .before .before .before .before .before .before .before .pre) (λ i w. c .before .before .spread .ensures i (omega (arith, c .before .before .before .before .before .before .before .before .before .before .before .before .before .pre)))
 
@@ -49,10 +49,10 @@ pub start-spec : {M : Type 1} → statement M
 start-spec =
     tie.close
     (tie.spec
-    slice-aggregate-place
+    slice-aggregate-cell
     peek-requires
     wide-requires
-    place-requires
+    cell-requires
     list-at-requires
     add-part
     part-requires

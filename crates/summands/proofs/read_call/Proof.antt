@@ -29,8 +29,8 @@ wide-requires c κs = search needs
 returns-2 : tie.Need-returns-2
 returns-2 c = λ S Ps k q. call-bad S Ps (c .before .before .before .before .before .before .before .before .before .args .scope .now) (c .before .before .before .before .before .before .before .before .before .args .s .now) (c .before .before .before .before .before .before .before .before .before .args .params .now) q (c .before .before .before .before .before .before .before .before .before .args .at) (omega arith) (omega arith)
 
-place-requires : tie.Need-place-requires
-place-requires c κs = search needs
+cell-requires : tie.Need-cell-requires
+cell-requires c κs = search needs
 
 list-at-requires : tie.Need-list-at-requires
 list-at-requires c κs = search needs
@@ -42,7 +42,7 @@ read-terms-requires : tie.Need-read-terms-requires
 read-terms-requires c κs = search needs
 
 returns-3 : tie.Need-returns-3
-returns-3 c = λ S Ps k q. call-pass S Ps (c .before .before .before .before .before .before .before .before .before .before .before .before .args .scope .now) (c .before .before .before .before .before .before .before .before .before .before .before .before .args .s .now) (c .before .before .before .before .before .before .before .before .before .before .before .before .args .params .now) q (c .before .before .before .before .before .before .before .before .before .before .before .before .args .at) (omega arith) ((c .before .before .before .before .before .before .before .before .before .before .before .before .args .at) + 1) (c .before .before .place .result) (c .before .list-at .result .now) (omega arith) (omega arith) (c .before .before .place .ensures .0 ∙ ap (λ (i : ℕ). getD (c .before .before .before .before .before .before .before .before .before .before .before .before .args .params .now) i 0) (c .before .before .before .before .wide .ensures .0)) (c .before .list-at .ensures) ∙ c .read-terms .ensures S k
+returns-3 c = λ S Ps k q. call-pass S Ps (c .before .before .before .before .before .before .before .before .before .before .before .before .args .scope .now) (c .before .before .before .before .before .before .before .before .before .before .before .before .args .s .now) (c .before .before .before .before .before .before .before .before .before .before .before .before .args .params .now) q (c .before .before .before .before .before .before .before .before .before .before .before .before .args .at) (omega arith) ((c .before .before .before .before .before .before .before .before .before .before .before .before .args .at) + 1) (c .before .before .cell .result) (c .before .list-at .result .now) (omega arith) (omega arith) (c .before .before .cell .ensures .0 ∙ ap (λ (i : ℕ). getD (c .before .before .before .before .before .before .before .before .before .before .before .before .args .params .now) i 0) (c .before .before .before .before .wide .ensures .0)) (c .before .list-at .ensures) ∙ c .read-terms .ensures S k
 
 pub read-call-spec : {M : Type 1} → statement M
 read-call-spec =
@@ -52,7 +52,7 @@ read-call-spec =
     shared-slice-read-wide
     wide-requires
     returns-2
-    place-requires
+    cell-requires
     list-at-requires
     add-read-terms
     read-terms-requires

@@ -30,8 +30,8 @@ wide-requires c κs = search needs
 returns-3 : tie.Need-returns-3
 returns-3 c = λ S k q. label-bad S (c .before .before .before .before .before .before .before .before .before .before .args .scope .now) (c .before .before .before .before .before .before .before .before .before .before .args .s .now) (c .before .before .before .before .before .before .before .before .before .before .args .at) (c .before .before .before .before .before .before .before .before .before .before .args .acts .now) q (omega arith) (c .before .before .if2 .left) (omega arith)
 
-place-requires : tie.Need-place-requires
-place-requires c κs = search needs
+cell-requires : tie.Need-cell-requires
+cell-requires c κs = search needs
 
 add-list-at : tie.Need-add-list-at
 add-list-at c = search needs
@@ -56,8 +56,8 @@ read-terms-requires c κs = search needs
 
 returns-4 : tie.Need-returns-4
 returns-4 c = λ S k q.
-    let z : c .before .before .before .before .place .result + 1 + c .before .before .wide2 .result ≡ c .before .before .before .before .place .result + 1 + getD (c .before .before .before .before .before .before .before .before .before .before .before .before .before .before .before .args .s .now) (c .before .before .before .before .place .result) 0 = simp (c .before .before .wide2 .ensures .0 ∙ c .before .before .before .peek .ensures) in
-    label-pass S (c .before .before .before .before .before .before .before .before .before .before .before .before .before .before .before .args .scope .now) (c .before .before .before .before .before .before .before .before .before .before .before .before .before .before .before .args .s .now) (c .before .before .before .before .before .before .before .before .before .before .before .before .before .before .before .args .at) (c .before .before .before .before .before .before .before .before .before .before .before .before .before .before .before .args .acts .now) q (omega arith) (c .before .before .before .before .before .before .before .if2 .left) ((c .before .before .before .before .before .before .before .before .before .before .before .before .before .before .before .args .at) + 1) (c .before .before .before .before .place .result) (c .before .list-at .result .now) (omega arith) (omega arith) (c .before .before .before .before .place .ensures .0 ∙ ap (λ (i : ℕ). getD (c .before .before .before .before .before .before .before .before .before .before .before .before .before .before .before .args .acts .now) i 0) (c .before .before .before .before .before .before .wide .ensures .0)) (c .before .list-at .ensures ∙ ap (λ (i : ℕ). list-at (c .before .before .before .before .before .before .before .before .before .before .before .before .before .before .before .args .s .now) i) z) ∙ c .read-terms .ensures S k
+    let z : c .before .before .before .before .cell .result + 1 + c .before .before .wide2 .result ≡ c .before .before .before .before .cell .result + 1 + getD (c .before .before .before .before .before .before .before .before .before .before .before .before .before .before .before .args .s .now) (c .before .before .before .before .cell .result) 0 = simp (c .before .before .wide2 .ensures .0 ∙ c .before .before .before .peek .ensures) in
+    label-pass S (c .before .before .before .before .before .before .before .before .before .before .before .before .before .before .before .args .scope .now) (c .before .before .before .before .before .before .before .before .before .before .before .before .before .before .before .args .s .now) (c .before .before .before .before .before .before .before .before .before .before .before .before .before .before .before .args .at) (c .before .before .before .before .before .before .before .before .before .before .before .before .before .before .before .args .acts .now) q (omega arith) (c .before .before .before .before .before .before .before .if2 .left) ((c .before .before .before .before .before .before .before .before .before .before .before .before .before .before .before .args .at) + 1) (c .before .before .before .before .cell .result) (c .before .list-at .result .now) (omega arith) (omega arith) (c .before .before .before .before .cell .ensures .0 ∙ ap (λ (i : ℕ). getD (c .before .before .before .before .before .before .before .before .before .before .before .before .before .before .before .args .acts .now) i 0) (c .before .before .before .before .before .before .wide .ensures .0)) (c .before .list-at .ensures ∙ ap (λ (i : ℕ). list-at (c .before .before .before .before .before .before .before .before .before .before .before .before .before .before .before .args .s .now) i) z) ∙ c .read-terms .ensures S k
 
 pub read-label-spec : {M : Type 1} → statement M
 read-label-spec =
@@ -69,7 +69,7 @@ read-label-spec =
     returns-2
     wide-requires
     returns-3
-    place-requires
+    cell-requires
     add-list-at
     peek-requires
     wide-requires-2

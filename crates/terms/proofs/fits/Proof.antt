@@ -34,8 +34,8 @@ returns-2 c = λ S k.
 returns-3 : tie.Need-returns-3
 returns-3 c = λ S k. let a = c .before .before .before .before .before .before .before .before .args in no-variable S (a .scope .now) (a .b) (a .d) (omega arith) (omega arith) (omega arith)
 
-place-requires : tie.Need-place-requires
-place-requires c κs = search needs
+cell-requires : tie.Need-cell-requires
+cell-requires c κs = search needs
 
 add-peek : tie.Need-add-peek
 add-peek c = search needs
@@ -57,8 +57,8 @@ returns-4 c = λ S k.
     let a = c .before .before .before .before .before .before .before .before .before .before .before .before .args in
     let f = c .before .before .before .before .before .before .before .wide .result - 0x40 in
     let p = getD (a .funcs .now) f 0 in
-    let q = c .before .before .before .place .ensures .0 in
-    let z : c .before .before .before .place .result + 1 + c .before .wide3 .result ≡ p + 1 + getD (a .s .now) p 0 = simp (c .before .wide3 .ensures .0 ∙ c .before .before .peek2 .ensures, q) in
+    let q = c .before .before .before .cell .ensures .0 in
+    let z : c .before .before .before .cell .result + 1 + c .before .wide3 .result ≡ p + 1 + getD (a .s .now) p 0 = simp (c .before .wide3 .ensures .0 ∙ c .before .before .peek2 .ensures, q) in
     fits-function S (a .s .now) (a .sizes .now) (a .funcs .now) k f (a .scope .now) (a .b) (a .d) (omega arith) (omega arith) (c .peek3 .result) (c .peek3 .ensures ∙ ap (λ (i : ℕ). getD (a .s .now) i 0) z) (omega arith)
 
 returns-5 : tie.Need-returns-5
@@ -75,7 +75,7 @@ fits-spec =
     shared-slice-read-result
     returns-2
     returns-3
-    place-requires
+    cell-requires
     add-peek
     peek-requires-2
     wide-requires-3

@@ -4,7 +4,6 @@ use native.Mathlib.Omega.{arith}
 use lib.ListN.{List·getD-eq-default}
 use borrow.Author.Needs.{needs}
 use Rattle.terms.proofs.Places.{before}
-use Rattle.terms.proofs.Stack.{places}
 use Rattle.terms.proofs.place.Statement.{statement}
 use Rattle.terms.proofs.place.Tie as tie
 

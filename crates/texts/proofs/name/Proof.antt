@@ -26,11 +26,11 @@ part-result-end c = search needs
 returns : tie.Need-returns
 returns c = λ T x. no-name T (c .before .before .before .before .before .args .s .now) (c .before .before .before .before .before .args .index) x (c .before .before .before .before .before .args .action) (omega (arith, c .before .if1, c .before .before .before .wide .ensures .0))
 
-slice-aggregate-place : tie.Need-slice-aggregate-place
-slice-aggregate-place c = search needs
+slice-aggregate-cell : tie.Need-slice-aggregate-cell
+slice-aggregate-cell c = search needs
 
-place-requires : tie.Need-place-requires
-place-requires c κs = search needs
+cell-requires : tie.Need-cell-requires
+cell-requires c κs = search needs
 
 list-at-requires : tie.Need-list-at-requires
 list-at-requires c κs = search needs
@@ -38,7 +38,7 @@ list-at-requires c κs = search needs
 returns-2 : tie.Need-returns-2
 returns-2 c = λ T x.
     let a = c .before .before .before .before .before .before .before .before .args in
-    let place : c .before .place .result ≡ getD (a .index .acts) (a .action) 0 = c .before .place .ensures .0 ∙ ap (λ (i : ℕ). getD (a .index .acts) i 0) (c .before .before .before .before .before .before .wide .ensures .0) in
+    let place : c .before .cell .result ≡ getD (a .index .acts) (a .action) 0 = c .before .cell .ensures .0 ∙ ap (λ (i : ℕ). getD (a .index .acts) i 0) (c .before .before .before .before .before .before .wide .ensures .0) in
     c .list-at .ensures ∙ ap (list-at (a .s .now)) place ∙ name-is T (a .s .now) (a .index) x (a .action) (omega (arith, c .before .before .before .before .if1, c .before .before .before .before .before .before .wide .ensures .0))
 
 pub name-spec : {M : Type 1} → statement M
@@ -50,7 +50,7 @@ name-spec =
     part-result-start
     part-result-end
     returns
-    slice-aggregate-place
-    place-requires
+    slice-aggregate-cell
+    cell-requires
     list-at-requires
     returns-2)

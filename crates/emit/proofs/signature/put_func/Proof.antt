@@ -12,11 +12,11 @@ mul-p c = search needs
 put-row-requires : tie.Need-put-row-requires
 put-row-requires c κs = search needs
 
-add-byte-at : tie.Need-add-byte-at
-add-byte-at c = search needs
+add-peek : tie.Need-add-peek
+add-peek c = search needs
 
-byte-at-requires : tie.Need-byte-at-requires
-byte-at-requires c κs = search needs
+peek-requires : tie.Need-peek-requires
+peek-requires c κs = search needs
 
 put-requires : tie.Need-put-requires
 put-requires c κs = search needs
@@ -41,7 +41,7 @@ same-length c = search needs
 
 returns : tie.Need-returns
 returns c = func-put (c .before .before .before .before .before .before .before .before .before .before .before .before .before .before .before .before .before .before .before .before .args .w) (c .before .before .before .before .before .before .before .before .before .before .before .before .before .before .before .before .before .before .before .before .args .out .now) (c .before .before .copy .result) (c .before .before .copy .last .1 .1 .1 .0) (c .before .before .before .before .before .before .before .before .before .before .before .before .before .before .put-row .result) (c .before .before .before .before .before .before .before .before .before .before .before .before .before .before .put-row .last .1 .1 .0) (c .before .before .before .before .before .before .before .before .before .before .before .before .before .before .before .before .before .before .before .before .args .funcs .now) (c .before .before .before .before .before .before .before .before .before .before .before .before .before .before .before .before .before .before .before .before .args .values .now) (c .before .before .before .before .before .before .before .before .before .before .before .before .before .before .before .before .before .before .before .before .args .places .now) (c .before .before .before .before .before .before .before .before .before .before .before .before .before .before .before .before .before .before .before .before .args .i)
-    (c .before .before .before .before .before .before .before .before .before .before .byte-at .result) (c .before .before .before .before .before .before .cell .result) (c .before .before .before .before .minus .result) (c .before .before .before .before .before .before .before .before .before .put .result) (c .before .before .before .before .before .before .before .before .before .put .last .0) (c .before .before .before .before .before .before .before .before .before .before .byte-at .ensures) (c .before .before .before .before .before .before .cell .ensures .0) (c .before .before .before .before .minus .ensures ∙ ap₂ (λ (a b : ℕ). a - b) (c .before .before .before .before .before .cell2 .ensures .0) (c .before .before .before .before .before .before .cell .ensures .0))
+    (c .before .before .before .before .before .before .before .before .before .before .peek .result) (c .before .before .before .before .before .before .cell .result) (c .before .before .before .before .minus .result) (c .before .before .before .before .before .before .before .before .before .put .result) (c .before .before .before .before .before .before .before .before .before .put .last .0) (c .before .before .before .before .before .before .before .before .before .before .peek .ensures) (c .before .before .before .before .before .before .cell .ensures .0) (c .before .before .before .before .minus .ensures ∙ ap₂ (λ (a b : ℕ). a - b) (c .before .before .before .before .before .cell2 .ensures .0) (c .before .before .before .before .before .before .cell .ensures .0))
     (c .before .before .before .before .before .before .before .before .before .before .before .before .before .before .put-row .ensures) (c .before .before .before .before .before .before .before .before .before .put .ensures) (c .before .before .copy .ensures)
 
 pub put-func-spec : {M : Type 1} → statement M
@@ -50,8 +50,8 @@ put-func-spec =
     (tie.spec
     mul-p
     put-row-requires
-    add-byte-at
-    byte-at-requires
+    add-peek
+    peek-requires
     put-requires
     cell-requires
     add-cell

@@ -4,8 +4,8 @@ use Rattle.emit.proofs.SignatureLaws.{name-put}
 use Rattle.emit.proofs.signature.put_name.Statement.{statement}
 use Rattle.emit.proofs.signature.put_name.Tie as tie
 
-minus-requires : tie.Need-minus-requires
-minus-requires c κs = search needs
+first-byte-requires : tie.Need-first-byte-requires
+first-byte-requires c κs = search needs
 
 run-requires : tie.Need-run-requires
 run-requires c κs = search needs
@@ -23,13 +23,13 @@ same-length : tie.Need-same-length
 same-length c = search needs
 
 returns : tie.Need-returns
-returns c = name-put (c .before .before .before .before .before .before .before .before .before .before .before .before .before .args .w) (c .before .before .before .before .before .before .before .before .before .before .before .before .before .args .out .now) (c .before .before .copy .result) (c .before .before .copy .last .1 .1 .1 .0) (c .before .before .before .before .before .before .put .result) (c .before .before .before .before .before .before .put .last .0) (c .before .before .before .before .before .before .before .before .before .before .before .before .before .args .s .now) (c .before .before .before .before .before .before .before .before .before .before .before .before .before .args .c) (c .before .before .before .before .before .before .before .before .before .before .minus .result) (c .before .before .before .before .before .before .before .before .before .run .result) (c .before .before .before .before .before .before .before .low .result) (c .before .before .before .before .before .before .before .before .before .before .minus .ensures) (c .before .before .before .before .before .before .before .before .before .run .ensures) (c .before .before .before .before .before .before .before .low .ensures) (c .before .before .before .before .before .before .put .ensures) (c .before .before .copy .ensures)
+returns c = name-put (c .before .before .before .before .before .before .before .before .before .before .before .before .before .args .w) (c .before .before .before .before .before .before .before .before .before .before .before .before .before .args .out .now) (c .before .before .copy .result) (c .before .before .copy .last .1 .1 .1 .0) (c .before .before .before .before .before .before .put .result) (c .before .before .before .before .before .before .put .last .0) (c .before .before .before .before .before .before .before .before .before .before .before .before .before .args .s .now) (c .before .before .before .before .before .before .before .before .before .before .before .before .before .args .c) (c .before .before .before .before .before .before .before .before .before .before .first-byte .result) (c .before .before .before .before .before .before .before .before .before .run .result) (c .before .before .before .before .before .before .before .low .result) (c .before .before .before .before .before .before .before .before .before .before .first-byte .ensures .0) (c .before .before .before .before .before .before .before .before .before .run .ensures) (c .before .before .before .before .before .before .before .low .ensures) (c .before .before .before .before .before .before .put .ensures) (c .before .before .copy .ensures)
 
 pub put-name-spec : {M : Type 1} → statement M
 put-name-spec =
     tie.close
     (tie.spec
-    minus-requires
+    first-byte-requires
     run-requires
     low-requires
     put-requires

@@ -9,7 +9,6 @@ use Rattle.heads.proofs.numbering.first_numbers.Statement.{statement}
 use Rattle.heads.proofs.numbering.first_numbers.Tie as tie
 use Rattle.heads.proofs.numbering.first_numbers.Lts as lts
 use Rattle.following.proofs.later.Reads as later-reads
-use Rattle.nodes.proofs.cell.Reads as cell-reads
 use Rattle.nodes.proofs.skip.Reads as skip-reads
 
 abbrev Inv-loop : tie.InvT-loop

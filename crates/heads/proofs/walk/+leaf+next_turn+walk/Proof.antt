@@ -12,9 +12,9 @@ use Rattle.putting.proofs.Bytes.{kept-front}
 use Rattle.contexts.specs.Spots.{arrays, Bound}
 use Rattle.contexts.specs.Steps.{call-room}
 use Rattle.heads.specs.Stack.{later-cells, Steady}
-use Rattle.heads.specs.Progress.{start, WrittenBy, Stands}
+use Rattle.heads.specs.Progress.{start, WrittenBy}
 use Rattle.heads.proofs.Stacking.{steady-start, steady-to, steady-own, steady-lengths, steady-later, steady-back}
-use Rattle.heads.proofs.Walking.{goes-start, goes-stuck, goes-past, goes-step, goes-later, toward-down}
+use Rattle.heads.proofs.Walking.{goes-start, goes-stuck, goes-past, goes-step, goes-later, toward-down, Stands}
 use Rattle.heads.proofs.Standing.{weigh, weigh-less, nearer}
 use Rattle.heads.proofs.Calling.{leaf-kind, is-call, call-fails, call-out}
 use borrow.Fn.Kinds.{In}

@@ -20,11 +20,11 @@ abbrev μ-loop : tie.MeasureT-loop
 loop-holds : tie.Need-loop-holds Inv-loop μ-loop
 loop-holds c = (omega arith, λ k h. absurd (omega arith))
 
-sub-least : tie.Need-sub-least Inv-loop μ-loop
-sub-least c = omega arith
+sub-smaller : tie.Need-sub-smaller Inv-loop μ-loop
+sub-smaller c = omega arith
 
-least-requires : tie.Need-least-requires Inv-loop μ-loop
-least-requires c κs = tt
+smaller-requires : tie.Need-smaller-requires Inv-loop μ-loop
+smaller-requires c κs = tt
 
 add-end : tie.Need-add-end Inv-loop μ-loop
 add-end c = omega arith
@@ -33,13 +33,13 @@ block-printable-requires : tie.Need-block-printable-requires Inv-loop μ-loop
 block-printable-requires c κs = (omega arith, omega arith)
 
 returns : tie.Need-returns Inv-loop μ-loop
-returns c = unprintable (c .before .before .before .before .before .before .args .s .now) (c .before .before .before .before .loop .i) (c .before .before .before .before .loop .i + c .before .before .least .result) (omega arith) (said-no (c .before .block-printable .result) (c .before .block-printable .ensures) (not-true _ (c .if1 .taken)))
+returns c = unprintable (c .before .before .before .before .before .before .args .s .now) (c .before .before .before .before .loop .i) (c .before .before .before .before .loop .i + c .before .before .smaller .result) (omega arith) (said-no (c .before .block-printable .result) (c .before .block-printable .ensures) (not-true _ (c .if1 .taken)))
 
 loop-less : tie.Need-loop-less Inv-loop μ-loop
 loop-less c = omega arith
 
 loop-again : tie.Need-loop-again Inv-loop μ-loop
-loop-again c = (omega arith, up-to (c .before .before .before .before .before .before .args .s .now) (c .before .before .before .before .loop .i) (c .before .before .before .before .loop .i + c .before .before .least .result) (c .before .before .before .before .loop .inv .1) (said-yes (c .before .block-printable .result) (c .before .block-printable .ensures) (not-false _ (c .if1 .left))))
+loop-again c = (omega arith, up-to (c .before .before .before .before .before .before .args .s .now) (c .before .before .before .before .loop .i) (c .before .before .before .before .loop .i + c .before .before .smaller .result) (c .before .before .before .before .loop .inv .1) (said-yes (c .before .block-printable .result) (c .before .block-printable .ensures) (not-false _ (c .if1 .left))))
 
 returns-2 : tie.Need-returns-2 Inv-loop μ-loop
 returns-2 c = all-printable (c .before .before .before .args .s .now) (c .before .loop .i) (omega arith) (c .before .loop .inv .1)
@@ -51,8 +51,8 @@ all-printable-spec =
     Inv-loop
     μ-loop
     loop-holds
-    sub-least
-    least-requires
+    sub-smaller
+    smaller-requires
     add-end
     block-printable-requires
     returns

@@ -15,11 +15,11 @@ Inv-loop classes s at most lo hi end i₀ i = (at ≤ i) × (i ≤ end) × (i - 
 abbrev μ-loop : tie.MeasureT-loop
 μ-loop classes s at most lo hi end i₀ i = end - i
 
-sub-least : tie.Need-sub-least Inv-loop μ-loop
-sub-least c = omega arith
+sub-smaller : tie.Need-sub-smaller Inv-loop μ-loop
+sub-smaller c = omega arith
 
-least-requires : tie.Need-least-requires Inv-loop μ-loop
-least-requires c κs = tt
+smaller-requires : tie.Need-smaller-requires Inv-loop μ-loop
+smaller-requires c κs = tt
 
 add-end : tie.Need-add-end Inv-loop μ-loop
 add-end c = omega arith
@@ -73,8 +73,8 @@ run-within-spec =
     (tie.spec
     Inv-loop
     μ-loop
-    sub-least
-    least-requires
+    sub-smaller
+    smaller-requires
     add-end
     loop-holds
     shared-slice-read-k

@@ -13,17 +13,17 @@ use Rattle.lexer.proofs.FirstToken.{no-pair-from, reads-equals, reads-p
 use Rattle.lexer.proofs.token.equals_at.Statement.{statement}
 use Rattle.lexer.proofs.token.equals_at.Tie as tie
 
-add-byte-at : tie.Need-add-byte-at
-add-byte-at c = search needs
+add-peek : tie.Need-add-peek
+add-peek c = search needs
 
-byte-at-requires : tie.Need-byte-at-requires
-byte-at-requires c κs = search needs
+peek-requires : tie.Need-peek-requires
+peek-requires c κs = search needs
 
 returns : tie.Need-returns
 unfolding sign-cell long-marks same? ℕ-discrete
 returns c = let a = c .before .before .before .args in
     let first = c .before .before .before .pre .1 in
-    let second : getD (a .s .now) (a .at + 1) 0 ≡ 61 = sym (c .before .byte-at .ensures) ∙ c .if1 .taken in
+    let second : getD (a .s .now) (a .at + 1) 0 ≡ 61 = sym (c .before .peek .ensures) ∙ c .if1 .taken in
     let e : 131 ≡ sign-cell first-long-mark long-marks (getD (a .s .now) (a .at) 0 ∷ getD (a .s .now) (a .at + 1) 0 ∷ []) = rw (first, second) in (
       pair-fits (a .s .now) (a .at) 131 (omega arith) e (λ z. omega arith),
       reads-pair (a .s .now) (a .at) 131 (omega arith) e (λ z. omega arith),
@@ -35,10 +35,10 @@ returns-2 c = let a = c .before .before .before .args in
     let first = c .before .before .before .pre .1 in (
       omega arith,
       reads-equals (a .s .now) (a .at) 0 (omega arith)
-          (no-pair-from (getD (a .s .now) (a .at) 0) (getD (a .s .now) (a .at + 1) 0) 61 61 refl first (λ q. c .if1 .left (c .before .byte-at .ensures ∙ q)))
+          (no-pair-from (getD (a .s .now) (a .at) 0) (getD (a .s .now) (a .at + 1) 0) 61 61 refl first (λ q. c .if1 .left (c .before .peek .ensures ∙ q)))
           refl
           first,
     )
 
 pub equals-at-spec : {M : Type 1} → statement M
-equals-at-spec = tie.close (tie.spec add-byte-at byte-at-requires returns returns-2)
+equals-at-spec = tie.close (tie.spec add-peek peek-requires returns returns-2)

@@ -10,20 +10,20 @@ use Rattle.lexer.proofs.FirstToken.{reads-no-pair, reads-pair, pair-fit
 use Rattle.lexer.proofs.token.long_mark_at.Statement.{statement}
 use Rattle.lexer.proofs.token.long_mark_at.Tie as tie
 
-byte-at-requires : tie.Need-byte-at-requires
-byte-at-requires c κs = search needs
+peek-requires : tie.Need-peek-requires
+peek-requires c κs = search needs
 
 equals-at-requires : tie.Need-equals-at-requires
-equals-at-requires c κs = (omega arith, sym (c .before .byte-at .ensures) ∙ c .if1 .taken)
+equals-at-requires c κs = (omega arith, sym (c .before .peek .ensures) ∙ c .if1 .taken)
 
 returns : tie.Need-returns
 returns c = c .equals-at .ensures
 
-add-byte-at : tie.Need-add-byte-at
-add-byte-at c = search needs
+add-peek : tie.Need-add-peek
+add-peek c = search needs
 
-byte-at-requires-2 : tie.Need-byte-at-requires-2
-byte-at-requires-2 c κs = search needs
+peek-requires-2 : tie.Need-peek-requires-2
+peek-requires-2 c κs = search needs
 
 long-mark-requires : tie.Need-long-mark-requires
 long-mark-requires c κs = c .before .if1 .left
@@ -32,17 +32,17 @@ returns-2 : tie.Need-returns-2
 returns-2 c = let first = c .before .before .before .before in
     let start = first .before .before in
     let a = start .args in
-    let e = c .before .long-mark .ensures ∙ ap₂ (λ (x y : ℕ). sign-cell first-long-mark long-marks (x ∷ y ∷ [])) (first .byte-at .ensures) (c .before .before .byte-at2 .ensures) in (
+    let e = c .before .long-mark .ensures ∙ ap₂ (λ (x y : ℕ). sign-cell first-long-mark long-marks (x ∷ y ∷ [])) (first .peek .ensures) (c .before .before .peek2 .ensures) in (
       omega arith,
       reads-no-pair (a .s .now) (a .at) (c .before .long-mark .result) (omega arith) e (c .if2 .taken) (omega (arith, first .before .shared-slice-known .given (a .at))) (start .pre .1)
-          (λ q. c .before .before .before .if1 .left (first .byte-at .ensures ∙ q)),
+          (λ q. c .before .before .before .if1 .left (first .peek .ensures ∙ q)),
     )
 
 returns-3 : tie.Need-returns-3
 returns-3 c = let first = c .before .before .before .before in
     let start = first .before .before in
     let a = start .args in
-    let e = c .before .long-mark .ensures ∙ ap₂ (λ (x y : ℕ). sign-cell first-long-mark long-marks (x ∷ y ∷ [])) (first .byte-at .ensures) (c .before .before .byte-at2 .ensures) in (
+    let e = c .before .long-mark .ensures ∙ ap₂ (λ (x y : ℕ). sign-cell first-long-mark long-marks (x ∷ y ∷ [])) (first .peek .ensures) (c .before .before .peek2 .ensures) in (
       pair-fits (a .s .now) (a .at) (c .before .long-mark .result) (omega arith) e (c .if2 .left),
       reads-pair (a .s .now) (a .at) (c .before .long-mark .result) (omega arith) e (c .if2 .left),
     )
@@ -50,4 +50,4 @@ returns-3 c = let first = c .before .before .before .before in
 pub long-mark-at-spec : {M : Type 1} → statement M
 long-mark-at-spec =
     tie.close
-    (tie.spec byte-at-requires equals-at-requires returns add-byte-at byte-at-requires-2 long-mark-requires returns-2 returns-3)
+    (tie.spec peek-requires equals-at-requires returns add-peek peek-requires-2 long-mark-requires returns-2 returns-3)

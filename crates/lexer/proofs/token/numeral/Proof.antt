@@ -6,8 +6,8 @@ use Rattle.lexer.proofs.Reading.{reads-zero, reads-over, reads-numeral}
 use Rattle.lexer.proofs.token.numeral.Statement.{statement}
 use Rattle.lexer.proofs.token.numeral.Tie as tie
 
-byte-at-requires : tie.Need-byte-at-requires
-byte-at-requires c κs = search needs
+peek-requires : tie.Need-peek-requires
+peek-requires c κs = search needs
 
 returns : tie.Need-returns
 returns c = λ s. reads-zero s (c .before .before .before .before .args .t .now) (c .before .before .if1 .taken) (omega arith)
@@ -26,4 +26,4 @@ returns-3 c = λ s. reads-numeral s (c .before .before .before .before .args .t 
 
 pub numeral-spec : {M : Type 1} → statement M
 numeral-spec =
-    tie.close (tie.spec byte-at-requires returns value-of-requires add-result returns-2 returns-3)
+    tie.close (tie.spec peek-requires returns value-of-requires add-result returns-2 returns-3)

@@ -26,8 +26,8 @@ name-at-requires c κs = let a = c .before .before .before .before .before .args
 numeral-at-requires : tie.Need-numeral-at-requires
 numeral-at-requires c κs = let a = c .before .before .before .before .before .args in let e = c .before .before .before .before .before .pre .0 .entry (getD (a .s .now) (a .at) 0) (omega (arith, c .before .before .shared-slice-known3 .given (a .at))) in (c .before .before .before .before .before .pre .0, omega arith, omega arith)
 
-wide-requires : tie.Need-wide-requires
-wide-requires c κs = search needs
+cell-of-requires : tie.Need-cell-of-requires
+cell-of-requires c κs = search needs
 
 long-mark-at-requires : tie.Need-long-mark-at-requires
 long-mark-at-requires c κs = let a = c .before .before .before .before .before .args in let e = c .before .before .before .before .before .pre .0 .entry (getD (a .s .now) (a .at) 0) (omega (arith, c .before .before .shared-slice-known3 .given (a .at))) in (omega arith, omega arith)
@@ -47,7 +47,7 @@ returns-2 c = let a = c .before .before .before .before .before .before .args in
 returns-3 : tie.Need-returns-3
 returns-3 c = let a = c .before .before .before .before .before .before .args in let h : getD (a .s .now) (a .at) 0 < 256 = omega (arith, c .before .before .before .shared-slice-known3 .given (a .at)) in let e = c .before .before .before .before .before .before .pre .0 .entry (getD (a .s .now) (a .at) 0) h in (
   omega arith,
-  subst⁻¹ (λ (x : ℕ). Reads (a .s .now) (first-token (getD (a .s .now) (a .at) 0) (drop (a .at + 1) (a .s .now))) (record { cell = x; len = 1 })) (c .wide .ensures)
+  subst⁻¹ (λ (x : ℕ). Reads (a .s .now) (first-token (getD (a .s .now) (a .at) 0) (drop (a .at + 1) (a .s .now))) (record { cell = x; len = 1 })) (c .cell-of .ensures)
       (reads-mark (a .s .now) (a .at) (omega arith) h (sym e ∙ c .before .match .keys3)),
 )
 
@@ -73,7 +73,7 @@ token-at-spec =
     shared-slice-read-k
     name-at-requires
     numeral-at-requires
-    wide-requires
+    cell-of-requires
     long-mark-at-requires
     returns
     returns-2

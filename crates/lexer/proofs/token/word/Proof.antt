@@ -11,8 +11,8 @@ use Rattle.lexer.proofs.Signs.{no-word-starting, first-unlike}
 use Rattle.lexer.proofs.token.word.Statement.{statement}
 use Rattle.lexer.proofs.token.word.Tie as tie
 
-byte-at-requires : tie.Need-byte-at-requires
-byte-at-requires c κs = search needs
+peek-requires : tie.Need-peek-requires
+peek-requires c κs = search needs
 
 slice-aggregate-same : tie.Need-slice-aggregate-same
 slice-aggregate-same c = search needs
@@ -72,7 +72,7 @@ returns-2 c = sym (ap (sign-cell first-word words) (said-yes (c .before .same2 .
 
 returns-3 : tie.Need-returns-3
 unfolding words Every
-returns-3 c = no-word-starting (c .before .before .before .before .before .before .before .before .before .args .t .now) 115 (sym (c .before .before .before .before .before .before .before .byte-at .ensures) ∙ c .before .before .before .before .before .before .match .keys1) (said-no (c .before .before .before .before .same .result) (c .before .before .before .before .same .ensures) (c .before .before .before .if1 .left), (said-no (c .before .same2 .result) (c .before .same2 .ensures) (c .if2 .left), tt))
+returns-3 c = no-word-starting (c .before .before .before .before .before .before .before .before .before .args .t .now) 115 (sym (c .before .before .before .before .before .before .before .peek .ensures) ∙ c .before .before .before .before .before .before .match .keys1) (said-no (c .before .before .before .before .same .result) (c .before .before .before .before .same .ensures) (c .before .before .before .if1 .left), (said-no (c .before .same2 .result) (c .before .same2 .ensures) (c .if2 .left), tt))
 
 returns-4 : tie.Need-returns-4
 unfolding sign-cell words same? ℕ-discrete
@@ -80,7 +80,7 @@ returns-4 c = sym (ap (sign-cell first-word words) (said-yes (c .before .same3 .
 
 returns-5 : tie.Need-returns-5
 unfolding words Every
-returns-5 c = no-word-starting (c .before .before .before .before .before .before .args .t .now) 102 (sym (c .before .before .before .before .byte-at .ensures) ∙ c .before .before .before .match .keys2) (said-no (c .before .same3 .result) (c .before .same3 .ensures) (c .if3 .left), tt)
+returns-5 c = no-word-starting (c .before .before .before .before .before .before .args .t .now) 102 (sym (c .before .before .before .before .peek .ensures) ∙ c .before .before .before .match .keys2) (said-no (c .before .same3 .result) (c .before .same3 .ensures) (c .if3 .left), tt)
 
 returns-6 : tie.Need-returns-6
 unfolding sign-cell words same? ℕ-discrete
@@ -88,7 +88,7 @@ returns-6 c = sym (ap (sign-cell first-word words) (said-yes (c .before .same4 .
 
 returns-7 : tie.Need-returns-7
 unfolding words Every
-returns-7 c = no-word-starting (c .before .before .before .before .before .before .args .t .now) 97 (sym (c .before .before .before .before .byte-at .ensures) ∙ c .before .before .before .match .keys3) (said-no (c .before .same4 .result) (c .before .same4 .ensures) (c .if4 .left), tt)
+returns-7 c = no-word-starting (c .before .before .before .before .before .before .args .t .now) 97 (sym (c .before .before .before .before .peek .ensures) ∙ c .before .before .before .match .keys3) (said-no (c .before .same4 .result) (c .before .same4 .ensures) (c .if4 .left), tt)
 
 returns-8 : tie.Need-returns-8
 unfolding sign-cell words same? ℕ-discrete
@@ -96,7 +96,7 @@ returns-8 c = sym (ap (sign-cell first-word words) (said-yes (c .before .same5 .
 
 returns-9 : tie.Need-returns-9
 unfolding words Every
-returns-9 c = no-word-starting (c .before .before .before .before .before .before .args .t .now) 112 (sym (c .before .before .before .before .byte-at .ensures) ∙ c .before .before .before .match .keys4) (said-no (c .before .same5 .result) (c .before .same5 .ensures) (c .if5 .left), tt)
+returns-9 c = no-word-starting (c .before .before .before .before .before .before .args .t .now) 112 (sym (c .before .before .before .before .peek .ensures) ∙ c .before .before .before .match .keys4) (said-no (c .before .same5 .result) (c .before .same5 .ensures) (c .if5 .left), tt)
 
 returns-10 : tie.Need-returns-10
 unfolding sign-cell words same? ℕ-discrete
@@ -104,7 +104,7 @@ returns-10 c = sym (ap (sign-cell first-word words) (said-yes (c .before .same6 
 
 returns-11 : tie.Need-returns-11
 unfolding words Every
-returns-11 c = no-word-starting (c .before .before .before .before .before .before .args .t .now) 105 (sym (c .before .before .before .before .byte-at .ensures) ∙ c .before .before .before .match .keys5) (said-no (c .before .same6 .result) (c .before .same6 .ensures) (c .if6 .left), tt)
+returns-11 c = no-word-starting (c .before .before .before .before .before .before .args .t .now) 105 (sym (c .before .before .before .before .peek .ensures) ∙ c .before .before .before .match .keys5) (said-no (c .before .same6 .result) (c .before .same6 .ensures) (c .if6 .left), tt)
 
 returns-12 : tie.Need-returns-12
 unfolding sign-cell words same? ℕ-discrete
@@ -112,7 +112,7 @@ returns-12 c = sym (ap (sign-cell first-word words) (said-yes (c .before .same7 
 
 returns-13 : tie.Need-returns-13
 unfolding words Every
-returns-13 c = no-word-starting (c .before .before .before .before .before .before .args .t .now) 100 (sym (c .before .before .before .before .byte-at .ensures) ∙ c .before .before .before .match .keys6) (said-no (c .before .same7 .result) (c .before .same7 .ensures) (c .if7 .left), tt)
+returns-13 c = no-word-starting (c .before .before .before .before .before .before .args .t .now) 100 (sym (c .before .before .before .before .peek .ensures) ∙ c .before .before .before .match .keys6) (said-no (c .before .same7 .result) (c .before .same7 .ensures) (c .if7 .left), tt)
 
 returns-14 : tie.Need-returns-14
 unfolding sign-cell words same? ℕ-discrete
@@ -120,16 +120,16 @@ returns-14 c = sym (ap (sign-cell first-word words) (said-yes (c .before .same8 
 
 returns-15 : tie.Need-returns-15
 unfolding words Every
-returns-15 c = no-word-starting (c .before .before .before .before .before .before .args .t .now) 116 (sym (c .before .before .before .before .byte-at .ensures) ∙ c .before .before .before .match .keys7) (said-no (c .before .same8 .result) (c .before .same8 .ensures) (c .if8 .left), tt)
+returns-15 c = no-word-starting (c .before .before .before .before .before .before .args .t .now) 116 (sym (c .before .before .before .before .peek .ensures) ∙ c .before .before .before .match .keys7) (said-no (c .before .same8 .result) (c .before .same8 .ensures) (c .if8 .left), tt)
 
 returns-16 : tie.Need-returns-16
-returns-16 c = first-unlike (c .before .before .before .args .t .now) (λ e. c .match .rest .0 .0 .0 .0 .0 .0 .1 (c .before .byte-at .ensures ∙ e)) (λ e. c .match .rest .0 .0 .0 .0 .0 .1 (c .before .byte-at .ensures ∙ e)) (λ e. c .match .rest .0 .0 .0 .0 .1 (c .before .byte-at .ensures ∙ e)) (λ e. c .match .rest .0 .0 .0 .1 (c .before .byte-at .ensures ∙ e)) (λ e. c .match .rest .0 .0 .1 (c .before .byte-at .ensures ∙ e)) (λ e. c .match .rest .0 .1 (c .before .byte-at .ensures ∙ e)) (λ e. c .match .rest .1 (c .before .byte-at .ensures ∙ e))
+returns-16 c = first-unlike (c .before .before .before .args .t .now) (λ e. c .match .rest .0 .0 .0 .0 .0 .0 .1 (c .before .peek .ensures ∙ e)) (λ e. c .match .rest .0 .0 .0 .0 .0 .1 (c .before .peek .ensures ∙ e)) (λ e. c .match .rest .0 .0 .0 .0 .1 (c .before .peek .ensures ∙ e)) (λ e. c .match .rest .0 .0 .0 .1 (c .before .peek .ensures ∙ e)) (λ e. c .match .rest .0 .0 .1 (c .before .peek .ensures ∙ e)) (λ e. c .match .rest .0 .1 (c .before .peek .ensures ∙ e)) (λ e. c .match .rest .1 (c .before .peek .ensures ∙ e))
 
 pub word-spec : {M : Type 1} → statement M
 word-spec =
     tie.close
     (tie.spec
-    byte-at-requires
+    peek-requires
     slice-aggregate-same
     same-requires
     slice-aggregate-same-2

@@ -15,11 +15,11 @@ abbrev μ-loop : tie.MeasureT-loop
 loop-holds : tie.Need-loop-holds Inv-loop μ-loop
 loop-holds c = counting-starts (c .before .args .cells .now) (c .before .args .step) (c .before .args .at) (c .before .args .most)
 
-cell-requires : tie.Need-cell-requires Inv-loop μ-loop
-cell-requires c κs = tt
+peek-cell-requires : tie.Need-peek-cell-requires Inv-loop μ-loop
+peek-cell-requires c κs = tt
 
 returns : tie.Need-returns Inv-loop μ-loop
-returns c = (omega arith, counting-ends (c .before .before .before .before .before .args .cells .now) (c .before .before .before .before .before .args .step) (c .before .before .before .before .before .args .at) (c .before .before .before .before .before .args .most) (c .before .before .before .loop .p) (c .before .before .before .loop .n) (c .before .before .before .loop .inv) (sym (c .before .cell .ensures) ∙ c .if1 .taken))
+returns c = (omega arith, counting-ends (c .before .before .before .before .before .args .cells .now) (c .before .before .before .before .before .args .step) (c .before .before .before .before .before .args .at) (c .before .before .before .before .before .args .most) (c .before .before .before .loop .p) (c .before .before .before .loop .n) (c .before .before .before .loop .inv) (sym (c .before .peek-cell .ensures) ∙ c .if1 .taken))
 
 add-p : tie.Need-add-p Inv-loop μ-loop
 add-p c = omega (arith, c .before .before .before .loop .inv .near)
@@ -31,7 +31,7 @@ loop-less : tie.Need-loop-less Inv-loop μ-loop
 loop-less c = omega arith
 
 loop-again : tie.Need-loop-again Inv-loop μ-loop
-loop-again c = counting-goes (c .before .before .before .before .before .args .cells .now) (c .before .before .before .before .before .args .step) (c .before .before .before .before .before .args .at) (c .before .before .before .before .before .args .most) (c .before .before .before .loop .p) (c .before .before .before .loop .n) (omega (arith, c .before .before .before .before .before .pre)) (c .before .before .loop-test .taken) (c .before .before .before .loop .inv) (λ e. c .if1 .left (c .before .cell .ensures ∙ e))
+loop-again c = counting-goes (c .before .before .before .before .before .args .cells .now) (c .before .before .before .before .before .args .step) (c .before .before .before .before .before .args .at) (c .before .before .before .before .before .args .most) (c .before .before .before .loop .p) (c .before .before .before .loop .n) (omega (arith, c .before .before .before .before .before .pre)) (c .before .before .loop-test .taken) (c .before .before .before .loop .inv) (λ e. c .if1 .left (c .before .peek-cell .ensures ∙ e))
 
 returns-2 : tie.Need-returns-2 Inv-loop μ-loop
 returns-2 c = (omega arith, counting-full (c .before .before .before .args .cells .now) (c .before .before .before .args .step) (c .before .before .before .args .at) (c .before .before .before .args .most) (c .before .loop .p) (c .before .loop .n) (c .loop-test .left) (c .before .loop .inv))
@@ -43,7 +43,7 @@ items-spec =
     Inv-loop
     μ-loop
     loop-holds
-    cell-requires
+    peek-cell-requires
     returns
     add-p
     add-n

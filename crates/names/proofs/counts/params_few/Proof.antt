@@ -18,26 +18,26 @@ abbrev μ-loop : tie.MeasureT-loop
 loop-holds : tie.Need-loop-holds Inv-loop μ-loop
 loop-holds c = checked-none (λ p. item-count (c .before .before .args .cells .now) 3 (p + 2) 5 ≤ frame-width) (c .before .before .args .procs .now)
 
-mul-place : tie.Need-mul-place Inv-loop μ-loop
-mul-place c = omega arith
+mul-wide-cell : tie.Need-mul-wide-cell Inv-loop μ-loop
+mul-wide-cell c = omega arith
 
-shared-slice-read-place : tie.Need-shared-slice-read-place Inv-loop μ-loop
-shared-slice-read-place c = omega arith
+shared-slice-read-wide-cell : tie.Need-shared-slice-read-wide-cell Inv-loop μ-loop
+shared-slice-read-wide-cell c = omega arith
 
-place-requires : tie.Need-place-requires Inv-loop μ-loop
-place-requires c κs = tt
+wide-cell-requires : tie.Need-wide-cell-requires Inv-loop μ-loop
+wide-cell-requires c κs = tt
 
 add-items : tie.Need-add-items Inv-loop μ-loop
-add-items c = omega (arith, c .place .ensures)
+add-items c = omega (arith, c .wide-cell .ensures)
 
 add-items-2 : tie.Need-add-items-2 Inv-loop μ-loop
-add-items-2 c = omega (arith, c .place .ensures)
+add-items-2 c = omega (arith, c .wide-cell .ensures)
 
 items-requires : tie.Need-items-requires Inv-loop μ-loop
-items-requires c κs = (omega arith, omega (arith, c .place .ensures), omega arith)
+items-requires c κs = (omega arith, omega (arith, c .wide-cell .ensures), omega arith)
 
 returns : tie.Need-returns Inv-loop μ-loop
-returns c = let v = c .before .items .ensures .1 ∙ ap (λ (p : ℕ). item-count (c .before .before .before .before .before .before .before .before .args .cells .now) 3 (p + 2) 5) (c .before .before .place .ensures .0) in checked-not (λ p. item-count (c .before .before .before .before .before .before .before .before .args .cells .now) 3 (p + 2) 5 ≤ frame-width) (c .before .before .before .before .before .before .before .before .args .procs .now) (c .before .before .before .before .before .loop .i) (c .before .before .before .before .loop-test .taken) (c .before .before .before .before .before .loop .inv) (λ b. omega arith)
+returns c = let v = c .before .items .ensures .1 ∙ ap (λ (p : ℕ). item-count (c .before .before .before .before .before .before .before .before .args .cells .now) 3 (p + 2) 5) (c .before .before .wide-cell .ensures .0) in checked-not (λ p. item-count (c .before .before .before .before .before .before .before .before .args .cells .now) 3 (p + 2) 5 ≤ frame-width) (c .before .before .before .before .before .before .before .before .args .procs .now) (c .before .before .before .before .before .loop .i) (c .before .before .before .before .loop-test .taken) (c .before .before .before .before .before .loop .inv) (λ b. omega arith)
 
 add-i : tie.Need-add-i Inv-loop μ-loop
 add-i c = omega arith
@@ -46,7 +46,7 @@ loop-less : tie.Need-loop-less Inv-loop μ-loop
 loop-less c = omega arith
 
 loop-again : tie.Need-loop-again Inv-loop μ-loop
-loop-again c = let v = c .before .items .ensures .1 ∙ ap (λ (p : ℕ). item-count (c .before .before .before .before .before .before .before .before .args .cells .now) 3 (p + 2) 5) (c .before .before .place .ensures .0) in checked-on (λ p. item-count (c .before .before .before .before .before .before .before .before .args .cells .now) 3 (p + 2) 5 ≤ frame-width) (c .before .before .before .before .before .before .before .before .args .procs .now) (c .before .before .before .before .before .loop .i) (c .before .before .before .before .loop-test .taken) (c .before .before .before .before .before .loop .inv) (omega arith)
+loop-again c = let v = c .before .items .ensures .1 ∙ ap (λ (p : ℕ). item-count (c .before .before .before .before .before .before .before .before .args .cells .now) 3 (p + 2) 5) (c .before .before .wide-cell .ensures .0) in checked-on (λ p. item-count (c .before .before .before .before .before .before .before .before .args .cells .now) 3 (p + 2) 5 ≤ frame-width) (c .before .before .before .before .before .before .before .before .args .procs .now) (c .before .before .before .before .before .loop .i) (c .before .before .before .before .loop-test .taken) (c .before .before .before .before .before .loop .inv) (omega arith)
 
 returns-2 : tie.Need-returns-2 Inv-loop μ-loop
 returns-2 c = checked-all (λ p. item-count (c .before .before .before .before .args .cells .now) 3 (p + 2) 5 ≤ frame-width) (c .before .before .before .before .args .procs .now) (c .before .loop .i) (c .loop-test .left) (c .before .loop .inv)
@@ -58,9 +58,9 @@ params-few-spec =
     Inv-loop
     μ-loop
     loop-holds
-    mul-place
-    shared-slice-read-place
-    place-requires
+    mul-wide-cell
+    shared-slice-read-wide-cell
+    wide-cell-requires
     add-items
     add-items-2
     items-requires

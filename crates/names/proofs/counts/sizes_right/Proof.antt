@@ -19,29 +19,29 @@ abbrev μ-loop : tie.MeasureT-loop
 loop-holds : tie.Need-loop-holds Inv-loop μ-loop
 loop-holds c = checked-none (λ p. Between 1 max-size (numeral-at (c .before .before .args .cells .now) (p + 2))) (c .before .before .args .sorts .now)
 
-mul-place : tie.Need-mul-place Inv-loop μ-loop
-mul-place c = omega arith
+mul-wide-cell : tie.Need-mul-wide-cell Inv-loop μ-loop
+mul-wide-cell c = omega arith
 
-shared-slice-read-place : tie.Need-shared-slice-read-place Inv-loop μ-loop
-shared-slice-read-place c = omega arith
+shared-slice-read-wide-cell : tie.Need-shared-slice-read-wide-cell Inv-loop μ-loop
+shared-slice-read-wide-cell c = omega arith
 
-place-requires : tie.Need-place-requires Inv-loop μ-loop
-place-requires c κs = tt
+wide-cell-requires : tie.Need-wide-cell-requires Inv-loop μ-loop
+wide-cell-requires c κs = tt
 
-add-cell : tie.Need-add-cell Inv-loop μ-loop
-add-cell c = omega (arith, c .place .ensures)
+add-peek-cell : tie.Need-add-peek-cell Inv-loop μ-loop
+add-peek-cell c = omega (arith, c .wide-cell .ensures)
 
-cell-requires : tie.Need-cell-requires Inv-loop μ-loop
-cell-requires c κs = tt
+peek-cell-requires : tie.Need-peek-cell-requires Inv-loop μ-loop
+peek-cell-requires c κs = tt
 
 returns : tie.Need-returns Inv-loop μ-loop
-returns c = let v = c .before .cell .ensures ∙ ap (λ p. getD (c .before .before .before .before .before .before .before .before .args .cells .now) (p + 2) 0) (c .before .before .place .ensures .0) in checked-not (λ p. Between 1 max-size (numeral-at (c .before .before .before .before .before .before .before .before .args .cells .now) (p + 2))) (c .before .before .before .before .before .before .before .before .args .sorts .now) (c .before .before .before .before .before .loop .i) (c .before .before .before .before .loop-test .taken) (c .before .before .before .before .before .loop .inv) (λ b. omega arith)
+returns c = let v = c .before .peek-cell .ensures ∙ ap (λ p. getD (c .before .before .before .before .before .before .before .before .args .cells .now) (p + 2) 0) (c .before .before .wide-cell .ensures .0) in checked-not (λ p. Between 1 max-size (numeral-at (c .before .before .before .before .before .before .before .before .args .cells .now) (p + 2))) (c .before .before .before .before .before .before .before .before .args .sorts .now) (c .before .before .before .before .before .loop .i) (c .before .before .before .before .loop-test .taken) (c .before .before .before .before .before .loop .inv) (λ b. omega arith)
 
 add-if2 : tie.Need-add-if2 Inv-loop μ-loop
 add-if2 c = omega arith
 
 returns-2 : tie.Need-returns-2 Inv-loop μ-loop
-returns-2 c = let v = c .before .before .cell .ensures ∙ ap (λ p. getD (c .before .before .before .before .before .before .before .before .before .args .cells .now) (p + 2) 0) (c .before .before .before .place .ensures .0) in checked-not (λ p. Between 1 max-size (numeral-at (c .before .before .before .before .before .before .before .before .before .args .cells .now) (p + 2))) (c .before .before .before .before .before .before .before .before .before .args .sorts .now) (c .before .before .before .before .before .before .loop .i) (c .before .before .before .before .before .loop-test .taken) (c .before .before .before .before .before .before .loop .inv) (λ b. omega arith)
+returns-2 c = let v = c .before .before .peek-cell .ensures ∙ ap (λ p. getD (c .before .before .before .before .before .before .before .before .before .args .cells .now) (p + 2) 0) (c .before .before .before .wide-cell .ensures .0) in checked-not (λ p. Between 1 max-size (numeral-at (c .before .before .before .before .before .before .before .before .before .args .cells .now) (p + 2))) (c .before .before .before .before .before .before .before .before .before .args .sorts .now) (c .before .before .before .before .before .before .loop .i) (c .before .before .before .before .before .loop-test .taken) (c .before .before .before .before .before .before .loop .inv) (λ b. omega arith)
 
 add-i : tie.Need-add-i Inv-loop μ-loop
 add-i c = omega arith
@@ -50,7 +50,7 @@ loop-less : tie.Need-loop-less Inv-loop μ-loop
 loop-less c = omega arith
 
 loop-again : tie.Need-loop-again Inv-loop μ-loop
-loop-again c = let v = c .before .before .cell .ensures ∙ ap (λ p. getD (c .before .before .before .before .before .before .before .before .before .args .cells .now) (p + 2) 0) (c .before .before .before .place .ensures .0) in checked-on (λ p. Between 1 max-size (numeral-at (c .before .before .before .before .before .before .before .before .before .args .cells .now) (p + 2))) (c .before .before .before .before .before .before .before .before .before .args .sorts .now) (c .before .before .before .before .before .before .loop .i) (c .before .before .before .before .before .loop-test .taken) (c .before .before .before .before .before .before .loop .inv) (omega arith, omega arith)
+loop-again c = let v = c .before .before .peek-cell .ensures ∙ ap (λ p. getD (c .before .before .before .before .before .before .before .before .before .args .cells .now) (p + 2) 0) (c .before .before .before .wide-cell .ensures .0) in checked-on (λ p. Between 1 max-size (numeral-at (c .before .before .before .before .before .before .before .before .before .args .cells .now) (p + 2))) (c .before .before .before .before .before .before .before .before .before .args .sorts .now) (c .before .before .before .before .before .before .loop .i) (c .before .before .before .before .before .loop-test .taken) (c .before .before .before .before .before .before .loop .inv) (omega arith, omega arith)
 
 returns-3 : tie.Need-returns-3 Inv-loop μ-loop
 returns-3 c = checked-all (λ p. Between 1 max-size (numeral-at (c .before .before .before .before .args .cells .now) (p + 2))) (c .before .before .before .before .args .sorts .now) (c .before .loop .i) (c .loop-test .left) (c .before .loop .inv)
@@ -62,11 +62,11 @@ sizes-right-spec =
     Inv-loop
     μ-loop
     loop-holds
-    mul-place
-    shared-slice-read-place
-    place-requires
-    add-cell
-    cell-requires
+    mul-wide-cell
+    shared-slice-read-wide-cell
+    wide-cell-requires
+    add-peek-cell
+    peek-cell-requires
     returns
     add-if2
     returns-2

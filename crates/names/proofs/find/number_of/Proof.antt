@@ -19,27 +19,27 @@ loop-holds : tie.Need-loop-holds Inv-loop μ-loop
 unfolding names-at declared-at
 loop-holds c = (omega arith, search-starts (declared-at (c .before .before .before .args .s .now) (c .before .before .before .args .cells .now)) (c .before .before .before .args .places .now) (c .before .before .before .args .count) (c .before .before .before .pre) (name-at (c .before .before .before .args .s .now) (c .before .before .before .args .c)))
 
-mul-place : tie.Need-mul-place Inv-loop μ-loop
-mul-place c = omega arith
+mul-wide-cell : tie.Need-mul-wide-cell Inv-loop μ-loop
+mul-wide-cell c = omega arith
 
-shared-slice-read-place : tie.Need-shared-slice-read-place Inv-loop μ-loop
-shared-slice-read-place c = omega (arith, c .before .before .before .before .before .before .pre)
+shared-slice-read-wide-cell : tie.Need-shared-slice-read-wide-cell Inv-loop μ-loop
+shared-slice-read-wide-cell c = omega (arith, c .before .before .before .before .before .before .pre)
 
-place-requires : tie.Need-place-requires Inv-loop μ-loop
-place-requires c κs = tt
+wide-cell-requires : tie.Need-wide-cell-requires Inv-loop μ-loop
+wide-cell-requires c κs = tt
 
-add-cell : tie.Need-add-cell Inv-loop μ-loop
-add-cell c = omega (arith, c .place .ensures)
+add-peek-cell : tie.Need-add-peek-cell Inv-loop μ-loop
+add-peek-cell c = omega (arith, c .wide-cell .ensures)
 
-cell-requires : tie.Need-cell-requires Inv-loop μ-loop
-cell-requires c κs = tt
+peek-cell-requires : tie.Need-peek-cell-requires Inv-loop μ-loop
+peek-cell-requires c κs = tt
 
 same-name-requires : tie.Need-same-name-requires Inv-loop μ-loop
 same-name-requires c κs = tt
 
 returns : tie.Need-returns Inv-loop μ-loop
 unfolding names-at declared-at
-returns c = (omega arith, search-finds (declared-at (c .before .before .before .before .before .before .before .before .before .before .args .s .now) (c .before .before .before .before .before .before .before .before .before .before .args .cells .now)) (c .before .before .before .before .before .before .before .before .before .before .args .places .now) (c .before .before .before .before .before .before .before .before .before .before .args .count) (c .before .before .before .before .before .before .before .before .before .before .pre) (name-at (c .before .before .before .before .before .before .before .before .before .before .args .s .now) (c .before .before .before .before .before .before .before .before .before .before .args .c)) (c .before .before .before .before .before .before .loop .i) (c .before .before .before .before .before .loop-test .taken) (c .before .before .before .before .before .before .loop .inv .1) (said-yes _ (c .before .same-name .ensures) (c .if1 .taken) ∙ (ap (name-at (c .before .before .before .before .before .before .before .before .before .before .args .s .now)) (c .before .before .cell .ensures ∙ ap (λ p. getD (c .before .before .before .before .before .before .before .before .before .before .args .cells .now) (p + 1) 0) (c .before .before .before .place .ensures .0)))))
+returns c = (omega arith, search-finds (declared-at (c .before .before .before .before .before .before .before .before .before .before .args .s .now) (c .before .before .before .before .before .before .before .before .before .before .args .cells .now)) (c .before .before .before .before .before .before .before .before .before .before .args .places .now) (c .before .before .before .before .before .before .before .before .before .before .args .count) (c .before .before .before .before .before .before .before .before .before .before .pre) (name-at (c .before .before .before .before .before .before .before .before .before .before .args .s .now) (c .before .before .before .before .before .before .before .before .before .before .args .c)) (c .before .before .before .before .before .before .loop .i) (c .before .before .before .before .before .loop-test .taken) (c .before .before .before .before .before .before .loop .inv .1) (said-yes _ (c .before .same-name .ensures) (c .if1 .taken) ∙ (ap (name-at (c .before .before .before .before .before .before .before .before .before .before .args .s .now)) (c .before .before .peek-cell .ensures ∙ ap (λ p. getD (c .before .before .before .before .before .before .before .before .before .before .args .cells .now) (p + 1) 0) (c .before .before .before .wide-cell .ensures .0)))))
 
 add-i : tie.Need-add-i Inv-loop μ-loop
 add-i c = omega arith
@@ -49,7 +49,7 @@ loop-less c = omega arith
 
 loop-again : tie.Need-loop-again Inv-loop μ-loop
 unfolding names-at declared-at
-loop-again c = (omega arith, search-goes (declared-at (c .before .before .before .before .before .before .before .before .before .before .args .s .now) (c .before .before .before .before .before .before .before .before .before .before .args .cells .now)) (c .before .before .before .before .before .before .before .before .before .before .args .places .now) (c .before .before .before .before .before .before .before .before .before .before .args .count) (c .before .before .before .before .before .before .before .before .before .before .pre) (name-at (c .before .before .before .before .before .before .before .before .before .before .args .s .now) (c .before .before .before .before .before .before .before .before .before .before .args .c)) (c .before .before .before .before .before .before .loop .i) (c .before .before .before .before .before .loop-test .taken) (c .before .before .before .before .before .before .loop .inv .1) (λ e. said-no _ (c .before .same-name .ensures) (c .if1 .left) (e ∙ sym (ap (name-at (c .before .before .before .before .before .before .before .before .before .before .args .s .now)) (c .before .before .cell .ensures ∙ ap (λ p. getD (c .before .before .before .before .before .before .before .before .before .before .args .cells .now) (p + 1) 0) (c .before .before .before .place .ensures .0))))))
+loop-again c = (omega arith, search-goes (declared-at (c .before .before .before .before .before .before .before .before .before .before .args .s .now) (c .before .before .before .before .before .before .before .before .before .before .args .cells .now)) (c .before .before .before .before .before .before .before .before .before .before .args .places .now) (c .before .before .before .before .before .before .before .before .before .before .args .count) (c .before .before .before .before .before .before .before .before .before .before .pre) (name-at (c .before .before .before .before .before .before .before .before .before .before .args .s .now) (c .before .before .before .before .before .before .before .before .before .before .args .c)) (c .before .before .before .before .before .before .loop .i) (c .before .before .before .before .before .loop-test .taken) (c .before .before .before .before .before .before .loop .inv .1) (λ e. said-no _ (c .before .same-name .ensures) (c .if1 .left) (e ∙ sym (ap (name-at (c .before .before .before .before .before .before .before .before .before .before .args .s .now)) (c .before .before .peek-cell .ensures ∙ ap (λ p. getD (c .before .before .before .before .before .before .before .before .before .before .args .cells .now) (p + 1) 0) (c .before .before .before .wide-cell .ensures .0))))))
 
 returns-2 : tie.Need-returns-2 Inv-loop μ-loop
 unfolding names-at declared-at
@@ -62,11 +62,11 @@ number-of-spec =
     Inv-loop
     μ-loop
     loop-holds
-    mul-place
-    shared-slice-read-place
-    place-requires
-    add-cell
-    cell-requires
+    mul-wide-cell
+    shared-slice-read-wide-cell
+    wide-cell-requires
+    add-peek-cell
+    peek-cell-requires
     same-name-requires
     returns
     add-i

@@ -24,17 +24,17 @@ loop-holds c =
     let start = c .before .before .before .args in
     alike-start (start .s .now) (start .a) (start .b) _ _ (omega (arith, c .before .first-byte .ensures)) (omega (arith, c .first-byte2 .ensures))
 
-add-byte-at : tie.Need-add-byte-at Inv-loop μ-loop
-add-byte-at c = omega (arith, c .before .before .before .first-byte .ensures)
+add-peek : tie.Need-add-peek Inv-loop μ-loop
+add-peek c = omega (arith, c .before .before .before .first-byte .ensures)
 
-byte-at-requires : tie.Need-byte-at-requires Inv-loop μ-loop
-byte-at-requires c κs = tt
+peek-requires : tie.Need-peek-requires Inv-loop μ-loop
+peek-requires c κs = tt
 
-add-byte-at-2 : tie.Need-add-byte-at-2 Inv-loop μ-loop
-add-byte-at-2 c = omega (arith, c .before .before .before .first-byte2 .ensures)
+add-peek-2 : tie.Need-add-peek-2 Inv-loop μ-loop
+add-peek-2 c = omega (arith, c .before .before .before .first-byte2 .ensures)
 
-byte-at-requires-2 : tie.Need-byte-at-requires-2 Inv-loop μ-loop
-byte-at-requires-2 c κs = tt
+peek-requires-2 : tie.Need-peek-requires-2 Inv-loop μ-loop
+peek-requires-2 c κs = tt
 
 letter-requires : tie.Need-letter-requires Inv-loop μ-loop
 letter-requires c κs = tt
@@ -45,8 +45,8 @@ returns c =
     let here = c .before .before .before .before .before .before .loop in
     let p = c .before .before .before .before .before .before .before .before .first-byte .result in
     let q = c .before .before .before .before .before .before .before .first-byte2 .result in
-    let x = c .before .before .before .before .byte-at in
-    let y = c .before .before .before .byte-at2 in
+    let x = c .before .before .before .before .peek in
+    let y = c .before .before .before .peek2 in
     let shows = c .before .letter .ensures in
     apart-first (start .s .now) (start .a) (start .b) (p + here .i) (q + here .i) (x .result) (y .result) (here .inv) (x .ensures) (y .ensures) (c .before .before .if1 .taken) (λ z. c .if2 .taken (shows ∙ z))
 
@@ -59,8 +59,8 @@ returns-2 c =
     let here = c .before .before .before .before .before .before .before .before .loop in
     let p = c .before .before .before .before .before .before .before .before .before .before .first-byte .result in
     let q = c .before .before .before .before .before .before .before .before .before .first-byte2 .result in
-    let x = c .before .before .before .before .before .before .byte-at in
-    let y = c .before .before .before .before .before .byte-at2 in
+    let x = c .before .before .before .before .before .before .peek in
+    let y = c .before .before .before .before .before .peek2 in
     apart-second (start .s .now) (start .a) (start .b) (p + here .i) (q + here .i) (x .result) (y .result) (here .inv) (x .ensures) (y .ensures) (sym (c .before .before .before .letter .ensures) ∙ c .before .before .if2 .left) (λ z. c .if3 .taken (c .before .letter2 .ensures ∙ z))
 
 returns-3 : tie.Need-returns-3 Inv-loop μ-loop
@@ -69,8 +69,8 @@ returns-3 c =
     let here = c .before .before .before .before .before .before .before .before .loop in
     let p = c .before .before .before .before .before .before .before .before .before .before .first-byte .result in
     let q = c .before .before .before .before .before .before .before .before .before .first-byte2 .result in
-    let x = c .before .before .before .before .before .before .byte-at in
-    let y = c .before .before .before .before .before .byte-at2 in
+    let x = c .before .before .before .before .before .before .peek in
+    let y = c .before .before .before .before .before .peek2 in
     both-end (start .s .now) (start .a) (start .b) (p + here .i) (q + here .i) (x .result) (y .result) (here .inv) (x .ensures) (y .ensures) (sym (c .before .before .before .letter .ensures) ∙ c .before .before .if2 .left) (sym (c .before .letter2 .ensures) ∙ c .if3 .left)
 
 letter-requires-3 : tie.Need-letter-requires-3 Inv-loop μ-loop
@@ -82,8 +82,8 @@ returns-4 c =
     let here = c .before .before .before .before .before .before .loop in
     let p = c .before .before .before .before .before .before .before .before .first-byte .result in
     let q = c .before .before .before .before .before .before .before .first-byte2 .result in
-    let x = c .before .before .before .before .byte-at in
-    let y = c .before .before .before .byte-at2 in
+    let x = c .before .before .before .before .peek in
+    let y = c .before .before .before .peek2 in
     let none = sym (c .before .letter3 .ensures) ∙ c .if4 .taken in
     both-end (start .s .now) (start .a) (start .b) (p + here .i) (q + here .i) (x .result) (y .result) (here .inv) (x .ensures) (y .ensures) none (rw (c .before .before .if1 .left) at none)
 
@@ -99,8 +99,8 @@ loop-again c =
     let here = c .before .before .before .before .before .before .loop in
     let p = c .before .before .before .before .before .before .before .before .first-byte .result in
     let q = c .before .before .before .before .before .before .before .first-byte2 .result in
-    let x = c .before .before .before .before .byte-at in
-    let y = c .before .before .before .byte-at2 in
+    let x = c .before .before .before .before .peek in
+    let y = c .before .before .before .peek2 in
     both-go (start .s .now) (start .a) (start .b) (p + here .i) (q + here .i) (x .result) (y .result) (here .inv) (x .ensures) (y .ensures) _ _ (c .before .before .if1 .left) (λ z. c .if4 .left (c .before .letter3 .ensures ∙ z)) (omega arith) (omega arith)
 
 returns-5 : tie.Need-returns-5 Inv-loop μ-loop
@@ -117,10 +117,10 @@ same-name-spec =
     first-byte-requires
     first-byte-requires-2
     loop-holds
-    add-byte-at
-    byte-at-requires
-    add-byte-at-2
-    byte-at-requires-2
+    add-peek
+    peek-requires
+    add-peek-2
+    peek-requires-2
     letter-requires
     returns
     letter-requires-2

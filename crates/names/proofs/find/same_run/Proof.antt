@@ -36,11 +36,11 @@ shared-slice-read-if1 c =
     let q = c .before .before .before .first-byte2 in
     byte-inside (args .s .now) (args .c) (args .d) (p .result) (q .result) (args .l) (p .ensures .0) (q .ensures .0) (start .pre) (c .before .before .loop .i - 1) (omega arith)
 
-add-byte-at : tie.Need-add-byte-at Inv-loop μ-loop
-add-byte-at c = omega (arith, c .before .before .before .before .before .before .pre, name-short (c .before .before .before .before .before .before .args .s .now) (c .before .before .before .before .before .before .args .c))
+add-peek : tie.Need-add-peek Inv-loop μ-loop
+add-peek c = omega (arith, c .before .before .before .before .before .before .pre, name-short (c .before .before .before .before .before .before .args .s .now) (c .before .before .before .before .before .before .args .c))
 
-byte-at-requires : tie.Need-byte-at-requires Inv-loop μ-loop
-byte-at-requires c κs = tt
+peek-requires : tie.Need-peek-requires Inv-loop μ-loop
+peek-requires c κs = tt
 
 returns : tie.Need-returns Inv-loop μ-loop
 returns c =
@@ -48,7 +48,7 @@ returns c =
     let args = start .args in
     let p = c .before .before .before .before .before .before .first-byte in
     let q = c .before .before .before .before .before .first-byte2 in
-    agree-not (args .s .now) (args .c) (args .d) (p .result) (q .result) (args .l) (p .ensures .0) (q .ensures .0) (start .pre) (c .before .before .before .before .loop .i - 1) (omega arith) (λ e. c .if1 .taken (e ∙ sym (c .before .byte-at .ensures)))
+    agree-not (args .s .now) (args .c) (args .d) (p .result) (q .result) (args .l) (p .ensures .0) (q .ensures .0) (start .pre) (c .before .before .before .before .loop .i - 1) (omega arith) (λ e. c .if1 .taken (e ∙ sym (c .before .peek .ensures)))
 
 loop-less : tie.Need-loop-less Inv-loop μ-loop
 loop-less c = omega arith
@@ -60,13 +60,13 @@ loop-again c =
     let p = c .before .before .before .before .before .before .first-byte in
     let q = c .before .before .before .before .before .first-byte2 in
     let here = c .before .before .before .before .loop in
-    (omega arith, agree-more (args .s .now) (args .c) (args .d) (p .result) (q .result) (args .l) (p .ensures .0) (q .ensures .0) (start .pre) (here .i - 1) (omega arith) (here .i) (omega arith) (c .if1 .left ∙ c .before .byte-at .ensures) (here .inv .1))
+    (omega arith, agree-more (args .s .now) (args .c) (args .d) (p .result) (q .result) (args .l) (p .ensures .0) (q .ensures .0) (start .pre) (here .i - 1) (omega arith) (here .i) (omega arith) (c .if1 .left ∙ c .before .peek .ensures) (here .inv .1))
 
-add-byte-at-2 : tie.Need-add-byte-at-2 Inv-loop μ-loop
-add-byte-at-2 c = omega (arith, c .before .before .before .before .before .pre, name-short (c .before .before .before .before .before .args .s .now) (c .before .before .before .before .before .args .c))
+add-peek-2 : tie.Need-add-peek-2 Inv-loop μ-loop
+add-peek-2 c = omega (arith, c .before .before .before .before .before .pre, name-short (c .before .before .before .before .before .args .s .now) (c .before .before .before .before .before .args .c))
 
-byte-at-requires-2 : tie.Need-byte-at-requires-2 Inv-loop μ-loop
-byte-at-requires-2 c κs = tt
+peek-requires-2 : tie.Need-peek-requires-2 Inv-loop μ-loop
+peek-requires-2 c κs = tt
 
 letter-requires : tie.Need-letter-requires Inv-loop μ-loop
 letter-requires c κs = tt
@@ -78,7 +78,7 @@ returns-2 c =
     let p = c .before .before .before .before .before .first-byte in
     let q = c .before .before .before .before .first-byte2 in
     let here = c .before .before .before .loop in
-    agree-all (args .s .now) (args .c) (args .d) (p .result) (q .result) (args .l) (p .ensures .0) (q .ensures .0) (start .pre) (here .i) (c .letter .result) (omega arith) (here .inv .1) (c .letter .ensures ∙ ap shown (c .before .byte-at2 .ensures))
+    agree-all (args .s .now) (args .c) (args .d) (p .result) (q .result) (args .l) (p .ensures .0) (q .ensures .0) (start .pre) (here .i) (c .letter .result) (omega arith) (here .inv .1) (c .letter .ensures ∙ ap shown (c .before .peek2 .ensures))
 
 pub same-run-spec : {M : Type 1} → statement M
 same-run-spec =
@@ -92,12 +92,12 @@ same-run-spec =
     sub-i
     add-if1
     shared-slice-read-if1
-    add-byte-at
-    byte-at-requires
+    add-peek
+    peek-requires
     returns
     loop-less
     loop-again
-    add-byte-at-2
-    byte-at-requires-2
+    add-peek-2
+    peek-requires-2
     letter-requires
     returns-2)

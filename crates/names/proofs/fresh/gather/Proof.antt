@@ -19,20 +19,20 @@ abbrev μ-loop : tie.MeasureT-loop
 loop-holds : tie.Need-loop-holds Inv-loop μ-loop
 loop-holds c = (omega arith, copied-none (c .before .before .before .args .n) (c .before .before .before .args .names .now))
 
-mul-place : tie.Need-mul-place Inv-loop μ-loop
-mul-place c = omega arith
+mul-wide-cell : tie.Need-mul-wide-cell Inv-loop μ-loop
+mul-wide-cell c = omega arith
 
-shared-slice-read-place : tie.Need-shared-slice-read-place Inv-loop μ-loop
-shared-slice-read-place c = omega arith
+shared-slice-read-wide-cell : tie.Need-shared-slice-read-wide-cell Inv-loop μ-loop
+shared-slice-read-wide-cell c = omega arith
 
-place-requires : tie.Need-place-requires Inv-loop μ-loop
-place-requires c κs = tt
+wide-cell-requires : tie.Need-wide-cell-requires Inv-loop μ-loop
+wide-cell-requires c κs = tt
 
-add-cell : tie.Need-add-cell Inv-loop μ-loop
-add-cell c = omega (arith, c .place .ensures)
+add-peek-cell : tie.Need-add-peek-cell Inv-loop μ-loop
+add-peek-cell c = omega (arith, c .wide-cell .ensures)
 
-cell-requires : tie.Need-cell-requires Inv-loop μ-loop
-cell-requires c κs = tt
+peek-cell-requires : tie.Need-peek-cell-requires Inv-loop μ-loop
+peek-cell-requires c κs = tt
 
 add-names : tie.Need-add-names Inv-loop μ-loop
 add-names c = omega (arith, c .before .before .before .before .before .before .before .before .pre)
@@ -51,10 +51,10 @@ loop-less c = omega arith
 
 loop-again : tie.Need-loop-again Inv-loop μ-loop
 loop-again c =
-    let e : map (name-cell (c .before .before .before .before .before .before .before .before .args .cells .now)) (take (c .before .before .before .before .loop .i + 1) (c .before .before .before .before .before .before .before .before .args .places .now)) ≡ map (name-cell (c .before .before .before .before .before .before .before .before .args .cells .now)) (take (c .before .before .before .before .loop .i) (c .before .before .before .before .before .before .before .before .args .places .now)) ++ (c .cell .result ∷ [])
+    let e : map (name-cell (c .before .before .before .before .before .before .before .before .args .cells .now)) (take (c .before .before .before .before .loop .i + 1) (c .before .before .before .before .before .before .before .before .args .places .now)) ≡ map (name-cell (c .before .before .before .before .before .before .before .before .args .cells .now)) (take (c .before .before .before .before .loop .i) (c .before .before .before .before .before .before .before .before .args .places .now)) ++ (c .peek-cell .result ∷ [])
     = mapped-more (name-cell (c .before .before .before .before .before .before .before .before .args .cells .now)) (c .before .before .before .before .before .before .before .before .args .places .now) (c .before .before .before .before .loop .i) (c .before .before .before .loop-test .taken)
-    ∙ ap (λ (v : ℕ). map (name-cell (c .before .before .before .before .before .before .before .before .args .cells .now)) (take (c .before .before .before .before .loop .i) (c .before .before .before .before .before .before .before .before .args .places .now)) ++ (v ∷ [])) (sym (c .cell .ensures ∙ ap (name-cell (c .before .before .before .before .before .before .before .before .args .cells .now)) (c .before .place .ensures .0))) in
-    (omega arith, copied-next (c .before .before .before .before .before .before .before .before .args .n) (c .before .before .before .before .loop .i) _ (c .cell .result) _ _ (c .before .before .before .before .before .before .before .before .args .names .now) (c .before .before .before .before .loop .names) (c .before .before .before .before .loop .inv .1) (omega (arith, c .before .before .before .before .before .before .before .before .pre)) refl e)
+    ∙ ap (λ (v : ℕ). map (name-cell (c .before .before .before .before .before .before .before .before .args .cells .now)) (take (c .before .before .before .before .loop .i) (c .before .before .before .before .before .before .before .before .args .places .now)) ++ (v ∷ [])) (sym (c .peek-cell .ensures ∙ ap (name-cell (c .before .before .before .before .before .before .before .before .args .cells .now)) (c .before .wide-cell .ensures .0))) in
+    (omega arith, copied-next (c .before .before .before .before .before .before .before .before .args .n) (c .before .before .before .before .loop .i) _ (c .peek-cell .result) _ _ (c .before .before .before .before .before .before .before .before .args .names .now) (c .before .before .before .before .loop .names) (c .before .before .before .before .loop .inv .1) (omega (arith, c .before .before .before .before .before .before .before .before .pre)) refl e)
 
 add-result : tie.Need-add-result Inv-loop μ-loop
 add-result c = omega (arith, c .before .before .before .before .before .pre)
@@ -74,11 +74,11 @@ gather-spec =
     Inv-loop
     μ-loop
     loop-holds
-    mul-place
-    shared-slice-read-place
-    place-requires
-    add-cell
-    cell-requires
+    mul-wide-cell
+    shared-slice-read-wide-cell
+    wide-cell-requires
+    add-peek-cell
+    peek-cell-requires
     add-names
     mul-names
     slice-write-names

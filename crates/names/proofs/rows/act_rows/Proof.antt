@@ -21,30 +21,30 @@ abbrev μ-loop : tie.MeasureT-loop
 loop-holds : tie.Need-loop-holds Inv-loop μ-loop
 loop-holds c = (refl, acts-start (c .before .before .before .before .before .args .s .now) (c .before .before .before .before .before .args .cells .now) (c .before .before .before .before .before .args .sorts .now) (c .before .before .before .before .before .args .acts .now) (c .before .before .before .before .before .args .rows .now))
 
-mul-place : tie.Need-mul-place Inv-loop μ-loop
-mul-place c = omega arith
+mul-wide-cell : tie.Need-mul-wide-cell Inv-loop μ-loop
+mul-wide-cell c = omega arith
 
-shared-slice-read-place : tie.Need-shared-slice-read-place Inv-loop μ-loop
-shared-slice-read-place c = omega arith
+shared-slice-read-wide-cell : tie.Need-shared-slice-read-wide-cell Inv-loop μ-loop
+shared-slice-read-wide-cell c = omega arith
 
-place-requires : tie.Need-place-requires Inv-loop μ-loop
-place-requires c κs = tt
+wide-cell-requires : tie.Need-wide-cell-requires Inv-loop μ-loop
+wide-cell-requires c κs = tt
 
 add-sort-row : tie.Need-add-sort-row Inv-loop μ-loop
-add-sort-row c = omega (arith, c .place .ensures)
+add-sort-row c = omega (arith, c .wide-cell .ensures)
 
 mul-sort-row : tie.Need-mul-sort-row Inv-loop μ-loop
 mul-sort-row c = omega (arith, c .before .before .before .before .before .before .before .before .before .before .pre)
 
 sort-row-requires : tie.Need-sort-row-requires Inv-loop μ-loop
-sort-row-requires c κs = (omega (arith, c .before .before .before .before .before .before .before .before .before .before .pre), omega (arith, c .before .place .ensures), omega (arith, c .before .before .before .before .before .before .before .before .before .before .pre, c .before .before .before .before .loop .inv .0))
+sort-row-requires c κs = (omega (arith, c .before .before .before .before .before .before .before .before .before .before .pre), omega (arith, c .before .wide-cell .ensures), omega (arith, c .before .before .before .before .before .before .before .before .before .before .pre, c .before .before .before .before .loop .inv .0))
 
 same-length : tie.Need-same-length Inv-loop μ-loop
 same-length c = c .before .before .before .before .sort-row .kept .1 .1 .1 .1 .0 ∙ c .before .before .before .before .before .before .before .before .before .loop .inv .0
 
 returns : tie.Need-returns Inv-loop μ-loop
 returns c = acts-stop (c .before .before .before .before .before .before .before .before .before .before .before .before .before .before .before .args .s .now) (c .before .before .before .before .before .before .before .before .before .before .before .before .before .before .before .args .cells .now) (c .before .before .before .before .before .before .before .before .before .before .before .before .before .before .before .args .sorts .now) (c .before .before .before .before .before .before .before .before .before .before .before .before .before .before .before .args .acts .now) (c .before .before .before .before .before .before .before .before .before .loop .rows) (c .before .before .before .before .before .before .before .before .before .loop .i) (λ Ds. (c .before .before .before .before .sort-row .result .at ≡ getD (c .before .before .before .before .before .before .before .before .before .before .before .before .before .before .before .args .acts .now) (c .before .before .before .before .before .before .before .before .before .loop .i) 0 + 2 + 2 * length Ds + 1) × SortsAt Ds (c .before .before .before .before .sort-row .last .1 .1 .1 .1 .0) (3 * c .before .before .before .before .before .before .before .before .before .loop .i))
-    (λ N. InRows no-action (λ a i. ActAt a (c .before .before .before .before .sort-row .last .1 .1 .1 .1 .0) i)) (c .before .before .before .before .sort-row .result .ok) (c .before .before .before .before .before .before .before .before .loop-test .taken) (c .before .before .before .before .before .before .before .before .before .loop .inv .1) (subst (λ (q : ℕ). Answers (λ Ds. (c .before .before .before .before .sort-row .result .at ≡ q + 2 + 2 * length Ds + 1) × SortsAt Ds (c .before .before .before .before .sort-row .last .1 .1 .1 .1 .0) (3 * c .before .before .before .before .before .before .before .before .before .loop .i)) (numbered (sorts-at (c .before .before .before .before .before .before .before .before .before .before .before .before .before .before .before .args .s .now) (c .before .before .before .before .before .before .before .before .before .before .before .before .before .before .before .args .cells .now) (c .before .before .before .before .before .before .before .before .before .before .before .before .before .before .before .args .sorts .now)) (item-names (c .before .before .before .before .before .before .before .before .before .before .before .before .before .before .before .args .s .now) (c .before .before .before .before .before .before .before .before .before .before .before .before .before .before .before .args .cells .now) (q + 2) (item-count (c .before .before .before .before .before .before .before .before .before .before .before .before .before .before .before .args .cells .now) 2 (q + 2) 2))) (c .before .before .before .before .sort-row .result .ok)) (c .before .before .before .before .before .before .place .ensures .0) (c .before .before .before .before .sort-row .ensures .1 .1)) (not-true _ (c .if1 .taken))
+    (λ N. InRows no-action (λ a i. ActAt a (c .before .before .before .before .sort-row .last .1 .1 .1 .1 .0) i)) (c .before .before .before .before .sort-row .result .ok) (c .before .before .before .before .before .before .before .before .loop-test .taken) (c .before .before .before .before .before .before .before .before .before .loop .inv .1) (subst (λ (q : ℕ). Answers (λ Ds. (c .before .before .before .before .sort-row .result .at ≡ q + 2 + 2 * length Ds + 1) × SortsAt Ds (c .before .before .before .before .sort-row .last .1 .1 .1 .1 .0) (3 * c .before .before .before .before .before .before .before .before .before .loop .i)) (numbered (sorts-at (c .before .before .before .before .before .before .before .before .before .before .before .before .before .before .before .args .s .now) (c .before .before .before .before .before .before .before .before .before .before .before .before .before .before .before .args .cells .now) (c .before .before .before .before .before .before .before .before .before .before .before .before .before .before .before .args .sorts .now)) (item-names (c .before .before .before .before .before .before .before .before .before .before .before .before .before .before .before .args .s .now) (c .before .before .before .before .before .before .before .before .before .before .before .before .before .before .before .args .cells .now) (q + 2) (item-count (c .before .before .before .before .before .before .before .before .before .before .before .before .before .before .before .args .cells .now) 2 (q + 2) 2))) (c .before .before .before .before .sort-row .result .ok)) (c .before .before .before .before .before .before .wide-cell .ensures .0) (c .before .before .before .before .sort-row .ensures .1 .1)) (not-true _ (c .if1 .taken))
 
 add-i : tie.Need-add-i Inv-loop μ-loop
 add-i c = omega arith
@@ -56,7 +56,7 @@ loop-again : tie.Need-loop-again Inv-loop μ-loop
 loop-again c = (
   c .before .before .before .before .sort-row .kept .1 .1 .1 .1 .0 ∙ c .before .before .before .before .before .before .before .before .before .loop .inv .0,
   acts-go (c .before .before .before .before .before .before .before .before .before .before .before .before .before .before .before .args .s .now) (c .before .before .before .before .before .before .before .before .before .before .before .before .before .before .before .args .cells .now) (c .before .before .before .before .before .before .before .before .before .before .before .before .before .before .before .args .sorts .now) (c .before .before .before .before .before .before .before .before .before .before .before .before .before .before .before .args .acts .now) (c .before .before .before .before .before .before .before .before .before .loop .rows) (c .before .before .before .before .sort-row .last .1 .1 .1 .1 .0) (c .before .before .before .before .before .before .before .before .before .loop .i) (λ Ds. c .before .before .before .before .sort-row .result .at ≡ getD (c .before .before .before .before .before .before .before .before .before .before .before .before .before .before .before .args .acts .now) (c .before .before .before .before .before .before .before .before .before .loop .i) 0 + 2 + 2 * length Ds + 1)
-      (c .before .before .before .before .sort-row .result .ok) (c .before .before .before .before .before .before .before .before .loop-test .taken) (c .before .before .before .before .before .before .before .before .before .loop .inv .1) (c .before .before .before .before .sort-row .ensures .0) (subst (λ (q : ℕ). Answers (λ Ds. (c .before .before .before .before .sort-row .result .at ≡ q + 2 + 2 * length Ds + 1) × SortsAt Ds (c .before .before .before .before .sort-row .last .1 .1 .1 .1 .0) (3 * c .before .before .before .before .before .before .before .before .before .loop .i)) (numbered (sorts-at (c .before .before .before .before .before .before .before .before .before .before .before .before .before .before .before .args .s .now) (c .before .before .before .before .before .before .before .before .before .before .before .before .before .before .before .args .cells .now) (c .before .before .before .before .before .before .before .before .before .before .before .before .before .before .before .args .sorts .now)) (item-names (c .before .before .before .before .before .before .before .before .before .before .before .before .before .before .before .args .s .now) (c .before .before .before .before .before .before .before .before .before .before .before .before .before .before .before .args .cells .now) (q + 2) (item-count (c .before .before .before .before .before .before .before .before .before .before .before .before .before .before .before .args .cells .now) 2 (q + 2) 2))) (c .before .before .before .before .sort-row .result .ok)) (c .before .before .before .before .before .before .place .ensures .0) (c .before .before .before .before .sort-row .ensures .1 .1)) (not-false _ (c .if1 .left)),
+      (c .before .before .before .before .sort-row .result .ok) (c .before .before .before .before .before .before .before .before .loop-test .taken) (c .before .before .before .before .before .before .before .before .before .loop .inv .1) (c .before .before .before .before .sort-row .ensures .0) (subst (λ (q : ℕ). Answers (λ Ds. (c .before .before .before .before .sort-row .result .at ≡ q + 2 + 2 * length Ds + 1) × SortsAt Ds (c .before .before .before .before .sort-row .last .1 .1 .1 .1 .0) (3 * c .before .before .before .before .before .before .before .before .before .loop .i)) (numbered (sorts-at (c .before .before .before .before .before .before .before .before .before .before .before .before .before .before .before .args .s .now) (c .before .before .before .before .before .before .before .before .before .before .before .before .before .before .before .args .cells .now) (c .before .before .before .before .before .before .before .before .before .before .before .before .before .before .before .args .sorts .now)) (item-names (c .before .before .before .before .before .before .before .before .before .before .before .before .before .before .before .args .s .now) (c .before .before .before .before .before .before .before .before .before .before .before .before .before .before .before .args .cells .now) (q + 2) (item-count (c .before .before .before .before .before .before .before .before .before .before .before .before .before .before .before .args .cells .now) 2 (q + 2) 2))) (c .before .before .before .before .sort-row .result .ok)) (c .before .before .before .before .before .before .wide-cell .ensures .0) (c .before .before .before .before .sort-row .ensures .1 .1)) (not-false _ (c .if1 .left)),
 )
 
 same-length-2 : tie.Need-same-length-2 Inv-loop μ-loop
@@ -72,9 +72,9 @@ act-rows-spec =
     Inv-loop
     μ-loop
     loop-holds
-    mul-place
-    shared-slice-read-place
-    place-requires
+    mul-wide-cell
+    shared-slice-read-wide-cell
+    wide-cell-requires
     add-sort-row
     mul-sort-row
     sort-row-requires

@@ -21,17 +21,17 @@ loop-holds : tie.Need-loop-holds Inv-loop μ-loop
 unfolding item-values
 loop-holds c = (omega arith, copied-none (c .before .before .args .w) (c .before .before .args .values .now))
 
-mul-cell : tie.Need-mul-cell Inv-loop μ-loop
-mul-cell c = omega (arith, c .before .before .before .before .pre)
+mul-peek-cell : tie.Need-mul-peek-cell Inv-loop μ-loop
+mul-peek-cell c = omega (arith, c .before .before .before .before .pre)
 
-add-cell : tie.Need-add-cell Inv-loop μ-loop
-add-cell c = omega (arith, c .before .before .before .before .pre)
+add-peek-cell : tie.Need-add-peek-cell Inv-loop μ-loop
+add-peek-cell c = omega (arith, c .before .before .before .before .pre)
 
-add-cell-2 : tie.Need-add-cell-2 Inv-loop μ-loop
-add-cell-2 c = omega (arith, c .before .before .before .before .pre)
+add-peek-cell-2 : tie.Need-add-peek-cell-2 Inv-loop μ-loop
+add-peek-cell-2 c = omega (arith, c .before .before .before .before .pre)
 
-cell-requires : tie.Need-cell-requires Inv-loop μ-loop
-cell-requires c κs = tt
+peek-cell-requires : tie.Need-peek-cell-requires Inv-loop μ-loop
+peek-cell-requires c κs = tt
 
 value-requires : tie.Need-value-requires Inv-loop μ-loop
 value-requires c κs = tt
@@ -50,7 +50,7 @@ loop-less c = omega arith
 
 loop-again : tie.Need-loop-again Inv-loop μ-loop
 loop-again c =
-    let v : c .value .result ≡ byte-of (numeral-at (c .before .before .before .before .before .before .args .cells .now) (c .before .before .before .before .before .before .args .at + 2 * c .before .before .before .loop .k + 1)) = c .value .ensures ∙ ap (λ (x : ℕ). byte-of (x - first-numeral)) (c .before .cell .ensures) in
+    let v : c .value .result ≡ byte-of (numeral-at (c .before .before .before .before .before .before .args .cells .now) (c .before .before .before .before .before .before .args .at + 2 * c .before .before .before .loop .k + 1)) = c .value .ensures ∙ ap (λ (x : ℕ). byte-of (x - first-numeral)) (c .before .peek-cell .ensures) in
     let e : map byte-of (item-values (c .before .before .before .before .before .before .args .cells .now) (c .before .before .before .before .before .before .args .at) (c .before .before .before .loop .k + 1)) ≡ map byte-of (item-values (c .before .before .before .before .before .before .args .cells .now) (c .before .before .before .before .before .before .args .at) (c .before .before .before .loop .k)) ++ (c .value .result ∷ [])
     = ap (map byte-of) (values-more (c .before .before .before .before .before .before .args .cells .now) (c .before .before .before .before .before .before .args .at) (c .before .before .before .loop .k) (c .before .before .before .before .before .before .args .at + 2 * c .before .before .before .loop .k + 1) refl)
     ∙ (map-append byte-of (item-values (c .before .before .before .before .before .before .args .cells .now) (c .before .before .before .before .before .before .args .at) (c .before .before .before .loop .k)) (numeral-at (c .before .before .before .before .before .before .args .cells .now) (c .before .before .before .before .before .before .args .at + 2 * c .before .before .before .loop .k + 1) ∷ [])
@@ -72,10 +72,10 @@ copy-values-spec =
     Inv-loop
     μ-loop
     loop-holds
-    mul-cell
-    add-cell
-    add-cell-2
-    cell-requires
+    mul-peek-cell
+    add-peek-cell
+    add-peek-cell-2
+    peek-cell-requires
     value-requires
     add-values
     slice-write-values

@@ -25,8 +25,8 @@ same-length c = c .before .before .before .before .sort-row .kept .1 .1 .1 .1 .0
 returns : tie.Need-returns
 returns c = (c .before .before .before .before .sort-row .ensures .0, (omega (arith, c .before .before .before .before .before .before .before .before .before .before .pre, c .before .before .before .before .sort-row .ensures .1 .0), takes-unknown (c .before .before .before .before .before .before .before .before .before .before .args .s .now) (c .before .before .before .before .before .before .before .before .before .before .args .cells .now) (c .before .before .before .before .before .before .before .before .before .before .args .sorts .now) (c .before .before .before .before .before .before .before .before .before .before .args .at) (c .before .before .before .before .before .before .before .before .before .before .args .p) (λ Ds. (c .before .before .before .before .sort-row .result .at ≡ c .before .before .before .before .before .before .before .before .before .before .args .at + 2 + 2 * length Ds + 1) × SortsAt Ds (c .before .before .before .before .sort-row .last .1 .1 .1 .1 .0) (c .before .before .before .before .before .before .before .before .before .before .args .p)) (c .before .before .before .before .sort-row .last .1 .1 .1 .1 .0) (c .before .before .before .before .sort-row .result) (c .before .before .before .before .sort-row .ensures .1 .1) (not-true _ (c .if1 .taken))))
 
-cell-requires : tie.Need-cell-requires
-cell-requires c κs = tt
+peek-cell-requires : tie.Need-peek-cell-requires
+peek-cell-requires c κs = tt
 
 sort-number-requires : tie.Need-sort-number-requires
 sort-number-requires c κs = omega arith
@@ -36,7 +36,7 @@ same-length-2 c = c .before .before .before .before .before .before .before .sor
 
 returns-2 : tie.Need-returns-2
 unfolding sorts-at
-returns-2 c = (c .before .before .before .before .before .before .before .sort-row .ensures .0, (omega (arith, c .before .before .before .before .before .before .before .before .before .before .before .before .before .pre), gives-unknown (c .before .before .before .before .before .before .before .before .before .before .before .before .before .args .s .now) (c .before .before .before .before .before .before .before .before .before .before .before .before .before .args .cells .now) (c .before .before .before .before .before .before .before .before .before .before .before .before .before .args .sorts .now) (c .before .before .before .before .before .before .before .before .before .before .before .before .before .args .at) (c .before .before .before .before .before .before .before .before .before .before .before .before .before .args .p) (c .before .before .before .before .before .before .before .sort-row .last .1 .1 .1 .1 .0) (c .before .before .before .before .before .before .before .sort-row .result .at) (suc (length (c .before .before .before .before .before .before .before .before .before .before .before .before .before .args .sorts .now))) (c .before .sort-number .result) (c .before .before .before .before .before .before .before .sort-row .result .ok) (omega (arith, sorts-length (c .before .before .before .before .before .before .before .before .before .before .before .before .before .args .s .now) (c .before .before .before .before .before .before .before .before .before .before .before .before .before .args .cells .now) (c .before .before .before .before .before .before .before .before .before .before .before .before .before .args .sorts .now))) (c .before .before .before .before .before .before .before .sort-row .ensures .1 .1) (not-false _ (c .before .before .before .if1 .left)) (c .before .sort-number .ensures .1 ∙ ap (λ (v : ℕ). or-count (suc (length (c .before .before .before .before .before .before .before .before .before .before .before .before .before .args .sorts .now))) (number-of (name-at (c .before .before .before .before .before .before .before .before .before .before .before .before .before .args .s .now) v) (sorts-at (c .before .before .before .before .before .before .before .before .before .before .before .before .before .args .s .now) (c .before .before .before .before .before .before .before .before .before .before .before .before .before .args .cells .now) (c .before .before .before .before .before .before .before .before .before .before .before .before .before .args .sorts .now)))) (c .before .before .cell .ensures)) (c .before .before .before .before .before .before .before .sort-row .last .1 .1 .1 .1 .0) (c .before .before .before .before .before .before .before .before .before .before .before .before .before .args .at) (c .if2 .taken)))
+returns-2 c = (c .before .before .before .before .before .before .before .sort-row .ensures .0, (omega (arith, c .before .before .before .before .before .before .before .before .before .before .before .before .before .pre), gives-unknown (c .before .before .before .before .before .before .before .before .before .before .before .before .before .args .s .now) (c .before .before .before .before .before .before .before .before .before .before .before .before .before .args .cells .now) (c .before .before .before .before .before .before .before .before .before .before .before .before .before .args .sorts .now) (c .before .before .before .before .before .before .before .before .before .before .before .before .before .args .at) (c .before .before .before .before .before .before .before .before .before .before .before .before .before .args .p) (c .before .before .before .before .before .before .before .sort-row .last .1 .1 .1 .1 .0) (c .before .before .before .before .before .before .before .sort-row .result .at) (suc (length (c .before .before .before .before .before .before .before .before .before .before .before .before .before .args .sorts .now))) (c .before .sort-number .result) (c .before .before .before .before .before .before .before .sort-row .result .ok) (omega (arith, sorts-length (c .before .before .before .before .before .before .before .before .before .before .before .before .before .args .s .now) (c .before .before .before .before .before .before .before .before .before .before .before .before .before .args .cells .now) (c .before .before .before .before .before .before .before .before .before .before .before .before .before .args .sorts .now))) (c .before .before .before .before .before .before .before .sort-row .ensures .1 .1) (not-false _ (c .before .before .before .if1 .left)) (c .before .sort-number .ensures .1 ∙ ap (λ (v : ℕ). or-count (suc (length (c .before .before .before .before .before .before .before .before .before .before .before .before .before .args .sorts .now))) (number-of (name-at (c .before .before .before .before .before .before .before .before .before .before .before .before .before .args .s .now) v) (sorts-at (c .before .before .before .before .before .before .before .before .before .before .before .before .before .args .s .now) (c .before .before .before .before .before .before .before .before .before .before .before .before .before .args .cells .now) (c .before .before .before .before .before .before .before .before .before .before .before .before .before .args .sorts .now)))) (c .before .before .peek-cell .ensures)) (c .before .before .before .before .before .before .before .sort-row .last .1 .1 .1 .1 .0) (c .before .before .before .before .before .before .before .before .before .before .before .before .before .args .at) (c .if2 .taken)))
 
 cast-rows : tie.Need-cast-rows
 cast-rows c = omega (arith, c .before .before .before .before .before .before .before .before .before .before .before .before .before .pre, c .if2 .left)
@@ -59,7 +59,7 @@ returns-3 c = (
   kept-set (c .before .before .before .before .before .before .before .before .before .before .before .before .before .before .args .p) (c .before .before .before .before .before .before .before .before .before .before .before .before .before .before .args .rows .now) (c .before .before .before .before .before .before .before .before .sort-row .last .1 .1 .1 .1 .0) (c .before .before .before .before .before .before .before .before .before .before .before .before .before .before .args .p + 3) (c .before .before .sort-number .result) (c .before .before .before .before .before .before .before .before .sort-row .ensures .0) (omega arith),
   (
     omega (arith, c .before .before .before .before .before .before .before .before .before .before .before .before .before .before .pre, c .before .before .before .before .before .before .before .before .sort-row .ensures .1 .0),
-    func-known (c .before .before .before .before .before .before .before .before .before .before .before .before .before .before .args .s .now) (c .before .before .before .before .before .before .before .before .before .before .before .before .before .before .args .cells .now) (c .before .before .before .before .before .before .before .before .before .before .before .before .before .before .args .sorts .now) (c .before .before .before .before .before .before .before .before .before .before .before .before .before .before .args .at) (c .before .before .before .before .before .before .before .before .before .before .before .before .before .before .args .p) (c .before .before .before .before .before .before .before .before .sort-row .last .1 .1 .1 .1 .0) (c .before .before .before .before .before .before .before .before .sort-row .result .at) (suc (length (c .before .before .before .before .before .before .before .before .before .before .before .before .before .before .args .sorts .now))) (c .before .before .sort-number .result) (c .before .before .before .before .before .before .before .before .sort-row .result .ok) (omega (arith, sorts-length (c .before .before .before .before .before .before .before .before .before .before .before .before .before .before .args .s .now) (c .before .before .before .before .before .before .before .before .before .before .before .before .before .before .args .cells .now) (c .before .before .before .before .before .before .before .before .before .before .before .before .before .before .args .sorts .now))) (c .before .before .before .before .before .before .before .before .sort-row .ensures .1 .1) (not-false _ (c .before .before .before .before .if1 .left)) (c .before .before .sort-number .ensures .1 ∙ ap (λ (v : ℕ). or-count (suc (length (c .before .before .before .before .before .before .before .before .before .before .before .before .before .before .args .sorts .now))) (number-of (name-at (c .before .before .before .before .before .before .before .before .before .before .before .before .before .before .args .s .now) v) (sorts-at (c .before .before .before .before .before .before .before .before .before .before .before .before .before .before .args .s .now) (c .before .before .before .before .before .before .before .before .before .before .before .before .before .before .args .cells .now) (c .before .before .before .before .before .before .before .before .before .before .before .before .before .before .args .sorts .now)))) (c .before .before .before .cell .ensures)) (omega (arith, c .before .if2 .left)) (omega (arith, c .before .before .before .before .before .before .before .before .before .before .before .before .before .before .pre, c .before .before .before .before .before .before .before .before .sort-row .kept .1 .1 .1 .1 .0)),
+    func-known (c .before .before .before .before .before .before .before .before .before .before .before .before .before .before .args .s .now) (c .before .before .before .before .before .before .before .before .before .before .before .before .before .before .args .cells .now) (c .before .before .before .before .before .before .before .before .before .before .before .before .before .before .args .sorts .now) (c .before .before .before .before .before .before .before .before .before .before .before .before .before .before .args .at) (c .before .before .before .before .before .before .before .before .before .before .before .before .before .before .args .p) (c .before .before .before .before .before .before .before .before .sort-row .last .1 .1 .1 .1 .0) (c .before .before .before .before .before .before .before .before .sort-row .result .at) (suc (length (c .before .before .before .before .before .before .before .before .before .before .before .before .before .before .args .sorts .now))) (c .before .before .sort-number .result) (c .before .before .before .before .before .before .before .before .sort-row .result .ok) (omega (arith, sorts-length (c .before .before .before .before .before .before .before .before .before .before .before .before .before .before .args .s .now) (c .before .before .before .before .before .before .before .before .before .before .before .before .before .before .args .cells .now) (c .before .before .before .before .before .before .before .before .before .before .before .before .before .before .args .sorts .now))) (c .before .before .before .before .before .before .before .before .sort-row .ensures .1 .1) (not-false _ (c .before .before .before .before .if1 .left)) (c .before .before .sort-number .ensures .1 ∙ ap (λ (v : ℕ). or-count (suc (length (c .before .before .before .before .before .before .before .before .before .before .before .before .before .before .args .sorts .now))) (number-of (name-at (c .before .before .before .before .before .before .before .before .before .before .before .before .before .before .args .s .now) v) (sorts-at (c .before .before .before .before .before .before .before .before .before .before .before .before .before .before .args .s .now) (c .before .before .before .before .before .before .before .before .before .before .before .before .before .before .args .cells .now) (c .before .before .before .before .before .before .before .before .before .before .before .before .before .before .args .sorts .now)))) (c .before .before .before .peek-cell .ensures)) (omega (arith, c .before .if2 .left)) (omega (arith, c .before .before .before .before .before .before .before .before .before .before .before .before .before .before .pre, c .before .before .before .before .before .before .before .before .sort-row .kept .1 .1 .1 .1 .0)),
   ),
 )
 
@@ -71,7 +71,7 @@ func-row-spec =
     sort-row-requires
     same-length
     returns
-    cell-requires
+    peek-cell-requires
     sort-number-requires
     same-length-2
     returns-2

@@ -22,20 +22,20 @@ slice-write-places c = omega (arith, c .before .before .before .before .before .
 loop-holds : tie.Need-loop-holds Inv-loop μ-loop
 loop-holds c = (record { row-same = refl; value-same = refl; place-same = refl; within = omega arith; here = getD-set-same (c .before .before .before .before .before .before .before .args .places .now) 0 0 0 (omega (arith, c .before .before .before .before .before .before .before .pre)) }, funcs-start (c .before .before .before .before .before .before .before .args .s .now) (c .before .before .before .before .before .before .before .args .cells .now) (c .before .before .before .before .before .before .before .args .sorts .now) (c .before .before .before .before .before .before .before .args .lines .now) (c .before .before .before .before .before .before .before .args .rows .now) (c .before .before .before .before .before .before .before .args .values .now) (set (c .before .before .before .before .before .before .before .args .places .now) 0 0))
 
-mul-place : tie.Need-mul-place Inv-loop μ-loop
-mul-place c = omega arith
+mul-wide-cell : tie.Need-mul-wide-cell Inv-loop μ-loop
+mul-wide-cell c = omega arith
 
-shared-slice-read-place : tie.Need-shared-slice-read-place Inv-loop μ-loop
-shared-slice-read-place c = omega arith
+shared-slice-read-wide-cell : tie.Need-shared-slice-read-wide-cell Inv-loop μ-loop
+shared-slice-read-wide-cell c = omega arith
 
-place-requires : tie.Need-place-requires Inv-loop μ-loop
-place-requires c κs = tt
+wide-cell-requires : tie.Need-wide-cell-requires Inv-loop μ-loop
+wide-cell-requires c κs = tt
 
 mul-func-row : tie.Need-mul-func-row Inv-loop μ-loop
 mul-func-row c = omega (arith, c .before .before .before .before .before .before .before .before .before .before .before .before .pre)
 
 func-row-requires : tie.Need-func-row-requires Inv-loop μ-loop
-func-row-requires c κs = (omega (arith, c .before .before .before .before .before .before .before .before .before .before .before .before .pre), omega (arith, c .before .place .ensures), omega (arith, c .before .before .before .before .before .before .before .before .before .before .before .before .pre, c .before .before .before .before .loop .inv .0 .row-same))
+func-row-requires c κs = (omega (arith, c .before .before .before .before .before .before .before .before .before .before .before .before .pre), omega (arith, c .before .wide-cell .ensures), omega (arith, c .before .before .before .before .before .before .before .before .before .before .before .before .pre, c .before .before .before .before .loop .inv .0 .row-same))
 
 same-length : tie.Need-same-length Inv-loop μ-loop
 same-length c = c .before .before .before .before .func-row .kept .1 .1 .1 .1 .0 ∙ c .before .before .before .before .before .before .before .before .before .loop .inv .0 .row-same
@@ -47,7 +47,7 @@ same-length-3 : tie.Need-same-length-3 Inv-loop μ-loop
 same-length-3 c = c .before .before .before .before .before .before .before .before .before .loop .inv .0 .place-same ∙ length-set (c .before .before .before .before .before .before .before .before .before .before .before .before .before .before .before .before .before .args .places .now) 0 0
 
 returns : tie.Need-returns Inv-loop μ-loop
-returns c = funcs-stop (c .before .before .before .before .before .before .before .before .before .before .before .before .before .before .before .before .before .args .s .now) (c .before .before .before .before .before .before .before .before .before .before .before .before .before .before .before .before .before .args .cells .now) (c .before .before .before .before .before .before .before .before .before .before .before .before .before .before .before .before .before .args .sorts .now) (c .before .before .before .before .before .before .before .before .before .before .before .before .before .before .before .before .before .args .lines .now) (c .before .before .before .before .before .before .before .before .before .loop .rows) (c .before .before .before .before .before .before .before .before .before .loop .values) (c .before .before .before .before .before .before .before .before .before .loop .places) (c .before .before .before .before .func-row .last .1 .1 .1 .1 .0) (c .before .before .before .before .before .before .before .before .before .loop .values) (c .before .before .before .before .before .before .before .before .before .loop .places) (c .before .before .before .before .before .before .before .before .before .loop .w) (c .before .before .before .before .before .before .before .before .before .loop .i) (c .before .before .before .before .func-row .result) (c .before .before .before .before .before .before .before .before .loop-test .taken) refl (c .before .before .before .before .before .before .before .before .before .loop .inv .1) (subst (λ (q : ℕ). FuncRead (c .before .before .before .before .before .before .before .before .before .before .before .before .before .before .before .before .before .args .s .now) (c .before .before .before .before .before .before .before .before .before .before .before .before .before .before .before .before .before .args .cells .now) (c .before .before .before .before .before .before .before .before .before .before .before .before .before .before .before .before .before .args .sorts .now) q (c .before .before .before .before .func-row .last .1 .1 .1 .1 .0) (4 * c .before .before .before .before .before .before .before .before .before .loop .i) (c .before .before .before .before .func-row .result)) (c .before .before .before .before .before .before .place .ensures .0) (c .before .before .before .before .func-row .ensures .1 .1)) (not-true _ (c .if1 .taken))
+returns c = funcs-stop (c .before .before .before .before .before .before .before .before .before .before .before .before .before .before .before .before .before .args .s .now) (c .before .before .before .before .before .before .before .before .before .before .before .before .before .before .before .before .before .args .cells .now) (c .before .before .before .before .before .before .before .before .before .before .before .before .before .before .before .before .before .args .sorts .now) (c .before .before .before .before .before .before .before .before .before .before .before .before .before .before .before .before .before .args .lines .now) (c .before .before .before .before .before .before .before .before .before .loop .rows) (c .before .before .before .before .before .before .before .before .before .loop .values) (c .before .before .before .before .before .before .before .before .before .loop .places) (c .before .before .before .before .func-row .last .1 .1 .1 .1 .0) (c .before .before .before .before .before .before .before .before .before .loop .values) (c .before .before .before .before .before .before .before .before .before .loop .places) (c .before .before .before .before .before .before .before .before .before .loop .w) (c .before .before .before .before .before .before .before .before .before .loop .i) (c .before .before .before .before .func-row .result) (c .before .before .before .before .before .before .before .before .loop-test .taken) refl (c .before .before .before .before .before .before .before .before .before .loop .inv .1) (subst (λ (q : ℕ). FuncRead (c .before .before .before .before .before .before .before .before .before .before .before .before .before .before .before .before .before .args .s .now) (c .before .before .before .before .before .before .before .before .before .before .before .before .before .before .before .before .before .args .cells .now) (c .before .before .before .before .before .before .before .before .before .before .before .before .before .before .before .before .before .args .sorts .now) q (c .before .before .before .before .func-row .last .1 .1 .1 .1 .0) (4 * c .before .before .before .before .before .before .before .before .before .loop .i) (c .before .before .before .before .func-row .result)) (c .before .before .before .before .before .before .wide-cell .ensures .0) (c .before .before .before .before .func-row .ensures .1 .1)) (not-true _ (c .if1 .taken))
 
 sub-items : tie.Need-sub-items Inv-loop μ-loop
 sub-items c = omega (arith, c .before .before .before .before .before .before .before .before .before .loop .inv .0 .within)
@@ -91,7 +91,7 @@ loop-again c =
         here = getD-set-same (c .before .before .before .before .before .before .before .before .before .before .before .before .before .before .before .loop .places) (c .before .before .before .before .before .before .before .before .before .before .before .before .before .before .before .loop .i + 1) (c .short .result) 0 f ∙ z;
       },
       funcs-go (c .before .before .before .before .before .before .before .before .before .before .before .before .before .before .before .before .before .before .before .before .before .before .before .args .s .now) (c .before .before .before .before .before .before .before .before .before .before .before .before .before .before .before .before .before .before .before .before .before .before .before .args .cells .now) (c .before .before .before .before .before .before .before .before .before .before .before .before .before .before .before .before .before .before .before .before .before .before .before .args .sorts .now) (c .before .before .before .before .before .before .before .before .before .before .before .before .before .before .before .before .before .before .before .before .before .before .before .args .lines .now) (c .before .before .before .before .before .before .before .before .before .before .before .before .before .before .before .loop .rows) (c .before .before .before .before .before .before .before .before .before .before .before .before .before .before .before .loop .values) (c .before .before .before .before .before .before .before .before .before .before .before .before .before .before .before .loop .places) (c .before .before .before .before .before .before .before .before .before .before .func-row .last .1 .1 .1 .1 .0) (c .before .before .before .copy-values .last .1 .1 .1 .0) (c .before .before .before .before .before .before .before .before .before .before .before .before .before .before .before .loop .w) (c .before .before .before .before .before .before .before .before .before .before .before .before .before .before .before .loop .i) (c .before .before .before .before .before .items .result) (c .short .result) (c .before .before .before .before .before .before .before .before .before .before .func-row .result) (c .before .before .before .before .before .before .before .before .before .before .before .before .before .before .loop-test .taken) (c .before .before .before .before .before .before .before .before .before .before .before .before .before .before .before .loop .inv .0 .within) (c .before .before .before .before .before .before .before .before .before .before .before .before .before .before .before .loop .inv .0 .here) f
-          (c .before .before .before .before .before .before .before .before .before .before .before .before .before .before .before .loop .inv .1) (c .before .before .before .before .before .before .before .before .before .before .func-row .ensures .0) (subst (λ (q : ℕ). FuncRead (c .before .before .before .before .before .before .before .before .before .before .before .before .before .before .before .before .before .before .before .before .before .before .before .args .s .now) (c .before .before .before .before .before .before .before .before .before .before .before .before .before .before .before .before .before .before .before .before .before .before .before .args .cells .now) (c .before .before .before .before .before .before .before .before .before .before .before .before .before .before .before .before .before .before .before .before .before .before .before .args .sorts .now) q (c .before .before .before .before .before .before .before .before .before .before .func-row .last .1 .1 .1 .1 .0) (4 * c .before .before .before .before .before .before .before .before .before .before .before .before .before .before .before .loop .i) (c .before .before .before .before .before .before .before .before .before .before .func-row .result)) (c .before .before .before .before .before .before .before .before .before .before .before .before .place .ensures .0) (c .before .before .before .before .before .before .before .before .before .before .func-row .ensures .1 .1)) (not-false _ (c .before .before .before .before .before .before .if1 .left)) (c .before .before .before .before .before .items .ensures .1) (c .before .before .before .copy-values .ensures .0) (c .before .before .before .copy-values .ensures .1) z,
+          (c .before .before .before .before .before .before .before .before .before .before .before .before .before .before .before .loop .inv .1) (c .before .before .before .before .before .before .before .before .before .before .func-row .ensures .0) (subst (λ (q : ℕ). FuncRead (c .before .before .before .before .before .before .before .before .before .before .before .before .before .before .before .before .before .before .before .before .before .before .before .args .s .now) (c .before .before .before .before .before .before .before .before .before .before .before .before .before .before .before .before .before .before .before .before .before .before .before .args .cells .now) (c .before .before .before .before .before .before .before .before .before .before .before .before .before .before .before .before .before .before .before .before .before .before .before .args .sorts .now) q (c .before .before .before .before .before .before .before .before .before .before .func-row .last .1 .1 .1 .1 .0) (4 * c .before .before .before .before .before .before .before .before .before .before .before .before .before .before .before .loop .i) (c .before .before .before .before .before .before .before .before .before .before .func-row .result)) (c .before .before .before .before .before .before .before .before .before .before .before .before .wide-cell .ensures .0) (c .before .before .before .before .before .before .before .before .before .before .func-row .ensures .1 .1)) (not-false _ (c .before .before .before .before .before .before .if1 .left)) (c .before .before .before .before .before .items .ensures .1) (c .before .before .before .copy-values .ensures .0) (c .before .before .before .copy-values .ensures .1) z,
     )
 
 same-length-4 : tie.Need-same-length-4 Inv-loop μ-loop
@@ -114,9 +114,9 @@ func-rows-spec =
     μ-loop
     slice-write-places
     loop-holds
-    mul-place
-    shared-slice-read-place
-    place-requires
+    mul-wide-cell
+    shared-slice-read-wide-cell
+    wide-cell-requires
     mul-func-row
     func-row-requires
     same-length

@@ -24,17 +24,17 @@ items-requires c κs = (omega arith, omega (arith, c .before .before .before .be
 loop-holds : tie.Need-loop-holds Inv-loop μ-loop
 loop-holds c = (omega arith, kept-all (c .before .before .before .before .before .before .before .before .args .p) (c .before .before .before .before .before .before .before .before .args .rows .now), refl, params-start (c .before .before .before .before .before .before .before .before .args .s .now) (c .before .before .before .before .before .before .before .before .args .cells .now) (c .before .before .before .before .before .before .before .before .args .sorts .now) (c .before .before .before .before .before .before .before .before .args .names .now) (c .before .before .before .before .before .before .before .before .args .n) (c .before .before .before .before .before .before .before .before .args .at) (c .before .before .before .before .before .before .before .before .args .p) (c .before .before .before .before .before .before .before .before .args .rows .now) (c .before .before .before .before .before .before .before .before .args .scope .now))
 
-mul-cell : tie.Need-mul-cell Inv-loop μ-loop
-mul-cell c = omega (arith, c .before .before .before .before .before .before .before .before .before .before .pre, c .before .before .items .ensures .0)
+mul-peek-cell : tie.Need-mul-peek-cell Inv-loop μ-loop
+mul-peek-cell c = omega (arith, c .before .before .before .before .before .before .before .before .before .before .pre, c .before .before .items .ensures .0)
 
-add-cell : tie.Need-add-cell Inv-loop μ-loop
-add-cell c = omega (arith, c .before .before .before .before .before .before .before .before .before .before .pre, c .before .before .items .ensures .0)
+add-peek-cell : tie.Need-add-peek-cell Inv-loop μ-loop
+add-peek-cell c = omega (arith, c .before .before .before .before .before .before .before .before .before .before .pre, c .before .before .items .ensures .0)
 
-add-cell-2 : tie.Need-add-cell-2 Inv-loop μ-loop
-add-cell-2 c = omega (arith, c .before .before .before .before .before .before .before .before .before .before .pre, c .before .before .items .ensures .0)
+add-peek-cell-2 : tie.Need-add-peek-cell-2 Inv-loop μ-loop
+add-peek-cell-2 c = omega (arith, c .before .before .before .before .before .before .before .before .before .before .pre, c .before .before .items .ensures .0)
 
-cell-requires : tie.Need-cell-requires Inv-loop μ-loop
-cell-requires c κs = tt
+peek-cell-requires : tie.Need-peek-cell-requires Inv-loop μ-loop
+peek-cell-requires c κs = tt
 
 new-variable-requires : tie.Need-new-variable-requires Inv-loop μ-loop
 new-variable-requires c κs = (c .before .before .before .before .before .before .before .before .before .before .before .before .pre .1, omega (arith, c .before .before .before .before .before .before .before .before .before .before .before .before .pre, c .before .before .before .before .items .ensures .0, c .before .before .before .loop .inv .2))
@@ -46,19 +46,19 @@ same-length-2 : tie.Need-same-length-2 Inv-loop μ-loop
 same-length-2 c = c .before .before .before .before .before .loop .inv .2
 
 returns : tie.Need-returns Inv-loop μ-loop
-returns c = (c .before .before .before .before .before .loop .inv .1, (omega (arith, c .before .before .before .before .before .loop .inv .0, c .before .before .before .before .before .before .items .ensures .0), params-old (c .before .before .before .before .before .before .before .before .before .before .before .before .before .before .args .s .now) (c .before .before .before .before .before .before .before .before .before .before .before .before .before .before .args .cells .now) (c .before .before .before .before .before .before .before .before .before .before .before .before .before .before .args .sorts .now) (c .before .before .before .before .before .before .before .before .before .before .before .before .before .before .args .names .now) (c .before .before .before .before .before .before .before .before .before .before .before .before .before .before .args .n) (c .before .before .before .before .before .before .before .before .before .before .before .before .before .before .args .at) (c .before .before .before .before .before .before .before .before .before .before .before .before .before .before .args .p) (c .before .before .before .before .before .loop .rows) (c .before .before .before .before .before .loop .scope) (c .before .before .before .before .before .before .items .result) (c .before .before .before .before .before .loop .k) (c .before .before .before .cell .result) (c .before .new-variable .result) (c .before .before .before .before .before .loop .inv .3) (c .before .before .before .before .before .before .items .ensures .1) (c .before .before .before .before .loop-test .taken) (c .before .before .before .cell .ensures) (c .before .new-variable .ensures) (c .before .before .before .before .before .loop .rows) (c .before .before .before .before .before .loop .scope) _ (not-true _ (c .if1 .taken)) refl))
+returns c = (c .before .before .before .before .before .loop .inv .1, (omega (arith, c .before .before .before .before .before .loop .inv .0, c .before .before .before .before .before .before .items .ensures .0), params-old (c .before .before .before .before .before .before .before .before .before .before .before .before .before .before .args .s .now) (c .before .before .before .before .before .before .before .before .before .before .before .before .before .before .args .cells .now) (c .before .before .before .before .before .before .before .before .before .before .before .before .before .before .args .sorts .now) (c .before .before .before .before .before .before .before .before .before .before .before .before .before .before .args .names .now) (c .before .before .before .before .before .before .before .before .before .before .before .before .before .before .args .n) (c .before .before .before .before .before .before .before .before .before .before .before .before .before .before .args .at) (c .before .before .before .before .before .before .before .before .before .before .before .before .before .before .args .p) (c .before .before .before .before .before .loop .rows) (c .before .before .before .before .before .loop .scope) (c .before .before .before .before .before .before .items .result) (c .before .before .before .before .before .loop .k) (c .before .before .before .peek-cell .result) (c .before .new-variable .result) (c .before .before .before .before .before .loop .inv .3) (c .before .before .before .before .before .before .items .ensures .1) (c .before .before .before .before .loop-test .taken) (c .before .before .before .peek-cell .ensures) (c .before .new-variable .ensures) (c .before .before .before .before .before .loop .rows) (c .before .before .before .before .before .loop .scope) _ (not-true _ (c .if1 .taken)) refl))
 
-mul-cell-2 : tie.Need-mul-cell-2 Inv-loop μ-loop
-mul-cell-2 c = omega (arith, c .before .before .before .before .before .before .before .before .before .before .before .before .before .before .pre, c .before .before .before .before .before .before .items .ensures .0)
+mul-peek-cell-2 : tie.Need-mul-peek-cell-2 Inv-loop μ-loop
+mul-peek-cell-2 c = omega (arith, c .before .before .before .before .before .before .before .before .before .before .before .before .before .before .pre, c .before .before .before .before .before .before .items .ensures .0)
 
-add-cell-3 : tie.Need-add-cell-3 Inv-loop μ-loop
-add-cell-3 c = omega (arith, c .before .before .before .before .before .before .before .before .before .before .before .before .before .before .pre, c .before .before .before .before .before .before .items .ensures .0)
+add-peek-cell-3 : tie.Need-add-peek-cell-3 Inv-loop μ-loop
+add-peek-cell-3 c = omega (arith, c .before .before .before .before .before .before .before .before .before .before .before .before .before .before .pre, c .before .before .before .before .before .before .items .ensures .0)
 
-add-cell-4 : tie.Need-add-cell-4 Inv-loop μ-loop
-add-cell-4 c = omega (arith, c .before .before .before .before .before .before .before .before .before .before .before .before .before .before .pre, c .before .before .before .before .before .before .items .ensures .0)
+add-peek-cell-4 : tie.Need-add-peek-cell-4 Inv-loop μ-loop
+add-peek-cell-4 c = omega (arith, c .before .before .before .before .before .before .before .before .before .before .before .before .before .before .pre, c .before .before .before .before .before .before .items .ensures .0)
 
-cell-requires-2 : tie.Need-cell-requires-2 Inv-loop μ-loop
-cell-requires-2 c κs = tt
+peek-cell-requires-2 : tie.Need-peek-cell-requires-2 Inv-loop μ-loop
+peek-cell-requires-2 c κs = tt
 
 sort-number-requires : tie.Need-sort-number-requires Inv-loop μ-loop
 sort-number-requires c κs = omega arith
@@ -71,7 +71,7 @@ same-length-4 c = c .before .before .before .before .before .before .before .bef
 
 returns-2 : tie.Need-returns-2 Inv-loop μ-loop
 unfolding sorts-at
-returns-2 c = (c .before .before .before .before .before .before .before .before .loop .inv .1, (omega (arith, c .before .before .before .before .before .before .before .before .loop .inv .0, c .before .before .before .before .before .before .before .before .before .items .ensures .0), params-no-sort (c .before .before .before .before .before .before .before .before .before .before .before .before .before .before .before .before .before .args .s .now) (c .before .before .before .before .before .before .before .before .before .before .before .before .before .before .before .before .before .args .cells .now) (c .before .before .before .before .before .before .before .before .before .before .before .before .before .before .before .before .before .args .sorts .now) (c .before .before .before .before .before .before .before .before .before .before .before .before .before .before .before .before .before .args .names .now) (c .before .before .before .before .before .before .before .before .before .before .before .before .before .before .before .before .before .args .n) (c .before .before .before .before .before .before .before .before .before .before .before .before .before .before .before .before .before .args .at) (c .before .before .before .before .before .before .before .before .before .before .before .before .before .before .before .before .before .args .p) (c .before .before .before .before .before .before .before .before .loop .rows) (c .before .before .before .before .before .before .before .before .loop .scope) (c .before .before .before .before .before .before .before .before .before .items .result) (c .before .before .before .before .before .before .before .before .loop .k) (c .before .before .before .before .before .before .cell .result) (c .before .before .before .before .new-variable .result) (c .before .before .before .before .before .before .before .before .loop .inv .3) (c .before .before .before .before .before .before .before .before .before .items .ensures .1) (c .before .before .before .before .before .before .before .loop-test .taken) (c .before .before .before .before .before .before .cell .ensures) (c .before .before .before .before .new-variable .ensures) (suc (length (c .before .before .before .before .before .before .before .before .before .before .before .before .before .before .before .before .before .args .sorts .now))) (c .before .sort-number .result) (omega (arith, sorts-length (c .before .before .before .before .before .before .before .before .before .before .before .before .before .before .before .before .before .args .s .now) (c .before .before .before .before .before .before .before .before .before .before .before .before .before .before .before .before .before .args .cells .now) (c .before .before .before .before .before .before .before .before .before .before .before .before .before .before .before .before .before .args .sorts .now))) (not-false _ (c .before .before .before .if1 .left)) (c .before .sort-number .ensures .1 ∙ ap (λ (v : ℕ). or-count (suc (length (c .before .before .before .before .before .before .before .before .before .before .before .before .before .before .before .before .before .args .sorts .now))) (number-of (name-at (c .before .before .before .before .before .before .before .before .before .before .before .before .before .before .before .before .before .args .s .now) v) (sorts-at (c .before .before .before .before .before .before .before .before .before .before .before .before .before .before .before .before .before .args .s .now) (c .before .before .before .before .before .before .before .before .before .before .before .before .before .before .before .before .before .args .cells .now) (c .before .before .before .before .before .before .before .before .before .before .before .before .before .before .before .before .before .args .sorts .now)))) (c .before .before .cell2 .ensures)) (c .before .before .before .before .before .before .before .before .loop .rows) (c .before .before .before .before .before .before .before .before .loop .scope) _ (c .if2 .taken) refl))
+returns-2 c = (c .before .before .before .before .before .before .before .before .loop .inv .1, (omega (arith, c .before .before .before .before .before .before .before .before .loop .inv .0, c .before .before .before .before .before .before .before .before .before .items .ensures .0), params-no-sort (c .before .before .before .before .before .before .before .before .before .before .before .before .before .before .before .before .before .args .s .now) (c .before .before .before .before .before .before .before .before .before .before .before .before .before .before .before .before .before .args .cells .now) (c .before .before .before .before .before .before .before .before .before .before .before .before .before .before .before .before .before .args .sorts .now) (c .before .before .before .before .before .before .before .before .before .before .before .before .before .before .before .before .before .args .names .now) (c .before .before .before .before .before .before .before .before .before .before .before .before .before .before .before .before .before .args .n) (c .before .before .before .before .before .before .before .before .before .before .before .before .before .before .before .before .before .args .at) (c .before .before .before .before .before .before .before .before .before .before .before .before .before .before .before .before .before .args .p) (c .before .before .before .before .before .before .before .before .loop .rows) (c .before .before .before .before .before .before .before .before .loop .scope) (c .before .before .before .before .before .before .before .before .before .items .result) (c .before .before .before .before .before .before .before .before .loop .k) (c .before .before .before .before .before .before .peek-cell .result) (c .before .before .before .before .new-variable .result) (c .before .before .before .before .before .before .before .before .loop .inv .3) (c .before .before .before .before .before .before .before .before .before .items .ensures .1) (c .before .before .before .before .before .before .before .loop-test .taken) (c .before .before .before .before .before .before .peek-cell .ensures) (c .before .before .before .before .new-variable .ensures) (suc (length (c .before .before .before .before .before .before .before .before .before .before .before .before .before .before .before .before .before .args .sorts .now))) (c .before .sort-number .result) (omega (arith, sorts-length (c .before .before .before .before .before .before .before .before .before .before .before .before .before .before .before .before .before .args .s .now) (c .before .before .before .before .before .before .before .before .before .before .before .before .before .before .before .before .before .args .cells .now) (c .before .before .before .before .before .before .before .before .before .before .before .before .before .before .before .before .before .args .sorts .now))) (not-false _ (c .before .before .before .if1 .left)) (c .before .sort-number .ensures .1 ∙ ap (λ (v : ℕ). or-count (suc (length (c .before .before .before .before .before .before .before .before .before .before .before .before .before .before .before .before .before .args .sorts .now))) (number-of (name-at (c .before .before .before .before .before .before .before .before .before .before .before .before .before .before .before .before .before .args .s .now) v) (sorts-at (c .before .before .before .before .before .before .before .before .before .before .before .before .before .before .before .before .before .args .s .now) (c .before .before .before .before .before .before .before .before .before .before .before .before .before .before .before .before .before .args .cells .now) (c .before .before .before .before .before .before .before .before .before .before .before .before .before .before .before .before .before .args .sorts .now)))) (c .before .before .peek-cell2 .ensures)) (c .before .before .before .before .before .before .before .before .loop .rows) (c .before .before .before .before .before .before .before .before .loop .scope) _ (c .if2 .taken) refl))
 
 mul-scope : tie.Need-mul-scope Inv-loop μ-loop
 mul-scope c = omega (arith, c .before .before .before .before .before .before .before .before .before .before .before .before .before .before .before .before .before .pre, c .before .before .before .before .before .before .before .before .before .items .ensures .0, c .before .before .before .before .before .before .before .before .loop .inv .2)
@@ -102,8 +102,8 @@ unfolding sorts-at
 loop-again c = (
   omega arith,
   kept-set (c .before .before .before .before .before .before .before .before .before .before .before .before .before .before .before .before .before .args .p) (c .before .before .before .before .before .before .before .before .before .before .before .before .before .before .before .before .before .args .rows .now) (c .before .before .before .before .before .before .before .before .loop .rows) (c .before .before .before .before .before .before .before .before .before .before .before .before .before .before .before .before .before .args .p + 1 + c .before .before .before .before .before .before .before .before .loop .k) (c .before .sort-number .result) (c .before .before .before .before .before .before .before .before .loop .inv .1) (omega arith),
-  length-set (c .before .before .before .before .before .before .before .before .loop .scope) (c .before .before .before .before .before .before .before .before .loop .k) (c .before .before .before .before .before .before .cell .result) ∙ c .before .before .before .before .before .before .before .before .loop .inv .2,
-  params-go (c .before .before .before .before .before .before .before .before .before .before .before .before .before .before .before .before .before .args .s .now) (c .before .before .before .before .before .before .before .before .before .before .before .before .before .before .before .before .before .args .cells .now) (c .before .before .before .before .before .before .before .before .before .before .before .before .before .before .before .before .before .args .sorts .now) (c .before .before .before .before .before .before .before .before .before .before .before .before .before .before .before .before .before .args .names .now) (c .before .before .before .before .before .before .before .before .before .before .before .before .before .before .before .before .before .args .n) (c .before .before .before .before .before .before .before .before .before .before .before .before .before .before .before .before .before .args .at) (c .before .before .before .before .before .before .before .before .before .before .before .before .before .before .before .before .before .args .p) (c .before .before .before .before .before .before .before .before .loop .rows) (c .before .before .before .before .before .before .before .before .loop .scope) (c .before .before .before .before .before .before .before .before .before .items .result) (c .before .before .before .before .before .before .before .before .loop .k) (c .before .before .before .before .before .before .cell .result) (c .before .before .before .before .new-variable .result) (c .before .before .before .before .before .before .before .before .loop .inv .3) (c .before .before .before .before .before .before .before .before .before .items .ensures .1) (c .before .before .before .before .before .before .before .loop-test .taken) (c .before .before .before .before .before .before .cell .ensures) (c .before .before .before .before .new-variable .ensures) (suc (length (c .before .before .before .before .before .before .before .before .before .before .before .before .before .before .before .before .before .args .sorts .now))) (c .before .sort-number .result) (omega (arith, sorts-length (c .before .before .before .before .before .before .before .before .before .before .before .before .before .before .before .before .before .args .s .now) (c .before .before .before .before .before .before .before .before .before .before .before .before .before .before .before .before .before .args .cells .now) (c .before .before .before .before .before .before .before .before .before .before .before .before .before .before .before .before .before .args .sorts .now))) (not-false _ (c .before .before .before .if1 .left)) (c .before .sort-number .ensures .1 ∙ ap (λ (v : ℕ). or-count (suc (length (c .before .before .before .before .before .before .before .before .before .before .before .before .before .before .before .before .before .args .sorts .now))) (number-of (name-at (c .before .before .before .before .before .before .before .before .before .before .before .before .before .before .before .before .before .args .s .now) v) (sorts-at (c .before .before .before .before .before .before .before .before .before .before .before .before .before .before .before .before .before .args .s .now) (c .before .before .before .before .before .before .before .before .before .before .before .before .before .before .before .before .before .args .cells .now) (c .before .before .before .before .before .before .before .before .before .before .before .before .before .before .before .before .before .args .sorts .now)))) (c .before .before .cell2 .ensures)) (c .before .before .before .before .before .before .before .before .before .before .before .before .before .before .before .before .before .args .p + 1 + c .before .before .before .before .before .before .before .before .loop .k) (omega (arith, c .if2 .left)) (omega (arith, c .before .before .before .before .before .before .before .before .before .before .before .before .before .before .before .before .before .pre, c .before .before .before .before .before .before .before .before .before .items .ensures .0, c .before .before .before .before .before .before .before .before .loop .inv .2)) refl (omega (arith, c .before .before .before .before .before .before .before .before .before .before .before .before .before .before .before .before .before .pre, c .before .before .before .before .before .before .before .before .before .items .ensures .0, c .before .before .before .before .before .before .before .before .loop .inv .1 .same)),
+  length-set (c .before .before .before .before .before .before .before .before .loop .scope) (c .before .before .before .before .before .before .before .before .loop .k) (c .before .before .before .before .before .before .peek-cell .result) ∙ c .before .before .before .before .before .before .before .before .loop .inv .2,
+  params-go (c .before .before .before .before .before .before .before .before .before .before .before .before .before .before .before .before .before .args .s .now) (c .before .before .before .before .before .before .before .before .before .before .before .before .before .before .before .before .before .args .cells .now) (c .before .before .before .before .before .before .before .before .before .before .before .before .before .before .before .before .before .args .sorts .now) (c .before .before .before .before .before .before .before .before .before .before .before .before .before .before .before .before .before .args .names .now) (c .before .before .before .before .before .before .before .before .before .before .before .before .before .before .before .before .before .args .n) (c .before .before .before .before .before .before .before .before .before .before .before .before .before .before .before .before .before .args .at) (c .before .before .before .before .before .before .before .before .before .before .before .before .before .before .before .before .before .args .p) (c .before .before .before .before .before .before .before .before .loop .rows) (c .before .before .before .before .before .before .before .before .loop .scope) (c .before .before .before .before .before .before .before .before .before .items .result) (c .before .before .before .before .before .before .before .before .loop .k) (c .before .before .before .before .before .before .peek-cell .result) (c .before .before .before .before .new-variable .result) (c .before .before .before .before .before .before .before .before .loop .inv .3) (c .before .before .before .before .before .before .before .before .before .items .ensures .1) (c .before .before .before .before .before .before .before .loop-test .taken) (c .before .before .before .before .before .before .peek-cell .ensures) (c .before .before .before .before .new-variable .ensures) (suc (length (c .before .before .before .before .before .before .before .before .before .before .before .before .before .before .before .before .before .args .sorts .now))) (c .before .sort-number .result) (omega (arith, sorts-length (c .before .before .before .before .before .before .before .before .before .before .before .before .before .before .before .before .before .args .s .now) (c .before .before .before .before .before .before .before .before .before .before .before .before .before .before .before .before .before .args .cells .now) (c .before .before .before .before .before .before .before .before .before .before .before .before .before .before .before .before .before .args .sorts .now))) (not-false _ (c .before .before .before .if1 .left)) (c .before .sort-number .ensures .1 ∙ ap (λ (v : ℕ). or-count (suc (length (c .before .before .before .before .before .before .before .before .before .before .before .before .before .before .before .before .before .args .sorts .now))) (number-of (name-at (c .before .before .before .before .before .before .before .before .before .before .before .before .before .before .before .before .before .args .s .now) v) (sorts-at (c .before .before .before .before .before .before .before .before .before .before .before .before .before .before .before .before .before .args .s .now) (c .before .before .before .before .before .before .before .before .before .before .before .before .before .before .before .before .before .args .cells .now) (c .before .before .before .before .before .before .before .before .before .before .before .before .before .before .before .before .before .args .sorts .now)))) (c .before .before .peek-cell2 .ensures)) (c .before .before .before .before .before .before .before .before .before .before .before .before .before .before .before .before .before .args .p + 1 + c .before .before .before .before .before .before .before .before .loop .k) (omega (arith, c .if2 .left)) (omega (arith, c .before .before .before .before .before .before .before .before .before .before .before .before .before .before .before .before .before .pre, c .before .before .before .before .before .before .before .before .before .items .ensures .0, c .before .before .before .before .before .before .before .before .loop .inv .2)) refl (omega (arith, c .before .before .before .before .before .before .before .before .before .before .before .before .before .before .before .before .before .pre, c .before .before .before .before .before .before .before .before .before .items .ensures .0, c .before .before .before .before .before .before .before .before .loop .inv .1 .same)),
 )
 
 cast-rows-2 : tie.Need-cast-rows-2 Inv-loop μ-loop
@@ -145,18 +145,18 @@ param-row-spec =
     μ-loop
     items-requires
     loop-holds
-    mul-cell
-    add-cell
-    add-cell-2
-    cell-requires
+    mul-peek-cell
+    add-peek-cell
+    add-peek-cell-2
+    peek-cell-requires
     new-variable-requires
     same-length
     same-length-2
     returns
-    mul-cell-2
-    add-cell-3
-    add-cell-4
-    cell-requires-2
+    mul-peek-cell-2
+    add-peek-cell-3
+    add-peek-cell-4
+    peek-cell-requires-2
     sort-number-requires
     same-length-3
     same-length-4

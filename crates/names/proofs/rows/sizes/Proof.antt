@@ -24,20 +24,20 @@ slice-write-out c = omega (arith, c .before .before .before .pre)
 loop-holds : tie.Need-loop-holds Inv-loop μ-loop
 loop-holds c = (omega arith, copied-none 1 (set (c .before .before .before .args .out .now) 0 2))
 
-mul-place : tie.Need-mul-place Inv-loop μ-loop
-mul-place c = omega arith
+mul-wide-cell : tie.Need-mul-wide-cell Inv-loop μ-loop
+mul-wide-cell c = omega arith
 
-shared-slice-read-place : tie.Need-shared-slice-read-place Inv-loop μ-loop
-shared-slice-read-place c = omega arith
+shared-slice-read-wide-cell : tie.Need-shared-slice-read-wide-cell Inv-loop μ-loop
+shared-slice-read-wide-cell c = omega arith
 
-place-requires : tie.Need-place-requires Inv-loop μ-loop
-place-requires c κs = tt
+wide-cell-requires : tie.Need-wide-cell-requires Inv-loop μ-loop
+wide-cell-requires c κs = tt
 
-add-cell : tie.Need-add-cell Inv-loop μ-loop
-add-cell c = omega (arith, c .place .ensures)
+add-peek-cell : tie.Need-add-peek-cell Inv-loop μ-loop
+add-peek-cell c = omega (arith, c .wide-cell .ensures)
 
-cell-requires : tie.Need-cell-requires Inv-loop μ-loop
-cell-requires c κs = tt
+peek-cell-requires : tie.Need-peek-cell-requires Inv-loop μ-loop
+peek-cell-requires c κs = tt
 
 value-requires : tie.Need-value-requires Inv-loop μ-loop
 value-requires c κs = tt
@@ -56,7 +56,7 @@ loop-less c = omega arith
 
 loop-again : tie.Need-loop-again Inv-loop μ-loop
 loop-again c =
-    let v : c .value .result ≡ byte-of (numeral-at (c .before .before .before .before .before .before .before .before .before .args .cells .now) (getD (c .before .before .before .before .before .before .before .before .before .args .sorts .now) (c .before .before .before .before .before .loop .i) 0 + 2)) = c .value .ensures ∙ ap (λ (x : ℕ). byte-of (x - first-numeral)) (c .before .cell .ensures ∙ ap (λ (p : ℕ). getD (c .before .before .before .before .before .before .before .before .before .args .cells .now) (p + 2) 0) (c .before .before .place .ensures .0)) in
+    let v : c .value .result ≡ byte-of (numeral-at (c .before .before .before .before .before .before .before .before .before .args .cells .now) (getD (c .before .before .before .before .before .before .before .before .before .args .sorts .now) (c .before .before .before .before .before .loop .i) 0 + 2)) = c .value .ensures ∙ ap (λ (x : ℕ). byte-of (x - first-numeral)) (c .before .peek-cell .ensures ∙ ap (λ (p : ℕ). getD (c .before .before .before .before .before .before .before .before .before .args .cells .now) (p + 2) 0) (c .before .before .wide-cell .ensures .0)) in
     let e : map (λ p. byte-of (numeral-at (c .before .before .before .before .before .before .before .before .before .args .cells .now) (p + 2))) (take (c .before .before .before .before .before .loop .i + 1) (c .before .before .before .before .before .before .before .before .before .args .sorts .now)) ≡ map (λ p. byte-of (numeral-at (c .before .before .before .before .before .before .before .before .before .args .cells .now) (p + 2))) (take (c .before .before .before .before .before .loop .i) (c .before .before .before .before .before .before .before .before .before .args .sorts .now)) ++ (c .value .result ∷ [])
     = mapped-more (λ p. byte-of (numeral-at (c .before .before .before .before .before .before .before .before .before .args .cells .now) (p + 2))) (c .before .before .before .before .before .before .before .before .before .args .sorts .now) (c .before .before .before .before .before .loop .i) (c .before .before .before .before .loop-test .taken)
     ∙ ap (λ (v : ℕ). map (λ p. byte-of (numeral-at (c .before .before .before .before .before .before .before .before .before .args .cells .now) (p + 2))) (take (c .before .before .before .before .before .loop .i) (c .before .before .before .before .before .before .before .before .before .args .sorts .now)) ++ (v ∷ [])) (sym v) in
@@ -80,11 +80,11 @@ sizes-spec =
     μ-loop
     slice-write-out
     loop-holds
-    mul-place
-    shared-slice-read-place
-    place-requires
-    add-cell
-    cell-requires
+    mul-wide-cell
+    shared-slice-read-wide-cell
+    wide-cell-requires
+    add-peek-cell
+    peek-cell-requires
     value-requires
     add-out
     slice-write-out-2

@@ -24,17 +24,17 @@ items-requires c κs = (omega arith, omega (arith, c .before .before .before .be
 loop-holds : tie.Need-loop-holds Inv-loop μ-loop
 loop-holds c = (omega arith, kept-all (c .before .before .before .before .before .args .p) (c .before .before .before .before .before .args .rows .now), row-starts (sorts-at (c .before .before .before .before .before .args .s .now) (c .before .before .before .before .before .args .cells .now) (c .before .before .before .before .before .args .sorts .now)) (c .before .before .before .before .before .args .rows .now) (c .before .before .before .before .before .args .p) (item-names (c .before .before .before .before .before .args .s .now) (c .before .before .before .before .before .args .cells .now) (c .before .before .before .before .before .args .at) (c .items .result)))
 
-mul-cell : tie.Need-mul-cell Inv-loop μ-loop
-mul-cell c = omega (arith, c .before .before .items .ensures .0)
+mul-peek-cell : tie.Need-mul-peek-cell Inv-loop μ-loop
+mul-peek-cell c = omega (arith, c .before .before .items .ensures .0)
 
-add-cell : tie.Need-add-cell Inv-loop μ-loop
-add-cell c = omega (arith, c .before .before .before .before .before .before .before .pre, c .before .before .items .ensures .0)
+add-peek-cell : tie.Need-add-peek-cell Inv-loop μ-loop
+add-peek-cell c = omega (arith, c .before .before .before .before .before .before .before .pre, c .before .before .items .ensures .0)
 
-add-cell-2 : tie.Need-add-cell-2 Inv-loop μ-loop
-add-cell-2 c = omega (arith, c .before .before .before .before .before .before .before .pre, c .before .before .items .ensures .0)
+add-peek-cell-2 : tie.Need-add-peek-cell-2 Inv-loop μ-loop
+add-peek-cell-2 c = omega (arith, c .before .before .before .before .before .before .before .pre, c .before .before .items .ensures .0)
 
-cell-requires : tie.Need-cell-requires Inv-loop μ-loop
-cell-requires c κs = tt
+peek-cell-requires : tie.Need-peek-cell-requires Inv-loop μ-loop
+peek-cell-requires c κs = tt
 
 sort-number-requires : tie.Need-sort-number-requires Inv-loop μ-loop
 sort-number-requires c κs = omega arith
@@ -49,7 +49,7 @@ returns c = (
   (
     omega arith,
     let e : numbered (sorts-at (c .before .before .before .before .before .before .before .before .before .before .args .s .now) (c .before .before .before .before .before .before .before .before .before .before .args .cells .now) (c .before .before .before .before .before .before .before .before .before .before .args .sorts .now)) (item-names (c .before .before .before .before .before .before .before .before .before .before .args .s .now) (c .before .before .before .before .before .before .before .before .before .before .args .cells .now) (c .before .before .before .before .before .before .before .before .before .before .args .at) (c .before .before .before .before .before .items .result)) ≡ numbered (sorts-at (c .before .before .before .before .before .before .before .before .before .before .args .s .now) (c .before .before .before .before .before .before .before .before .before .before .args .cells .now) (c .before .before .before .before .before .before .before .before .before .before .args .sorts .now)) (item-names (c .before .before .before .before .before .before .before .before .before .before .args .s .now) (c .before .before .before .before .before .before .before .before .before .before .args .cells .now) (c .before .before .before .before .before .before .before .before .before .before .args .at) (item-count (c .before .before .before .before .before .before .before .before .before .before .args .cells .now) 2 (c .before .before .before .before .before .before .before .before .before .before .args .at) 2)) = ap (λ (n : ℕ). numbered (sorts-at (c .before .before .before .before .before .before .before .before .before .before .args .s .now) (c .before .before .before .before .before .before .before .before .before .before .args .cells .now) (c .before .before .before .before .before .before .before .before .before .before .args .sorts .now)) (item-names (c .before .before .before .before .before .before .before .before .before .before .args .s .now) (c .before .before .before .before .before .before .before .before .before .before .args .cells .now) (c .before .before .before .before .before .before .before .before .before .before .args .at) n)) (c .before .before .before .before .before .items .ensures .1) in
-        rw (← e) (row-stops (sorts-at (c .before .before .before .before .before .before .before .before .before .before .args .s .now) (c .before .before .before .before .before .before .before .before .before .before .args .cells .now) (c .before .before .before .before .before .before .before .before .before .before .args .sorts .now)) _ (c .before .before .before .before .loop .rows) (c .before .before .before .before .before .before .before .before .before .before .args .p) (item-names (c .before .before .before .before .before .before .before .before .before .before .args .s .now) (c .before .before .before .before .before .before .before .before .before .before .args .cells .now) (c .before .before .before .before .before .before .before .before .before .before .args .at) (c .before .before .before .before .before .items .result)) _ (c .before .before .before .before .loop .k) (name-at (c .before .before .before .before .before .before .before .before .before .before .args .s .now) (getD (c .before .before .before .before .before .before .before .before .before .before .args .cells .now) (c .before .before .before .before .before .before .before .before .before .before .args .at + 2 * c .before .before .before .before .loop .k + 1) 0)) (suc (length (c .before .before .before .before .before .before .before .before .before .before .args .sorts .now))) (c .before .sort-number .result) (omega (arith, sorts-length (c .before .before .before .before .before .before .before .before .before .before .args .s .now) (c .before .before .before .before .before .before .before .before .before .before .args .cells .now) (c .before .before .before .before .before .before .before .before .before .before .args .sorts .now))) (c .before .before .before .before .loop .inv .2) (names-next (c .before .before .before .before .before .before .before .before .before .before .args .s .now) (c .before .before .before .before .before .before .before .before .before .before .args .cells .now) (c .before .before .before .before .before .before .before .before .before .before .args .at) (c .before .before .before .before .before .items .result) (c .before .before .before .before .loop .k) (c .before .before .before .before .before .before .before .before .before .before .args .at + 2 * c .before .before .before .before .loop .k + 1) (c .before .before .before .loop-test .taken) refl) (c .before .sort-number .ensures .1 ∙ ap (λ (v : ℕ). or-count (suc (length (c .before .before .before .before .before .before .before .before .before .before .args .sorts .now))) (number-of (name-at (c .before .before .before .before .before .before .before .before .before .before .args .s .now) v) (sorts-at (c .before .before .before .before .before .before .before .before .before .before .args .s .now) (c .before .before .before .before .before .before .before .before .before .before .args .cells .now) (c .before .before .before .before .before .before .before .before .before .before .args .sorts .now)))) (c .before .before .cell .ensures)) (c .if1 .taken)),
+        rw (← e) (row-stops (sorts-at (c .before .before .before .before .before .before .before .before .before .before .args .s .now) (c .before .before .before .before .before .before .before .before .before .before .args .cells .now) (c .before .before .before .before .before .before .before .before .before .before .args .sorts .now)) _ (c .before .before .before .before .loop .rows) (c .before .before .before .before .before .before .before .before .before .before .args .p) (item-names (c .before .before .before .before .before .before .before .before .before .before .args .s .now) (c .before .before .before .before .before .before .before .before .before .before .args .cells .now) (c .before .before .before .before .before .before .before .before .before .before .args .at) (c .before .before .before .before .before .items .result)) _ (c .before .before .before .before .loop .k) (name-at (c .before .before .before .before .before .before .before .before .before .before .args .s .now) (getD (c .before .before .before .before .before .before .before .before .before .before .args .cells .now) (c .before .before .before .before .before .before .before .before .before .before .args .at + 2 * c .before .before .before .before .loop .k + 1) 0)) (suc (length (c .before .before .before .before .before .before .before .before .before .before .args .sorts .now))) (c .before .sort-number .result) (omega (arith, sorts-length (c .before .before .before .before .before .before .before .before .before .before .args .s .now) (c .before .before .before .before .before .before .before .before .before .before .args .cells .now) (c .before .before .before .before .before .before .before .before .before .before .args .sorts .now))) (c .before .before .before .before .loop .inv .2) (names-next (c .before .before .before .before .before .before .before .before .before .before .args .s .now) (c .before .before .before .before .before .before .before .before .before .before .args .cells .now) (c .before .before .before .before .before .before .before .before .before .before .args .at) (c .before .before .before .before .before .items .result) (c .before .before .before .before .loop .k) (c .before .before .before .before .before .before .before .before .before .before .args .at + 2 * c .before .before .before .before .loop .k + 1) (c .before .before .before .loop-test .taken) refl) (c .before .sort-number .ensures .1 ∙ ap (λ (v : ℕ). or-count (suc (length (c .before .before .before .before .before .before .before .before .before .before .args .sorts .now))) (number-of (name-at (c .before .before .before .before .before .before .before .before .before .before .args .s .now) v) (sorts-at (c .before .before .before .before .before .before .before .before .before .before .args .s .now) (c .before .before .before .before .before .before .before .before .before .before .args .cells .now) (c .before .before .before .before .before .before .before .before .before .before .args .sorts .now)))) (c .before .before .peek-cell .ensures)) (c .if1 .taken)),
   ),
 )
 
@@ -76,7 +76,7 @@ unfolding sorts-at
 loop-again c = (
   omega arith,
   kept-set (c .before .before .before .before .before .before .before .before .before .before .args .p) (c .before .before .before .before .before .before .before .before .before .before .args .rows .now) (c .before .before .before .before .loop .rows) (c .before .before .before .before .before .before .before .before .before .before .args .p + 1 + c .before .before .before .before .loop .k) (c .before .sort-number .result) (c .before .before .before .before .loop .inv .1) (omega arith),
-  row-goes (sorts-at (c .before .before .before .before .before .before .before .before .before .before .args .s .now) (c .before .before .before .before .before .before .before .before .before .before .args .cells .now) (c .before .before .before .before .before .before .before .before .before .before .args .sorts .now)) (c .before .before .before .before .loop .rows) (c .before .before .before .before .before .before .before .before .before .before .args .p) (item-names (c .before .before .before .before .before .before .before .before .before .before .args .s .now) (c .before .before .before .before .before .before .before .before .before .before .args .cells .now) (c .before .before .before .before .before .before .before .before .before .before .args .at) (c .before .before .before .before .before .items .result)) (c .before .before .before .before .loop .k) (c .before .before .before .before .before .before .before .before .before .before .args .p + 1 + c .before .before .before .before .loop .k) (name-at (c .before .before .before .before .before .before .before .before .before .before .args .s .now) (getD (c .before .before .before .before .before .before .before .before .before .before .args .cells .now) (c .before .before .before .before .before .before .before .before .before .before .args .at + 2 * c .before .before .before .before .loop .k + 1) 0)) (suc (length (c .before .before .before .before .before .before .before .before .before .before .args .sorts .now))) (c .before .sort-number .result) refl (omega (arith, c .before .before .before .before .before .before .before .before .before .before .pre, c .before .before .before .before .before .items .ensures .0, c .before .before .before .before .loop .inv .1 .same)) (c .before .before .before .before .loop .inv .2) (names-next (c .before .before .before .before .before .before .before .before .before .before .args .s .now) (c .before .before .before .before .before .before .before .before .before .before .args .cells .now) (c .before .before .before .before .before .before .before .before .before .before .args .at) (c .before .before .before .before .before .items .result) (c .before .before .before .before .loop .k) (c .before .before .before .before .before .before .before .before .before .before .args .at + 2 * c .before .before .before .before .loop .k + 1) (c .before .before .before .loop-test .taken) refl) (c .before .sort-number .ensures .1 ∙ ap (λ (v : ℕ). or-count (suc (length (c .before .before .before .before .before .before .before .before .before .before .args .sorts .now))) (number-of (name-at (c .before .before .before .before .before .before .before .before .before .before .args .s .now) v) (sorts-at (c .before .before .before .before .before .before .before .before .before .before .args .s .now) (c .before .before .before .before .before .before .before .before .before .before .args .cells .now) (c .before .before .before .before .before .before .before .before .before .before .args .sorts .now)))) (c .before .before .cell .ensures)) (omega (arith, c .if1 .left)),
+  row-goes (sorts-at (c .before .before .before .before .before .before .before .before .before .before .args .s .now) (c .before .before .before .before .before .before .before .before .before .before .args .cells .now) (c .before .before .before .before .before .before .before .before .before .before .args .sorts .now)) (c .before .before .before .before .loop .rows) (c .before .before .before .before .before .before .before .before .before .before .args .p) (item-names (c .before .before .before .before .before .before .before .before .before .before .args .s .now) (c .before .before .before .before .before .before .before .before .before .before .args .cells .now) (c .before .before .before .before .before .before .before .before .before .before .args .at) (c .before .before .before .before .before .items .result)) (c .before .before .before .before .loop .k) (c .before .before .before .before .before .before .before .before .before .before .args .p + 1 + c .before .before .before .before .loop .k) (name-at (c .before .before .before .before .before .before .before .before .before .before .args .s .now) (getD (c .before .before .before .before .before .before .before .before .before .before .args .cells .now) (c .before .before .before .before .before .before .before .before .before .before .args .at + 2 * c .before .before .before .before .loop .k + 1) 0)) (suc (length (c .before .before .before .before .before .before .before .before .before .before .args .sorts .now))) (c .before .sort-number .result) refl (omega (arith, c .before .before .before .before .before .before .before .before .before .before .pre, c .before .before .before .before .before .items .ensures .0, c .before .before .before .before .loop .inv .1 .same)) (c .before .before .before .before .loop .inv .2) (names-next (c .before .before .before .before .before .before .before .before .before .before .args .s .now) (c .before .before .before .before .before .before .before .before .before .before .args .cells .now) (c .before .before .before .before .before .before .before .before .before .before .args .at) (c .before .before .before .before .before .items .result) (c .before .before .before .before .loop .k) (c .before .before .before .before .before .before .before .before .before .before .args .at + 2 * c .before .before .before .before .loop .k + 1) (c .before .before .before .loop-test .taken) refl) (c .before .sort-number .ensures .1 ∙ ap (λ (v : ℕ). or-count (suc (length (c .before .before .before .before .before .before .before .before .before .before .args .sorts .now))) (number-of (name-at (c .before .before .before .before .before .before .before .before .before .before .args .s .now) v) (sorts-at (c .before .before .before .before .before .before .before .before .before .before .args .s .now) (c .before .before .before .before .before .before .before .before .before .before .args .cells .now) (c .before .before .before .before .before .before .before .before .before .before .args .sorts .now)))) (c .before .before .peek-cell .ensures)) (omega (arith, c .if1 .left)),
 )
 
 cast-rows-2 : tie.Need-cast-rows-2 Inv-loop μ-loop
@@ -118,10 +118,10 @@ sort-row-spec =
     μ-loop
     items-requires
     loop-holds
-    mul-cell
-    add-cell
-    add-cell-2
-    cell-requires
+    mul-peek-cell
+    add-peek-cell
+    add-peek-cell-2
+    peek-cell-requires
     sort-number-requires
     same-length
     returns

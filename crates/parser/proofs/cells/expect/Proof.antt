@@ -7,8 +7,8 @@ use borrow.Author.Needs.{needs}
 use Rattle.parser.proofs.cells.expect.Statement.{statement}
 use Rattle.parser.proofs.cells.expect.Tie as tie
 
-peek-requires : tie.Need-peek-requires
-peek-requires c κs = search needs
+peek-cell-requires : tie.Need-peek-cell-requires
+peek-cell-requires c κs = search needs
 
 add-result : tie.Need-add-result
 add-result c =
@@ -21,15 +21,15 @@ add-result-2 c = search needs
 
 returns : tie.Need-returns
 returns c =
-    let at-peek = c .before .peek in
+    let at-peek = c .before .peek-cell in
     let at-if1 = c .if1 in
     (omega arith, next (sym (at-peek .ensures) ∙ at-if1 .taken))
 
 returns-2 : tie.Need-returns-2
 returns-2 c =
     let at-if1 = c .if1 in
-    let at-peek = c .before .peek in
+    let at-peek = c .before .peek-cell in
     (omega arith, wrong (λ e. at-if1 .left (at-peek .ensures ∙ e)))
 
 pub expect-spec : {M : Type 1} → statement M
-expect-spec = tie.close (tie.spec peek-requires add-result add-result-2 returns returns-2)
+expect-spec = tie.close (tie.spec peek-cell-requires add-result add-result-2 returns returns-2)

@@ -6,8 +6,8 @@ use borrow.Author.Needs.{needs}
 use Rattle.parser.proofs.cells.name.Statement.{statement}
 use Rattle.parser.proofs.cells.name.Tie as tie
 
-peek-requires : tie.Need-peek-requires
-peek-requires c κs = search needs
+peek-cell-requires : tie.Need-peek-cell-requires
+peek-cell-requires c κs = search needs
 
 lost-requires : tie.Need-lost-requires
 lost-requires c κs = search needs
@@ -35,7 +35,7 @@ returns-2 : tie.Need-returns-2
 returns-2 c =
     let at-start = c .before .before .before .before .before .before .before .before in
     let at-put = c .before .before .put in
-    let at-peek = c .before .before .before .before .before .peek in (
+    let at-peek = c .before .before .before .before .before .peek-cell in (
       omega arith,
       λ s f l. reads-name s (at-start .args .toks .now) (at-start .args .at) (at-put .ensures) (at-peek .ensures) (omega arith),
     )
@@ -43,4 +43,4 @@ returns-2 c =
 pub name-spec : {M : Type 1} → statement M
 name-spec =
     tie.close
-    (tie.spec peek-requires lost-requires returns add-t7 put-requires same-length returns-2)
+    (tie.spec peek-cell-requires lost-requires returns add-t7 put-requires same-length returns-2)

@@ -6,8 +6,8 @@ use borrow.Author.Needs.{needs}
 use Rattle.parser.proofs.cells.numeral.Statement.{statement}
 use Rattle.parser.proofs.cells.numeral.Tie as tie
 
-peek-requires : tie.Need-peek-requires
-peek-requires c κs = search needs
+peek-cell-requires : tie.Need-peek-cell-requires
+peek-cell-requires c κs = search needs
 
 lost-requires : tie.Need-lost-requires
 lost-requires c κs = search needs
@@ -45,7 +45,7 @@ returns-3 : tie.Need-returns-3
 returns-3 c =
     let at-start = c .before .before .before .before .before .before .before .before .before in
     let at-put = c .before .before .put in
-    let at-peek = c .before .before .before .before .before .before .peek in (
+    let at-peek = c .before .before .before .before .before .before .peek-cell in (
       omega arith,
       λ s f l. reads-numeral s (at-start .args .toks .now) (at-start .args .at) (at-put .ensures) (at-peek .ensures) (omega arith) (omega arith),
     )
@@ -54,7 +54,7 @@ pub numeral-spec : {M : Type 1} → statement M
 numeral-spec =
     tie.close
     (tie.spec
-    peek-requires
+    peek-cell-requires
     lost-requires
     returns
     lost-requires-2

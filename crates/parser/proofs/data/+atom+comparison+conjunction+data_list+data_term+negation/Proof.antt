@@ -37,7 +37,7 @@ use Rattle.parser.proofs.data.+atom+comparison+conjunction+data_list+da
 use Rattle.parser.proofs.cells.counted.Reads as counted-reads
 use Rattle.parser.proofs.cells.expect.Reads as expect-reads
 use Rattle.parser.proofs.cells.lost.Reads as lost-reads
-use Rattle.parser.proofs.cells.peek.Reads as peek-reads
+use Rattle.elements.proofs.peek_cell.Reads as peek-cell-reads
 use Rattle.parser.proofs.cells.put.Reads as put-reads
 use Rattle.parser.proofs.data.+atom+comparison+conjunction+data_list+data_term+negation.{statement}
 use Rattle.parser.proofs.data.+atom+comparison+conjunction+data_list+data_term+negation.Tie.{close}
@@ -104,22 +104,22 @@ negation-below t =
     and 2 negation-kinds.ps (falls 2 negation-kinds.ps _<_ μ-negation t) negation.Pre
 
 abbrev atom-calls : ℕ → atom-lts.Claims
-atom-calls t = (peek-reads.Asked, peek-reads.Learnt, put-reads.Asked, put-reads.Learnt, data-term-below t, data-term.Post, expect-reads.Asked, expect-reads.Learnt, lost-reads.Asked, lost-reads.Learnt, data-list-below t, data-list.Post)
+atom-calls t = (peek-cell-reads.Asked, peek-cell-reads.Learnt, put-reads.Asked, put-reads.Learnt, data-term-below t, data-term.Post, expect-reads.Asked, expect-reads.Learnt, lost-reads.Asked, lost-reads.Learnt, data-list-below t, data-list.Post)
 
 abbrev comparison-calls : ℕ → comparison-lts.Claims
-comparison-calls t = (put-reads.Asked, put-reads.Learnt, negation-below t, negation.Post, peek-reads.Asked, peek-reads.Learnt)
+comparison-calls t = (put-reads.Asked, put-reads.Learnt, negation-below t, negation.Post, peek-cell-reads.Asked, peek-cell-reads.Learnt)
 
 abbrev conjunction-calls : ℕ → conjunction-lts.Claims
-conjunction-calls t = (put-reads.Asked, put-reads.Learnt, comparison-below t, comparison.Post, peek-reads.Asked, peek-reads.Learnt, counted-reads.Asked, counted-reads.Learnt)
+conjunction-calls t = (put-reads.Asked, put-reads.Learnt, comparison-below t, comparison.Post, peek-cell-reads.Asked, peek-cell-reads.Learnt, counted-reads.Asked, counted-reads.Learnt)
 
 abbrev data-list-calls : ℕ → data-list-lts.Claims
-data-list-calls t = (put-reads.Asked, put-reads.Learnt, data-term-below t, data-term.Post, peek-reads.Asked, peek-reads.Learnt, expect-reads.Asked, expect-reads.Learnt)
+data-list-calls t = (put-reads.Asked, put-reads.Learnt, data-term-below t, data-term.Post, peek-cell-reads.Asked, peek-cell-reads.Learnt, expect-reads.Asked, expect-reads.Learnt)
 
 abbrev data-term-calls : ℕ → data-term-lts.Claims
-data-term-calls t = (put-reads.Asked, put-reads.Learnt, conjunction-below t, conjunction.Post, peek-reads.Asked, peek-reads.Learnt, counted-reads.Asked, counted-reads.Learnt)
+data-term-calls t = (put-reads.Asked, put-reads.Learnt, conjunction-below t, conjunction.Post, peek-cell-reads.Asked, peek-cell-reads.Learnt, counted-reads.Asked, counted-reads.Learnt)
 
 abbrev negation-calls : ℕ → negation-lts.Claims
-negation-calls t = (peek-reads.Asked, peek-reads.Learnt, put-reads.Asked, put-reads.Learnt, atom-below t, atom.Post)
+negation-calls t = (peek-cell-reads.Asked, peek-cell-reads.Learnt, put-reads.Asked, put-reads.Learnt, atom-below t, atom.Post)
 
 atom-add-data-term : (t : ℕ) → atom-lts.Need-add-data-term (atom-calls t) (atom-at t) atom.Post
 atom-add-data-term t c =
@@ -141,7 +141,7 @@ atom-returns t c =
     let at-start = c .before .before .before .before .before .before .before .before .before .before .before .before .before in
     let at-data-term = c .before .before .before .data-term in
     let at-expect = c .expect in
-    let at-peek = c .before .before .before .before .before .before .before .before .before .before .peek in
+    let at-peek = c .before .before .before .before .before .before .before .before .before .before .peek-cell in
     let at-if1 = c .before .before .before .before .before .before .before .before .before .if1 in
     let at-put = c .before .before .before .before .before .before .before .put in
     let l = live (at-start .args .toks .now) (at-start .args .at) (omega arith) in (
@@ -153,7 +153,7 @@ atom-returns-2 : (t : ℕ) → atom-lts.Need-returns-2 (atom-calls t) (atom-at t
 atom-returns-2 t c =
     let at-start = c .before .before .before .before .before .before in
     let at-if1 = c .before .before .if1 in
-    let at-peek = c .before .before .before .peek in
+    let at-peek = c .before .before .before .peek-cell in
     let at-lost = c .lost in (
       omega arith,
       λ s. atom-none s (at-start .args .toks .now) (at-start .args .at) (λ e. at-if1 .left (at-peek .ensures ∙ e)) (omega arith) (at-lost .ensures),
@@ -168,7 +168,7 @@ atom-add-t20 t c =
 atom-returns-3 : (t : ℕ) → atom-lts.Need-returns-3 (atom-calls t) (atom-at t) atom.Post
 atom-returns-3 t c =
     let at-start = c .before .before .before .before .before .before .before .before .before .before .before .before .before .before in
-    let at-peek = c .before .before .before .before .before .before .before .before .before .before .before .peek in
+    let at-peek = c .before .before .before .before .before .before .before .before .before .before .before .peek-cell in
     let at-put3 = c .before .before .put3 in
     let at-put2 = c .before .before .before .before .before .before .put2 in
     let l = live (at-start .args .toks .now) (at-start .args .at) (omega arith) in (
@@ -185,11 +185,11 @@ atom-add-p t c =
 atom-returns-4 : (t : ℕ) → atom-lts.Need-returns-4 (atom-calls t) (atom-at t) atom.Post
 atom-returns-4 t c =
     let at-start = c .before .before .before .before .before .before .before .before .before .before .before .before .before .before .before .before in
-    let at-peek = c .before .before .before .before .before .before .before .before .before .before .before .before .before .peek in
+    let at-peek = c .before .before .before .before .before .before .before .before .before .before .before .before .before .peek-cell in
     let at-put5 = c .before .before .before .before .put5 in
     let at-put4 = c .before .before .before .before .before .before .before .before .put4 in
     let at-if4 = c .if4 in
-    let at-peek2 = c .before .peek2 in
+    let at-peek2 = c .before .peek-cell2 in
     let l = live (at-start .args .toks .now) (at-start .args .at) (omega arith) in (
       omega arith,
       λ s. atom-variable s (at-start .args .toks .now) (at-start .args .at) (at-peek .ensures) (at-put5 .ensures) (at-put4 .ensures) (omega arith) (λ e. at-if4 .taken (at-peek2 .ensures ∙ e)),
@@ -210,12 +210,12 @@ atom-data-list-requires t c κs =
 atom-returns-5 : (t : ℕ) → atom-lts.Need-returns-5 (atom-calls t) (atom-at t) atom.Post
 atom-returns-5 t c =
     let at-if3 = c .before .before .before .before .before .before .before .before .before .before .before .before .before .before .before .before .before .before .if3 in
-    let at-peek = c .before .before .before .before .before .before .before .before .before .before .before .before .before .before .before .before .before .before .before .before .before .peek in
+    let at-peek = c .before .before .before .before .before .before .before .before .before .before .before .before .before .before .before .before .before .before .before .before .before .peek-cell in
     let at-start = c .before .before .before .before .before .before .before .before .before .before .before .before .before .before .before .before .before .before .before .before .before .before .before .before in
     let at-data-list = c .before .before .data-list in
     let at-put5 = c .before .before .before .before .before .before .before .before .before .before .before .before .put5 in
     let at-put4 = c .before .before .before .before .before .before .before .before .before .before .before .before .before .before .before .before .put4 in
-    let at-peek2 = c .before .before .before .before .before .before .before .before .before .peek2 in
+    let at-peek2 = c .before .before .before .before .before .before .before .before .before .peek-cell2 in
     let at-if4 = c .before .before .before .before .before .before .before .before .if4 in
     let at-put6 = c .before .before .before .before .before .before .put6 in
     let q = at-if3 .left in
@@ -234,7 +234,7 @@ comparison-returns t c =
     let at-start = c .before .before .before .before .before .before .before .before .before .before .before .before in
     let at-put = c .before .before .before .before .before .before .before .before .put in
     let at-if1 = c .if1 in
-    let at-peek = c .before .peek in (
+    let at-peek = c .before .peek-cell in (
       at-negation .ensures .0,
       λ s. comparison-alone s (at-start .args .toks .now) (at-start .args .at) (at-put .ensures) (at-negation .ensures .0) (at-negation .ensures .1 s) (λ e. at-if1 .taken (at-peek .ensures ∙ e)),
     )
@@ -259,7 +259,7 @@ comparison-returns-2 t c =
     let at-negation = c .before .before .before .before .before .before .before .before .before .before .before .before .before .negation in
     let at-negation2 = c .before .before .negation2 in
     let at-put = c .before .before .before .before .before .before .before .before .before .before .before .before .before .before .before .before .before .put in
-    let at-peek = c .before .before .before .before .before .before .before .before .before .before .peek in
+    let at-peek = c .before .before .before .before .before .before .before .before .before .before .peek-cell in
     let at-if1 = c .before .before .before .before .before .before .before .before .before .if1 in
     let at-put2 = c .before .before .before .before .before .before .before .put2 in
     let l = live (at-start .args .toks .now) (at-negation .result .at) (omega arith) in (
@@ -296,7 +296,7 @@ conjunction-returns t c =
     let at-put = c .before .before .before .before .before .before .before .before .before .before .before .before .before .before .put in
     let at-loop = c .before .before .before .before .before .before .before .before .before .before .before .loop in
     let at-if1 = c .before .before .before .before .before .if1 in
-    let at-peek = c .before .before .before .before .before .before .peek in
+    let at-peek = c .before .before .before .before .before .before .peek-cell in
     let at-counted = c .before .before .before .counted in
     let at-put2 = c .before .before .put2 in (
       omega (arith, at-comparison .ensures .0),
@@ -329,7 +329,7 @@ conjunction-loop-again t c =
     let at-start = c .before .before .before .before .before .before .before .before .before .before .before .before .before .before in
     let at-comparison = c .before .before .before .before .before .comparison in
     let at-loop = c .before .before .before .before .before .before .before .loop in
-    let at-peek = c .before .before .peek in
+    let at-peek = c .before .before .peek-cell in
     let at-if1 = c .before .if1 in
     let l = live (at-start .args .toks .now) (at-comparison .result .at) (omega arith) in (
       omega (arith, at-comparison .ensures .0),
@@ -366,7 +366,7 @@ data-list-returns t c =
     let at-start = c .before .before .before .before .before .before .before .before .before .before .before .before .before .before in
     let at-put = c .before .before .before .before .before .before .before .before .before .put in
     let at-if1 = c .before .if1 in
-    let at-peek = c .before .before .peek in (
+    let at-peek = c .before .before .peek-cell in (
       omega (arith, at-data-term .ensures .0, at-expect .ensures .0),
       λ s. at-loop .inv .2 s .on (list-one s (at-start .args .toks .now) (at-loop .from) (at-put .ensures) (at-data-term .ensures .0) (at-data-term .ensures .1 s) (λ e. at-if1 .taken (at-peek .ensures ∙ e)) (at-expect .ensures .0) (at-expect .ensures .1)),
     )
@@ -392,7 +392,7 @@ data-list-loop-again t c =
     let at-put2 = c .before .before .before .put2 in
     let at-put = c .before .before .before .before .before .before .before .before .before .before .before .before .before .put in
     let at-loop = c .before .before .before .before .before .before .before .before .before .before .before .before .before .before .before .loop in
-    let at-peek = c .before .before .before .before .before .before .peek in
+    let at-peek = c .before .before .before .before .before .before .peek-cell in
     let at-if1 = c .before .before .before .before .before .if1 in
     let l = live (at-start .args .toks .now) (at-data-term .result .at) (omega arith) in (
       omega (arith, at-data-term .ensures .0),
@@ -429,7 +429,7 @@ data-term-returns t c =
     let at-put = c .before .before .before .before .before .before .before .before .before .before .before .before .before .before .put in
     let at-loop = c .before .before .before .before .before .before .before .before .before .before .before .loop in
     let at-if1 = c .before .before .before .before .before .if1 in
-    let at-peek = c .before .before .before .before .before .before .peek in
+    let at-peek = c .before .before .before .before .before .before .peek-cell in
     let at-counted = c .before .before .before .counted in
     let at-put2 = c .before .before .put2 in (
       omega (arith, at-conjunction .ensures .0),
@@ -462,7 +462,7 @@ data-term-loop-again t c =
     let at-start = c .before .before .before .before .before .before .before .before .before .before .before .before .before .before in
     let at-conjunction = c .before .before .before .before .before .conjunction in
     let at-loop = c .before .before .before .before .before .before .before .loop in
-    let at-peek = c .before .before .peek in
+    let at-peek = c .before .before .peek-cell in
     let at-if1 = c .before .if1 in
     let l = live (at-start .args .toks .now) (at-conjunction .result .at) (omega arith) in (
       omega (arith, at-conjunction .ensures .0),
@@ -498,7 +498,7 @@ negation-loop-again t c =
     let at-put = c .before .before .put in
     let at-loop = c .before .before .before .before .before .before .loop in
     let at-start = c .before .before .before .before .before .before .before .before .before in
-    let at-peek = c .before .before .before .before .before .peek in
+    let at-peek = c .before .before .before .before .before .peek-cell in
     let at-if1 = c .before .before .before .before .if1 in (
       omega arith,
       omega (arith, at-put .kept .0),
@@ -519,7 +519,7 @@ negation-returns t c =
     let at-loop = c .before .before .before .before .before .before .loop in
     let at-start = c .before .before .before .before .before .before .before .before .before in
     let at-if1 = c .before .before .before .before .if1 in
-    let at-peek = c .before .before .before .before .before .peek in (
+    let at-peek = c .before .before .before .before .before .peek-cell in (
       omega (arith, at-atom .ensures .0),
       λ s. at-loop .inv .2 s .on (negation-atom s (at-start .args .toks .now) (at-loop .from) (λ e. at-if1 .left (at-peek .ensures ∙ e)) (at-atom .ensures .1 s)),
     )

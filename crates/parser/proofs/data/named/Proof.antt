@@ -13,8 +13,8 @@ put-requires c κs = tt
 name-requires : tie.Need-name-requires
 name-requires c κs = tt
 
-peek-requires : tie.Need-peek-requires
-peek-requires c κs = tt
+peek-cell-requires : tie.Need-peek-cell-requires
+peek-cell-requires c κs = tt
 
 same-length : tie.Need-same-length
 same-length c = search needs
@@ -25,7 +25,7 @@ returns c =
     let at-put = c .before .before .before .before .before .before .before .before .put in
     let at-name = c .before .before .before .before .name in
     let at-if1 = c .if1 in
-    let at-peek = c .before .peek in (
+    let at-peek = c .before .peek-cell in (
       omega arith,
       λ s f l. call-bare s (at-start .args .toks .now) (at-start .args .at) (at-put .ensures) (at-name .ensures .0) (at-name .ensures .1 s 1 (omega arith)) (λ e. at-if1 .taken (at-peek .ensures ∙ e)) f,
     )
@@ -52,7 +52,7 @@ returns-2 c =
     let at-name = c .before .before .before .before .before .before .before .before .before .before .before .before .before .name in
     let at-data-list = c .before .before .data-list in
     let at-put = c .before .before .before .before .before .before .before .before .before .before .before .before .before .before .before .before .before .put in
-    let at-peek = c .before .before .before .before .before .before .before .before .before .before .peek in
+    let at-peek = c .before .before .before .before .before .before .before .before .before .before .peek-cell in
     let at-if1 = c .before .before .before .before .before .before .before .before .before .if1 in
     let at-put2 = c .before .before .before .before .before .before .before .put2 in
     let l = live (at-start .args .toks .now) (at-name .result .at) (omega arith) in (
@@ -66,7 +66,7 @@ named-spec =
     (tie.spec
     put-requires
     name-requires
-    peek-requires
+    peek-cell-requires
     same-length
     returns
     put-requires-2

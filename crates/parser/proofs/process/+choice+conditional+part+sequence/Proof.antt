@@ -28,7 +28,7 @@ use Rattle.parser.proofs.process.sequence.Reads as sequence
 use Rattle.parser.proofs.process.sequence.Kinds as sequence-kinds
 use Rattle.parser.proofs.process.+choice+conditional+part+sequence.Lts-sequence as sequence-lts
 use Rattle.parser.proofs.cells.expect.Reads as expect-reads
-use Rattle.parser.proofs.cells.peek.Reads as peek-reads
+use Rattle.elements.proofs.peek_cell.Reads as peek-cell-reads
 use Rattle.parser.proofs.cells.put.Reads as put-reads
 use Rattle.parser.proofs.data.data_term.Reads as data-term-reads
 use Rattle.parser.proofs.data.named.Reads as named-reads
@@ -76,16 +76,16 @@ sequence-below t =
     and 2 sequence-kinds.ps (falls 2 sequence-kinds.ps _<_ μ-sequence t) sequence.Pre
 
 abbrev choice-calls : ℕ → choice-lts.Claims
-choice-calls t = (put-reads.Asked, put-reads.Learnt, conditional-below t, conditional.Post, peek-reads.Asked, peek-reads.Learnt)
+choice-calls t = (put-reads.Asked, put-reads.Learnt, conditional-below t, conditional.Post, peek-cell-reads.Asked, peek-cell-reads.Learnt)
 
 abbrev conditional-calls : ℕ → conditional-lts.Claims
-conditional-calls t = (put-reads.Asked, put-reads.Learnt, sequence-below t, sequence.Post, peek-reads.Asked, peek-reads.Learnt, data-term-reads.Asked, data-term-reads.Learnt, expect-reads.Asked, expect-reads.Learnt)
+conditional-calls t = (put-reads.Asked, put-reads.Learnt, sequence-below t, sequence.Post, peek-cell-reads.Asked, peek-cell-reads.Learnt, data-term-reads.Asked, data-term-reads.Learnt, expect-reads.Asked, expect-reads.Learnt)
 
 abbrev part-calls : ℕ → part-lts.Claims
-part-calls t = (peek-reads.Asked, peek-reads.Learnt, put-reads.Asked, put-reads.Learnt, sum-head-reads.Asked, sum-head-reads.Learnt, choice-below t, choice.Post, expect-reads.Asked, expect-reads.Learnt, named-reads.Asked, named-reads.Learnt)
+part-calls t = (peek-cell-reads.Asked, peek-cell-reads.Learnt, put-reads.Asked, put-reads.Learnt, sum-head-reads.Asked, sum-head-reads.Learnt, choice-below t, choice.Post, expect-reads.Asked, expect-reads.Learnt, named-reads.Asked, named-reads.Learnt)
 
 abbrev sequence-calls : ℕ → sequence-lts.Claims
-sequence-calls t = (put-reads.Asked, put-reads.Learnt, part-below t, part.Post, peek-reads.Asked, peek-reads.Learnt)
+sequence-calls t = (put-reads.Asked, put-reads.Learnt, part-below t, part.Post, peek-cell-reads.Asked, peek-cell-reads.Learnt)
 
 abbrev choice-Inv-loop : choice-lts.InvT-loop
 choice-Inv-loop toks at out₀ w from₀ v₀ out from v = (at ≤ from) × (length out ≡ length out₀) × ((s : List ℕ) → Goes s toks enc-choice G.choice (λ p. 5 * left toks p + 4) at w out₀ from v out)
@@ -102,7 +102,7 @@ choice-put-requires t c κs = tt
 choice-conditional-requires : (t : ℕ) → choice-lts.Need-conditional-requires (choice-calls t) (choice-at t) choice.Post choice-Inv-loop choice-μ-loop
 choice-conditional-requires t c κs = (omega arith, tt)
 
-choice-peek-requires : (t : ℕ) → choice-lts.Need-peek-requires (choice-calls t) (choice-at t) choice.Post choice-Inv-loop choice-μ-loop
+choice-peek-requires : (t : ℕ) → choice-lts.Need-peek-cell-requires (choice-calls t) (choice-at t) choice.Post choice-Inv-loop choice-μ-loop
 choice-peek-requires t c κs = tt
 
 choice-same-length : (t : ℕ) → choice-lts.Need-same-length (choice-calls t) (choice-at t) choice.Post choice-Inv-loop choice-μ-loop
@@ -118,7 +118,7 @@ choice-returns t c =
     let at-loop = c .before .before .before .before .before .before .before .before .before .before .loop in
     let at-put = c .before .before .before .before .before .before .before .before .put in
     let at-if1 = c .if1 in
-    let at-peek = c .before .peek in (
+    let at-peek = c .before .peek-cell in (
       omega (arith, at-conditional .ensures .0),
       λ s. at-loop .inv .2 s .on (choice-only s (at-start .args .toks .now) (at-loop .from) (at-put .ensures) (at-conditional .ensures .0) (at-conditional .ensures .1 s) (λ e. at-if1 .taken (at-peek .ensures ∙ e))),
     )
@@ -147,7 +147,7 @@ choice-loop-again t c =
     let at-put2 = c .before .before .before .put2 in
     let at-put = c .before .before .before .before .before .before .before .before .before .before .before .before .before .put in
     let at-loop = c .before .before .before .before .before .before .before .before .before .before .before .before .before .before .before .loop in
-    let at-peek = c .before .before .before .before .before .before .peek in
+    let at-peek = c .before .before .before .before .before .before .peek-cell in
     let at-if1 = c .before .before .before .before .before .if1 in
     let l = live (at-start .args .toks .now) (at-conditional .result .at) (omega arith) in (
       omega (arith, at-conditional .ensures .0),
@@ -161,7 +161,7 @@ conditional-put-requires t c κs = tt
 conditional-sequence-requires : (t : ℕ) → conditional-lts.Need-sequence-requires (conditional-calls t) (conditional-at t) conditional.Post
 conditional-sequence-requires t c κs = (omega arith, tt)
 
-conditional-peek-requires : (t : ℕ) → conditional-lts.Need-peek-requires (conditional-calls t) (conditional-at t) conditional.Post
+conditional-peek-requires : (t : ℕ) → conditional-lts.Need-peek-cell-requires (conditional-calls t) (conditional-at t) conditional.Post
 conditional-peek-requires t c κs = tt
 
 conditional-same-length : (t : ℕ) → conditional-lts.Need-same-length (conditional-calls t) (conditional-at t) conditional.Post
@@ -173,7 +173,7 @@ conditional-returns t c =
     let at-start = c .before .before .before .before .before .before .before .before .before .before .before .before in
     let at-put = c .before .before .before .before .before .before .before .before .put in
     let at-if1 = c .if1 in
-    let at-peek = c .before .peek in (
+    let at-peek = c .before .peek-cell in (
       at-sequence .ensures .0,
       λ s. conditional-plain s (at-start .args .toks .now) (at-start .args .at) (at-put .ensures) (at-sequence .ensures .0) (at-sequence .ensures .1 s) (λ e. at-if1 .taken (at-peek .ensures ∙ e)),
     )
@@ -197,7 +197,7 @@ conditional-expect-requires t c κs = omega arith
 conditional-sequence-requires-2 : (t : ℕ) → conditional-lts.Need-sequence-requires-2 (conditional-calls t) (conditional-at t) conditional.Post
 conditional-sequence-requires-2 t c κs =
     let at-if1 = c .before .before .before .before .before .before .before .before .before .before .before .if1 in
-    let at-peek = c .before .before .before .before .before .before .before .before .before .before .before .before .peek in
+    let at-peek = c .before .before .before .before .before .before .before .before .before .before .before .before .peek-cell in
     let at-start = c .before .before .before .before .before .before .before .before .before .before .before .before .before .before .before .before .before .before .before .before .before .before .before in
     let at-sequence = c .before .before .before .before .before .before .before .before .before .before .before .before .before .before .before .sequence in
     let at-data-term = c .before .before .before .before .data-term in
@@ -218,7 +218,7 @@ conditional-returns-2 t c =
     let at-expect = c .before .before .before .before .expect in
     let at-sequence2 = c .before .before .sequence2 in
     let at-put = c .before .before .before .before .before .before .before .before .before .before .before .before .before .before .before .before .before .before .before .before .before .before .put in
-    let at-peek = c .before .before .before .before .before .before .before .before .before .before .before .before .before .before .before .peek in
+    let at-peek = c .before .before .before .before .before .before .before .before .before .before .before .before .before .before .before .peek-cell in
     let at-if1 = c .before .before .before .before .before .before .before .before .before .before .before .before .before .before .if1 in
     let at-put2 = c .before .before .before .before .before .before .before .before .before .before .before .before .put2 in
     let l = live (at-start .args .toks .now) (at-sequence .result .at) (omega arith) in (
@@ -226,7 +226,7 @@ conditional-returns-2 t c =
       λ s. conditional-cond s (at-start .args .toks .now) (at-start .args .at) (at-put .ensures) (at-sequence .ensures .0) (at-sequence .ensures .1 s) (sym (at-peek .ensures) ∙ at-if1 .left) (at-put2 .ensures) (at-data-term .ensures .0) (at-data-term .ensures .1 s) (at-expect .ensures .0) (at-expect .ensures .1) (at-sequence2 .ensures .0) (at-sequence2 .ensures .1 s),
     )
 
-part-peek-requires : (t : ℕ) → part-lts.Need-peek-requires (part-calls t) (part-at t) part.Post
+part-peek-requires : (t : ℕ) → part-lts.Need-peek-cell-requires (part-calls t) (part-at t) part.Post
 part-peek-requires t c κs = tt
 
 part-add-t12 : (t : ℕ) → part-lts.Need-add-t12 (part-calls t) (part-at t) part.Post
@@ -245,7 +245,7 @@ part-returns : (t : ℕ) → part-lts.Need-returns (part-calls t) (part-at t) pa
 part-returns t c =
     let at-start = c .before .before .before .before .before .before .before .before in
     let at-put = c .before .before .put in
-    let at-peek = c .before .before .before .before .before .peek in
+    let at-peek = c .before .before .before .before .before .peek-cell in
     let at-if1 = c .before .before .before .before .if1 in
     let l = live (at-start .args .toks .now) (at-start .args .at) (omega arith) in (
       omega arith,
@@ -268,7 +268,7 @@ part-returns-2 : (t : ℕ) → part-lts.Need-returns-2 (part-calls t) (part-at t
 part-returns-2 t c =
     let at-start = c .before .before .before .before .before .before .before .before .before in
     let at-if1 = c .before .before .before .before .before .if1 in
-    let at-peek = c .before .before .before .before .before .before .peek in
+    let at-peek = c .before .before .before .before .before .before .peek-cell in
     let at-put2 = c .before .before .put2 in
     let at-if2 = c .before .before .before .before .if2 in
     let l = live (at-start .args .toks .now) (at-start .args .at) (omega arith) in (
@@ -308,7 +308,7 @@ part-returns-3 t c =
     let at-choice = c .before .before .before .choice in
     let at-expect = c .expect in
     let at-if1 = c .before .before .before .before .before .before .before .before .before .before .before .before .before .before .before .if1 in
-    let at-peek = c .before .before .before .before .before .before .before .before .before .before .before .before .before .before .before .before .peek in
+    let at-peek = c .before .before .before .before .before .before .before .before .before .before .before .before .before .before .before .before .peek-cell in
     let at-if2 = c .before .before .before .before .before .before .before .before .before .before .before .before .before .before .if2 in
     let at-put3 = c .before .before .before .before .before .before .before .before .before .before .before .put3 in
     let at-if3 = c .before .before .before .before .before .before .before .before .before .before .before .before .before .if3 in
@@ -344,7 +344,7 @@ part-returns-4 t c =
     let at-choice2 = c .before .before .before .choice2 in
     let at-expect2 = c .expect2 in
     let at-if1 = c .before .before .before .before .before .before .before .before .before .before .before .before .if1 in
-    let at-peek = c .before .before .before .before .before .before .before .before .before .before .before .before .before .peek in
+    let at-peek = c .before .before .before .before .before .before .before .before .before .before .before .before .before .peek-cell in
     let at-if2 = c .before .before .before .before .before .before .before .before .before .before .before .if2 in
     let at-if3 = c .before .before .before .before .before .before .before .before .before .before .if3 in
     let at-put4 = c .before .before .before .before .before .before .before .put4 in
@@ -365,7 +365,7 @@ part-returns-5 t c =
     let at-named = c .before .before .named in
     let at-start = c .before .before .before .before .before .before .before .before .before .before .before in
     let at-if1 = c .before .before .before .before .before .before .before .if1 in
-    let at-peek = c .before .before .before .before .before .before .before .before .peek in
+    let at-peek = c .before .before .before .before .before .before .before .before .peek-cell in
     let at-if2 = c .before .before .before .before .before .before .if2 in
     let at-if3 = c .before .before .before .before .before .if3 in
     let at-if4 = c .before .before .before .before .if4 in (
@@ -388,7 +388,7 @@ sequence-put-requires t c κs = tt
 sequence-part-requires : (t : ℕ) → sequence-lts.Need-part-requires (sequence-calls t) (sequence-at t) sequence.Post sequence-Inv-loop sequence-μ-loop
 sequence-part-requires t c κs = (omega arith, tt)
 
-sequence-peek-requires : (t : ℕ) → sequence-lts.Need-peek-requires (sequence-calls t) (sequence-at t) sequence.Post sequence-Inv-loop sequence-μ-loop
+sequence-peek-requires : (t : ℕ) → sequence-lts.Need-peek-cell-requires (sequence-calls t) (sequence-at t) sequence.Post sequence-Inv-loop sequence-μ-loop
 sequence-peek-requires t c κs = tt
 
 sequence-same-length : (t : ℕ) → sequence-lts.Need-same-length (sequence-calls t) (sequence-at t) sequence.Post sequence-Inv-loop sequence-μ-loop
@@ -404,7 +404,7 @@ sequence-returns t c =
     let at-loop = c .before .before .before .before .before .before .before .before .before .before .loop in
     let at-put = c .before .before .before .before .before .before .before .before .put in
     let at-if1 = c .if1 in
-    let at-peek = c .before .peek in (
+    let at-peek = c .before .peek-cell in (
       omega (arith, at-part .ensures .0),
       λ s. at-loop .inv .2 s .on (sequence-last s (at-start .args .toks .now) (at-loop .from) (at-put .ensures) (at-part .ensures .0) (at-part .ensures .1 s) (λ e. at-if1 .taken (at-peek .ensures ∙ e))),
     )
@@ -433,7 +433,7 @@ sequence-loop-again t c =
     let at-put2 = c .before .before .before .put2 in
     let at-put = c .before .before .before .before .before .before .before .before .before .before .before .before .before .put in
     let at-loop = c .before .before .before .before .before .before .before .before .before .before .before .before .before .before .before .loop in
-    let at-peek = c .before .before .before .before .before .before .peek in
+    let at-peek = c .before .before .before .before .before .before .peek-cell in
     let at-if1 = c .before .before .before .before .before .if1 in
     let l = live (at-start .args .toks .now) (at-part .result .at) (omega arith) in (
       omega (arith, at-part .ensures .0),

@@ -20,8 +20,8 @@ abbrev μ-loop : tie.MeasureT-loop
 loop-holds : tie.Need-loop-holds Inv-loop μ-loop
 loop-holds c = (omega arith, omega arith, refl, refl, λ i s f l. run-start i)
 
-peek-requires : tie.Need-peek-requires Inv-loop μ-loop
-peek-requires c κs = tt
+peek-cell-requires : tie.Need-peek-cell-requires Inv-loop μ-loop
+peek-cell-requires c κs = tt
 
 short-requires : tie.Need-short-requires Inv-loop μ-loop
 short-requires c κs = tt
@@ -33,7 +33,7 @@ add-line : tie.Need-add-line Inv-loop μ-loop
 add-line c =
     let at-start = c .before .before .before .before .before .before .before .before .before .before .before in
     let at-loop = c .before .before .before .before .before .before .before .loop in
-    let at-peek = c .before .before .before .before .before .before .peek in
+    let at-peek = c .before .before .before .before .before .before .peek-cell in
     let at-if1 = c .before .before .before .before .before .if1 in
     let q = at-start .pre in
     let l = live (at-start .args .toks .now) (at-loop .from) (omega (arith, at-peek .ensures, at-if1 .taken)) in
@@ -49,7 +49,7 @@ add-i : tie.Need-add-i Inv-loop μ-loop
 add-i c =
     let at-start = c .before .before .before .before .before .before .before .before .before .before .before .before .before .before .before .before in
     let at-loop = c .before .before .before .before .before .before .before .before .before .before .before .before .loop in
-    let at-peek = c .before .before .before .before .before .before .before .before .before .before .before .peek in
+    let at-peek = c .before .before .before .before .before .before .before .before .before .before .before .peek-cell in
     let at-if1 = c .before .before .before .before .before .before .before .before .before .before .if1 in
     let q = at-start .pre in
     let l = live (at-start .args .toks .now) (at-loop .from) (omega (arith, at-peek .ensures, at-if1 .taken)) in
@@ -59,7 +59,7 @@ loop-less : tie.Need-loop-less Inv-loop μ-loop
 loop-less c =
     let at-start = c .before .before .before .before .before .before .before .before .before .before .before .before .before .before .before .before in
     let at-loop = c .before .before .before .before .before .before .before .before .before .before .before .before .loop in
-    let at-peek = c .before .before .before .before .before .before .before .before .before .before .before .peek in
+    let at-peek = c .before .before .before .before .before .before .before .before .before .before .before .peek-cell in
     let at-if1 = c .before .before .before .before .before .before .before .before .before .before .if1 in
     let at-line = c .before .before .before .line in
     let at-expect = c .expect in
@@ -71,7 +71,7 @@ loop-again : tie.Need-loop-again Inv-loop μ-loop
 loop-again c =
     let at-start = c .before .before .before .before .before .before .before .before .before .before .before .before .before .before .before .before in
     let at-loop = c .before .before .before .before .before .before .before .before .before .before .before .before .loop in
-    let at-peek = c .before .before .before .before .before .before .before .before .before .before .before .peek in
+    let at-peek = c .before .before .before .before .before .before .before .before .before .before .before .peek-cell in
     let at-if1 = c .before .before .before .before .before .before .before .before .before .before .if1 in
     let at-short = c .before .before .before .before .before .before .before .before .short in
     let at-put = c .before .before .before .before .before .before .before .put in
@@ -97,7 +97,7 @@ returns : tie.Need-returns Inv-loop μ-loop
 returns c =
     let at-start = c .before .before .before .before .before .before in
     let at-loop = c .before .before .loop in
-    let at-peek = c .before .peek in
+    let at-peek = c .before .peek-cell in
     let at-if1 = c .if1 in
     let q = at-start .pre in (
       omega arith,
@@ -111,7 +111,7 @@ lines-of-spec =
     Inv-loop
     μ-loop
     loop-holds
-    peek-requires
+    peek-cell-requires
     short-requires
     put-requires
     add-line

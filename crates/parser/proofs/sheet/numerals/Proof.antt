@@ -28,8 +28,8 @@ put-requires c κs = tt
 numeral-requires : tie.Need-numeral-requires Inv-loop μ-loop
 numeral-requires c κs = tt
 
-peek-requires : tie.Need-peek-requires Inv-loop μ-loop
-peek-requires c κs = tt
+peek-cell-requires : tie.Need-peek-cell-requires Inv-loop μ-loop
+peek-cell-requires c κs = tt
 
 put-requires-2 : tie.Need-put-requires-2 Inv-loop μ-loop
 put-requires-2 c κs = tt
@@ -47,7 +47,7 @@ returns c =
     let at-loop = c .before .before .before .before .before .before .before .before .before .before .before .before .before .before .loop in
     let at-put = c .before .before .before .before .before .before .before .before .before .before .before .before .put in
     let at-numeral = c .before .before .before .before .before .before .before .before .numeral in
-    let at-peek = c .before .before .before .before .before .peek in
+    let at-peek = c .before .before .before .before .before .peek-cell in
     let at-if1 = c .before .before .before .before .if1 in
     let at-put2 = c .before .before .put2 in (
       omega (arith, at-numeral .ensures .0),
@@ -74,7 +74,7 @@ loop-again c =
     let at-loop = c .before .before .before .before .before .before .before .before .before .before .before .loop in
     let at-put = c .before .before .before .before .before .before .before .before .before .put in
     let at-numeral = c .before .before .before .before .before .numeral in
-    let at-peek = c .before .before .peek in
+    let at-peek = c .before .before .peek-cell in
     let at-if1 = c .before .if1 in
     let l = live (at-start .args .toks .now) (at-numeral .result .at) (omega arith) in (
       omega (arith, at-numeral .ensures .0),
@@ -91,7 +91,7 @@ numerals-spec =
     loop-holds
     put-requires
     numeral-requires
-    peek-requires
+    peek-cell-requires
     put-requires-2
     same-length
     returns

@@ -34,8 +34,8 @@ expect-requires c κs = omega arith
 name-requires-2 : tie.Need-name-requires-2 Inv-loop μ-loop
 name-requires-2 c κs = tt
 
-peek-requires : tie.Need-peek-requires Inv-loop μ-loop
-peek-requires c κs = tt
+peek-cell-requires : tie.Need-peek-cell-requires Inv-loop μ-loop
+peek-cell-requires c κs = tt
 
 expect-requires-2 : tie.Need-expect-requires-2 Inv-loop μ-loop
 expect-requires-2 c κs = omega arith
@@ -60,7 +60,7 @@ returns c =
     let at-name = c .before .before .before .before .before .before .before .before .before .before .before .before .before .before .name in
     let at-expect = c .before .before .before .before .before .before .before .before .before .before .before .expect in
     let at-name2 = c .before .before .before .before .before .before .before .before .before .name2 in
-    let at-peek = c .before .before .before .before .before .before .peek in
+    let at-peek = c .before .before .before .before .before .before .peek-cell in
     let at-if1 = c .before .before .before .before .before .if1 in
     let at-expect2 = c .before .before .before .before .expect2 in
     let at-put2 = c .before .before .put2 in
@@ -97,7 +97,7 @@ loop-again c =
     let at-name = c .before .before .before .before .before .before .before .before .before .before .name in
     let at-expect = c .before .before .before .before .before .before .before .expect in
     let at-name2 = c .before .before .before .before .before .name2 in
-    let at-peek = c .before .before .peek in
+    let at-peek = c .before .before .peek-cell in
     let at-if1 = c .before .if1 in
     let l = live (at-start .args .toks .now) (at-name2 .result .at) (omega arith) in
     let a = ahead-then (length (at-start .args .toks .now)) (at-loop .from) (at-name .ensures .0) (at-expect .ensures .0) in
@@ -118,7 +118,7 @@ parameters-spec =
     name-requires
     expect-requires
     name-requires-2
-    peek-requires
+    peek-cell-requires
     expect-requires-2
     put-requires-2
     same-length

@@ -7,8 +7,8 @@ use Rattle.parser.proofs.LineLaws.{params-none, params-some}
 use Rattle.parser.proofs.sheet.params.Statement.{statement}
 use Rattle.parser.proofs.sheet.params.Tie as tie
 
-peek-requires : tie.Need-peek-requires
-peek-requires c κs = tt
+peek-cell-requires : tie.Need-peek-cell-requires
+peek-cell-requires c κs = tt
 
 put-requires : tie.Need-put-requires
 put-requires c κs = tt
@@ -20,7 +20,7 @@ returns : tie.Need-returns
 returns c =
     let at-start = c .before .before .before .before .before .before .before .before in
     let at-if1 = c .before .before .before .before .if1 in
-    let at-peek = c .before .before .before .before .before .peek in
+    let at-peek = c .before .before .before .before .before .peek-cell in
     let at-put = c .before .before .put in (
       omega arith,
       λ i s f l. params-none s (at-start .args .toks .now) (at-start .args .at) i (λ e. at-if1 .taken (at-peek .ensures ∙ e)) (at-put .ensures) f,
@@ -42,7 +42,7 @@ returns-2 : tie.Need-returns-2
 returns-2 c =
     let at-start = c .before .before .before .before .before .before .before .before in
     let at-parameters = c .before .before .parameters in
-    let at-peek = c .before .before .before .before .before .peek in
+    let at-peek = c .before .before .before .before .before .peek-cell in
     let at-if1 = c .before .before .before .before .if1 in
     let l = live (at-start .args .toks .now) (at-start .args .at) (omega arith) in (
       omega (arith, (at-parameters .ensures .0)),
@@ -53,7 +53,7 @@ pub params-spec : {M : Type 1} → statement M
 params-spec =
     tie.close
     (tie.spec
-    peek-requires
+    peek-cell-requires
     put-requires
     same-length
     returns

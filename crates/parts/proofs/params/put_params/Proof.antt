@@ -27,14 +27,14 @@ put-requires c κs = search needs
 loop-holds : tie.Need-loop-holds Inv-loop μ-loop
 loop-holds c = (refl, listed-start (c .before .before .before .before .before .before .before .before .args .m) (c .before .before .before .before .before .before .before .before .args .sorts .now) (c .before .before .put .result) (c .before .before .put .last .0) (c .before .before .before .before .before .before .before .before .fits .m .fits))
 
-wide-requires : tie.Need-wide-requires Inv-loop μ-loop
-wide-requires c κs = search needs
+wide-word-requires : tie.Need-wide-word-requires Inv-loop μ-loop
+wide-word-requires c κs = search needs
 
-add-byte-at : tie.Need-add-byte-at Inv-loop μ-loop
-add-byte-at c = omega (arith, c .wide .ensures, t-lt (c .before .before .before .before .before .before .before .before .before .before .before .before .args .m) (c .before .before .before .before .before .before .before .before .before .before .before .before .args .sorts .now) (c .before .before .before .before .before .before .put .result) (c .before .before .before .before .before .before .put .last .0) (c .before .before .before .loop .rest) (c .before .before .before .loop .at) (c .before .before .before .loop .v) (c .before .before .before .loop .out) (c .before .before .before .before .before .before .before .before .before .before .before .before .pre) (c .before .before .before .loop .inv .1) (omega arith))
+add-peek : tie.Need-add-peek Inv-loop μ-loop
+add-peek c = omega (arith, c .wide-word .ensures .0, t-lt (c .before .before .before .before .before .before .before .before .before .before .before .before .args .m) (c .before .before .before .before .before .before .before .before .before .before .before .before .args .sorts .now) (c .before .before .before .before .before .before .put .result) (c .before .before .before .before .before .before .put .last .0) (c .before .before .before .loop .rest) (c .before .before .before .loop .at) (c .before .before .before .loop .v) (c .before .before .before .loop .out) (c .before .before .before .before .before .before .before .before .before .before .before .before .pre) (c .before .before .before .loop .inv .1) (omega arith))
 
-byte-at-requires : tie.Need-byte-at-requires Inv-loop μ-loop
-byte-at-requires c κs = search needs
+peek-requires : tie.Need-peek-requires Inv-loop μ-loop
+peek-requires c κs = search needs
 
 put-requires-2 : tie.Need-put-requires-2 Inv-loop μ-loop
 put-requires-2 c κs = search needs
@@ -42,27 +42,27 @@ put-requires-2 c κs = search needs
 shr-rest : tie.Need-shr-rest Inv-loop μ-loop
 shr-rest c = omega (arith, t-lt (c .before .before .before .before .before .before .before .before .before .before .before .before .before .before .before .before .args .m) (c .before .before .before .before .before .before .before .before .before .before .before .before .before .before .before .before .args .sorts .now) (c .before .before .before .before .before .before .before .before .before .before .put .result) (c .before .before .before .before .before .before .before .before .before .before .put .last .0) (c .before .before .before .before .before .before .before .loop .rest) (c .before .before .before .before .before .before .before .loop .at) (c .before .before .before .before .before .before .before .loop .v) (c .before .before .before .before .before .before .before .loop .out) (c .before .before .before .before .before .before .before .before .before .before .before .before .before .before .before .before .pre) (c .before .before .before .before .before .before .before .loop .inv .1) (omega arith))
 
-wide-requires-2 : tie.Need-wide-requires-2 Inv-loop μ-loop
-wide-requires-2 c κs = search needs
+wide-word-requires-2 : tie.Need-wide-word-requires-2 Inv-loop μ-loop
+wide-word-requires-2 c κs = search needs
 
 add-at : tie.Need-add-at Inv-loop μ-loop
-add-at c = omega (arith, c .wide2 .ensures, t-lt (c .before .before .before .before .before .before .before .before .before .before .before .before .before .before .before .before .before .args .m) (c .before .before .before .before .before .before .before .before .before .before .before .before .before .before .before .before .before .args .sorts .now) (c .before .before .before .before .before .before .before .before .before .before .before .put .result) (c .before .before .before .before .before .before .before .before .before .before .before .put .last .0) (c .before .before .before .before .before .before .before .before .loop .rest) (c .before .before .before .before .before .before .before .before .loop .at) (c .before .before .before .before .before .before .before .before .loop .v) (c .before .before .before .before .before .before .before .before .loop .out) (c .before .before .before .before .before .before .before .before .before .before .before .before .before .before .before .before .before .pre) (c .before .before .before .before .before .before .before .before .loop .inv .1) (omega arith))
+add-at c = omega (arith, c .wide-word2 .ensures .0, t-lt (c .before .before .before .before .before .before .before .before .before .before .before .before .before .before .before .before .before .args .m) (c .before .before .before .before .before .before .before .before .before .before .before .before .before .before .before .before .before .args .sorts .now) (c .before .before .before .before .before .before .before .before .before .before .before .put .result) (c .before .before .before .before .before .before .before .before .before .before .before .put .last .0) (c .before .before .before .before .before .before .before .before .loop .rest) (c .before .before .before .before .before .before .before .before .loop .at) (c .before .before .before .before .before .before .before .before .loop .v) (c .before .before .before .before .before .before .before .before .loop .out) (c .before .before .before .before .before .before .before .before .before .before .before .before .before .before .before .before .before .pre) (c .before .before .before .before .before .before .before .before .loop .inv .1) (omega arith))
 
 add-at-2 : tie.Need-add-at-2 Inv-loop μ-loop
-add-at-2 c = omega (arith, c .wide2 .ensures, t-lt (c .before .before .before .before .before .before .before .before .before .before .before .before .before .before .before .before .before .args .m) (c .before .before .before .before .before .before .before .before .before .before .before .before .before .before .before .before .before .args .sorts .now) (c .before .before .before .before .before .before .before .before .before .before .before .put .result) (c .before .before .before .before .before .before .before .before .before .before .before .put .last .0) (c .before .before .before .before .before .before .before .before .loop .rest) (c .before .before .before .before .before .before .before .before .loop .at) (c .before .before .before .before .before .before .before .before .loop .v) (c .before .before .before .before .before .before .before .before .loop .out) (c .before .before .before .before .before .before .before .before .before .before .before .before .before .before .before .before .before .pre) (c .before .before .before .before .before .before .before .before .loop .inv .1) (omega arith))
+add-at-2 c = omega (arith, c .wide-word2 .ensures .0, t-lt (c .before .before .before .before .before .before .before .before .before .before .before .before .before .before .before .before .before .args .m) (c .before .before .before .before .before .before .before .before .before .before .before .before .before .before .before .before .before .args .sorts .now) (c .before .before .before .before .before .before .before .before .before .before .before .put .result) (c .before .before .before .before .before .before .before .before .before .before .before .put .last .0) (c .before .before .before .before .before .before .before .before .loop .rest) (c .before .before .before .before .before .before .before .before .loop .at) (c .before .before .before .before .before .before .before .before .loop .v) (c .before .before .before .before .before .before .before .before .loop .out) (c .before .before .before .before .before .before .before .before .before .before .before .before .before .before .before .before .before .pre) (c .before .before .before .before .before .before .before .before .loop .inv .1) (omega arith))
 
 loop-less : tie.Need-loop-less Inv-loop μ-loop
-loop-less c = omega (arith, c .wide2 .ensures, t-lt (c .before .before .before .before .before .before .before .before .before .before .before .before .before .before .before .before .before .args .m) (c .before .before .before .before .before .before .before .before .before .before .before .before .before .before .before .before .before .args .sorts .now) (c .before .before .before .before .before .before .before .before .before .before .before .put .result) (c .before .before .before .before .before .before .before .before .before .before .before .put .last .0) (c .before .before .before .before .before .before .before .before .loop .rest) (c .before .before .before .before .before .before .before .before .loop .at) (c .before .before .before .before .before .before .before .before .loop .v) (c .before .before .before .before .before .before .before .before .loop .out) (c .before .before .before .before .before .before .before .before .before .before .before .before .before .before .before .before .before .pre) (c .before .before .before .before .before .before .before .before .loop .inv .1) (omega arith))
+loop-less c = omega (arith, c .wide-word2 .ensures .0, t-lt (c .before .before .before .before .before .before .before .before .before .before .before .before .before .before .before .before .before .args .m) (c .before .before .before .before .before .before .before .before .before .before .before .before .before .before .before .before .before .args .sorts .now) (c .before .before .before .before .before .before .before .before .before .before .before .put .result) (c .before .before .before .before .before .before .before .before .before .before .before .put .last .0) (c .before .before .before .before .before .before .before .before .loop .rest) (c .before .before .before .before .before .before .before .before .loop .at) (c .before .before .before .before .before .before .before .before .loop .v) (c .before .before .before .before .before .before .before .before .loop .out) (c .before .before .before .before .before .before .before .before .before .before .before .before .before .before .before .before .before .pre) (c .before .before .before .before .before .before .before .before .loop .inv .1) (omega arith))
 
 loop-again : tie.Need-loop-again Inv-loop μ-loop
 loop-again c =
     let a = c .before .before .before .before .before .before .before .before .before .before .before .before .before .before .before .before .before .args in
     let l = c .before .before .before .before .before .before .before .before .loop in
     let t = trailingZeros 32 (l .rest) in
-    let z : l .at + c .wide2 .result + 1 ≡ l .at + t + 1 = omega (arith, c .wide2 .ensures) in (
+    let z : l .at + c .wide-word2 .result + 1 ≡ l .at + t + 1 = omega (arith, c .wide-word2 .ensures .0) in (
       c .before .before .before .put2 .kept .0 ∙ l .inv .0,
-      listed-more (a .m) (a .sorts .now) (c .before .before .before .before .before .before .before .before .before .before .before .put .result) (c .before .before .before .before .before .before .before .before .before .before .before .put .last .0) (l .rest) (l .at) (l .v) (l .out) (c .before .before .before .before .before .before .before .before .before .before .before .before .before .before .before .before .before .pre) (l .inv .1) (omega arith) t (l .at + c .wide2 .result + 1) (c .before .before .before .before .byte-at .result) (c .before .before .before .put2 .result) (c .before .before .before .put2 .last .0)
-          refl z (c .before .before .before .before .byte-at .ensures ∙ ap (λ (k : ℕ). getD (a .sorts .now) (l .at + k) 0) (c .before .before .before .before .before .wide .ensures)) (c .before .before .before .put2 .ensures),
+      listed-more (a .m) (a .sorts .now) (c .before .before .before .before .before .before .before .before .before .before .before .put .result) (c .before .before .before .before .before .before .before .before .before .before .before .put .last .0) (l .rest) (l .at) (l .v) (l .out) (c .before .before .before .before .before .before .before .before .before .before .before .before .before .before .before .before .before .pre) (l .inv .1) (omega arith) t (l .at + c .wide-word2 .result + 1) (c .before .before .before .before .peek .result) (c .before .before .before .put2 .result) (c .before .before .before .put2 .last .0)
+          refl z (c .before .before .before .before .peek .ensures ∙ ap (λ (k : ℕ). getD (a .sorts .now) (l .at + k) 0) (c .before .before .before .before .before .wide-word .ensures .0)) (c .before .before .before .put2 .ensures),
     )
 
 same-length : tie.Need-same-length Inv-loop μ-loop
@@ -85,12 +85,12 @@ put-params-spec =
     low-requires
     put-requires
     loop-holds
-    wide-requires
-    add-byte-at
-    byte-at-requires
+    wide-word-requires
+    add-peek
+    peek-requires
     put-requires-2
     shr-rest
-    wide-requires-2
+    wide-word-requires-2
     add-at
     add-at-2
     loop-less

@@ -23,14 +23,14 @@ returns c = let a = c .before .before .before .before .args in (omega arith, loa
 loop-holds : tie.Need-loop-holds Inv-loop μ-loop
 loop-holds c = (omega arith, refl, λ j h. absurd (omega arith))
 
-add-byte-at : tie.Need-add-byte-at Inv-loop μ-loop
-add-byte-at c = omega (arith, c .before .before .before .before .before .before .pre)
+add-peek : tie.Need-add-peek Inv-loop μ-loop
+add-peek c = omega (arith, c .before .before .before .before .before .before .pre)
 
-add-byte-at-2 : tie.Need-add-byte-at-2 Inv-loop μ-loop
-add-byte-at-2 c = let b = c .before .before .before .byte .ensures in omega (arith, c .before .before .before .before .before .before .pre)
+add-peek-2 : tie.Need-add-peek-2 Inv-loop μ-loop
+add-peek-2 c = let b = c .before .before .before .byte .ensures in omega (arith, c .before .before .before .before .before .before .pre)
 
-byte-at-requires : tie.Need-byte-at-requires Inv-loop μ-loop
-byte-at-requires c κs = search needs
+peek-requires : tie.Need-peek-requires Inv-loop μ-loop
+peek-requires c κs = search needs
 
 slice-write-sorts : tie.Need-slice-write-sorts Inv-loop μ-loop
 slice-write-sorts c = omega (arith, c .before .before .before .before .before .before .before .pre)
@@ -44,7 +44,7 @@ loop-less c = search needs
 loop-again : tie.Need-loop-again Inv-loop μ-loop
 loop-again c =
     let a = c .before .before .before .before .before .before .before .args in let l = c .before .before .loop in
-    (omega arith, length-set (l .sorts) (l .i) (c .byte-at .result) ∙ l .inv .1, loaded-more (a .procs .now) (a .p) (l .sorts) (l .i) (c .byte-at .result) (omega (arith, c .before .before .before .before .before .before .before .pre)) (c .byte-at .ensures) (l .inv .2))
+    (omega arith, length-set (l .sorts) (l .i) (c .peek .result) ∙ l .inv .1, loaded-more (a .procs .now) (a .p) (l .sorts) (l .i) (c .peek .result) (omega (arith, c .before .before .before .before .before .before .before .pre)) (c .peek .ensures) (l .inv .2))
 
 same-length : tie.Need-same-length Inv-loop μ-loop
 same-length c = c .before .loop .inv .1
@@ -61,9 +61,9 @@ load-spec =
     byte-requires
     returns
     loop-holds
-    add-byte-at
-    add-byte-at-2
-    byte-at-requires
+    add-peek
+    add-peek-2
+    peek-requires
     slice-write-sorts
     add-i
     loop-less

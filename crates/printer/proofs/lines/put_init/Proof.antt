@@ -21,8 +21,8 @@ peek-requires c κs = search needs
 wide-requires : tie.Need-wide-requires
 wide-requires c κs = search needs
 
-place-requires : tie.Need-place-requires
-place-requires c κs = search needs
+cell-requires : tie.Need-cell-requires
+cell-requires c κs = search needs
 
 peek-requires-2 : tie.Need-peek-requires-2
 peek-requires-2 c κs = search needs
@@ -63,7 +63,7 @@ returns c =
       λ T funcs acts rows k x h.
           let s = a .s .now in
           let e : c .before .before .before .before .before .before .before .before .before .before .before .before .before .before .before .before .before .before .before .before .before .wide .result ≡ T .start .0 = c .before .before .before .before .before .before .before .before .before .before .before .before .before .before .before .before .before .before .before .before .before .wide .ensures .0 ∙ c .before .before .before .before .before .before .before .before .before .before .before .before .before .before .before .before .before .before .before .before .before .before .peek .ensures ∙ start-at T s (a .from) h in
-          let place = c .before .before .before .before .before .before .before .before .before .before .before .before .before .before .before .before .before .before .before .before .place .ensures .0 ∙ ap (λ (n : ℕ). getD (a .params .now) n 0) e in
+          let place = c .before .before .before .before .before .before .before .before .before .before .before .before .before .before .before .before .before .before .before .before .cell .ensures .0 ∙ ap (λ (n : ℕ). getD (a .params .now) n 0) e in
           let n : length (T .start .1) ≡ c .before .before .before .before .before .before .before .before .before .before .before .before .before .before .before .before .before .before .wide2 .result = sym (c .before .before .before .before .before .before .before .before .before .before .before .before .before .before .before .before .before .before .wide2 .ensures .0 ∙ c .before .before .before .before .before .before .before .before .before .before .before .before .before .before .before .before .before .before .before .peek2 .ensures ∙ ap (λ (q : ℕ). getD s q 0) place ∙ start-count T s funcs acts (a .params .now) rows k) in
           let vs = c .before .before .before .before .before .before .before .before .before .before .before .before .before .before .before .before .before .bytes-at .ensures (T .start .1) (start-values T s (a .from) h) n in
           wrote-as _ _ _ _ _ _ (init-line (T .sig .acts) (a .l) x (T .start) _ _ (start-small T s funcs acts (a .params .now) rows k) e vs) all,
@@ -75,7 +75,7 @@ put-init-spec =
     (tie.spec
     peek-requires
     wide-requires
-    place-requires
+    cell-requires
     peek-requires-2
     wide-requires-2
     add-bytes-at

@@ -18,8 +18,8 @@ use Rattle.printer.proofs.Known.{sorts-at, few-sorts, small-sorts, righ
 use Rattle.printer.proofs.lines.put_proc.Statement.{statement}
 use Rattle.printer.proofs.lines.put_proc.Tie as tie
 
-place-requires : tie.Need-place-requires
-place-requires c κs = search needs
+cell-requires : tie.Need-cell-requires
+cell-requires c κs = search needs
 
 list-at-requires : tie.Need-list-at-requires
 list-at-requires c κs = search needs
@@ -30,8 +30,8 @@ smaller-requires c κs = search needs
 put-proc-head-requires : tie.Need-put-proc-head-requires
 put-proc-head-requires c κs = search needs
 
-place-requires-2 : tie.Need-place-requires-2
-place-requires-2 c κs = search needs
+cell-requires-2 : tie.Need-cell-requires-2
+cell-requires-2 c κs = search needs
 
 put-right-requires : tie.Need-put-right-requires
 put-right-requires c κs = search needs
@@ -52,12 +52,12 @@ returns c =
       (omega (arith, fits, last .same, right .0 .1, head .same), last .same ∙ (right .0 .1 ∙ head .same)),
       λ T k x below.
           let s = a .s .now in
-          let sorts = c .before .before .before .before .before .before .before .before .before .before .before .before .before .before .list-at .ensures ∙ ap (list-at s) (c .before .before .before .before .before .before .before .before .before .before .before .before .before .before .before .place .ensures .0) ∙ sorts-at T s (a .funcs .now) (a .acts .now) (a .params .now) (a .rows .now) k (a .e) below in
+          let sorts = c .before .before .before .before .before .before .before .before .before .before .before .before .before .before .list-at .ensures ∙ ap (list-at s) (c .before .before .before .before .before .before .before .before .before .before .before .before .before .before .before .cell .ensures .0) ∙ sorts-at T s (a .funcs .now) (a .acts .now) (a .params .now) (a .rows .now) k (a .e) below in
           let few = few-sorts T s (a .funcs .now) (a .acts .now) (a .params .now) (a .rows .now) k (a .e) below in
           let long = ap length sorts in
           let n : c .before .before .before .before .before .before .before .before .before .before .before .before .before .smaller .result ≡ length (equation T (a .e) .params) = let z = c .before .before .before .before .before .before .before .before .before .before .before .before .before .smaller .ensures in omega arith in
           let row = k .rows-at (a .e) below in
-          let there = ap (λ (q : ℕ). drop q s) (c .before .before .before .before .before .before .before .before .place2 .ensures .0) ∙ row .1 in
+          let there = ap (λ (q : ℕ). drop q s) (c .before .before .before .before .before .before .before .before .cell2 .ensures .0) ∙ row .1 in
           let wrote = right .1 (T .sig) (params-of (T .equations)) (equation T (a .e) .params) (equation T (a .e) .summands) (row .0) (k .terms) (k .parts) (right-summands T s (a .funcs .now) (a .acts .now) (a .params .now) (a .rows .now) k (a .e) below) (sym n) (omega arith) x there in
           wrote-as _ _ _ _ _ _ (proc-line (T .sig .acts) (a .l) x (a .e) (equation T (a .e)) _ _ (small-number T s (a .funcs .now) (a .acts .now) (a .params .now) (a .rows .now) k (a .e) below) sorts n few (small-sorts T s (a .funcs .now) (a .acts .now) (a .params .now) (a .rows .now) k (a .e) below))
           (three _ _ _ _ _ _ _ _ _ _ _ (omega (arith, c .before .before .before .before .before .before .before .before .before .before .before .before .before .before .before .before .before .before .before .before .before .before .pre)) head wrote last),
@@ -67,11 +67,11 @@ pub put-proc-spec : {M : Type 1} → statement M
 put-proc-spec =
     tie.close
     (tie.spec
-    place-requires
+    cell-requires
     list-at-requires
     smaller-requires
     put-proc-head-requires
-    place-requires-2
+    cell-requires-2
     put-right-requires
     put-byte-requires
     same-length

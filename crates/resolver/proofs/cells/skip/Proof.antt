@@ -20,8 +20,8 @@ loop-holds c = (omega arith, skip-start (c .before .args .raw .now) (c .before .
 returns : tie.Need-returns Inv-loop μ-loop
 returns c = (omega arith, skip-stuck (c .before .before .before .before .args .raw .now) (c .before .before .before .before .args .at) (c .before .before .loop .p) (c .before .before .loop .need) (c .before .before .loop .inv .1) (omega arith) (omega arith))
 
-cell-requires : tie.Need-cell-requires Inv-loop μ-loop
-cell-requires c κs = tt
+peek-cell-requires : tie.Need-peek-cell-requires Inv-loop μ-loop
+peek-cell-requires c κs = tt
 
 sub-need : tie.Need-sub-need Inv-loop μ-loop
 sub-need c = omega arith
@@ -52,10 +52,10 @@ loop-less c = omega arith
 
 loop-again : tie.Need-loop-again Inv-loop μ-loop
 loop-again c =
-    let k = c .before .before .before .kids .ensures .0 ∙ ap kids-of (c .before .before .before .before .cell .ensures) in
-    let n = c .before .tokens .ensures .0 ∙ ap tokens-of (c .before .before .before .before .cell .ensures) in
-    let a = c .before .before .wide-cell .ensures in
-    let b = c .wide .ensures in
+    let k = c .before .before .before .kids .ensures .0 ∙ ap kids-of (c .before .before .before .before .peek-cell .ensures) in
+    let n = c .before .tokens .ensures .0 ∙ ap tokens-of (c .before .before .before .before .peek-cell .ensures) in
+    let a = c .before .before .wide-cell .ensures .0 in
+    let b = c .wide .ensures .0 in
     (omega arith, skip-step (c .before .before .before .before .before .before .before .before .before .args .raw .now) (c .before .before .before .before .before .before .before .before .before .args .at) (c .before .before .before .before .before .before .before .loop .p) (c .before .before .before .before .before .before .before .loop .need) (c .before .before .before .before .before .before .before .loop .inv .1) (omega arith) _ _ (ap (λ x. c .before .before .before .before .before .before .before .loop .need - 1 + x) (a ∙ k)) (ap (λ x. c .before .before .before .before .before .before .before .loop .p + 1 + x) (b ∙ n)))
 
 returns-2 : tie.Need-returns-2 Inv-loop μ-loop
@@ -71,7 +71,7 @@ skip-spec =
     μ-loop
     loop-holds
     returns
-    cell-requires
+    peek-cell-requires
     sub-need
     kids-requires
     wide-cell-requires

@@ -29,14 +29,14 @@ use Rattle.resolver.proofs.data.+atom+comparison+conjunction+data_list+
 use Rattle.resolver.proofs.data.negation.Reads as negation
 use Rattle.resolver.proofs.data.negation.Kinds as negation-kinds
 use Rattle.resolver.proofs.data.+atom+comparison+conjunction+data_list+data_term+negation.Lts-negation as negation-lts
-use Rattle.names.proofs.find.cell.Reads as cell-reads
+use Rattle.elements.proofs.peek_cell.Reads as peek-cell-reads
 use Rattle.names.proofs.find.scope_number.Reads as scope-number-reads
 use Rattle.names.proofs.keys.func_in.Reads as func-in-reads
 use Rattle.parser.proofs.cells.put.Reads as put-reads
-use Rattle.parser.proofs.cells.short.Reads as short-reads
-use Rattle.resolver.proofs.cells.lost.Reads as lost-reads
+use Rattle.elements.proofs.short.Reads as short-reads
+use Rattle.parser.proofs.cells.lost.Reads as lost-reads
 use Rattle.resolver.proofs.cells.put_joins.Reads as put-joins-reads
-use Rattle.resolver.proofs.cells.wide_cell.Reads as wide-cell-reads
+use Rattle.elements.proofs.wide_cell.Reads as wide-cell-reads
 use Rattle.resolver.proofs.operators.equal_cell.Reads as equal-cell-reads
 use Rattle.resolver.proofs.data.+atom+comparison+conjunction+data_list+data_term+negation.{statement}
 use Rattle.resolver.proofs.data.+atom+comparison+conjunction+data_list+data_term+negation.Tie.{close}
@@ -103,31 +103,31 @@ negation-below t =
     and 6 negation-kinds.ps (falls 6 negation-kinds.ps _<_ μ-negation t) negation.Pre
 
 abbrev atom-calls : ℕ → atom-lts.Claims
-atom-calls t = (cell-reads.Asked, cell-reads.Learnt, data-term-below t, data-term.Post, lost-reads.Asked, lost-reads.Learnt, put-reads.Asked, put-reads.Learnt, scope-number-reads.Asked, scope-number-reads.Learnt, short-reads.Asked, short-reads.Learnt, func-in-reads.Asked, func-in-reads.Learnt, data-list-below t, data-list.Post)
+atom-calls t = (peek-cell-reads.Asked, peek-cell-reads.Learnt, data-term-below t, data-term.Post, lost-reads.Asked, lost-reads.Learnt, put-reads.Asked, put-reads.Learnt, scope-number-reads.Asked, scope-number-reads.Learnt, short-reads.Asked, short-reads.Learnt, func-in-reads.Asked, func-in-reads.Learnt, data-list-below t, data-list.Post)
 
 abbrev comparison-calls : ℕ → comparison-lts.Claims
-comparison-calls t = (cell-reads.Asked, cell-reads.Learnt, negation-below t, negation.Post, lost-reads.Asked, lost-reads.Learnt, put-reads.Asked, put-reads.Learnt, equal-cell-reads.Asked, equal-cell-reads.Learnt)
+comparison-calls t = (peek-cell-reads.Asked, peek-cell-reads.Learnt, negation-below t, negation.Post, lost-reads.Asked, lost-reads.Learnt, put-reads.Asked, put-reads.Learnt, equal-cell-reads.Asked, equal-cell-reads.Learnt)
 
 abbrev conjunction-calls : ℕ → conjunction-lts.Claims
-conjunction-calls t = (cell-reads.Asked, cell-reads.Learnt, lost-reads.Asked, lost-reads.Learnt, wide-cell-reads.Asked, wide-cell-reads.Learnt, put-joins-reads.Asked, put-joins-reads.Learnt, comparison-below t, comparison.Post)
+conjunction-calls t = (peek-cell-reads.Asked, peek-cell-reads.Learnt, lost-reads.Asked, lost-reads.Learnt, wide-cell-reads.Asked, wide-cell-reads.Learnt, put-joins-reads.Asked, put-joins-reads.Learnt, comparison-below t, comparison.Post)
 
 abbrev data-list-calls : ℕ → data-list-lts.Claims
-data-list-calls t = (cell-reads.Asked, cell-reads.Learnt, data-term-below t, data-term.Post, lost-reads.Asked, lost-reads.Learnt)
+data-list-calls t = (peek-cell-reads.Asked, peek-cell-reads.Learnt, data-term-below t, data-term.Post, lost-reads.Asked, lost-reads.Learnt)
 
 abbrev data-term-calls : ℕ → data-term-lts.Claims
-data-term-calls t = (cell-reads.Asked, cell-reads.Learnt, lost-reads.Asked, lost-reads.Learnt, wide-cell-reads.Asked, wide-cell-reads.Learnt, put-joins-reads.Asked, put-joins-reads.Learnt, conjunction-below t, conjunction.Post)
+data-term-calls t = (peek-cell-reads.Asked, peek-cell-reads.Learnt, lost-reads.Asked, lost-reads.Learnt, wide-cell-reads.Asked, wide-cell-reads.Learnt, put-joins-reads.Asked, put-joins-reads.Learnt, conjunction-below t, conjunction.Post)
 
 abbrev negation-calls : ℕ → negation-lts.Claims
-negation-calls t = (cell-reads.Asked, cell-reads.Learnt, put-reads.Asked, put-reads.Learnt, atom-below t, atom.Post)
+negation-calls t = (peek-cell-reads.Asked, peek-cell-reads.Learnt, put-reads.Asked, put-reads.Learnt, atom-below t, atom.Post)
 
-atom-cell-requires : (t : ℕ) → atom-lts.Need-cell-requires (atom-calls t) (atom-at t) atom.Post
+atom-cell-requires : (t : ℕ) → atom-lts.Need-peek-cell-requires (atom-calls t) (atom-at t) atom.Post
 atom-cell-requires t c κs = tt
 
 atom-add-data-term : (t : ℕ) → atom-lts.Need-add-data-term (atom-calls t) (atom-at t) atom.Post
 atom-add-data-term t c =
     let start = c .before .before .before .before .before .before .before .before in
     let args = start .args in
-    let l = live (args .raw .now) (args .at) (let k = c .before .cell .ensures in omega arith) in
+    let l = live (args .raw .now) (args .at) (let k = c .before .peek-cell .ensures in omega arith) in
     omega arith
 
 atom-data-term-requires : (t : ℕ) → atom-lts.Need-data-term-requires (atom-calls t) (atom-at t) atom.Post
@@ -136,7 +136,7 @@ atom-data-term-requires t c κs =
     let args = start .args in
     let q = start .pre .1 .0 in
     let m = start .pre .0 in
-    let l = live (args .raw .now) (args .at) (let k = c .before .before .cell .ensures in omega arith) in
+    let l = live (args .raw .now) (args .at) (let k = c .before .before .peek-cell .ensures in omega arith) in
     (omega arith, (omega arith, start .pre .1 .1))
 
 atom-same-length : (t : ℕ) → atom-lts.Need-same-length (atom-calls t) (atom-at t) atom.Post
@@ -148,15 +148,15 @@ atom-returns t c =
     let args = start .args in
     let called = c .before .before .data-term in
     let a = called .ensures .0 in
-    (omega arith, nest-took (args .s .now) (args .raw .now) (args .names .now) (args .kinds) (args .scope .now) (args .n) (args .at) (args .w) (args .out .now) (sym (c .before .before .before .before .before .cell .ensures) ∙ c .before .before .before .before .if1 .taken) (called .result) (called .last .1 .1 .1 .1 .1 .1 .1 .1 .0) (called .ensures .1))
+    (omega arith, nest-took (args .s .now) (args .raw .now) (args .names .now) (args .kinds) (args .scope .now) (args .n) (args .at) (args .w) (args .out .now) (sym (c .before .before .before .before .before .peek-cell .ensures) ∙ c .before .before .before .before .if1 .taken) (called .result) (called .last .1 .1 .1 .1 .1 .1 .1 .1 .0) (called .ensures .1))
 
-atom-add-cell : (t : ℕ) → atom-lts.Need-add-cell (atom-calls t) (atom-at t) atom.Post
+atom-add-cell : (t : ℕ) → atom-lts.Need-add-peek-cell (atom-calls t) (atom-at t) atom.Post
 atom-add-cell t c =
     let args = c .before .before .before .before .before .before .before .before .before .args in
-    let l = live (args .raw .now) (args .at) (let k = c .before .before .cell .ensures in omega arith) in
+    let l = live (args .raw .now) (args .at) (let k = c .before .before .peek-cell .ensures in omega arith) in
     omega arith
 
-atom-cell-requires-2 : (t : ℕ) → atom-lts.Need-cell-requires-2 (atom-calls t) (atom-at t) atom.Post
+atom-cell-requires-2 : (t : ℕ) → atom-lts.Need-peek-cell-requires-2 (atom-calls t) (atom-at t) atom.Post
 atom-cell-requires-2 t c κs = tt
 
 atom-lost-requires : (t : ℕ) → atom-lts.Need-lost-requires (atom-calls t) (atom-at t) atom.Post
@@ -165,7 +165,7 @@ atom-lost-requires t c κs = tt
 atom-returns-2 : (t : ℕ) → atom-lts.Need-returns-2 (atom-calls t) (atom-at t) atom.Post
 atom-returns-2 t c =
     let args = c .before .before .before .before .before .before .before .before .before .before .before .before .args in
-    (let z = c .lost .ensures in omega arith, value-lost (args .s .now) (args .raw .now) (args .names .now) (args .kinds) (args .scope .now) (args .n) (args .at) (args .w) (args .out .now) (sym (c .before .before .before .before .before .cell .ensures) ∙ c .before .before .before .if2 .taken) (c .lost .result) (args .out .now) (λ v h. let a = h .least in let b = c .before .before .cell2 .ensures in omega arith))
+    (let z = c .lost .ensures in omega arith, value-lost (args .s .now) (args .raw .now) (args .names .now) (args .kinds) (args .scope .now) (args .n) (args .at) (args .w) (args .out .now) (sym (c .before .before .before .before .before .peek-cell .ensures) ∙ c .before .before .before .if2 .taken) (c .lost .result) (args .out .now) (λ v h. let a = h .least in let b = c .before .before .peek-cell2 .ensures in omega arith))
 
 atom-lost-requires-2 : (t : ℕ) → atom-lts.Need-lost-requires-2 (atom-calls t) (atom-at t) atom.Post
 atom-lost-requires-2 t c κs = tt
@@ -173,12 +173,12 @@ atom-lost-requires-2 t c κs = tt
 atom-returns-3 : (t : ℕ) → atom-lts.Need-returns-3 (atom-calls t) (atom-at t) atom.Post
 atom-returns-3 t c =
     let args = c .before .before .before .before .before .before .before .before .before .before .before .before .before .args in
-    (let z = c .lost2 .ensures in omega arith, value-lost (args .s .now) (args .raw .now) (args .names .now) (args .kinds) (args .scope .now) (args .n) (args .at) (args .w) (args .out .now) (sym (c .before .before .before .before .before .before .cell .ensures) ∙ c .before .before .before .before .if2 .taken) (c .lost2 .result) (args .out .now) (λ v h. let a = h .most in let b = c .before .before .before .cell2 .ensures in omega arith))
+    (let z = c .lost2 .ensures in omega arith, value-lost (args .s .now) (args .raw .now) (args .names .now) (args .kinds) (args .scope .now) (args .n) (args .at) (args .w) (args .out .now) (sym (c .before .before .before .before .before .before .peek-cell .ensures) ∙ c .before .before .before .before .if2 .taken) (c .lost2 .result) (args .out .now) (λ v h. let a = h .most in let b = c .before .before .before .peek-cell2 .ensures in omega arith))
 
 atom-add-t22 : (t : ℕ) → atom-lts.Need-add-t22 (atom-calls t) (atom-at t) atom.Post
 atom-add-t22 t c =
     let args = c .before .before .before .before .before .before .before .before .before .before .before .before .args in
-    let l = live (args .raw .now) (args .at) (let k = c .before .before .before .before .before .cell .ensures in omega arith) in
+    let l = live (args .raw .now) (args .at) (let k = c .before .before .before .before .before .peek-cell .ensures in omega arith) in
     omega arith
 
 atom-mul-put : (t : ℕ) → atom-lts.Need-mul-put (atom-calls t) (atom-at t) atom.Post
@@ -193,17 +193,17 @@ atom-same-length-2 t c = c .before .before .put .kept .0
 atom-returns-4 : (t : ℕ) → atom-lts.Need-returns-4 (atom-calls t) (atom-at t) atom.Post
 atom-returns-4 t c =
     let args = c .before .before .before .before .before .before .before .before .before .before .before .before .before .before .before .before .args in
-    let cell2 = c .before .before .before .before .before .before .cell2 in
+    let cell2 = c .before .before .before .before .before .before .peek-cell2 in
     let put = c .before .before .put in
-    (omega arith, value-took (args .s .now) (args .raw .now) (args .names .now) (args .kinds) (args .scope .now) (args .n) (args .at) (args .w) (args .out .now) (sym (c .before .before .before .before .before .before .before .before .before .cell .ensures) ∙ c .before .before .before .before .before .before .before .if2 .taken) (cell2 .result) _ (put .result) (put .last .0) (cell2 .ensures) refl (put .ensures))
+    (omega arith, value-took (args .s .now) (args .raw .now) (args .names .now) (args .kinds) (args .scope .now) (args .n) (args .at) (args .w) (args .out .now) (sym (c .before .before .before .before .before .before .before .before .before .peek-cell .ensures) ∙ c .before .before .before .before .before .before .before .if2 .taken) (cell2 .result) _ (put .result) (put .last .0) (cell2 .ensures) refl (put .ensures))
 
-atom-add-cell-2 : (t : ℕ) → atom-lts.Need-add-cell-2 (atom-calls t) (atom-at t) atom.Post
+atom-add-cell-2 : (t : ℕ) → atom-lts.Need-add-peek-cell-2 (atom-calls t) (atom-at t) atom.Post
 atom-add-cell-2 t c =
     let args = c .before .before .before .before .before .before .before .before .before .before .args in
-    let l = live (args .raw .now) (args .at) (let k = c .before .before .before .cell .ensures in omega arith) in
+    let l = live (args .raw .now) (args .at) (let k = c .before .before .before .peek-cell .ensures in omega arith) in
     omega arith
 
-atom-cell-requires-3 : (t : ℕ) → atom-lts.Need-cell-requires-3 (atom-calls t) (atom-at t) atom.Post
+atom-cell-requires-3 : (t : ℕ) → atom-lts.Need-peek-cell-requires-3 (atom-calls t) (atom-at t) atom.Post
 atom-cell-requires-3 t c κs = tt
 
 atom-scope-number-requires : (t : ℕ) → atom-lts.Need-scope-number-requires (atom-calls t) (atom-at t) atom.Post
@@ -216,14 +216,14 @@ atom-returns-5 : (t : ℕ) → atom-lts.Need-returns-5 (atom-calls t) (atom-at t
 atom-returns-5 t c =
     let start = c .before .before .before .before .before .before .before .before .before .before .before .before .before .before in
     let args = start .args in
-    let cell3 = c .before .before .before .cell3 in
+    let cell3 = c .before .before .before .peek-cell3 in
     let scope-number = c .before .before .scope-number in
-    (let z = c .lost3 .ensures in omega arith, variable-lost (args .s .now) (args .raw .now) (args .names .now) (args .kinds) (args .scope .now) (args .n) (args .at) (args .w) (args .out .now) (sym (c .before .before .before .before .before .before .before .cell .ensures) ∙ c .before .before .before .before .if5 .taken) (let q = start .pre .1 .0 in omega arith) (cell3 .result) (scope-number .result) (cell3 .ensures) (scope-number .ensures .1) (c .lost3 .result) (args .out .now) (c .lost3 .ensures) (c .before .if6 .taken))
+    (let z = c .lost3 .ensures in omega arith, variable-lost (args .s .now) (args .raw .now) (args .names .now) (args .kinds) (args .scope .now) (args .n) (args .at) (args .w) (args .out .now) (sym (c .before .before .before .before .before .before .before .peek-cell .ensures) ∙ c .before .before .before .before .if5 .taken) (let q = start .pre .1 .0 in omega arith) (cell3 .result) (scope-number .result) (cell3 .ensures) (scope-number .ensures .1) (c .lost3 .result) (args .out .now) (c .lost3 .ensures) (c .before .if6 .taken))
 
 atom-add-t30 : (t : ℕ) → atom-lts.Need-add-t30 (atom-calls t) (atom-at t) atom.Post
 atom-add-t30 t c =
     let args = c .before .before .before .before .before .before .before .before .before .before .before .before .before .args in
-    let l = live (args .raw .now) (args .at) (let k = c .before .before .before .before .before .before .cell .ensures in omega arith) in
+    let l = live (args .raw .now) (args .at) (let k = c .before .before .before .before .before .before .peek-cell .ensures in omega arith) in
     omega arith
 
 atom-mul-short : (t : ℕ) → atom-lts.Need-mul-short (atom-calls t) (atom-at t) atom.Post
@@ -245,12 +245,12 @@ atom-returns-6 : (t : ℕ) → atom-lts.Need-returns-6 (atom-calls t) (atom-at t
 atom-returns-6 t c =
     let start = c .before .before .before .before .before .before .before .before .before .before .before .before .before .before .before .before .before .before in
     let args = start .args in
-    let cell3 = c .before .before .before .before .before .before .before .cell3 in
+    let cell3 = c .before .before .before .before .before .before .before .peek-cell3 in
     let scope-number = c .before .before .before .before .before .before .scope-number in
     let short = c .before .before .before .short in
     let put2 = c .before .before .put2 in
     let q = start .pre .1 in
-    (omega arith, variable-took (args .s .now) (args .raw .now) (args .names .now) (args .kinds) (args .scope .now) (args .n) (args .at) (args .w) (args .out .now) (sym (c .before .before .before .before .before .before .before .before .before .before .before .cell .ensures) ∙ c .before .before .before .before .before .before .before .before .if5 .taken) (let q = start .pre .1 .0 in omega arith) (cell3 .result) (scope-number .result) (cell3 .ensures) (scope-number .ensures .1) (short .result) (put2 .result) (put2 .last .0) (c .before .before .before .before .before .if6 .left) (short .ensures (omega arith)) (put2 .ensures))
+    (omega arith, variable-took (args .s .now) (args .raw .now) (args .names .now) (args .kinds) (args .scope .now) (args .n) (args .at) (args .w) (args .out .now) (sym (c .before .before .before .before .before .before .before .before .before .before .before .peek-cell .ensures) ∙ c .before .before .before .before .before .before .before .before .if5 .taken) (let q = start .pre .1 .0 in omega arith) (cell3 .result) (scope-number .result) (cell3 .ensures) (scope-number .ensures .1) (short .result) (put2 .result) (put2 .last .0) (c .before .before .before .before .before .if6 .left) (short .ensures (omega arith)) (put2 .ensures))
 
 atom-lost-requires-4 : (t : ℕ) → atom-lts.Need-lost-requires-4 (atom-calls t) (atom-at t) atom.Post
 atom-lost-requires-4 t c κs = tt
@@ -258,16 +258,16 @@ atom-lost-requires-4 t c κs = tt
 atom-returns-7 : (t : ℕ) → atom-lts.Need-returns-7 (atom-calls t) (atom-at t) atom.Post
 atom-returns-7 t c =
     let args = c .before .before .before .before .before .before .before .before .before .before .before .before .args in
-    let cell = c .before .before .before .before .before .cell in
+    let cell = c .before .before .before .before .before .peek-cell in
     (let z = c .lost4 .ensures in omega arith, other-lost (args .s .now) (args .raw .now) (args .names .now) (args .kinds) (args .scope .now) (args .n) (args .at) (args .w) (args .out .now) (c .lost4 .result) (args .out .now) (λ e. c .before .before .before .if2 .left (cell .ensures ∙ e)) (λ e. c .before .before .if5 .left (cell .ensures ∙ e)) (λ e. c .before .if7 .taken (cell .ensures ∙ e)) (λ e. c .before .before .before .before .if1 .left (cell .ensures ∙ e)))
 
-atom-add-cell-3 : (t : ℕ) → atom-lts.Need-add-cell-3 (atom-calls t) (atom-at t) atom.Post
+atom-add-cell-3 : (t : ℕ) → atom-lts.Need-add-peek-cell-3 (atom-calls t) (atom-at t) atom.Post
 atom-add-cell-3 t c =
     let args = c .before .before .before .before .before .before .before .before .before .before .before .args in
-    let l = live (args .raw .now) (args .at) (let k = c .before .before .before .before .cell .ensures in omega arith) in
+    let l = live (args .raw .now) (args .at) (let k = c .before .before .before .before .peek-cell .ensures in omega arith) in
     omega arith
 
-atom-cell-requires-4 : (t : ℕ) → atom-lts.Need-cell-requires-4 (atom-calls t) (atom-at t) atom.Post
+atom-cell-requires-4 : (t : ℕ) → atom-lts.Need-peek-cell-requires-4 (atom-calls t) (atom-at t) atom.Post
 atom-cell-requires-4 t c κs = tt
 
 atom-func-in-requires : (t : ℕ) → atom-lts.Need-func-in-requires (atom-calls t) (atom-at t) atom.Post
@@ -279,9 +279,9 @@ atom-lost-requires-5 t c κs = tt
 atom-returns-8 : (t : ℕ) → atom-lts.Need-returns-8 (atom-calls t) (atom-at t) atom.Post
 atom-returns-8 t c =
     let args = c .before .before .before .before .before .before .before .before .before .before .before .before .before .before .before .before .args in
-    let cell4 = c .before .before .before .before .cell4 in
+    let cell4 = c .before .before .before .before .peek-cell4 in
     let func-in = c .before .before .before .func-in in
-    (let z = c .lost5 .ensures in omega arith, apply-lost (args .s .now) (args .raw .now) (args .names .now) (args .kinds) (args .scope .now) (args .n) (args .at) (args .w) (args .out .now) (sym (c .before .before .before .before .before .before .before .before .before .cell .ensures) ∙ (let z = c .before .before .before .before .before .if7 .left in omega arith)) (cell4 .result) (func-in .result) (cell4 .ensures) (func-in .ensures .1) (c .lost5 .result) (args .out .now) (c .lost5 .ensures) (c .before .if8 .taken))
+    (let z = c .lost5 .ensures in omega arith, apply-lost (args .s .now) (args .raw .now) (args .names .now) (args .kinds) (args .scope .now) (args .n) (args .at) (args .w) (args .out .now) (sym (c .before .before .before .before .before .before .before .before .before .peek-cell .ensures) ∙ (let z = c .before .before .before .before .before .if7 .left in omega arith)) (cell4 .result) (func-in .result) (cell4 .ensures) (func-in .ensures .1) (c .lost5 .result) (args .out .now) (c .lost5 .ensures) (c .before .if8 .taken))
 
 atom-mul-short-2 : (t : ℕ) → atom-lts.Need-mul-short-2 (atom-calls t) (atom-at t) atom.Post
 atom-mul-short-2 t c = omega arith
@@ -303,7 +303,7 @@ atom-add-data-list t c =
     let args = c .before .before .before .before .before .before .before .before .before .before .before .before .before .before .before .before .before .before .before .before .before .before .before .before .args in
     let q = c .before .before .before .before .before .before .before .before .before .before .before .before .before .before .before .before .before .before .before .before .before .before .before .before .pre .1 .0 in
     let z = c .before .before .before .before .before .before .before .before .before .before .before .before .before .if7 .left in
-    let l = live (args .raw .now) (args .at) (let k = c .before .before .before .before .before .before .before .before .before .before .before .before .before .before .before .before .before .cell .ensures in omega arith) in
+    let l = live (args .raw .now) (args .at) (let k = c .before .before .before .before .before .before .before .before .before .before .before .before .before .before .before .before .before .peek-cell .ensures in omega arith) in
     omega arith
 
 atom-data-list-requires : (t : ℕ) → atom-lts.Need-data-list-requires (atom-calls t) (atom-at t) atom.Post
@@ -313,7 +313,7 @@ atom-data-list-requires t c κs =
     let q = start .pre .1 .0 in
     let m = start .pre .0 in
     let z = c .before .before .before .before .before .before .before .before .before .before .before .before .before .before .if7 .left in
-    let l = live (args .raw .now) (args .at) (let k = c .before .before .before .before .before .before .before .before .before .before .before .before .before .before .before .before .before .before .cell .ensures in omega arith) in
+    let l = live (args .raw .now) (args .at) (let k = c .before .before .before .before .before .before .before .before .before .before .before .before .before .before .before .before .before .before .peek-cell .ensures in omega arith) in
     (omega arith, (omega arith, start .pre .1 .1))
 
 atom-short-requires-3 : (t : ℕ) → atom-lts.Need-short-requires-3 (atom-calls t) (atom-at t) atom.Post
@@ -329,9 +329,9 @@ atom-returns-9 : (t : ℕ) → atom-lts.Need-returns-9 (atom-calls t) (atom-at t
 atom-returns-9 t c =
     let start = c .before .before .before .before .before .before .before .before .before .before .before .before .before .before .before .before .before .before .before .before .before .before .before .before .before .before .before .before .before .before .before .before .before in
     let args = start .args in
-    let cell = c .before .before .before .before .before .before .before .before .before .before .before .before .before .before .before .before .before .before .before .before .before .before .before .before .before .before .cell in
+    let cell = c .before .before .before .before .before .before .before .before .before .before .before .before .before .before .before .before .before .before .before .before .before .before .before .before .before .before .peek-cell in
     let called = c .before .before .before .before .before .before .before .data-list in
-    let cell4 = c .before .before .before .before .before .before .before .before .before .before .before .before .before .before .before .before .before .before .before .before .before .cell4 in
+    let cell4 = c .before .before .before .before .before .before .before .before .before .before .before .before .before .before .before .before .before .before .before .before .before .peek-cell4 in
     let func-in = c .before .before .before .before .before .before .before .before .before .before .before .before .before .before .before .before .before .before .before .before .func-in in
     let short2 = c .before .before .before .before .before .before .before .before .before .before .before .before .before .before .before .before .short2 in
     let put3 = c .before .before .before .before .before .before .before .before .before .before .before .before .before .before .before .put3 in
@@ -345,14 +345,14 @@ atom-returns-9 t c =
     let a = called .ensures .0 in
     (omega arith, apply-took (args .s .now) (args .raw .now) (args .names .now) (args .kinds) (args .scope .now) (args .n) (args .at) (args .w) (args .out .now) (sym (cell .ensures) ∙ (omega arith)) (cell4 .result) (func-in .result) (cell4 .ensures) (func-in .ensures .1) (short2 .result) (put3 .result) (put4 .result) (put5 .result) (short3 .result) (called .result) (put3 .last .0) (put4 .last .0) (called .last .1 .1 .1 .1 .1 .1 .1 .1 .0) (put5 .last .0) (c .before .before .before .before .before .before .before .before .before .before .before .before .before .before .before .before .before .before .if8 .left) (short2 .ensures (omega arith)) (put3 .ensures) (put4 .ensures) (called .ensures .1) (short3 .ensures) (put5 .ensures))
 
-comparison-cell-requires : (t : ℕ) → comparison-lts.Need-cell-requires (comparison-calls t) (comparison-at t) comparison.Post
+comparison-cell-requires : (t : ℕ) → comparison-lts.Need-peek-cell-requires (comparison-calls t) (comparison-at t) comparison.Post
 comparison-cell-requires t c κs = tt
 
 comparison-add-negation : (t : ℕ) → comparison-lts.Need-add-negation (comparison-calls t) (comparison-at t) comparison.Post
 comparison-add-negation t c =
     let start = c .before .before .before .before .before .before .before .before in
     let args = start .args in
-    let l = live (args .raw .now) (args .at) (let k = c .before .cell .ensures in omega arith) in
+    let l = live (args .raw .now) (args .at) (let k = c .before .peek-cell .ensures in omega arith) in
     omega arith
 
 comparison-negation-requires : (t : ℕ) → comparison-lts.Need-negation-requires (comparison-calls t) (comparison-at t) comparison.Post
@@ -361,7 +361,7 @@ comparison-negation-requires t c κs =
     let args = start .args in
     let q = start .pre .1 .0 in
     let m = start .pre .0 in
-    let l = live (args .raw .now) (args .at) (let k = c .before .before .cell .ensures in omega arith) in
+    let l = live (args .raw .now) (args .at) (let k = c .before .before .peek-cell .ensures in omega arith) in
     (omega arith, (omega arith, start .pre .1 .1))
 
 comparison-same-length : (t : ℕ) → comparison-lts.Need-same-length (comparison-calls t) (comparison-at t) comparison.Post
@@ -373,7 +373,7 @@ comparison-returns t c =
     let args = start .args in
     let called = c .before .before .negation in
     let a = called .ensures .0 in
-    (omega arith, alone-took (args .s .now) (args .raw .now) (args .names .now) (args .kinds) (args .scope .now) (args .n) (args .at) (args .w) (args .out .now) (sym (c .before .before .before .before .before .cell .ensures) ∙ c .before .before .before .before .if1 .taken) (called .result) (called .last .1 .1 .1 .1 .1 .1 .1 .1 .0) (called .ensures .1))
+    (omega arith, alone-took (args .s .now) (args .raw .now) (args .names .now) (args .kinds) (args .scope .now) (args .n) (args .at) (args .w) (args .out .now) (sym (c .before .before .before .before .before .peek-cell .ensures) ∙ c .before .before .before .before .if1 .taken) (called .result) (called .last .1 .1 .1 .1 .1 .1 .1 .1 .0) (called .ensures .1))
 
 comparison-lost-requires : (t : ℕ) → comparison-lts.Need-lost-requires (comparison-calls t) (comparison-at t) comparison.Post
 comparison-lost-requires t c κs = tt
@@ -382,7 +382,7 @@ comparison-returns-2 : (t : ℕ) → comparison-lts.Need-returns-2 (comparison-c
 comparison-returns-2 t c =
     let start = c .before .before .before .before .before .before .before .before .before .before in
     let args = start .args in
-    let cell = c .before .before .before .cell in
+    let cell = c .before .before .before .peek-cell in
     (let z = c .lost .ensures in omega arith, comparison-lost (args .s .now) (args .raw .now) (args .names .now) (args .kinds) (args .scope .now) (args .n) (args .at) (args .w) (args .out .now) (λ e. c .before .before .if1 .left (cell .ensures ∙ e)) (λ e. c .before .if2 .taken (cell .ensures ∙ e)) (c .lost .result) (args .out .now))
 
 comparison-put-requires : (t : ℕ) → comparison-lts.Need-put-requires (comparison-calls t) (comparison-at t) comparison.Post
@@ -396,7 +396,7 @@ comparison-add-negation-2 t c =
     let start = c .before .before .before .before .before .before .before .before .before .before .before .before .before .before .before .before .before in
     let args = start .args in
     let z = c .before .before .before .before .before .before .before .before .if2 .left in
-    let l = live (args .raw .now) (args .at) (let k = c .before .before .before .before .before .before .before .before .before .before .cell .ensures in omega arith) in
+    let l = live (args .raw .now) (args .at) (let k = c .before .before .before .before .before .before .before .before .before .before .peek-cell .ensures in omega arith) in
     omega arith
 
 comparison-negation-requires-2 : (t : ℕ) → comparison-lts.Need-negation-requires-2 (comparison-calls t) (comparison-at t) comparison.Post
@@ -406,7 +406,7 @@ comparison-negation-requires-2 t c κs =
     let q = start .pre .1 .0 in
     let m = start .pre .0 in
     let z = c .before .before .before .before .before .before .before .before .before .if2 .left in
-    let l = live (args .raw .now) (args .at) (let k = c .before .before .before .before .before .before .before .before .before .before .before .cell .ensures in omega arith) in
+    let l = live (args .raw .now) (args .at) (let k = c .before .before .before .before .before .before .before .before .before .before .before .peek-cell .ensures in omega arith) in
     (omega arith, (omega arith, start .pre .1 .1))
 
 comparison-negation-requires-3 : (t : ℕ) → comparison-lts.Need-negation-requires-3 (comparison-calls t) (comparison-at t) comparison.Post
@@ -417,13 +417,13 @@ comparison-negation-requires-3 t c κs =
     let m = start .pre .0 in
     let z = c .before .before .before .before .before .before .before .before .before .before .before .before .before .if2 .left in
     let a = c .before .before .before .negation2 .ensures .0 in
-    let l = live (args .raw .now) (args .at) (let k = c .before .before .before .before .before .before .before .before .before .before .before .before .before .before .before .cell .ensures in omega arith) in
+    let l = live (args .raw .now) (args .at) (let k = c .before .before .before .before .before .before .before .before .before .before .before .before .before .before .before .peek-cell .ensures in omega arith) in
     (omega arith, (omega arith, start .pre .1 .1))
 
-comparison-cell-requires-2 : (t : ℕ) → comparison-lts.Need-cell-requires-2 (comparison-calls t) (comparison-at t) comparison.Post
+comparison-cell-requires-2 : (t : ℕ) → comparison-lts.Need-peek-cell-requires-2 (comparison-calls t) (comparison-at t) comparison.Post
 comparison-cell-requires-2 t c κs = tt
 
-comparison-cell-requires-3 : (t : ℕ) → comparison-lts.Need-cell-requires-3 (comparison-calls t) (comparison-at t) comparison.Post
+comparison-cell-requires-3 : (t : ℕ) → comparison-lts.Need-peek-cell-requires-3 (comparison-calls t) (comparison-at t) comparison.Post
 comparison-cell-requires-3 t c κs = tt
 
 comparison-equal-cell-requires : (t : ℕ) → comparison-lts.Need-equal-cell-requires (comparison-calls t) (comparison-at t) comparison.Post
@@ -440,12 +440,12 @@ comparison-returns-3 t c =
     let start = c .before .before .before .before .before .before .before .before .before .before .before .before .before .before .before .before .before .before .before .before .before .before .before .before .before .before .before .before .before .before .before .before .before .before in
     let args = start .args in
     let z = c .before .before .before .before .before .before .before .before .before .before .before .before .before .before .before .before .before .before .before .before .before .before .before .before .before .if2 .left in
-    let l = live (args .raw .now) (args .at) (let k = c .before .before .before .before .before .before .before .before .before .before .before .before .before .before .before .before .before .before .before .before .before .before .before .before .before .before .before .cell .ensures in omega arith) in
+    let l = live (args .raw .now) (args .at) (let k = c .before .before .before .before .before .before .before .before .before .before .before .before .before .before .before .before .before .before .before .before .before .before .before .before .before .before .before .peek-cell .ensures in omega arith) in
     let first = c .before .before .before .before .before .before .before .before .before .before .before .before .before .before .before .negation2 in
     let second = c .before .before .before .before .before .before .before .before .before .before .before .negation3 in
     let a = first .ensures .0 in
     let b = second .ensures .0 in
-    (omega arith, equal-took (args .s .now) (args .raw .now) (args .names .now) (args .kinds) (args .scope .now) (args .n) (args .at) (args .w) (args .out .now) (start .pre .1 .0) (c .before .before .before .before .before .before .before .before .before .before .before .before .before .before .before .before .before .before .before .before .before .before .before .put .result) (c .before .before .before .before .before .before .before .before .before .before .before .before .before .before .before .before .before .before .before .put2 .result) (c .before .before .before .before .before .before .before .before .before .before .before .before .before .before .before .before .before .before .before .before .before .before .before .put .last .0) (c .before .before .before .before .before .before .before .before .before .before .before .before .before .before .before .before .before .before .before .put2 .last .0) (c .before .before .before .before .before .before .before .before .before .before .before .before .before .before .before .before .before .before .before .before .before .before .before .put .ensures) (c .before .before .before .before .before .before .before .before .before .before .before .before .before .before .before .before .before .before .before .put2 .ensures) (first .result) (first .last .1 .1 .1 .1 .1 .1 .1 .1 .0) (first .ensures .1) (second .result) (second .last .1 .1 .1 .1 .1 .1 .1 .1 .0) (second .ensures .1) (second .ensures .0) (c .before .before .before .before .before .before .before .cell2 .result) (c .before .before .before .before .before .cell3 .result) (c .before .before .before .before .before .before .before .cell2 .ensures) (c .before .before .before .before .before .cell3 .ensures) (c .before .before .before .equal-cell .result) (c .before .before .put3 .result) (c .before .before .put3 .last .0) (c .before .before .before .equal-cell .ensures) (c .before .before .put3 .ensures) (sym (c .before .before .before .before .before .before .before .before .before .before .before .before .before .before .before .before .before .before .before .before .before .before .before .before .before .before .before .cell .ensures) ∙ (let z = c .before .before .before .before .before .before .before .before .before .before .before .before .before .before .before .before .before .before .before .before .before .before .before .before .before .if2 .left in omega arith)))
+    (omega arith, equal-took (args .s .now) (args .raw .now) (args .names .now) (args .kinds) (args .scope .now) (args .n) (args .at) (args .w) (args .out .now) (start .pre .1 .0) (c .before .before .before .before .before .before .before .before .before .before .before .before .before .before .before .before .before .before .before .before .before .before .before .put .result) (c .before .before .before .before .before .before .before .before .before .before .before .before .before .before .before .before .before .before .before .put2 .result) (c .before .before .before .before .before .before .before .before .before .before .before .before .before .before .before .before .before .before .before .before .before .before .before .put .last .0) (c .before .before .before .before .before .before .before .before .before .before .before .before .before .before .before .before .before .before .before .put2 .last .0) (c .before .before .before .before .before .before .before .before .before .before .before .before .before .before .before .before .before .before .before .before .before .before .before .put .ensures) (c .before .before .before .before .before .before .before .before .before .before .before .before .before .before .before .before .before .before .before .put2 .ensures) (first .result) (first .last .1 .1 .1 .1 .1 .1 .1 .1 .0) (first .ensures .1) (second .result) (second .last .1 .1 .1 .1 .1 .1 .1 .1 .0) (second .ensures .1) (second .ensures .0) (c .before .before .before .before .before .before .before .peek-cell2 .result) (c .before .before .before .before .before .peek-cell3 .result) (c .before .before .before .before .before .before .before .peek-cell2 .ensures) (c .before .before .before .before .before .peek-cell3 .ensures) (c .before .before .before .equal-cell .result) (c .before .before .put3 .result) (c .before .before .put3 .last .0) (c .before .before .before .equal-cell .ensures) (c .before .before .put3 .ensures) (sym (c .before .before .before .before .before .before .before .before .before .before .before .before .before .before .before .before .before .before .before .before .before .before .before .before .before .before .before .peek-cell .ensures) ∙ (let z = c .before .before .before .before .before .before .before .before .before .before .before .before .before .before .before .before .before .before .before .before .before .before .before .before .before .if2 .left in omega arith)))
 
 abbrev conjunction-Inv-loop : conjunction-lts.InvT-loop
 conjunction-Inv-loop s raw names keys kinds scope n at out₀ w k more p₀ v₀ i₀ out p v i = ((at + 1 ≤ p) × (i ≤ more + 1) × (length out ≡ length out₀)) × OperandsLeft enc-comparison comparison-cells s raw names kinds scope n (at + 1) (more + 1) v₀ out₀ p v i out
@@ -453,7 +453,7 @@ conjunction-Inv-loop s raw names keys kinds scope n at out₀ w k more p₀ v₀
 abbrev conjunction-μ-loop : conjunction-lts.MeasureT-loop
 conjunction-μ-loop s raw names keys kinds scope n at out₀ w k more p₀ v₀ i₀ out p v i = more + 1 - i
 
-conjunction-cell-requires : (t : ℕ) → conjunction-lts.Need-cell-requires (conjunction-calls t) (conjunction-at t) conjunction.Post conjunction-Inv-loop conjunction-μ-loop
+conjunction-cell-requires : (t : ℕ) → conjunction-lts.Need-peek-cell-requires (conjunction-calls t) (conjunction-at t) conjunction.Post conjunction-Inv-loop conjunction-μ-loop
 conjunction-cell-requires t c κs = tt
 
 conjunction-lost-requires : (t : ℕ) → conjunction-lts.Need-lost-requires (conjunction-calls t) (conjunction-at t) conjunction.Post conjunction-Inv-loop conjunction-μ-loop
@@ -463,7 +463,7 @@ conjunction-returns : (t : ℕ) → conjunction-lts.Need-returns (conjunction-ca
 conjunction-returns t c =
     let start = c .before .before .before .before .before .before .before .before .before in
     let args = start .args in
-    (let z = c .lost .ensures in omega arith, conjunction-lost (args .s .now) (args .raw .now) (args .names .now) (args .kinds) (args .scope .now) (args .n) (args .at) (args .w) (args .w) (args .out .now) (args .out .now) (let k = c .before .before .cell .ensures in omega arith) (c .lost .result) (args .out .now))
+    (let z = c .lost .ensures in omega arith, conjunction-lost (args .s .now) (args .raw .now) (args .names .now) (args .kinds) (args .scope .now) (args .n) (args .at) (args .w) (args .w) (args .out .now) (args .out .now) (let k = c .before .before .peek-cell .ensures in omega arith) (c .lost .result) (args .out .now))
 
 conjunction-wide-cell-requires : (t : ℕ) → conjunction-lts.Need-wide-cell-requires (conjunction-calls t) (conjunction-at t) conjunction.Post conjunction-Inv-loop conjunction-μ-loop
 conjunction-wide-cell-requires t c κs = tt
@@ -472,7 +472,7 @@ conjunction-add-p : (t : ℕ) → conjunction-lts.Need-add-p (conjunction-calls 
 conjunction-add-p t c =
     let start = c .before .before .before .before .before .before .before .before .before in
     let args = start .args in
-    let l = live (args .raw .now) (args .at) (let k = c .before .before .cell .ensures in omega arith) in
+    let l = live (args .raw .now) (args .at) (let k = c .before .before .peek-cell .ensures in omega arith) in
     omega arith
 
 conjunction-put-joins-requires : (t : ℕ) → conjunction-lts.Need-put-joins-requires (conjunction-calls t) (conjunction-at t) conjunction.Post conjunction-Inv-loop conjunction-μ-loop
@@ -491,7 +491,7 @@ conjunction-comparison-requires t c κs =
     let q = start .pre .1 .0 in
     let m = start .pre .0 in
     let i = c .before .before .loop .inv .0 in
-    let l = live (args .raw .now) (args .at) (let k = c .before .before .before .before .before .before .before .before .before .cell .ensures in omega arith) in
+    let l = live (args .raw .now) (args .at) (let k = c .before .before .before .before .before .before .before .before .before .peek-cell .ensures in omega arith) in
     (omega arith, (omega arith, start .pre .1 .1))
 
 conjunction-add-i : (t : ℕ) → conjunction-lts.Need-add-i (conjunction-calls t) (conjunction-at t) conjunction.Post conjunction-Inv-loop conjunction-μ-loop
@@ -499,8 +499,8 @@ conjunction-add-i t c =
     let start = c .before .before .before .before .before .before .before .before .before .before .before .before .before .before .before .before .before .before .before in
     let args = start .args in
     let b = c .before .before .before .before .before .before .before .before .before .before .before .before .before .before .before .before .before .shared-slice-known2 .given (args .at) in
-    let k = c .before .before .before .before .before .before .before .before .before .before .before .before .cell .ensures in
-    let m = c .before .before .before .before .before .before .before .before .before .before .wide-cell .ensures in
+    let k = c .before .before .before .before .before .before .before .before .before .before .before .before .peek-cell .ensures in
+    let m = c .before .before .before .before .before .before .before .before .before .before .wide-cell .ensures .0 in
     let i = c .before .before .before .before .before .loop .inv .0 in
     omega (arith, b)
 
@@ -511,7 +511,7 @@ conjunction-loop-again : (t : ℕ) → conjunction-lts.Need-loop-again (conjunct
 conjunction-loop-again t c =
     let start = c .before .before .before .before .before .before .before .before .before .before .before .before .before .before .before .before .before .before .before in
     let args = start .args in
-    let l = live (args .raw .now) (args .at) (let k = c .before .before .before .before .before .before .before .before .before .before .before .before .cell .ensures in let z = c .before .before .before .before .before .before .before .before .before .before .before .if1 .left in omega arith) in
+    let l = live (args .raw .now) (args .at) (let k = c .before .before .before .before .before .before .before .before .before .before .before .before .peek-cell .ensures in let z = c .before .before .before .before .before .before .before .before .before .before .before .if1 .left in omega arith) in
     let h = c .before .before .before .before .loop-test .taken in
     let here = c .before .before .before .before .before .loop in
     let called = c .before .before .comparison in
@@ -526,10 +526,10 @@ conjunction-returns-2 : (t : ℕ) → conjunction-lts.Need-returns-2 (conjunctio
 conjunction-returns-2 t c =
     let start = c .before .before .before .before .before .before .before .before .before .before .before .before .before .before .before in
     let args = start .args in
-    let l = live (args .raw .now) (args .at) (let k = c .before .before .before .before .before .before .before .before .cell .ensures in omega arith) in
+    let l = live (args .raw .now) (args .at) (let k = c .before .before .before .before .before .before .before .before .peek-cell .ensures in omega arith) in
     let here = c .before .loop in
     let i = here .inv .0 in
-    (omega arith, conjunction-took (args .s .now) (args .raw .now) (args .names .now) (args .kinds) (args .scope .now) (args .n) (args .at) (args .w) (c .before .before .before .before .put-joins .result) (args .out .now) (c .before .before .before .before .put-joins .last .0) (c .before .before .before .before .before .before .wide-cell .result) (here .p) (here .v) (here .i) (here .out) (let k = c .before .before .before .before .before .before .before .before .cell .ensures in let m = c .before .before .before .before .before .before .wide-cell .ensures in omega arith) (c .before .before .before .before .put-joins .ensures) (here .inv .1) (omega arith))
+    (omega arith, conjunction-took (args .s .now) (args .raw .now) (args .names .now) (args .kinds) (args .scope .now) (args .n) (args .at) (args .w) (c .before .before .before .before .put-joins .result) (args .out .now) (c .before .before .before .before .put-joins .last .0) (c .before .before .before .before .before .before .wide-cell .result) (here .p) (here .v) (here .i) (here .out) (let k = c .before .before .before .before .before .before .before .before .peek-cell .ensures in let m = c .before .before .before .before .before .before .wide-cell .ensures .0 in omega arith) (c .before .before .before .before .put-joins .ensures) (here .inv .1) (omega arith))
 
 abbrev data-list-Inv-loop : data-list-lts.InvT-loop
 data-list-Inv-loop s raw names keys kinds scope n at out₀ w p₀ v₀ count₀ out p v count = ((count + at ≤ p) × (length out ≡ length out₀)) × DatasLeft s raw names kinds scope n at w out₀ p v count out
@@ -542,29 +542,29 @@ data-list-loop-holds t c =
     let args = c .before .before .before .before .before .before .args in
     ((omega arith, refl), list-start (args .s .now) (args .raw .now) (args .names .now) (args .kinds) (args .scope .now) (args .n) (args .at) (args .w) (args .out .now))
 
-data-list-cell-requires : (t : ℕ) → data-list-lts.Need-cell-requires (data-list-calls t) (data-list-at t) data-list.Post data-list-Inv-loop data-list-μ-loop
+data-list-cell-requires : (t : ℕ) → data-list-lts.Need-peek-cell-requires (data-list-calls t) (data-list-at t) data-list.Post data-list-Inv-loop data-list-μ-loop
 data-list-cell-requires t c κs = tt
 
 data-list-add-data-term : (t : ℕ) → data-list-lts.Need-add-data-term (data-list-calls t) (data-list-at t) data-list.Post data-list-Inv-loop data-list-μ-loop
 data-list-add-data-term t c =
-    let l = live (c .before .before .before .before .before .before .before .before .before .args .raw .now) (c .before .before .loop .p) (let k = c .before .cell .ensures in omega arith) in
+    let l = live (c .before .before .before .before .before .before .before .before .before .args .raw .now) (c .before .before .loop .p) (let k = c .before .peek-cell .ensures in omega arith) in
     omega arith
 
 data-list-data-term-requires : (t : ℕ) → data-list-lts.Need-data-term-requires (data-list-calls t) (data-list-at t) data-list.Post data-list-Inv-loop data-list-μ-loop
 data-list-data-term-requires t c κs =
     let start = c .before .before .before .before .before .before .before .before .before .before in
     let q = start .pre .1 in
-    let l = live (start .args .raw .now) (c .before .before .before .loop .p) (let k = c .before .before .cell .ensures in omega arith) in
+    let l = live (start .args .raw .now) (c .before .before .before .loop .p) (let k = c .before .before .peek-cell .ensures in omega arith) in
     (omega arith, (omega arith, start .pre .1 .1))
 
 data-list-add-count : (t : ℕ) → data-list-lts.Need-add-count (data-list-calls t) (data-list-at t) data-list.Post data-list-Inv-loop data-list-μ-loop
 data-list-add-count t c =
-    let l = live (c .before .before .before .before .before .before .before .before .before .before .before .before .before .args .raw .now) (c .before .before .before .before .before .before .loop .p) (let k = c .before .before .before .before .before .cell .ensures in omega arith) in
+    let l = live (c .before .before .before .before .before .before .before .before .before .before .before .before .before .args .raw .now) (c .before .before .before .before .before .before .loop .p) (let k = c .before .before .before .before .before .peek-cell .ensures in omega arith) in
     omega arith
 
 data-list-loop-less : (t : ℕ) → data-list-lts.Need-loop-less (data-list-calls t) (data-list-at t) data-list.Post data-list-Inv-loop data-list-μ-loop
 data-list-loop-less t c =
-    let l = live (c .before .before .before .before .before .before .before .before .before .before .before .before .before .args .raw .now) (c .before .before .before .before .before .before .loop .p) (let k = c .before .before .before .before .before .cell .ensures in omega arith) in
+    let l = live (c .before .before .before .before .before .before .before .before .before .before .before .before .before .args .raw .now) (c .before .before .before .before .before .before .loop .p) (let k = c .before .before .before .before .before .peek-cell .ensures in omega arith) in
     let a = c .before .before .data-term .ensures .0 in
     omega arith
 
@@ -572,13 +572,13 @@ data-list-loop-again : (t : ℕ) → data-list-lts.Need-loop-again (data-list-ca
 data-list-loop-again t c =
     let args = c .before .before .before .before .before .before .before .before .before .before .before .before .before .args in
     let here = c .before .before .before .before .before .before .loop in
-    let cell = c .before .before .before .before .before .cell in
+    let cell = c .before .before .before .before .before .peek-cell in
     let called = c .before .before .data-term in
     let l = live (args .raw .now) (here .p) (let k = cell .ensures in omega arith) in
     let a = called .ensures .0 in
     ((omega arith, called .kept .1 .1 .1 .1 .1 .1 .1 .1 .0 ∙ here .inv .0 .1), list-step (args .s .now) (args .raw .now) (args .names .now) (args .kinds) (args .scope .now) (args .n) (args .at) (args .w) (args .out .now) (here .p) (here .v) (here .count) (here .out) (here .inv .1) (sym (cell .ensures) ∙ c .before .before .before .before .if1 .taken) (called .result) (called .last .1 .1 .1 .1 .1 .1 .1 .1 .0) (called .ensures .1))
 
-data-list-cell-requires-2 : (t : ℕ) → data-list-lts.Need-cell-requires-2 (data-list-calls t) (data-list-at t) data-list.Post data-list-Inv-loop data-list-μ-loop
+data-list-cell-requires-2 : (t : ℕ) → data-list-lts.Need-peek-cell-requires-2 (data-list-calls t) (data-list-at t) data-list.Post data-list-Inv-loop data-list-μ-loop
 data-list-cell-requires-2 t c κs = tt
 
 data-list-lost-requires : (t : ℕ) → data-list-lts.Need-lost-requires (data-list-calls t) (data-list-at t) data-list.Post data-list-Inv-loop data-list-μ-loop
@@ -592,23 +592,23 @@ data-list-returns t c =
     let args = c .before .before .before .before .before .before .before .before .before .before .before .before .args in
     let here = c .before .before .before .before .before .loop in
     let z = c .lost .ensures in
-    (omega arith, list-lost (args .s .now) (args .raw .now) (args .names .now) (args .kinds) (args .scope .now) (args .n) (args .at) (args .w) (args .out .now) (here .p) (here .v) (here .count) (here .out) (here .inv .1) (λ e. c .before .before .before .if1 .left (c .before .before .before .before .cell .ensures ∙ e)) (λ e. c .before .if2 .taken (c .before .before .cell2 .ensures ∙ e)) (record { at = c .lost .result .at; w = here .v; count = here .count }) (c .lost .ensures))
+    (omega arith, list-lost (args .s .now) (args .raw .now) (args .names .now) (args .kinds) (args .scope .now) (args .n) (args .at) (args .w) (args .out .now) (here .p) (here .v) (here .count) (here .out) (here .inv .1) (λ e. c .before .before .before .if1 .left (c .before .before .before .before .peek-cell .ensures ∙ e)) (λ e. c .before .if2 .taken (c .before .before .peek-cell2 .ensures ∙ e)) (record { at = c .lost .result .at; w = here .v; count = here .count }) (c .lost .ensures))
 
 data-list-add-data-term-2 : (t : ℕ) → data-list-lts.Need-add-data-term-2 (data-list-calls t) (data-list-at t) data-list.Post data-list-Inv-loop data-list-μ-loop
 data-list-add-data-term-2 t c =
-    let l = live (c .before .before .before .before .before .before .before .before .before .before .before .args .raw .now) (c .before .before .before .before .loop .p) (let k = c .before .cell2 .ensures in omega arith) in
+    let l = live (c .before .before .before .before .before .before .before .before .before .before .before .args .raw .now) (c .before .before .before .before .loop .p) (let k = c .before .peek-cell2 .ensures in omega arith) in
     omega arith
 
 data-list-data-term-requires-2 : (t : ℕ) → data-list-lts.Need-data-term-requires-2 (data-list-calls t) (data-list-at t) data-list.Post data-list-Inv-loop data-list-μ-loop
 data-list-data-term-requires-2 t c κs =
     let start = c .before .before .before .before .before .before .before .before .before .before .before .before in
     let q = start .pre .1 in
-    let l = live (start .args .raw .now) (c .before .before .before .before .before .loop .p) (let k = c .before .before .cell2 .ensures in omega arith) in
+    let l = live (start .args .raw .now) (c .before .before .before .before .before .loop .p) (let k = c .before .before .peek-cell2 .ensures in omega arith) in
     (omega arith, (omega arith, start .pre .1 .1))
 
 data-list-add-t24 : (t : ℕ) → data-list-lts.Need-add-t24 (data-list-calls t) (data-list-at t) data-list.Post data-list-Inv-loop data-list-μ-loop
 data-list-add-t24 t c =
-    let l = live (c .before .before .before .before .before .before .before .before .before .before .before .before .before .before .before .args .raw .now) (c .before .before .before .before .before .before .before .before .loop .p) (let k = c .before .before .before .before .before .cell2 .ensures in omega arith) in
+    let l = live (c .before .before .before .before .before .before .before .before .before .before .before .before .before .before .before .args .raw .now) (c .before .before .before .before .before .before .before .before .loop .p) (let k = c .before .before .before .before .before .peek-cell2 .ensures in omega arith) in
     omega arith
 
 data-list-same-length-2 : (t : ℕ) → data-list-lts.Need-same-length-2 (data-list-calls t) (data-list-at t) data-list.Post data-list-Inv-loop data-list-μ-loop
@@ -621,7 +621,7 @@ data-list-returns-2 t c =
     let here = c .before .before .before .before .before .before .before .before .loop in
     let data-term2 = c .before .before .data-term2 in
     let q = start .pre .1 in
-    let l = live (args .raw .now) (here .p) (let k = c .before .before .before .before .before .cell2 .ensures in omega arith) in
+    let l = live (args .raw .now) (here .p) (let k = c .before .before .before .before .before .peek-cell2 .ensures in omega arith) in
     let a = data-term2 .ensures .0 in
     (omega arith, list-took (args .s .now) (args .raw .now) (args .names .now) (args .kinds) (args .scope .now) (args .n) (args .at) (args .w) (args .out .now) (here .p) (here .v) (here .count) (here .out) (here .inv .1) (omega arith) (omega arith) (data-term2 .result) (data-term2 .last .1 .1 .1 .1 .1 .1 .1 .1 .0) (data-term2 .ensures .1))
 
@@ -631,7 +631,7 @@ data-term-Inv-loop s raw names keys kinds scope n at out₀ w k more p₀ v₀ i
 abbrev data-term-μ-loop : data-term-lts.MeasureT-loop
 data-term-μ-loop s raw names keys kinds scope n at out₀ w k more p₀ v₀ i₀ out p v i = more + 1 - i
 
-data-term-cell-requires : (t : ℕ) → data-term-lts.Need-cell-requires (data-term-calls t) (data-term-at t) data-term.Post data-term-Inv-loop data-term-μ-loop
+data-term-cell-requires : (t : ℕ) → data-term-lts.Need-peek-cell-requires (data-term-calls t) (data-term-at t) data-term.Post data-term-Inv-loop data-term-μ-loop
 data-term-cell-requires t c κs = tt
 
 data-term-lost-requires : (t : ℕ) → data-term-lts.Need-lost-requires (data-term-calls t) (data-term-at t) data-term.Post data-term-Inv-loop data-term-μ-loop
@@ -641,7 +641,7 @@ data-term-returns : (t : ℕ) → data-term-lts.Need-returns (data-term-calls t)
 data-term-returns t c =
     let start = c .before .before .before .before .before .before .before .before .before in
     let args = start .args in
-    (let z = c .lost .ensures in omega arith, data-lost (args .s .now) (args .raw .now) (args .names .now) (args .kinds) (args .scope .now) (args .n) (args .at) (args .w) (args .w) (args .out .now) (args .out .now) (λ a b. let k = c .before .before .cell .ensures in omega arith) (c .lost .result) (args .out .now))
+    (let z = c .lost .ensures in omega arith, data-lost (args .s .now) (args .raw .now) (args .names .now) (args .kinds) (args .scope .now) (args .n) (args .at) (args .w) (args .w) (args .out .now) (args .out .now) (λ a b. let k = c .before .before .peek-cell .ensures in omega arith) (c .lost .result) (args .out .now))
 
 data-term-lost-requires-2 : (t : ℕ) → data-term-lts.Need-lost-requires-2 (data-term-calls t) (data-term-at t) data-term.Post data-term-Inv-loop data-term-μ-loop
 data-term-lost-requires-2 t c κs = tt
@@ -650,7 +650,7 @@ data-term-returns-2 : (t : ℕ) → data-term-lts.Need-returns-2 (data-term-call
 data-term-returns-2 t c =
     let start = c .before .before .before .before .before .before .before .before .before .before in
     let args = start .args in
-    (let z = c .lost2 .ensures in omega arith, data-lost (args .s .now) (args .raw .now) (args .names .now) (args .kinds) (args .scope .now) (args .n) (args .at) (args .w) (args .w) (args .out .now) (args .out .now) (λ a b. let k = c .before .before .before .cell .ensures in omega arith) (c .lost2 .result) (args .out .now))
+    (let z = c .lost2 .ensures in omega arith, data-lost (args .s .now) (args .raw .now) (args .names .now) (args .kinds) (args .scope .now) (args .n) (args .at) (args .w) (args .w) (args .out .now) (args .out .now) (λ a b. let k = c .before .before .before .peek-cell .ensures in omega arith) (c .lost2 .result) (args .out .now))
 
 data-term-wide-cell-requires : (t : ℕ) → data-term-lts.Need-wide-cell-requires (data-term-calls t) (data-term-at t) data-term.Post data-term-Inv-loop data-term-μ-loop
 data-term-wide-cell-requires t c κs = tt
@@ -659,7 +659,7 @@ data-term-add-p : (t : ℕ) → data-term-lts.Need-add-p (data-term-calls t) (da
 data-term-add-p t c =
     let start = c .before .before .before .before .before .before .before .before .before .before in
     let args = start .args in
-    let l = live (args .raw .now) (args .at) (let k = c .before .before .before .cell .ensures in omega arith) in
+    let l = live (args .raw .now) (args .at) (let k = c .before .before .before .peek-cell .ensures in omega arith) in
     omega arith
 
 data-term-put-joins-requires : (t : ℕ) → data-term-lts.Need-put-joins-requires (data-term-calls t) (data-term-at t) data-term.Post data-term-Inv-loop data-term-μ-loop
@@ -678,7 +678,7 @@ data-term-conjunction-requires t c κs =
     let q = start .pre .1 .0 in
     let m = start .pre .0 in
     let i = c .before .before .loop .inv .0 in
-    let l = live (args .raw .now) (args .at) (let k = c .before .before .before .before .before .before .before .before .before .before .cell .ensures in omega arith) in
+    let l = live (args .raw .now) (args .at) (let k = c .before .before .before .before .before .before .before .before .before .before .peek-cell .ensures in omega arith) in
     (omega arith, (omega arith, start .pre .1 .1))
 
 data-term-add-i : (t : ℕ) → data-term-lts.Need-add-i (data-term-calls t) (data-term-at t) data-term.Post data-term-Inv-loop data-term-μ-loop
@@ -686,8 +686,8 @@ data-term-add-i t c =
     let start = c .before .before .before .before .before .before .before .before .before .before .before .before .before .before .before .before .before .before .before .before in
     let args = start .args in
     let b = c .before .before .before .before .before .before .before .before .before .before .before .before .before .before .before .before .before .before .shared-slice-known2 .given (args .at) in
-    let k = c .before .before .before .before .before .before .before .before .before .before .before .before .before .cell .ensures in
-    let m = c .before .before .before .before .before .before .before .before .before .before .wide-cell .ensures in
+    let k = c .before .before .before .before .before .before .before .before .before .before .before .before .before .peek-cell .ensures in
+    let m = c .before .before .before .before .before .before .before .before .before .before .wide-cell .ensures .0 in
     let i = c .before .before .before .before .before .loop .inv .0 in
     omega (arith, b)
 
@@ -698,7 +698,7 @@ data-term-loop-again : (t : ℕ) → data-term-lts.Need-loop-again (data-term-ca
 data-term-loop-again t c =
     let start = c .before .before .before .before .before .before .before .before .before .before .before .before .before .before .before .before .before .before .before .before in
     let args = start .args in
-    let l = live (args .raw .now) (args .at) (let k = c .before .before .before .before .before .before .before .before .before .before .before .before .before .cell .ensures in let z = c .before .before .before .before .before .before .before .before .before .before .before .before .if1 .left in omega arith) in
+    let l = live (args .raw .now) (args .at) (let k = c .before .before .before .before .before .before .before .before .before .before .before .before .before .peek-cell .ensures in let z = c .before .before .before .before .before .before .before .before .before .before .before .before .if1 .left in omega arith) in
     let h = c .before .before .before .before .loop-test .taken in
     let here = c .before .before .before .before .before .loop in
     let called = c .before .before .conjunction in
@@ -713,10 +713,10 @@ data-term-returns-3 : (t : ℕ) → data-term-lts.Need-returns-3 (data-term-call
 data-term-returns-3 t c =
     let start = c .before .before .before .before .before .before .before .before .before .before .before .before .before .before .before .before in
     let args = start .args in
-    let l = live (args .raw .now) (args .at) (let k = c .before .before .before .before .before .before .before .before .before .cell .ensures in omega arith) in
+    let l = live (args .raw .now) (args .at) (let k = c .before .before .before .before .before .before .before .before .before .peek-cell .ensures in omega arith) in
     let here = c .before .loop in
     let i = here .inv .0 in
-    (omega arith, data-took (args .s .now) (args .raw .now) (args .names .now) (args .kinds) (args .scope .now) (args .n) (args .at) (args .w) (c .before .before .before .before .put-joins .result) (args .out .now) (c .before .before .before .before .put-joins .last .0) (c .before .before .before .before .before .before .wide-cell .result) (here .p) (here .v) (here .i) (here .out) (let k = c .before .before .before .before .before .before .before .before .before .cell .ensures in let m = c .before .before .before .before .before .before .wide-cell .ensures in omega arith) (c .before .before .before .before .put-joins .ensures) (here .inv .1) (omega arith))
+    (omega arith, data-took (args .s .now) (args .raw .now) (args .names .now) (args .kinds) (args .scope .now) (args .n) (args .at) (args .w) (c .before .before .before .before .put-joins .result) (args .out .now) (c .before .before .before .before .put-joins .last .0) (c .before .before .before .before .before .before .wide-cell .result) (here .p) (here .v) (here .i) (here .out) (let k = c .before .before .before .before .before .before .before .before .before .peek-cell .ensures in let m = c .before .before .before .before .before .before .wide-cell .ensures .0 in omega arith) (c .before .before .before .before .put-joins .ensures) (here .inv .1) (omega arith))
 
 abbrev negation-Inv-loop : negation-lts.InvT-loop
 negation-Inv-loop s raw names keys kinds scope n at out₀ w p₀ v₀ out p v = ((at ≤ p) × (length out ≡ length out₀)) × NotsLeft s raw names kinds scope n at w out₀ p v out
@@ -730,7 +730,7 @@ negation-loop-holds t c =
     let args = start .args in
     ((omega arith, refl), nots-start (args .s .now) (args .raw .now) (args .names .now) (args .kinds) (args .scope .now) (args .n) (args .at) (args .w) (args .out .now))
 
-negation-cell-requires : (t : ℕ) → negation-lts.Need-cell-requires (negation-calls t) (negation-at t) negation.Post negation-Inv-loop negation-μ-loop
+negation-cell-requires : (t : ℕ) → negation-lts.Need-peek-cell-requires (negation-calls t) (negation-at t) negation.Post negation-Inv-loop negation-μ-loop
 negation-cell-requires t c κs = tt
 
 negation-put-requires : (t : ℕ) → negation-lts.Need-put-requires (negation-calls t) (negation-at t) negation.Post negation-Inv-loop negation-μ-loop
@@ -744,7 +744,7 @@ negation-add-p t c =
     let start = c .before .before .before .before .before .before .before .before .before .before .before .before .before .before .before .before .before in
     let args = start .args in
     let here = c .before .before .before .before .before .before .before .before .before .before .loop in
-    let l = live (args .raw .now) (here .p) (let k = c .before .before .before .before .before .before .before .before .before .cell .ensures in omega arith) in
+    let l = live (args .raw .now) (here .p) (let k = c .before .before .before .before .before .before .before .before .before .peek-cell .ensures in omega arith) in
     omega arith
 
 negation-loop-less : (t : ℕ) → negation-lts.Need-loop-less (negation-calls t) (negation-at t) negation.Post negation-Inv-loop negation-μ-loop
@@ -752,7 +752,7 @@ negation-loop-less t c =
     let start = c .before .before .before .before .before .before .before .before .before .before .before .before .before .before .before .before .before in
     let args = start .args in
     let here = c .before .before .before .before .before .before .before .before .before .before .loop in
-    let l = live (args .raw .now) (here .p) (let k = c .before .before .before .before .before .before .before .before .before .cell .ensures in omega arith) in
+    let l = live (args .raw .now) (here .p) (let k = c .before .before .before .before .before .before .before .before .before .peek-cell .ensures in omega arith) in
     omega arith
 
 negation-loop-again : (t : ℕ) → negation-lts.Need-loop-again (negation-calls t) (negation-at t) negation.Post negation-Inv-loop negation-μ-loop
@@ -760,8 +760,8 @@ negation-loop-again t c =
     let start = c .before .before .before .before .before .before .before .before .before .before .before .before .before .before .before .before .before in
     let args = start .args in
     let here = c .before .before .before .before .before .before .before .before .before .before .loop in
-    let l = live (args .raw .now) (here .p) (let k = c .before .before .before .before .before .before .before .before .before .cell .ensures in omega arith) in
-    ((omega arith, c .before .before .put2 .kept .0 ∙ c .before .before .before .before .before .before .put .kept .0 ∙ here .inv .0 .1), nots-step (args .s .now) (args .raw .now) (args .names .now) (args .kinds) (args .scope .now) (args .n) (args .at) (args .w) (args .out .now) (here .p) (here .v) (here .out) (here .inv .1) (sym (c .before .before .before .before .before .before .before .before .before .cell .ensures) ∙ c .before .before .before .before .before .before .before .before .if1 .taken) (c .before .before .before .before .before .before .put .result) (c .before .before .put2 .result) (c .before .before .before .before .before .before .put .last .0) (c .before .before .put2 .last .0) (c .before .before .before .before .before .before .put .ensures) (c .before .before .put2 .ensures))
+    let l = live (args .raw .now) (here .p) (let k = c .before .before .before .before .before .before .before .before .before .peek-cell .ensures in omega arith) in
+    ((omega arith, c .before .before .put2 .kept .0 ∙ c .before .before .before .before .before .before .put .kept .0 ∙ here .inv .0 .1), nots-step (args .s .now) (args .raw .now) (args .names .now) (args .kinds) (args .scope .now) (args .n) (args .at) (args .w) (args .out .now) (here .p) (here .v) (here .out) (here .inv .1) (sym (c .before .before .before .before .before .before .before .before .before .peek-cell .ensures) ∙ c .before .before .before .before .before .before .before .before .if1 .taken) (c .before .before .before .before .before .before .put .result) (c .before .before .put2 .result) (c .before .before .before .before .before .before .put .last .0) (c .before .before .put2 .last .0) (c .before .before .before .before .before .before .put .ensures) (c .before .before .put2 .ensures))
 
 negation-atom-requires : (t : ℕ) → negation-lts.Need-atom-requires (negation-calls t) (negation-at t) negation.Post negation-Inv-loop negation-μ-loop
 negation-atom-requires t c κs =
@@ -782,7 +782,7 @@ negation-returns t c =
     let here = c .before .before .before .before .before .before .loop in
     let a = c .before .before .atom .ensures .0 in
     let i = here .inv .0 in
-    (omega arith, nots-end (args .s .now) (args .raw .now) (args .names .now) (args .kinds) (args .scope .now) (args .n) (args .at) (args .w) (args .out .now) (here .p) (here .v) (here .out) (here .inv .1) (λ e. c .before .before .before .before .if1 .left (c .before .before .before .before .before .cell .ensures ∙ e)) (c .before .before .atom .result) (c .before .before .atom .last .1 .1 .1 .1 .1 .1 .1 .1 .0) (c .before .before .atom .ensures .1))
+    (omega arith, nots-end (args .s .now) (args .raw .now) (args .names .now) (args .kinds) (args .scope .now) (args .n) (args .at) (args .w) (args .out .now) (here .p) (here .v) (here .out) (here .inv .1) (λ e. c .before .before .before .before .if1 .left (c .before .before .before .before .before .peek-cell .ensures ∙ e)) (c .before .before .atom .result) (c .before .before .atom .last .1 .1 .1 .1 .1 .1 .1 .1 .0) (c .before .before .atom .ensures .1))
 
 pub +atom+comparison+conjunction+data-list+data-term+negation-spec : {M : Type 1} → statement M
 +atom+comparison+conjunction+data-list+data-term+negation-spec =

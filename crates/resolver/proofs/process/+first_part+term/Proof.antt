@@ -17,9 +17,9 @@ use Rattle.resolver.proofs.process.+first_part+term.Lts-first_part as f
 use Rattle.resolver.proofs.process.term.Reads as term
 use Rattle.resolver.proofs.process.term.Kinds as term-kinds
 use Rattle.resolver.proofs.process.+first_part+term.Lts-term as term-lts
-use Rattle.names.proofs.find.cell.Reads as cell-reads
+use Rattle.elements.proofs.peek_cell.Reads as peek-cell-reads
 use Rattle.resolver.proofs.cells.kids.Reads as kids-reads
-use Rattle.resolver.proofs.cells.lost.Reads as lost-reads
+use Rattle.parser.proofs.cells.lost.Reads as lost-reads
 use Rattle.resolver.proofs.cells.tokens.Reads as tokens-reads
 use Rattle.resolver.proofs.process.binder.Reads as binder-reads
 use Rattle.resolver.proofs.process.constant.Reads as constant-reads
@@ -52,7 +52,7 @@ abbrev first-part-calls : ℕ → first-part-lts.Claims
 first-part-calls t = (fork-reads.Asked, fork-reads.Learnt, term-below t, term.Post)
 
 abbrev term-calls : ℕ → term-lts.Claims
-term-calls t = (cell-reads.Asked, cell-reads.Learnt, binder-reads.Asked, binder-reads.Learnt, tokens-reads.Asked, tokens-reads.Learnt, named-part-reads.Asked, named-part-reads.Learnt, kids-reads.Asked, kids-reads.Learnt, constant-reads.Asked, constant-reads.Learnt, first-part-below t, first-part.Post, lost-reads.Asked, lost-reads.Learnt)
+term-calls t = (peek-cell-reads.Asked, peek-cell-reads.Learnt, binder-reads.Asked, binder-reads.Learnt, tokens-reads.Asked, tokens-reads.Learnt, named-part-reads.Asked, named-part-reads.Learnt, kids-reads.Asked, kids-reads.Learnt, constant-reads.Asked, constant-reads.Learnt, first-part-below t, first-part.Post, lost-reads.Asked, lost-reads.Learnt)
 
 first-part-fork-requires : (t : ℕ) → first-part-lts.Need-fork-requires (first-part-calls t) (first-part-at t) first-part.Post
 first-part-fork-requires t c κs =
@@ -117,7 +117,7 @@ term-loop-holds t c =
     let q = start .pre .1 in
     (omega arith, nothing-changed (args .n) (args .scope .now), term-start (args .s .now) (args .raw .now) (args .names .now) (args .kinds) (args .scope .now) (args .n) (args .at) (args .after) (args .w) (args .out .now))
 
-term-cell-requires : (t : ℕ) → term-lts.Need-cell-requires (term-calls t) (term-at t) term.Post term-Inv-loop term-μ-loop
+term-cell-requires : (t : ℕ) → term-lts.Need-peek-cell-requires (term-calls t) (term-at t) term.Post term-Inv-loop term-μ-loop
 term-cell-requires t c κs = tt
 
 term-binder-requires : (t : ℕ) → term-lts.Need-binder-requires (term-calls t) (term-at t) term.Post term-Inv-loop term-μ-loop
@@ -159,7 +159,7 @@ term-loop-again t c =
     let a = binder .ensures .0 in
     let k = binder .kept .1 .1 .1 .1 .1 .0 in
     let l = binder .kept .1 .1 .1 .1 .1 .1 .1 .1 .1 .0 in
-    ((omega arith, omega arith, λ h. (let b = binder .ensures .1 .1 .0 h in let d = b .0 in omega arith), omega arith, omega arith), kept-on (args .n) (here .m) (binder .last .1 .1 .1 .1 .1 .0) (here .scope) (args .scope .now) (here .inv .0 .1) (binder .ensures .1 .0) (here .inv .1), term-binder (args .s .now) (args .raw .now) (args .names .now) (args .kinds) (args .scope .now) (args .n) (args .at) (args .after) (args .w) (args .out .now) (here .p) (here .m) (here .r) (here .v) (here .scope) (here .out) (here .inv .2) (sym (c .before .before .before .before .before .before .before .before .cell .ensures) ∙ c .before .before .before .before .before .before .before .if1 .taken) (loop-test .taken) (let w = here .inv .0 .3 in let f = q .0 .scope-many in w ∙ f) (q .0 .kinds-few .sorts-few) (binder .result) (binder .last .1 .1 .1 .1 .1 .1 .1 .1 .1 .0) (binder .ensures .1 .1 .1) (binder .last .1 .1 .1 .1 .1 .0) (binder .ensures .1 .1 .0))
+    ((omega arith, omega arith, λ h. (let b = binder .ensures .1 .1 .0 h in let d = b .0 in omega arith), omega arith, omega arith), kept-on (args .n) (here .m) (binder .last .1 .1 .1 .1 .1 .0) (here .scope) (args .scope .now) (here .inv .0 .1) (binder .ensures .1 .0) (here .inv .1), term-binder (args .s .now) (args .raw .now) (args .names .now) (args .kinds) (args .scope .now) (args .n) (args .at) (args .after) (args .w) (args .out .now) (here .p) (here .m) (here .r) (here .v) (here .scope) (here .out) (here .inv .2) (sym (c .before .before .before .before .before .before .before .before .peek-cell .ensures) ∙ c .before .before .before .before .before .before .before .if1 .taken) (loop-test .taken) (let w = here .inv .0 .3 in let f = q .0 .scope-many in w ∙ f) (q .0 .kinds-few .sorts-few) (binder .result) (binder .last .1 .1 .1 .1 .1 .1 .1 .1 .1 .0) (binder .ensures .1 .1 .1) (binder .last .1 .1 .1 .1 .1 .0) (binder .ensures .1 .1 .0))
 
 term-tokens-requires : (t : ℕ) → term-lts.Need-tokens-requires (term-calls t) (term-at t) term.Post term-Inv-loop term-μ-loop
 term-tokens-requires t c κs = tt
@@ -185,7 +185,7 @@ term-returns t c =
     let args = start .args in
     let here = c .before .before .before .before .before .before .before .before .before .before .loop in
     let named-part = c .before .before .named-part in
-    let cell = c .before .before .before .before .before .before .before .before .cell in
+    let cell = c .before .before .before .before .before .before .before .before .peek-cell in
     let q = start .pre .1 in
     let i = here .inv .0 in
     let a = named-part .ensures .0 in
@@ -209,7 +209,7 @@ term-returns-2 t c =
     let start = c .before .before .before .before .before .before .before .before .before .before .before .before .before .before .before .before .before .before in
     let args = start .args in
     let here = c .before .before .before .before .before .before .before .before .before .before .before .loop in
-    let cell = c .before .before .before .before .before .before .before .before .before .cell in
+    let cell = c .before .before .before .before .before .before .before .before .before .peek-cell in
     let constant = c .before .before .constant in
     let q = start .pre .1 in
     let i = here .inv .0 in
@@ -230,7 +230,7 @@ term-loop-again-2 t c =
     let args = start .args in
     let here = c .before .before .before .before .before .before .before .before .loop in
     let loop-test = c .before .before .before .before .before .before .before .loop-test in
-    let cell = c .before .before .before .before .before .before .cell in
+    let cell = c .before .before .before .before .before .before .peek-cell in
     let q = start .pre .1 in
     let i = here .inv .0 in
     let h = loop-test .taken in
@@ -263,7 +263,7 @@ term-loop-again-3 t c =
     let args = start .args in
     let here = c .before .before .before .before .before .before .before .before .before .before .before .before .before .before .before .loop in
     let loop-test = c .before .before .before .before .before .before .before .before .before .before .before .before .before .before .loop-test in
-    let cell = c .before .before .before .before .before .before .before .before .before .before .before .before .before .cell in
+    let cell = c .before .before .before .before .before .before .before .before .before .before .before .before .before .peek-cell in
     let called = c .before .before .before .before .first-part in
     let q = start .pre .1 in
     let i = here .inv .0 in

@@ -11,11 +11,11 @@ use Rattle.resolver.proofs.NewLaws.{says-new, binder-full, binder-old, 
 use Rattle.resolver.proofs.process.binder.Statement.{statement}
 use Rattle.resolver.proofs.process.binder.Tie as tie
 
-add-cell : tie.Need-add-cell
-add-cell c = let q = c .before .before .before .before .before .before .pre in omega arith
+add-peek-cell : tie.Need-add-peek-cell
+add-peek-cell c = let q = c .before .before .before .before .before .before .pre in omega arith
 
-cell-requires : tie.Need-cell-requires
-cell-requires c κs = tt
+peek-cell-requires : tie.Need-peek-cell-requires
+peek-cell-requires c κs = tt
 
 total-requires : tie.Need-total-requires
 total-requires c κs = let q = c .before .before .before .before .before .before .before .pre .0 .kinds-few in omega arith
@@ -38,13 +38,13 @@ returns c =
     let few = start .pre .0 in
     let q = start .pre .1 in
     let z = c .lost .ensures in
-    (omega arith, (nothing-changed (args .n) (args .scope .now), (λ h. absurd (omega arith), binder-old (args .s .now) (args .raw .now) (args .names .now) (args .kinds) (args .scope .now) (args .n) (args .at) (args .after) (args .w) (args .out .now) (omega arith) (c .before .before .before .before .before .cell .result) (c .before .before .before .before .before .cell .ensures) (c .before .before .new-variable .result) (says-new (args .s .now) (args .names .now) (args .kinds) (args .scope .now) (args .n) (c .before .before .before .before .before .cell .result) (c .before .before .before .before .total .result) (c .before .before .new-variable .result) (c .before .before .before .before .total .ensures) (c .before .before .new-variable .ensures)) (not-true _ (c .before .if1 .taken)) (c .lost .result) (args .out .now) (c .lost .ensures))))
+    (omega arith, (nothing-changed (args .n) (args .scope .now), (λ h. absurd (omega arith), binder-old (args .s .now) (args .raw .now) (args .names .now) (args .kinds) (args .scope .now) (args .n) (args .at) (args .after) (args .w) (args .out .now) (omega arith) (c .before .before .before .before .before .peek-cell .result) (c .before .before .before .before .before .peek-cell .ensures) (c .before .before .new-variable .result) (says-new (args .s .now) (args .names .now) (args .kinds) (args .scope .now) (args .n) (c .before .before .before .before .before .peek-cell .result) (c .before .before .before .before .total .result) (c .before .before .new-variable .result) (c .before .before .before .before .total .ensures) (c .before .before .new-variable .ensures)) (not-true _ (c .before .if1 .taken)) (c .lost .result) (args .out .now) (c .lost .ensures))))
 
-add-cell-2 : tie.Need-add-cell-2
-add-cell-2 c = let q = c .before .before .before .before .before .before .before .before .before .before .before .pre in omega arith
+add-peek-cell-2 : tie.Need-add-peek-cell-2
+add-peek-cell-2 c = let q = c .before .before .before .before .before .before .before .before .before .before .before .pre in omega arith
 
-cell-requires-2 : tie.Need-cell-requires-2
-cell-requires-2 c κs = tt
+peek-cell-requires-2 : tie.Need-peek-cell-requires-2
+peek-cell-requires-2 c κs = tt
 
 sort-in-requires : tie.Need-sort-in-requires
 sort-in-requires c κs = c .before .before .before .before .before .before .before .before .before .before .before .before .pre .2
@@ -62,7 +62,7 @@ returns-2 c =
     let few = start .pre .0 in
     let q = start .pre .1 in
     let z = c .lost2 .ensures in
-    (omega arith, (nothing-changed (args .n) (args .scope .now), (λ h. absurd (omega arith), binder-no-sort (args .s .now) (args .raw .now) (args .names .now) (args .kinds) (args .scope .now) (args .n) (args .at) (args .after) (args .w) (args .out .now) (omega arith) (c .before .before .before .before .before .before .before .before .before .cell .result) (c .before .before .before .before .before .before .before .before .before .cell .ensures) (c .before .before .before .before .before .before .new-variable .result) (says-new (args .s .now) (args .names .now) (args .kinds) (args .scope .now) (args .n) (c .before .before .before .before .before .before .before .before .before .cell .result) (c .before .before .before .before .before .before .before .before .total .result) (c .before .before .before .before .before .before .new-variable .result) (c .before .before .before .before .before .before .before .before .total .ensures) (c .before .before .before .before .before .before .new-variable .ensures)) (not-false _ (c .before .before .before .before .before .if1 .left)) (c .before .before .before .before .cell2 .result) (c .before .before .before .before .cell2 .ensures) (c .before .before .before .sort-in .result) (c .before .before .before .sort-in .ensures .1) (c .before .if2 .taken) (c .lost2 .result) (args .out .now) (c .lost2 .ensures))))
+    (omega arith, (nothing-changed (args .n) (args .scope .now), (λ h. absurd (omega arith), binder-no-sort (args .s .now) (args .raw .now) (args .names .now) (args .kinds) (args .scope .now) (args .n) (args .at) (args .after) (args .w) (args .out .now) (omega arith) (c .before .before .before .before .before .before .before .before .before .peek-cell .result) (c .before .before .before .before .before .before .before .before .before .peek-cell .ensures) (c .before .before .before .before .before .before .new-variable .result) (says-new (args .s .now) (args .names .now) (args .kinds) (args .scope .now) (args .n) (c .before .before .before .before .before .before .before .before .before .peek-cell .result) (c .before .before .before .before .before .before .before .before .total .result) (c .before .before .before .before .before .before .new-variable .result) (c .before .before .before .before .before .before .before .before .total .ensures) (c .before .before .before .before .before .before .new-variable .ensures)) (not-false _ (c .before .before .before .before .before .if1 .left)) (c .before .before .before .before .peek-cell2 .result) (c .before .before .before .before .peek-cell2 .ensures) (c .before .before .before .sort-in .result) (c .before .before .before .sort-in .ensures .1) (c .before .if2 .taken) (c .lost2 .result) (args .out .now) (c .lost2 .ensures))))
 
 lost-requires-3 : tie.Need-lost-requires-3
 lost-requires-3 c κs = tt
@@ -92,10 +92,10 @@ add-scope : tie.Need-add-scope
 add-scope c = let q = c .before .before .before .before .before .before .before .before .before .before .before .before .before .before .before .before .before .pre in omega arith
 
 mul-scope-2 : tie.Need-mul-scope-2
-mul-scope-2 c = let q = c .before .before .before .before .before .before .before .before .before .before .before .before .before .before .before .before .before .pre in let l = length-set (c .before .before .before .before .before .before .before .before .before .before .before .before .before .before .before .before .before .args .scope .now) (c .before .before .before .before .before .before .before .before .before .before .before .before .before .before .before .before .before .args .n) (c .before .before .before .before .before .before .before .before .before .before .cell .result) in omega arith
+mul-scope-2 c = let q = c .before .before .before .before .before .before .before .before .before .before .before .before .before .before .before .before .before .pre in let l = length-set (c .before .before .before .before .before .before .before .before .before .before .before .before .before .before .before .before .before .args .scope .now) (c .before .before .before .before .before .before .before .before .before .before .before .before .before .before .before .before .before .args .n) (c .before .before .before .before .before .before .before .before .before .before .peek-cell .result) in omega arith
 
 slice-write-scope-2 : tie.Need-slice-write-scope-2
-slice-write-scope-2 c = let q = c .before .before .before .before .before .before .before .before .before .before .before .before .before .before .before .before .before .pre in let l = length-set (c .before .before .before .before .before .before .before .before .before .before .before .before .before .before .before .before .before .args .scope .now) (c .before .before .before .before .before .before .before .before .before .before .before .before .before .before .before .before .before .args .n) (c .before .before .before .before .before .before .before .before .before .before .cell .result) in omega arith
+slice-write-scope-2 c = let q = c .before .before .before .before .before .before .before .before .before .before .before .before .before .before .before .before .before .pre in let l = length-set (c .before .before .before .before .before .before .before .before .before .before .before .before .before .before .before .before .before .args .scope .now) (c .before .before .before .before .before .before .before .before .before .before .before .before .before .before .before .before .before .args .n) (c .before .before .before .before .before .before .before .before .before .before .peek-cell .result) in omega arith
 
 marked-requires : tie.Need-marked-requires
 marked-requires c κs = omega arith
@@ -122,7 +122,7 @@ put-requires : tie.Need-put-requires
 put-requires c κs = tt
 
 same-length-4 : tie.Need-same-length-4
-same-length-4 c = length-set (set (c .before .before .before .before .before .before .before .before .before .before .before .before .before .before .before .before .before .before .before .before .before .before .before .before .before .before .before .before .args .scope .now) (c .before .before .before .before .before .before .before .before .before .before .before .before .before .before .before .before .before .before .before .before .before .before .before .before .before .before .before .before .args .n) (c .before .before .before .before .before .before .before .before .before .before .before .before .before .before .before .before .before .before .before .before .before .cell .result)) _ _ ∙ length-set (c .before .before .before .before .before .before .before .before .before .before .before .before .before .before .before .before .before .before .before .before .before .before .before .before .before .before .before .before .args .scope .now) (c .before .before .before .before .before .before .before .before .before .before .before .before .before .before .before .before .before .before .before .before .before .before .before .before .before .before .before .before .args .n) (c .before .before .before .before .before .before .before .before .before .before .before .before .before .before .before .before .before .before .before .before .before .cell .result)
+same-length-4 c = length-set (set (c .before .before .before .before .before .before .before .before .before .before .before .before .before .before .before .before .before .before .before .before .before .before .before .before .before .before .before .before .args .scope .now) (c .before .before .before .before .before .before .before .before .before .before .before .before .before .before .before .before .before .before .before .before .before .before .before .before .before .before .before .before .args .n) (c .before .before .before .before .before .before .before .before .before .before .before .before .before .before .before .before .before .before .before .before .before .peek-cell .result)) _ _ ∙ length-set (c .before .before .before .before .before .before .before .before .before .before .before .before .before .before .before .before .before .before .before .before .before .before .before .before .before .before .before .before .args .scope .now) (c .before .before .before .before .before .before .before .before .before .before .before .before .before .before .before .before .before .before .before .before .before .before .before .before .before .before .before .before .args .n) (c .before .before .before .before .before .before .before .before .before .before .before .before .before .before .before .before .before .before .before .before .before .peek-cell .result)
 
 same-length-5 : tie.Need-same-length-5
 same-length-5 c = c .before .before .put .kept .0 ∙ c .before .before .before .before .before .before .before .node .kept .0
@@ -136,21 +136,21 @@ returns-4 c =
     let found : c .before .before .before .before .before .before .before .before .before .before .before .before .before .before .before .sort-in .result ≤ args .kinds .sorts = c .before .before .before .before .before .before .before .before .before .before .before .before .before .if2 .left in
     let deep : args .n < 32 = c .before .before .before .before .before .before .before .before .before .before .before .before .if3 .left in
     let sort = c .before .before .before .before .before .before .before .before .before .before .before .short .ensures (omega arith) in
-    (omega arith, (push-kept (args .scope .now) (args .n) (c .before .before .before .before .before .before .before .before .before .before .before .before .before .before .before .before .before .before .before .before .before .cell .result) (c .before .before .before .before .before .before .before .before .before .before .before .short .result) deep (few .scope-many), (λ h. (deep, both-pushed (args .s .now) (args .raw .now) (args .names .now) (args .kinds) (args .scope .now) (args .n) (args .at) (c .before .before .before .before .before .before .before .before .before .before .before .before .before .before .before .before .before .before .before .before .before .cell .result) (c .before .before .before .before .before .before .before .before .before .before .before .before .before .before .before .before .cell2 .result) (c .before .before .before .before .before .before .before .before .before .before .before .short .result) (c .before .before .before .before .before .before .before .before .before .before .before .before .before .before .before .sort-in .result) (c .before .before .before .before .before .before .before .before .before .before .before .before .before .before .before .before .before .before .before .before .before .cell .ensures) (c .before .before .before .before .before .before .before .before .before .before .before .before .before .before .before .before .cell2 .ensures) (c .before .before .before .before .before .before .before .before .before .before .before .before .before .before .before .sort-in .ensures .1) sort), binder-took (args .s .now) (args .raw .now) (args .names .now) (args .kinds) (args .scope .now) (args .n) (args .at) (args .after) (args .w) (args .out .now) (omega arith) (c .before .before .before .before .before .before .before .before .before .before .before .before .before .before .before .before .before .before .before .before .before .cell .result) (c .before .before .before .before .before .before .before .before .before .before .before .before .before .before .before .before .before .before .before .before .before .cell .ensures) (c .before .before .before .before .before .before .before .before .before .before .before .before .before .before .before .before .before .before .new-variable .result) (says-new (args .s .now) (args .names .now) (args .kinds) (args .scope .now) (args .n) (c .before .before .before .before .before .before .before .before .before .before .before .before .before .before .before .before .before .before .before .before .before .cell .result) (c .before .before .before .before .before .before .before .before .before .before .before .before .before .before .before .before .before .before .before .before .total .result) (c .before .before .before .before .before .before .before .before .before .before .before .before .before .before .before .before .before .before .new-variable .result) (c .before .before .before .before .before .before .before .before .before .before .before .before .before .before .before .before .before .before .before .before .total .ensures) (c .before .before .before .before .before .before .before .before .before .before .before .before .before .before .before .before .before .before .new-variable .ensures)) (not-false _ (c .before .before .before .before .before .before .before .before .before .before .before .before .before .before .before .before .before .if1 .left)) (c .before .before .before .before .before .before .before .before .before .before .before .before .before .before .before .before .cell2 .result) (c .before .before .before .before .before .before .before .before .before .before .before .before .before .before .before .before .cell2 .ensures) (c .before .before .before .before .before .before .before .before .before .before .before .before .before .before .before .sort-in .result) (c .before .before .before .before .before .before .before .before .before .before .before .before .before .before .before .sort-in .ensures .1) (c .before .before .before .before .before .before .before .before .before .before .before .before .before .if2 .left) (c .before .before .before .before .before .before .before .before .before .marked .result) (c .before .before .before .before .before .before .before .before .short2 .result) (c .before .before .before .short3 .result) (c .before .before .before .before .before .before .before .node .result) (c .before .before .put .result) (c .before .before .before .before .before .before .before .node .last .0) (c .before .before .put .last .0) (c .before .before .before .before .before .before .before .before .before .marked .ensures) (c .before .before .before .before .before .before .before .before .short2 .ensures (omega arith)) (c .before .before .before .short3 .ensures (omega arith)) (c .before .before .before .before .before .before .before .node .ensures) (c .before .before .put .ensures))))
+    (omega arith, (push-kept (args .scope .now) (args .n) (c .before .before .before .before .before .before .before .before .before .before .before .before .before .before .before .before .before .before .before .before .before .peek-cell .result) (c .before .before .before .before .before .before .before .before .before .before .before .short .result) deep (few .scope-many), (λ h. (deep, both-pushed (args .s .now) (args .raw .now) (args .names .now) (args .kinds) (args .scope .now) (args .n) (args .at) (c .before .before .before .before .before .before .before .before .before .before .before .before .before .before .before .before .before .before .before .before .before .peek-cell .result) (c .before .before .before .before .before .before .before .before .before .before .before .before .before .before .before .before .peek-cell2 .result) (c .before .before .before .before .before .before .before .before .before .before .before .short .result) (c .before .before .before .before .before .before .before .before .before .before .before .before .before .before .before .sort-in .result) (c .before .before .before .before .before .before .before .before .before .before .before .before .before .before .before .before .before .before .before .before .before .peek-cell .ensures) (c .before .before .before .before .before .before .before .before .before .before .before .before .before .before .before .before .peek-cell2 .ensures) (c .before .before .before .before .before .before .before .before .before .before .before .before .before .before .before .sort-in .ensures .1) sort), binder-took (args .s .now) (args .raw .now) (args .names .now) (args .kinds) (args .scope .now) (args .n) (args .at) (args .after) (args .w) (args .out .now) (omega arith) (c .before .before .before .before .before .before .before .before .before .before .before .before .before .before .before .before .before .before .before .before .before .peek-cell .result) (c .before .before .before .before .before .before .before .before .before .before .before .before .before .before .before .before .before .before .before .before .before .peek-cell .ensures) (c .before .before .before .before .before .before .before .before .before .before .before .before .before .before .before .before .before .before .new-variable .result) (says-new (args .s .now) (args .names .now) (args .kinds) (args .scope .now) (args .n) (c .before .before .before .before .before .before .before .before .before .before .before .before .before .before .before .before .before .before .before .before .before .peek-cell .result) (c .before .before .before .before .before .before .before .before .before .before .before .before .before .before .before .before .before .before .before .before .total .result) (c .before .before .before .before .before .before .before .before .before .before .before .before .before .before .before .before .before .before .new-variable .result) (c .before .before .before .before .before .before .before .before .before .before .before .before .before .before .before .before .before .before .before .before .total .ensures) (c .before .before .before .before .before .before .before .before .before .before .before .before .before .before .before .before .before .before .new-variable .ensures)) (not-false _ (c .before .before .before .before .before .before .before .before .before .before .before .before .before .before .before .before .before .if1 .left)) (c .before .before .before .before .before .before .before .before .before .before .before .before .before .before .before .before .peek-cell2 .result) (c .before .before .before .before .before .before .before .before .before .before .before .before .before .before .before .before .peek-cell2 .ensures) (c .before .before .before .before .before .before .before .before .before .before .before .before .before .before .before .sort-in .result) (c .before .before .before .before .before .before .before .before .before .before .before .before .before .before .before .sort-in .ensures .1) (c .before .before .before .before .before .before .before .before .before .before .before .before .before .if2 .left) (c .before .before .before .before .before .before .before .before .before .marked .result) (c .before .before .before .before .before .before .before .before .short2 .result) (c .before .before .before .short3 .result) (c .before .before .before .before .before .before .before .node .result) (c .before .before .put .result) (c .before .before .before .before .before .before .before .node .last .0) (c .before .before .put .last .0) (c .before .before .before .before .before .before .before .before .before .marked .ensures) (c .before .before .before .before .before .before .before .before .short2 .ensures (omega arith)) (c .before .before .before .short3 .ensures (omega arith)) (c .before .before .before .before .before .before .before .node .ensures) (c .before .before .put .ensures))))
 
 pub binder-spec : {M : Type 1} → statement M
 binder-spec =
     tie.close
     (tie.spec
-    add-cell
-    cell-requires
+    add-peek-cell
+    peek-cell-requires
     total-requires
     new-variable-requires
     lost-requires
     same-length
     returns
-    add-cell-2
-    cell-requires-2
+    add-peek-cell-2
+    peek-cell-requires-2
     sort-in-requires
     lost-requires-2
     same-length-2

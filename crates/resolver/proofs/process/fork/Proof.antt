@@ -5,8 +5,8 @@ use Rattle.resolver.proofs.ForkLaws.{fork-then, fork-plus, fork-cond}
 use Rattle.resolver.proofs.process.fork.Statement.{statement}
 use Rattle.resolver.proofs.process.fork.Tie as tie
 
-cell-requires : tie.Need-cell-requires
-cell-requires c κs = tt
+peek-cell-requires : tie.Need-peek-cell-requires
+peek-cell-requires c κs = tt
 
 node-requires : tie.Need-node-requires
 node-requires c κs = tt
@@ -15,7 +15,7 @@ same-length : tie.Need-same-length
 same-length c = c .before .before .node .kept .0
 
 returns : tie.Need-returns
-returns c = fork-then (c .before .before .before .before .before .before .before .before .before .before .before .before .args .s .now) (c .before .before .before .before .before .before .before .before .before .before .before .before .args .raw .now) (c .before .before .before .before .before .before .before .before .before .before .before .before .args .names .now) (c .before .before .before .before .before .before .before .before .before .before .before .before .args .kinds) (c .before .before .before .before .before .before .before .before .before .before .before .before .args .scope .now) (c .before .before .before .before .before .before .before .before .before .before .before .before .args .n) (c .before .before .before .before .before .before .before .before .before .before .before .before .args .at) (c .before .before .before .before .before .before .before .before .before .before .before .before .args .after) (c .before .before .before .before .before .before .before .before .before .before .before .before .args .w) (c .before .before .before .before .before .before .before .before .before .before .before .before .args .out .now) (c .before .before .node .result) (c .before .before .node .last .0) (sym (c .before .before .before .before .before .cell .ensures) ∙ c .before .before .before .before .if1 .taken) (c .before .before .node .ensures)
+returns c = fork-then (c .before .before .before .before .before .before .before .before .before .before .before .before .args .s .now) (c .before .before .before .before .before .before .before .before .before .before .before .before .args .raw .now) (c .before .before .before .before .before .before .before .before .before .before .before .before .args .names .now) (c .before .before .before .before .before .before .before .before .before .before .before .before .args .kinds) (c .before .before .before .before .before .before .before .before .before .before .before .before .args .scope .now) (c .before .before .before .before .before .before .before .before .before .before .before .before .args .n) (c .before .before .before .before .before .before .before .before .before .before .before .before .args .at) (c .before .before .before .before .before .before .before .before .before .before .before .before .args .after) (c .before .before .before .before .before .before .before .before .before .before .before .before .args .w) (c .before .before .before .before .before .before .before .before .before .before .before .before .args .out .now) (c .before .before .node .result) (c .before .before .node .last .0) (sym (c .before .before .before .before .before .peek-cell .ensures) ∙ c .before .before .before .before .if1 .taken) (c .before .before .node .ensures)
 
 marked-requires : tie.Need-marked-requires
 marked-requires c κs = omega arith
@@ -27,7 +27,7 @@ same-length-2 : tie.Need-same-length-2
 same-length-2 c = c .before .before .node2 .kept .0
 
 returns-2 : tie.Need-returns-2
-returns-2 c = fork-plus (c .before .before .before .before .before .before .before .before .before .before .before .before .before .before .args .s .now) (c .before .before .before .before .before .before .before .before .before .before .before .before .before .before .args .raw .now) (c .before .before .before .before .before .before .before .before .before .before .before .before .before .before .args .names .now) (c .before .before .before .before .before .before .before .before .before .before .before .before .before .before .args .kinds) (c .before .before .before .before .before .before .before .before .before .before .before .before .before .before .args .scope .now) (c .before .before .before .before .before .before .before .before .before .before .before .before .before .before .args .n) (c .before .before .before .before .before .before .before .before .before .before .before .before .before .before .args .at) (c .before .before .before .before .before .before .before .before .before .before .before .before .before .before .args .after) (c .before .before .before .before .before .before .before .before .before .before .before .before .before .before .args .w) (c .before .before .before .before .before .before .before .before .before .before .before .before .before .before .args .out .now) (c .before .before .node2 .result) (c .before .before .node2 .last .0) (sym (c .before .before .before .before .before .before .before .cell .ensures) ∙ c .before .before .before .before .before .if2 .taken) (c .before .before .before .marked .result) (c .before .before .before .marked .ensures) (c .before .before .node2 .ensures)
+returns-2 c = fork-plus (c .before .before .before .before .before .before .before .before .before .before .before .before .before .before .args .s .now) (c .before .before .before .before .before .before .before .before .before .before .before .before .before .before .args .raw .now) (c .before .before .before .before .before .before .before .before .before .before .before .before .before .before .args .names .now) (c .before .before .before .before .before .before .before .before .before .before .before .before .before .before .args .kinds) (c .before .before .before .before .before .before .before .before .before .before .before .before .before .before .args .scope .now) (c .before .before .before .before .before .before .before .before .before .before .before .before .before .before .args .n) (c .before .before .before .before .before .before .before .before .before .before .before .before .before .before .args .at) (c .before .before .before .before .before .before .before .before .before .before .before .before .before .before .args .after) (c .before .before .before .before .before .before .before .before .before .before .before .before .before .before .args .w) (c .before .before .before .before .before .before .before .before .before .before .before .before .before .before .args .out .now) (c .before .before .node2 .result) (c .before .before .node2 .last .0) (sym (c .before .before .before .before .before .before .before .peek-cell .ensures) ∙ c .before .before .before .before .before .if2 .taken) (c .before .before .before .marked .result) (c .before .before .before .marked .ensures) (c .before .before .node2 .ensures)
 
 marked-requires-2 : tie.Need-marked-requires-2
 marked-requires-2 c κs = omega arith
@@ -48,13 +48,13 @@ same-length-3 : tie.Need-same-length-3
 same-length-3 c = c .before .before .data-term .kept .1 .1 .1 .1 .1 .1 .1 .1 .0 ∙ c .before .before .before .before .before .before .before .node3 .kept .0
 
 returns-3 : tie.Need-returns-3
-returns-3 c = fork-cond (c .before .before .before .before .before .before .before .before .before .before .before .before .before .before .before .before .before .before .before .args .s .now) (c .before .before .before .before .before .before .before .before .before .before .before .before .before .before .before .before .before .before .before .args .raw .now) (c .before .before .before .before .before .before .before .before .before .before .before .before .before .before .before .before .before .before .before .args .names .now) (c .before .before .before .before .before .before .before .before .before .before .before .before .before .before .before .before .before .before .before .args .kinds) (c .before .before .before .before .before .before .before .before .before .before .before .before .before .before .before .before .before .before .before .args .scope .now) (c .before .before .before .before .before .before .before .before .before .before .before .before .before .before .before .before .before .before .before .args .n) (c .before .before .before .before .before .before .before .before .before .before .before .before .before .before .before .before .before .before .before .args .at) (c .before .before .before .before .before .before .before .before .before .before .before .before .before .before .before .before .before .before .before .args .after) (c .before .before .before .before .before .before .before .before .before .before .before .before .before .before .before .before .before .before .before .args .w) (c .before .before .before .before .before .before .before .before .before .before .before .before .before .before .before .before .before .before .before .args .out .now) (λ e. c .before .before .before .before .before .before .before .before .before .before .before .if1 .left (c .before .before .before .before .before .before .before .before .before .before .before .before .cell .ensures ∙ e)) (λ e. c .before .before .before .before .before .before .before .before .before .before .if2 .left (c .before .before .before .before .before .before .before .before .before .before .before .before .cell .ensures ∙ e)) (c .before .before .before .before .skip .result) (c .before .before .before .before .skip .ensures .1) (c .before .before .before .before .before .before .before .before .marked2 .result) (c .before .before .before .before .before .before .before .node3 .result) (c .before .before .before .before .before .before .before .node3 .last .0) (c .before .before .before .before .before .before .before .before .marked2 .ensures) (c .before .before .before .before .before .before .before .node3 .ensures) (c .before .before .data-term .result) (c .before .before .data-term .last .1 .1 .1 .1 .1 .1 .1 .1 .0) (c .before .before .data-term .ensures .1)
+returns-3 c = fork-cond (c .before .before .before .before .before .before .before .before .before .before .before .before .before .before .before .before .before .before .before .args .s .now) (c .before .before .before .before .before .before .before .before .before .before .before .before .before .before .before .before .before .before .before .args .raw .now) (c .before .before .before .before .before .before .before .before .before .before .before .before .before .before .before .before .before .before .before .args .names .now) (c .before .before .before .before .before .before .before .before .before .before .before .before .before .before .before .before .before .before .before .args .kinds) (c .before .before .before .before .before .before .before .before .before .before .before .before .before .before .before .before .before .before .before .args .scope .now) (c .before .before .before .before .before .before .before .before .before .before .before .before .before .before .before .before .before .before .before .args .n) (c .before .before .before .before .before .before .before .before .before .before .before .before .before .before .before .before .before .before .before .args .at) (c .before .before .before .before .before .before .before .before .before .before .before .before .before .before .before .before .before .before .before .args .after) (c .before .before .before .before .before .before .before .before .before .before .before .before .before .before .before .before .before .before .before .args .w) (c .before .before .before .before .before .before .before .before .before .before .before .before .before .before .before .before .before .before .before .args .out .now) (λ e. c .before .before .before .before .before .before .before .before .before .before .before .if1 .left (c .before .before .before .before .before .before .before .before .before .before .before .before .peek-cell .ensures ∙ e)) (λ e. c .before .before .before .before .before .before .before .before .before .before .if2 .left (c .before .before .before .before .before .before .before .before .before .before .before .before .peek-cell .ensures ∙ e)) (c .before .before .before .before .skip .result) (c .before .before .before .before .skip .ensures .1) (c .before .before .before .before .before .before .before .before .marked2 .result) (c .before .before .before .before .before .before .before .node3 .result) (c .before .before .before .before .before .before .before .node3 .last .0) (c .before .before .before .before .before .before .before .before .marked2 .ensures) (c .before .before .before .before .before .before .before .node3 .ensures) (c .before .before .data-term .result) (c .before .before .data-term .last .1 .1 .1 .1 .1 .1 .1 .1 .0) (c .before .before .data-term .ensures .1)
 
 pub fork-spec : {M : Type 1} → statement M
 fork-spec =
     tie.close
     (tie.spec
-    cell-requires
+    peek-cell-requires
     node-requires
     same-length
     returns

@@ -28,14 +28,14 @@ mul-starts c = omega (arith, c .before .loop-test .taken, c .before .before .bef
 array-write-starts : tie.Need-array-write-starts Inv-loop μ-loop
 array-write-starts c = omega (arith, c .before .loop-test .taken, c .before .before .before .before .before .before .before .before .before .before .before .pre)
 
-mul-place : tie.Need-mul-place Inv-loop μ-loop
-mul-place c = omega (arith, c .before .loop-test .taken, c .before .before .before .before .before .before .before .before .before .before .before .good)
+mul-wide-cell : tie.Need-mul-wide-cell Inv-loop μ-loop
+mul-wide-cell c = omega (arith, c .before .loop-test .taken, c .before .before .before .before .before .before .before .before .before .before .before .good)
 
-shared-slice-read-place : tie.Need-shared-slice-read-place Inv-loop μ-loop
-shared-slice-read-place c = c .before .before .loop-test .taken
+shared-slice-read-wide-cell : tie.Need-shared-slice-read-wide-cell Inv-loop μ-loop
+shared-slice-read-wide-cell c = c .before .before .loop-test .taken
 
-place-requires : tie.Need-place-requires Inv-loop μ-loop
-place-requires c κs = tt
+wide-cell-requires : tie.Need-wide-cell-requires Inv-loop μ-loop
+wide-cell-requires c κs = tt
 
 slice-aggregate-process : tie.Need-slice-aggregate-process Inv-loop μ-loop
 slice-aggregate-process c = sym (c .before .before .before .before .before .loop .inv .0 .rows-many)
@@ -49,7 +49,7 @@ process-requires c κs =
     let held = c .before .before .before .before .before .before .loop .inv .0 in
     let here = c .before .before .before .before .before .loop-test .taken in
     let few = start .pre .2 in
-    (start .pre .0, start .pre .1, c .before .before .place .ensures .1, omega (arith, held .rows-many))
+    (start .pre .0, start .pre .1, c .before .before .wide-cell .ensures .1, omega (arith, held .rows-many))
 
 add-k : tie.Need-add-k Inv-loop μ-loop
 add-k c = omega arith
@@ -68,7 +68,7 @@ loop-again c =
     let taken = c .before .before .before .before .before .before .before .before .before .before .before .loop-test .taken in
     let cells = process .kept .1 .1 .1 .1 .1 .1 .1 .1 .1 .1 .0 in (
       stays-on (start .args .out .now) (c .before .before .before .before .before .before .before .before .before .before .before .before .loop .rows) rows (c .before .before .before .before .before .before .before .before .before .before .before .before .loop .out) out (c .before .before .before .before .before .before .before .before .before .before .before .before .loop .starts) (c .before .before .before .before .before .before .before .before .before .before .before .before .loop .k) (c .before .before .before .before .before .before .before .before .before .before .short .result) (c .before .before .before .before .before .before .before .before .before .before .before .before .loop .ok) held (process .kept .1 .1 .1 .1 .1 .1 .1 .1 .0) cells,
-      procs-go (start .args .s .now) (start .args .raw .now) (start .args .sorts .now) (start .args .procs .now) (start .args .names .now) (start .args .kinds) (start .args .funcs .now) (c .before .before .before .before .before .before .before .before .before .before .before .before .loop .rows) rows (c .before .before .before .before .before .before .before .before .before .before .before .before .loop .out) out (c .before .before .before .before .before .before .before .before .before .before .before .before .loop .starts) (c .before .before .before .before .before .before .before .before .before .before .before .before .loop .w) (c .before .before .before .before .before .before .before .before .before .before .before .before .loop .k) (c .before .before .before .before .before .before .before .before .place .result) (process .result) taken cells (c .before .before .before .before .before .before .before .before .place .ensures .0) (c .before .before .before .before .before .before .before .before .before .before .before .before .loop .inv .1) (process .ensures .1)
+      procs-go (start .args .s .now) (start .args .raw .now) (start .args .sorts .now) (start .args .procs .now) (start .args .names .now) (start .args .kinds) (start .args .funcs .now) (c .before .before .before .before .before .before .before .before .before .before .before .before .loop .rows) rows (c .before .before .before .before .before .before .before .before .before .before .before .before .loop .out) out (c .before .before .before .before .before .before .before .before .before .before .before .before .loop .starts) (c .before .before .before .before .before .before .before .before .before .before .before .before .loop .w) (c .before .before .before .before .before .before .before .before .before .before .before .before .loop .k) (c .before .before .before .before .before .before .before .before .wide-cell .result) (process .result) taken cells (c .before .before .before .before .before .before .before .before .wide-cell .ensures .0) (c .before .before .before .before .before .before .before .before .before .before .before .before .loop .inv .1) (process .ensures .1)
           (c .before .before .before .before .before .before .before .before .before .before .short .result) (omega (arith, held .starts-many)) (omega (arith, start .pre .3, held .cells-same)) (c .before .before .before .before .before .before .before .before .before .before .short .ensures) (process .ensures .0) (not-false _ (c .if1 .left)),
     )
 
@@ -90,7 +90,7 @@ returns-2 c =
     let rows = process .last .1 .1 .1 .1 .1 .1 .1 .1 .0 in
     let out = process .last .1 .1 .1 .1 .1 .1 .1 .1 .1 .1 .0 in
     let cells = process .kept .1 .1 .1 .1 .1 .1 .1 .1 .1 .1 .0 in
-    procs-stop (start .args .s .now) (start .args .raw .now) (start .args .sorts .now) (start .args .procs .now) (start .args .names .now) (start .args .kinds) (start .args .funcs .now) (c .before .before .before .before .before .before .before .before .before .before .before .before .loop .rows) rows (c .before .before .before .before .before .before .before .before .before .before .before .before .loop .out) out (c .before .before .before .before .before .before .before .before .before .before .before .before .loop .starts) (c .before .before .before .before .before .before .before .before .before .before .before .before .loop .w) (c .before .before .before .before .before .before .before .before .before .before .before .before .loop .k) (c .before .before .before .before .before .before .before .before .place .result) (process .result) (c .before .before .before .before .before .before .before .before .before .before .before .loop-test .taken) cells (c .before .before .before .before .before .before .before .before .place .ensures .0) (c .before .before .before .before .before .before .before .before .before .before .before .before .loop .inv .1) (process .ensures .1)
+    procs-stop (start .args .s .now) (start .args .raw .now) (start .args .sorts .now) (start .args .procs .now) (start .args .names .now) (start .args .kinds) (start .args .funcs .now) (c .before .before .before .before .before .before .before .before .before .before .before .before .loop .rows) rows (c .before .before .before .before .before .before .before .before .before .before .before .before .loop .out) out (c .before .before .before .before .before .before .before .before .before .before .before .before .loop .starts) (c .before .before .before .before .before .before .before .before .before .before .before .before .loop .w) (c .before .before .before .before .before .before .before .before .before .before .before .before .loop .k) (c .before .before .before .before .before .before .before .before .wide-cell .result) (process .result) (c .before .before .before .before .before .before .before .before .before .before .before .loop-test .taken) cells (c .before .before .before .before .before .before .before .before .wide-cell .ensures .0) (c .before .before .before .before .before .before .before .before .before .before .before .before .loop .inv .1) (process .ensures .1)
     (record { ok = false; procs = rows; starts = set (c .before .before .before .before .before .before .before .before .before .before .before .before .loop .starts) (c .before .before .before .before .before .before .before .before .before .before .before .before .loop .k) (c .before .before .before .before .before .before .before .before .before .before .short .result); w = c .before .before .before .before .before .before .before .before .before .before .before .before .loop .w }) (not-true _ (c .if1 .taken)) refl
 
 pub processes-spec : {M : Type 1} → statement M
@@ -103,9 +103,9 @@ processes-spec =
     short-requires
     mul-starts
     array-write-starts
-    mul-place
-    shared-slice-read-place
-    place-requires
+    mul-wide-cell
+    shared-slice-read-wide-cell
+    wide-cell-requires
     slice-aggregate-process
     mul-process
     process-requires

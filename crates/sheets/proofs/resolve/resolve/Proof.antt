@@ -50,8 +50,8 @@ part-resolve-lines-end-4 c =
     let start = c .before .before .before .before .before .before .before .before .before .before .before .before .before .before .before in
     omega (arith, rooms (start .args .lines) _ (start .good .1 .1 .0) .procs, start .pre .0 .procs-few)
 
-place-requires : tie.Need-place-requires
-place-requires c κs = search needs
+wide-cell-requires : tie.Need-wide-cell-requires
+wide-cell-requires c κs = search needs
 
 resolve-lines-requires : tie.Need-resolve-lines-requires
 resolve-lines-requires c κs = search needs
@@ -69,7 +69,7 @@ returns c =
     let sorts = place .before .before .before .before .before .before .before .before in
     let start = sorts .before .before .before .before .before .before .before .before .before in
     found-resolve (start .args .s .now) (start .args .raw .now) (start .args .lines) (lines .resolve-lines .last .1 .1 .1 .1 .1 .1 .1 .0) (lines .resolve-lines .last .1 .1 .1 .1 .1 .1 .1 .1 .0)
-    (lines .resolve-lines .result) (place .place .result) (rooms (start .args .lines) _ (start .good .1 .1 .0)) (start .pre .0) (place .place .ensures .0) (lines .resolve-lines .ensures)
+    (lines .resolve-lines .result) (place .wide-cell .result) (rooms (start .args .lines) _ (start .good .1 .1 .0)) (start .pre .0) (place .wide-cell .ensures .0) (lines .resolve-lines .ensures)
 
 pub resolve-spec : {M : Type 1} → statement M
 resolve-spec =
@@ -87,7 +87,7 @@ resolve-spec =
     sub-resolve-lines-4
     part-resolve-lines-start-4
     part-resolve-lines-end-4
-    place-requires
+    wide-cell-requires
     resolve-lines-requires
     same-length
     same-length-2

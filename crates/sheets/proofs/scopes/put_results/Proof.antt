@@ -17,17 +17,17 @@ abbrev μ-loop : tie.MeasureT-loop
 loop-holds : tie.Need-loop-holds Inv-loop μ-loop
 loop-holds c = ((omega arith, refl), results-start (c .before .before .args .funcs .now) (c .before .before .args .scope .now))
 
-mul-wide : tie.Need-mul-wide Inv-loop μ-loop
-mul-wide c = search needs
+mul-cell-of : tie.Need-mul-cell-of Inv-loop μ-loop
+mul-cell-of c = search needs
 
-add-wide : tie.Need-add-wide Inv-loop μ-loop
-add-wide c = search needs
+add-cell-of : tie.Need-add-cell-of Inv-loop μ-loop
+add-cell-of c = search needs
 
-shared-slice-read-wide : tie.Need-shared-slice-read-wide Inv-loop μ-loop
-shared-slice-read-wide c = search needs
+shared-slice-read-cell-of : tie.Need-shared-slice-read-cell-of Inv-loop μ-loop
+shared-slice-read-cell-of c = search needs
 
-wide-requires : tie.Need-wide-requires Inv-loop μ-loop
-wide-requires c κs = search needs
+cell-of-requires : tie.Need-cell-of-requires Inv-loop μ-loop
+cell-of-requires c κs = search needs
 
 add-scope : tie.Need-add-scope Inv-loop μ-loop
 add-scope c = search needs
@@ -48,7 +48,7 @@ loop-again : tie.Need-loop-again Inv-loop μ-loop
 loop-again c =
     let here = c .before .before .before .loop in
     let q = c .before .before .before .before .before .before .pre in
-    ((omega arith, length-set (here .scope) _ _ ∙ here .inv .0 .1), results-more (c .before .before .before .before .before .before .args .funcs .now) (c .before .before .before .before .before .before .args .scope .now) (here .f) (c .wide .result) (here .scope) (here .inv .1) (omega arith) (here .inv .0 .1 ∙ q .1) (c .wide .ensures))
+    ((omega arith, length-set (here .scope) _ _ ∙ here .inv .0 .1), results-more (c .before .before .before .before .before .before .args .funcs .now) (c .before .before .before .before .before .before .args .scope .now) (here .f) (c .cell-of .result) (here .scope) (here .inv .1) (omega arith) (here .inv .0 .1 ∙ q .1) (c .cell-of .ensures))
 
 same-length : tie.Need-same-length Inv-loop μ-loop
 same-length c = c .before .loop .inv .0 .1
@@ -65,10 +65,10 @@ put-results-spec =
     Inv-loop
     μ-loop
     loop-holds
-    mul-wide
-    add-wide
-    shared-slice-read-wide
-    wide-requires
+    mul-cell-of
+    add-cell-of
+    shared-slice-read-cell-of
+    cell-of-requires
     add-scope
     mul-scope
     slice-write-scope

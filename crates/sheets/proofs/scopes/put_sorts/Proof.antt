@@ -17,17 +17,17 @@ abbrev μ-loop : tie.MeasureT-loop
 loop-holds : tie.Need-loop-holds Inv-loop μ-loop
 loop-holds c = ((omega arith, refl), sorts-start (c .before .before .args .rows .now) (c .before .before .args .p) (c .before .before .args .scope .now))
 
-add-wide : tie.Need-add-wide Inv-loop μ-loop
-add-wide c = search needs
+add-cell-of : tie.Need-add-cell-of Inv-loop μ-loop
+add-cell-of c = search needs
 
-add-wide-2 : tie.Need-add-wide-2 Inv-loop μ-loop
-add-wide-2 c = search needs
+add-cell-of-2 : tie.Need-add-cell-of-2 Inv-loop μ-loop
+add-cell-of-2 c = search needs
 
-shared-slice-read-wide : tie.Need-shared-slice-read-wide Inv-loop μ-loop
-shared-slice-read-wide c = search needs
+shared-slice-read-cell-of : tie.Need-shared-slice-read-cell-of Inv-loop μ-loop
+shared-slice-read-cell-of c = search needs
 
-wide-requires : tie.Need-wide-requires Inv-loop μ-loop
-wide-requires c κs = search needs
+cell-of-requires : tie.Need-cell-of-requires Inv-loop μ-loop
+cell-of-requires c κs = search needs
 
 add-scope : tie.Need-add-scope Inv-loop μ-loop
 add-scope c = search needs
@@ -48,7 +48,7 @@ loop-again : tie.Need-loop-again Inv-loop μ-loop
 loop-again c =
     let here = c .before .before .before .loop in
     let q = c .before .before .before .before .before .before .pre in
-    ((omega arith, length-set (here .scope) _ _ ∙ here .inv .0 .1), sorts-more (c .before .before .before .before .before .before .args .rows .now) (c .before .before .before .before .before .before .args .p) (c .before .before .before .before .before .before .args .scope .now) (here .i) (c .wide .result) (here .scope) (here .inv .1) (omega arith) (here .inv .0 .1 ∙ q .2) (omega arith) (c .wide .ensures))
+    ((omega arith, length-set (here .scope) _ _ ∙ here .inv .0 .1), sorts-more (c .before .before .before .before .before .before .args .rows .now) (c .before .before .before .before .before .before .args .p) (c .before .before .before .before .before .before .args .scope .now) (here .i) (c .cell-of .result) (here .scope) (here .inv .1) (omega arith) (here .inv .0 .1 ∙ q .2) (omega arith) (c .cell-of .ensures))
 
 same-length : tie.Need-same-length Inv-loop μ-loop
 same-length c = c .before .loop .inv .0 .1
@@ -66,10 +66,10 @@ put-sorts-spec =
     Inv-loop
     μ-loop
     loop-holds
-    add-wide
-    add-wide-2
-    shared-slice-read-wide
-    wide-requires
+    add-cell-of
+    add-cell-of-2
+    shared-slice-read-cell-of
+    cell-of-requires
     add-scope
     mul-scope
     slice-write-scope
