@@ -1,14 +1,17 @@
--- The register of the check, a byte, two bytes and two more at a time. A shift goes under `bitXor`, so the shifts of a register are those of its
+-- The register of the check: a byte goes in, two bytes, any run of bytes. A shift goes under `bitXor`, so the shifts of a register are those of its
 -- two bytes, each by itself; and eight shifts of a register with an empty top only move it up.
 use mathlib.Core.Path.{_≡_, refl, sym, ap, ap₂, _∙_}
-use Prim.Native.Nat.{ℕ, _+_, _-_, _*_, _/_, _%_, _≤_, _<_}
+use mathlib.Core.List.{List, [], _∷_}
+use Prim.Native.Nat.{ℕ, zero, suc, _+_, _-_, _*_, _/_, _%_, _≤_, _<_}
 use native.Mathlib.Nat.{zero-add, add-zero, div-add-mod'}
 use native.Mathlib.Decide.{decLt}
 use native.Mathlib.Omega.{arith}
 use borrow.Author.Tests.{lt-ltb, le-ltb}
 use lib.Bits.{bitXor, xor-lt, xor-comm, xor-zero-r, xor-block, xor-shifted}
-use Rattle.pcrl.specs.Blocks.{crc-bit, crc-byte}
-use Rattle.codec.specs.Crc.{crc-bit-below}
+use lib.ListN.{length}
+use Rattle.pcrl.specs.Tests.{Every}
+use Rattle.pcrl.specs.Blocks.{crc-bit, crc-byte, crc-from}
+use Rattle.codec.specs.Crc.{crc-bit-below, crc-byte-below}
 use Rattle.blocks.proofs.Xor.{xor-assoc, xor-swap, xor-double, xor-both}
 
 -- ONE SHIFT
@@ -140,18 +143,39 @@ module _ (x b : ℕ) (h : x < 65536) (k : b < 256) where
         ∙ shifted-xor (below * 256) s (omega arith) (shifted-below (top * 256) (omega arith))
         ∙ xor-comm (shifted (below * 256)) (shifted s)
 
--- Two bytes more: what the register was is shifted by itself, sixteen times.
-pub crc-bytes-more : (x c d : ℕ) → x < 65536 → c < 256 → d < 256 → crc-byte (crc-byte x c) d ≡ bitXor (shifted (shifted x)) (bitXor (shifted (shifted (c * 256))) (shifted (d * 256)))
-unfolding crc-byte
-crc-bytes-more x c d h k m =
-    let first : shifted (bitXor x (c * 256)) ≡ bitXor (shifted x) (shifted (c * 256)) = shifted-xor x (c * 256) h (omega arith) in
-    let below-x = shifted-below x h in
-    let below-c = shifted-below (c * 256) (omega arith) in
-    ap (λ (y : ℕ). shifted (bitXor y (d * 256))) first
-    ∙ shifted-xor (bitXor (shifted x) (shifted (c * 256))) (d * 256) (xor-lt 16 (shifted x) (shifted (c * 256)) below-x below-c) (omega arith)
-    ∙ ap (λ (y : ℕ). bitXor y (shifted (d * 256))) (shifted-xor (shifted x) (shifted (c * 256)) below-x below-c)
-    ∙ xor-assoc (shifted (shifted x)) (shifted (shifted (c * 256))) (shifted (d * 256))
+-- SHIFTED n TIMES
 
--- and of a register that two bytes made, each part is
-pub shifted-both : (a c : ℕ) → a < 65536 → c < 65536 → shifted (shifted (bitXor a c)) ≡ bitXor (shifted (shifted a)) (shifted (shifted c))
-shifted-both a c h k = ap shifted (shifted-xor a c h k) ∙ shifted-xor (shifted a) (shifted c) (shifted-below a h) (shifted-below c k)
+unfoldable pub shifts : ℕ → ℕ → ℕ
+shifts zero x = x
+shifts (suc n) x = shifted (shifts n x)
+
+shifts-below : (n x : ℕ) → x < 65536 → shifts n x < 65536
+unfolding shifts
+shifts-below zero x h = h
+shifts-below (suc n) x h = shifted-below (shifts n x) (shifts-below n x h)
+
+pub shifts-xor : (n a c : ℕ) → a < 65536 → c < 65536 → shifts n (bitXor a c) ≡ bitXor (shifts n a) (shifts n c)
+unfolding shifts
+shifts-xor zero a c h k = refl
+shifts-xor (suc n) a c h k = ap shifted (shifts-xor n a c h k) ∙ shifted-xor (shifts n a) (shifts n c) (shifts-below n a h) (shifts-below n c k)
+
+shifts-first : (n x : ℕ) → shifts n (shifted x) ≡ shifts (suc n) x
+unfolding shifts
+shifts-first zero x = refl
+shifts-first (suc n) x = ap shifted (shifts-first n x)
+
+-- Bytes by themselves: each is shifted once more than those behind it.
+unfoldable pub ahead : List ℕ → ℕ
+ahead [] = 0
+ahead (b ∷ s) = bitXor (shifts (suc (length s)) (b * 256)) (ahead s)
+
+-- A run of bytes: what the register was is shifted by itself.
+pub crc-run : (x : ℕ) (s : List ℕ) → x < 65536 → Every (λ b. b < 256) s → crc-from x s ≡ bitXor (shifts (length s) x) (ahead s)
+unfolding crc-from crc-byte Every shifts ahead
+crc-run x [] h k = sym (xor-zero-r x)
+crc-run x (b ∷ s) h k =
+    let small = k .0 in
+    crc-run (crc-byte x b) s (crc-byte-below x b h small) (k .1)
+    ∙ ap (λ (y : ℕ). bitXor y (ahead s))
+    (shifts-first (length s) (bitXor x (b * 256)) ∙ shifts-xor (suc (length s)) x (b * 256) h (omega arith))
+    ∙ xor-assoc (shifts (suc (length s)) x) (shifts (suc (length s)) (b * 256)) (ahead s)
