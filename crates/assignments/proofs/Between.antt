@@ -40,7 +40,7 @@ module _ (acc : ℕ → Bool) (total from k j left w : ℕ) (fits : j + w ≤ to
   parted-at : places acc (total - j) j ≡ places acc w j ++ places acc (total - (j + w)) (j + w)
   parted-at = let z : total - j ≡ w + (total - (j + w)) = omega arith in ap (λ (x : ℕ). places acc x j) z ∙ places-append acc w (total - (j + w)) j
 
-  going-by : (left′ : ℕ) → left ≡ left′ + length (places acc w j) → Going acc total from k (j + w) left′
+  pub going-by : (left′ : ℕ) → left ≡ left′ + length (places acc w j) → Going acc total from k (j + w) left′
   unfolding Going
   going-by left′ e =
       let z : left ≡ length (places acc w j) + left′ = omega arith in (
@@ -48,7 +48,7 @@ module _ (acc : ℕ → Bool) (total from k j left w : ℕ) (fits : j + w ≤ to
         omega (arith, so-far .1, ap length parted-at ∙ length-append (places acc w j) (places acc (total - (j + w)) (j + w))),
       )
 
-  going-in : (at : ℕ) → getElem? (places acc w j) left ≡ some at → getElem? (places acc (total - from) from) k ≡ some at
+  pub going-in : (at : ℕ) → getElem? (places acc w j) left ≡ some at → getElem? (places acc (total - from) from) k ≡ some at
   unfolding Going
   going-in at e = so-far .0 ∙ ap (λ (l : List ℕ). getElem? l left) parted-at ∙ some-append (places acc w j) (places acc (total - (j + w)) (j + w)) left at e
 

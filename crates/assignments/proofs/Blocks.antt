@@ -29,7 +29,7 @@ product-split zero s = sym (mul-one (product s))
 product-split (suc l) [] = refl
 product-split (suc l) (n ∷ s) = ap (λ (x : ℕ). n * x) (product-split l s) ∙ sym (mul-assoc n (product (drop l s)) (product (take l s))) ∙ ap (λ (x : ℕ). x * product (take l s)) (mul-comm n (product (drop l s))) ∙ mul-assoc (product (drop l s)) n (product (take l s))
 
-coarser : (l : ℕ) (s : List ℕ) (i j : ℕ) → i / product (drop l s) ≡ j / product (drop l s) → i / product s ≡ j / product s
+pub coarser : (l : ℕ) (s : List ℕ) (i j : ℕ) → i / product (drop l s) ≡ j / product (drop l s) → i / product s ≡ j / product s
 coarser l s i j h =
     rw (product-split l s) (sym (div-div-eq-div-mul i (product (drop l s)) (product (take l s))) ∙ ap (λ (x : ℕ). x / product (take l s)) h ∙ div-div-eq-div-mul j (product (drop l s)) (product (take l s)))
 
@@ -85,7 +85,7 @@ same-values (suc l) [] i j h v k = refl
 same-values (suc l) (n ∷ s) i j h zero k = ap (λ (x : ℕ). x % n) (coarser l s i j h)
 same-values (suc l) (n ∷ s) i j h (suc v) k = same-values l s i j h v (omega arith)
 
-split-at : (p : ℕ) (a w : List ℕ) → p ≤ length a → (v : ℕ) → p ≤ v → getD (env p a w) v 0 ≡ getD w (v - p) 0
+pub split-at : (p : ℕ) (a w : List ℕ) → p ≤ length a → (v : ℕ) → p ≤ v → getD (env p a w) v 0 ≡ getD w (v - p) 0
 split-at p a w h v k =
     let e : v ≡ length (take p a) + (v - p) = simp (length-take-le p a h) (omega arith) in
     ap (λ (x : ℕ). getD (env p a w) x 0) e ∙ getD-append-add (take p a) w (v - p) 0
@@ -166,63 +166,70 @@ module _ (s funcs froms ends blocks : List ℕ) where
   pub asked-some : (e : List ℕ) (m : ℕ) → 0 < getD blocks m 0 → asked-in e m ≡ holds-in e m
   asked-some e m h = rw (lt-ltb 0 (getD blocks m 0) h) refl
 
+  -- what is not asked passes
+  pub asked-or : (e : List ℕ) (m : ℕ) → (0 < getD blocks m 0 → asked-in e m ≡ true) → asked-in e m ≡ true
+  asked-or e m h = go (ltb 0 (getD blocks m 0)) refl
+    where
+      go : (t : Bool) → ltb 0 (getD blocks m 0) ≡ t → asked-in e m ≡ true
+      go true q = h (ltb-true 0 (getD blocks m 0) q)
+      go false q = let l = ltb-false 0 (getD blocks m 0) q in asked-none e m (omega arith)
+
   module _ (n p g : ℕ) (sizes a : List ℕ) (few : p ≤ length a) (positive : (i : ℕ) → i < length sizes → 0 < getD sizes i 0) (part : (i : ℕ) → i < n → Part s p sizes froms ends blocks g i) where
     -- the values of a condition's variables are the same on its block
-    same-on : (f : List ℕ) (j : ℕ) → Alike f (env p a (valuesOf sizes j)) → (m i : ℕ) → i / product (drop (peak (code s (getD froms m 0) (getD ends m 0)) - p) sizes) ≡ j / product (drop (peak (code s (getD froms m 0) (getD ends m 0)) - p) sizes)
+    pub same-on : (f : List ℕ) (j : ℕ) → Alike f (env p a (valuesOf sizes j)) → (m i : ℕ) → i / product (drop (peak (code s (getD froms m 0) (getD ends m 0)) - p) sizes) ≡ j / product (drop (peak (code s (getD froms m 0) (getD ends m 0)) - p) sizes)
         → holds-in (env p a (valuesOf sizes i)) m ≡ holds-in f m
     same-on f j alike m i q =
         ap (λ (l : List ℕ). eqb (top l) (getD s (getD froms m 0) 0)) (run-same s funcs (env p a (valuesOf sizes i)) f (code s (getD froms m 0) (getD ends m 0)) (λ v w. env-agree p a sizes f i j few alike (peak (code s (getD froms m 0) (getD ends m 0)) - p) q v (omega arith)))
 
-    pub blocked : (f : List ℕ) (j : ℕ) → Alike f (env p a (valuesOf sizes j)) → (d : ℕ) → Tested (asked-in f) blocks n d → 0 < d → (i : ℕ) → i / d ≡ j / d → part-met s funcs froms ends blocks n (env p a (valuesOf sizes i)) ≡ false
-    blocked f j alike d t h i q =
+    pub blocked : (f : List ℕ) (j : ℕ) → Alike f (env p a (valuesOf sizes j)) → (least d : ℕ) → Tested (asked-in f) blocks least n d → least < d → (i : ℕ) → i / d ≡ j / d → part-met s funcs froms ends blocks n (env p a (valuesOf sizes i)) ≡ false
+    blocked f j alike least d t h i q =
         let (m, k, e, b) = t .one-fails h in
         let z : d ≡ product (drop (peak (code s (getD froms m 0) (getD ends m 0)) - p) sizes) = b ∙ part m k .block-is (asked-block f m e) in
         one-false n (asked-in (env p a (valuesOf sizes i))) m k
         (asked-same (env p a (valuesOf sizes i)) f m (λ w. same-on f j alike m i (ap (λ (x : ℕ). i / x) (sym z) ∙ q ∙ ap (λ (x : ℕ). j / x) z)) ∙ e)
 
     module _ (l : ℕ) (is-grain : g ≡ product (drop l sizes)) where
-      in-grain : (f : List ℕ) (j : ℕ) → Alike f (env p a (valuesOf sizes j)) → (i : ℕ) → i / g ≡ j / g → (m : ℕ) → m < n → asked-in (env p a (valuesOf sizes i)) m ≡ asked-in f m
+      pub in-grain : (f : List ℕ) (j : ℕ) → Alike f (env p a (valuesOf sizes j)) → (i : ℕ) → i / g ≡ j / g → (m : ℕ) → m < n → asked-in (env p a (valuesOf sizes i)) m ≡ asked-in f m
       in-grain f j alike i q m k =
           asked-same (env p a (valuesOf sizes i)) f m (λ w.
           let b = part m k .block-is w in
           let c : g ≤ getD blocks m 0 = part m k .coarse w in
           same-on f j alike m i (finer l (peak (code s (getD froms m 0) (getD ends m 0)) - p) sizes positive (subst (λ (x : ℕ). x ≤ product (drop (peak (code s (getD froms m 0) (getD ends m 0)) - p) sizes)) is-grain (subst (λ (x : ℕ). g ≤ x) b c)) i j (subst (λ (x : ℕ). i / x ≡ j / x) is-grain q)))
 
-      pub accepted : (f : List ℕ) (j : ℕ) → Alike f (env p a (valuesOf sizes j)) → (d : ℕ) → Tested (asked-in f) blocks n d → d ≡ 0 → (i : ℕ) → i / g ≡ j / g → part-met s funcs froms ends blocks n (env p a (valuesOf sizes i)) ≡ true
-      accepted f j alike d t h i q = all-true n (asked-in (env p a (valuesOf sizes i))) (λ m k. in-grain f j alike i q m k ∙ t .all-pass h m k)
+      pub accepted : (f : List ℕ) (j : ℕ) → Alike f (env p a (valuesOf sizes j)) → (d : ℕ) → Tested (asked-in f) blocks 0 n d → d ≡ 0 → (i : ℕ) → i / g ≡ j / g → part-met s funcs froms ends blocks n (env p a (valuesOf sizes i)) ≡ true
+      accepted f j alike d t h i q = all-true n (asked-in (env p a (valuesOf sizes i))) (λ m k. in-grain f j alike i q m k ∙ asked-or f m (t .all-pass h m k))
 
       pub met-alike : (i j : ℕ) → i / g ≡ j / g → part-met s funcs froms ends blocks n (env p a (valuesOf sizes i)) ≡ part-met s funcs froms ends blocks n (env p a (valuesOf sizes j))
       met-alike i j q = all-same n (asked-in (env p a (valuesOf sizes i))) (asked-in (env p a (valuesOf sizes j))) (in-grain (env p a (valuesOf sizes j)) j (λ v. refl) i q)
 
 -- A TEST, CONDITION BY CONDITION
 
-pub tested-none : (t : ℕ → Bool) (blocks : List ℕ) → Tested t blocks 0 0
-tested-none t blocks = record { all-pass = λ e i h. absurd (omega arith); one-fails = λ h. absurd (omega arith) }
+pub tested-none : (t : ℕ → Bool) (blocks : List ℕ) (least : ℕ) → Tested t blocks least 0 least
+tested-none t blocks least = record { no-less = omega arith; all-pass = λ e i h k. absurd (omega arith); one-fails = λ h. absurd (omega arith) }
 
-pub tested-more : (t : ℕ → Bool) (blocks : List ℕ) (n r r′ : ℕ) → (getD blocks n 0 ≡ 0 → t n ≡ true) → Tested t blocks n r → r′ ≡ tried-of (t n) (getD blocks n 0) r → Tested t blocks (n + 1) r′
-tested-more t blocks n r r′ none w e = go (ltb r (getD blocks n 0)) refl (t n) refl
+pub tested-more : (t : ℕ → Bool) (blocks : List ℕ) (least n r r′ : ℕ) → Tested t blocks least n r → r′ ≡ tried-of (t n) (getD blocks n 0) r → Tested t blocks least (n + 1) r′
+tested-more t blocks least n r r′ w e = go (ltb r (getD blocks n 0)) refl (t n) refl
   where
-    keep : r′ ≡ r → (r ≡ 0 → t n ≡ true) → Tested t blocks (n + 1) r′
+    keep : r′ ≡ r → (r ≡ least → least < getD blocks n 0 → t n ≡ true) → Tested t blocks least (n + 1) r′
     keep z h =
         record {
-          all-pass = λ q i k. last (ltb i n) i refl k (z′ q);
+          no-less = omega (arith, w .no-less);
+          all-pass = λ q i k l. last (ltb i n) i refl k (sym z ∙ q) l;
           one-fails = λ q. let (m, k, f, b) = w .one-fails (omega arith) in (m, omega arith, f, z ∙ b);
         }
       where
-        z′ : r′ ≡ 0 → r ≡ 0
-        z′ q = sym z ∙ q
+        last : (c : Bool) (i : ℕ) → ltb i n ≡ c → i < n + 1 → r ≡ least → least < getD blocks i 0 → t i ≡ true
+        last true i y k q l = w .all-pass q i (ltb-true i n y) l
+        last false i y k q l = let u = ltb-false i n y in let x : i ≡ n = omega arith in ap t x ∙ h q (subst (λ (m : ℕ). least < getD blocks m 0) x l)
 
-        last : (c : Bool) (i : ℕ) → ltb i n ≡ c → i < n + 1 → r ≡ 0 → t i ≡ true
-        last true i y k q = w .all-pass q i (ltb-true i n y)
-        last false i y k q = let u = ltb-false i n y in let x : i ≡ n = omega arith in ap t x ∙ h q
-
-    go : (c : Bool) → ltb r (getD blocks n 0) ≡ c → (h : Bool) → t n ≡ h → Tested t blocks (n + 1) r′
-    go true q true k = keep (e ∙ rw (q, k) refl) (λ z. k)
+    go : (c : Bool) → ltb r (getD blocks n 0) ≡ c → (h : Bool) → t n ≡ h → Tested t blocks least (n + 1) r′
+    go true q true k = keep (e ∙ rw (q, k) refl) (λ z l. k)
     go true q false k =
         let u = ltb-true r (getD blocks n 0) q in
         let z : r′ ≡ getD blocks n 0 = e ∙ rw (q, k) refl in
-        record { all-pass = λ y i l. absurd (omega arith); one-fails = λ y. (n, omega arith, k, z) }
-    go false q h k = let u = ltb-false r (getD blocks n 0) q in keep (e ∙ rw q refl) (λ z. none (omega arith))
+        let l = w .no-less in
+        record { no-less = omega arith; all-pass = λ y i l m. absurd (omega arith); one-fails = λ y. (n, omega arith, k, z) }
+    go false q h k = let u = ltb-false r (getD blocks n 0) q in keep (e ∙ rw q refl) (λ z l. absurd (omega arith))
 
 -- what one condition gives
 pub tried-known : (h : Bool) (block out : ℕ) → block ≤ out → out ≡ tried-of h block out

@@ -6,3 +6,4 @@ pub mod TwoTests
 pub mod Between
 pub mod Separating
 pub mod Searching
+pub mod InRows

@@ -132,7 +132,7 @@ module _ (acc : ℕ → Bool) where
 
 -- ASSIGNMENTS GO ROUND
 
-around : (s : List ℕ) (k j : ℕ) → ((i : ℕ) → i < length s → 0 < getD s i 0) → valuesOf s (k * product s + j) ≡ valuesOf s j
+pub around : (s : List ℕ) (k j : ℕ) → ((i : ℕ) → i < length s → 0 < getD s i 0) → valuesOf s (k * product s + j) ≡ valuesOf s j
 around [] k j h = refl
 around (n ∷ s) k j h =
     let pos : 0 < product s = product-pos 0 s (λ i l. h (suc i) (omega arith)) in

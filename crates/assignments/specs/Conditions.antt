@@ -45,10 +45,11 @@ pub record Ready (s : List ℕ) (p : ℕ) (sizes froms ends blocks : List ℕ) (
 abbrev pub tried-of : Bool → ℕ → ℕ → ℕ
 tried-of h block out = pick (ltb out block) (pick h out block) out
 
--- what a test of n conditions answers: 0 if all pass, or the block of one that does not
-pub record Tested (t : ℕ → Bool) (blocks : List ℕ) (n r : ℕ) : Type 0 where
-  pub all-pass : r ≡ 0 → (i : ℕ) → i < n → t i ≡ true
-  pub one-fails : 0 < r → (i : ℕ) × (i < n) × (t i ≡ false) × (r ≡ getD blocks i 0)
+-- what a test of n conditions answers, of those with a block larger than `least`: `least` if all pass, or the block of one that does not
+pub record Tested (t : ℕ → Bool) (blocks : List ℕ) (least n r : ℕ) : Type 0 where
+  pub no-less : least ≤ r
+  pub all-pass : r ≡ least → (i : ℕ) → i < n → least < getD blocks i 0 → t i ≡ true
+  pub one-fails : least < r → (i : ℕ) × (i < n) × (t i ≡ false) × (r ≡ getD blocks i 0)
 
 -- the k-th of a list, or how much of k is left behind it
 unfoldable pub Finds : List ℕ → ℕ → Bool → ℕ → ℕ → Type 0

@@ -1,3 +1,4 @@
 pub mod Places
 pub mod Conditions
 pub mod Parting
+pub mod Lanes

@@ -12,11 +12,13 @@ use crate::Eight;
 use crate::Found;
 use crate::Four;
 use crate::environment;
+use crate::in_rows::find_rows;
+use crate::in_rows::first_row;
 use crate::values;
 use crate::wide_block;
 
 // The first number of the next block of d.
-fn next(j: usize, d: usize) -> usize
+pub fn next(j: usize, d: usize) -> usize
     requires { ⌜ (0 < d) × ((d < 4294967296) × (j < 131072)) ⌝ }
     ensures { λ r. ⌜ (j < r) × ((i : ℕ) → j ≤ i → i < r → i / d ≡ j / d) ⌝ }
 {
@@ -40,8 +42,8 @@ fn tried(s: &[u8], funcs: &[u16], e: &[u8], from: usize, end: usize, block: u32,
     block
 }
 
-// The block of a condition that fails, the largest of such blocks; 0 if all hold. A condition with block 0 is not asked.
-fn test(
+// The block of a condition that fails, the largest of such blocks; `least` if none is larger. A condition with a block no larger than that is not asked.
+pub fn test(
     s: &[u8],
     funcs: &[u16],
     e: &[u8],
@@ -49,11 +51,12 @@ fn test(
     ends: &[usize; 8],
     blocks: &[u32; 8],
     n: usize,
+    least: u32,
 ) -> u32
     requires { ⌜ n ≤ max-conditions ⌝ }
-    ensures { λ r. ⌜ (((i : ℕ) → i < n → Standing (now (s .entry)) (now (froms .entry)) (now (ends .entry)) i) → Tested (asked (now (s .entry)) (now (funcs .entry)) (now (froms .entry)) (now (ends .entry)) (now (blocks .entry)) (now (e .entry))) (now (blocks .entry)) n r) ⌝ }
+    ensures { λ r. ⌜ (((i : ℕ) → i < n → Standing (now (s .entry)) (now (froms .entry)) (now (ends .entry)) i) → Tested (asked (now (s .entry)) (now (funcs .entry)) (now (froms .entry)) (now (ends .entry)) (now (blocks .entry)) (now (e .entry))) (now (blocks .entry)) least n r) ⌝ }
 {
-    let mut out: u32 = 0;
+    let mut out = least;
     let mut i: usize = 0;
     while i < n {
         out = tried(s, funcs, e, froms[i], ends[i], blocks[i], out);
@@ -105,10 +108,35 @@ pub fn find_from(
 {
     let mut j = from;
     let mut left = k;
+    let mut start = first_row(z, g, from, to);
     while j < to {
+        if start <= j {
+            let r = find_rows(
+                s,
+                funcs,
+                params,
+                p,
+                z,
+                froms,
+                ends,
+                blocks,
+                n,
+                g,
+                j,
+                to,
+                left,
+            );
+            if r.found {
+                return r;
+            }
+            start = to;
+            left = r.left;
+            j = r.at;
+            continue;
+        }
         let e = environment(params, p, values(z, j));
         let a = e.at;
-        let d = test(s, funcs, &a, froms, ends, blocks, n);
+        let d = test(s, funcs, &a, froms, ends, blocks, n, 0);
         if d == 0 {
             let r = evaluation::smaller(next(j, g), to);
             let m = (r - j) as u64;

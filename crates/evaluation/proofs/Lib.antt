@@ -1,3 +1,4 @@
 pub mod Bytes
 pub mod Operators
 pub mod Terms
+pub mod Lanes

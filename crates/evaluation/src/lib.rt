@@ -6,6 +6,9 @@ ghost use Rattle.pcrl.specs.Limits.{max-stream};
 ghost use Rattle.pcrl.specs.Decode.{node-of};
 ghost use Rattle.laws.specs.TermLength.{max-term};
 ghost use Rattle.evaluation.specs.Run.{pick, operator-code, operator-count, operator-worth, argument-count, worth-of, extent, run, top, named, peak, lowered, foot};
+
+pub mod rows; // terms for all values of one variable at once
+
 use terms::AND;
 use terms::EQUAL;
 use terms::FUNCTION;

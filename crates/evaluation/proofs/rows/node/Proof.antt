@@ -1,0 +1,156 @@
+-- A byte is a value, a variable, a function of one or two arguments, whose values stand behind its result, or an operator.
+use borrow.Author.Needs.{needs}
+use native.Mathlib.Omega.{arith}
+use Prim.Native.Nat.{ℕ, _+_, _-_, min}
+use mathlib.Core.Path.{_≡_, sym, ap, _∙_}
+use lib.ListN.{getD}
+use Rattle.evaluation.specs.Run.{operator-count}
+use Rattle.evaluation.proofs.Bytes.{no-arguments, one-argument, two-arguments, operator-arguments}
+use Rattle.evaluation.proofs.Lanes.{put-value, put-own, put-other, put-one, put-two, put-operator}
+use Rattle.evaluation.proofs.rows.node.Statement.{statement}
+use Rattle.evaluation.proofs.rows.node.Tie as tie
+
+wide-requires : tie.Need-wide-requires
+wide-requires c κs = search needs
+
+onto-requires : tie.Need-onto-requires
+onto-requires c κs = search needs
+
+fill-requires : tie.Need-fill-requires
+fill-requires c κs = search needs
+
+same-length : tie.Need-same-length
+same-length c = search needs
+
+returns : tie.Need-returns
+returns c = let a = c .before .before .before .before .before .before .before .before .before .before .before .args in let w = c .before .before .before .before .before .before .wide .ensures .0 in (c .before .before .before .before .onto .ensures .1, (c .before .before .before .before .onto .ensures .0 ∙ ap (λ (k : ℕ). min (a .t + k) 48 - 1) (no-arguments (a .s .now) (a .funcs .now) (a .b) (omega arith)), λ h. put-value (a .s .now) (a .funcs .now) (a .e .now) (a .v) (a .b) (c .before .before .before .before .before .before .wide .result) (a .t) (a .rows .now) _ (c .before .before .before .before .onto .result) w (omega arith) (c .before .before .fill .ensures)))
+
+onto-requires-2 : tie.Need-onto-requires-2
+onto-requires-2 c κs = search needs
+
+count-requires : tie.Need-count-requires
+count-requires c κs = search needs
+
+same-length-2 : tie.Need-same-length-2
+same-length-2 c = search needs
+
+returns-2 : tie.Need-returns-2
+returns-2 c = let a = c .before .before .before .before .before .before .before .before .before .before .before .before .before .args in let w = c .before .before .before .before .before .before .before .before .wide .ensures .0 in (c .before .before .before .before .before .onto2 .ensures .1, (c .before .before .before .before .before .onto2 .ensures .0 ∙ ap (λ (k : ℕ). min (a .t + k) 48 - 1) (no-arguments (a .s .now) (a .funcs .now) (a .b) (omega arith)), λ h. put-own (a .s .now) (a .funcs .now) (a .e .now) (a .v) (a .b) (c .before .before .before .before .before .before .before .before .wide .result) (a .t) (a .rows .now) _ (c .before .before .before .before .before .onto2 .result) w (omega arith) (omega arith) (c .before .before .before .before .if3 .taken) h (c .before .before .count .ensures)))
+
+peek-requires : tie.Need-peek-requires
+peek-requires c κs = search needs
+
+fill-requires-2 : tie.Need-fill-requires-2
+fill-requires-2 c κs = search needs
+
+same-length-3 : tie.Need-same-length-3
+same-length-3 c = search needs
+
+returns-3 : tie.Need-returns-3
+returns-3 c = let a = c .before .before .before .before .before .before .before .before .before .before .before .before .before .before .args in let w = c .before .before .before .before .before .before .before .before .before .wide .ensures .0 in (c .before .before .before .before .before .before .onto2 .ensures .1, (c .before .before .before .before .before .before .onto2 .ensures .0 ∙ ap (λ (k : ℕ). min (a .t + k) 48 - 1) (no-arguments (a .s .now) (a .funcs .now) (a .b) (omega arith)), λ h. put-other (a .s .now) (a .funcs .now) (a .e .now) (a .v) (a .b) (c .before .before .before .before .before .before .before .before .before .wide .result) (a .t) (a .rows .now) _ (c .before .before .before .before .before .before .onto2 .result) w (c .before .before .before .peek .result) (omega arith) (omega arith) (c .before .before .before .before .before .if3 .left) (c .before .before .before .peek .ensures) (c .before .before .fill2 .ensures)))
+
+place-requires : tie.Need-place-requires
+place-requires c κs = search needs
+
+peek-requires-2 : tie.Need-peek-requires-2
+peek-requires-2 c κs = search needs
+
+onto-requires-3 : tie.Need-onto-requires-3
+onto-requires-3 c κs = search needs
+
+add-one : tie.Need-add-one
+add-one c = search needs
+
+one-requires : tie.Need-one-requires
+one-requires c κs = search needs
+
+same-length-4 : tie.Need-same-length-4
+same-length-4 c = search needs
+
+returns-4 : tie.Need-returns-4
+returns-4 c = let a = c .before .before .before .before .before .before .before .before .before .before .before .before .before .before .before .before .args in let w = c .before .before .before .before .before .before .before .before .before .before .before .wide .ensures .0 in (c .before .before .before .before .onto3 .ensures .1, (c .before .before .before .before .onto3 .ensures .0 ∙ ap (λ (k : ℕ). min (a .t + k) 48 - 1) (one-argument (a .s .now) (a .funcs .now) (a .b) (c .before .before .before .before .before .before .before .place .result) (omega arith) (omega arith) (c .before .before .before .before .before .before .before .place .ensures .0 ∙ (let z : c .before .before .before .before .before .before .before .before .before .before .before .wide .result - 64 ≡ a .b - 64 = omega arith in ap (λ (i : ℕ). getD (a .funcs .now) i 0) z)) (sym (c .before .before .before .before .before .before .peek2 .ensures) ∙ c .before .before .before .before .before .if5 .taken)), λ h. put-one (a .s .now) (a .funcs .now) (a .e .now) (a .v) (a .b) (c .before .before .before .before .before .before .before .before .before .before .before .wide .result) (a .t) (a .rows .now) _ (c .before .before .before .before .onto3 .result) w (c .before .before .before .before .before .before .before .place .result) (omega arith) (omega arith) (c .before .before .before .before .before .before .before .place .ensures .0) (sym (c .before .before .before .before .before .before .peek2 .ensures) ∙ c .before .before .before .before .before .if5 .taken) (c .before .before .one .ensures)))
+
+onto-requires-4 : tie.Need-onto-requires-4
+onto-requires-4 c κs = search needs
+
+add-peek : tie.Need-add-peek
+add-peek c = search needs
+
+peek-requires-3 : tie.Need-peek-requires-3
+peek-requires-3 c κs = search needs
+
+wide-requires-2 : tie.Need-wide-requires-2
+wide-requires-2 c κs = search needs
+
+add-peek-2 : tie.Need-add-peek-2
+add-peek-2 c = search needs
+
+peek-requires-4 : tie.Need-peek-requires-4
+peek-requires-4 c κs = search needs
+
+add-two : tie.Need-add-two
+add-two c = search needs
+
+two-requires : tie.Need-two-requires
+two-requires c κs = search needs
+
+same-length-5 : tie.Need-same-length-5
+same-length-5 c = search needs
+
+returns-5 : tie.Need-returns-5
+returns-5 c = let a = c .before .before .before .before .before .before .before .before .before .before .before .before .before .before .before .before .before .before .before .args in let w = c .before .before .before .before .before .before .before .before .before .before .before .before .before .before .wide .ensures .0 in (c .before .before .before .before .before .before .before .onto4 .ensures .1, (c .before .before .before .before .before .before .before .onto4 .ensures .0 ∙ ap (λ (k : ℕ). min (a .t + k) 48 - 1) (two-arguments (a .s .now) (a .funcs .now) (a .b) (c .before .before .before .before .before .before .before .before .before .before .place .result) (omega arith) (omega arith) (c .before .before .before .before .before .before .before .before .before .before .place .ensures .0 ∙ (let z : c .before .before .before .before .before .before .before .before .before .before .before .before .before .before .wide .result - 64 ≡ a .b - 64 = omega arith in ap (λ (i : ℕ). getD (a .funcs .now) i 0) z)) (λ q. c .before .before .before .before .before .before .before .before .if5 .left (c .before .before .before .before .before .before .before .before .before .peek2 .ensures ∙ q))), λ h. put-two (a .s .now) (a .funcs .now) (a .e .now) (a .v) (a .b) (c .before .before .before .before .before .before .before .before .before .before .before .before .before .before .wide .result) (a .t) (a .rows .now) _ (c .before .before .before .before .before .before .before .onto4 .result) w (c .before .before .before .before .before .before .before .before .before .before .place .result) (omega arith) (omega arith) (c .before .before .before .before .before .before .before .before .before .before .place .ensures .0) (c .before .before .before .before .peek4 .result) (λ q. c .before .before .before .before .before .before .before .before .if5 .left (c .before .before .before .before .before .before .before .before .before .peek2 .ensures ∙ q)) (c .before .before .before .before .peek4 .ensures ∙ ap (λ (x : ℕ). getD (a .s .now) (1 + x) 0) (c .before .before .before .before .before .wide2 .ensures .0 ∙ c .before .before .before .before .before .before .peek3 .ensures)) (c .before .before .two .ensures)))
+
+operator-arguments-requires : tie.Need-operator-arguments-requires
+operator-arguments-requires c κs = search needs
+
+onto-requires-5 : tie.Need-onto-requires-5
+onto-requires-5 c κs = search needs
+
+operator-requires : tie.Need-operator-requires
+operator-requires c κs = search needs
+
+same-length-6 : tie.Need-same-length-6
+same-length-6 c = search needs
+
+returns-6 : tie.Need-returns-6
+returns-6 c = let a = c .before .before .before .before .before .before .before .before .before .before .before .before .before .before .args in let w = c .before .before .before .before .before .before .before .before .before .wide .ensures .0 in (c .before .before .before .before .onto5 .ensures .1, (c .before .before .before .before .onto5 .ensures .0 ∙ ap (λ (k : ℕ). min (a .t + k) 48 - 1) (c .before .before .before .before .before .operator-arguments .ensures .0 ∙ (let z : c .before .before .before .before .before .before .before .before .before .wide .result - 96 ≡ a .b - 96 = omega arith in ap operator-count z) ∙ operator-arguments (a .s .now) (a .funcs .now) (a .b) (omega arith)), λ h. put-operator (a .s .now) (a .funcs .now) (a .e .now) (a .v) (a .b) (c .before .before .before .before .before .before .before .before .before .wide .result) (a .t) (a .rows .now) _ (c .before .before .before .before .onto5 .result) w (omega arith) (c .before .before .operator .ensures)))
+
+pub node-spec : {M : Type 1} → statement M
+node-spec =
+    tie.close
+    (tie.spec
+    wide-requires
+    onto-requires
+    fill-requires
+    same-length
+    returns
+    onto-requires-2
+    count-requires
+    same-length-2
+    returns-2
+    peek-requires
+    fill-requires-2
+    same-length-3
+    returns-3
+    place-requires
+    peek-requires-2
+    onto-requires-3
+    add-one
+    one-requires
+    same-length-4
+    returns-4
+    onto-requires-4
+    add-peek
+    peek-requires-3
+    wide-requires-2
+    add-peek-2
+    peek-requires-4
+    add-two
+    two-requires
+    same-length-5
+    returns-5
+    operator-arguments-requires
+    onto-requires-5
+    operator-requires
+    same-length-6
+    returns-6)
