@@ -1,2 +1,3 @@
+pub mod AtHead
 pub mod Laws
 pub mod Rows

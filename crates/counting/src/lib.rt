@@ -5,12 +5,16 @@ ghost use Prim.Native.Nat.{ℕ, _+_, _*_, _≤_, _<_};
 ghost use lib.ListN.{length, getD, replicate};
 ghost use Rattle.pcrl.specs.Sheet.{Sheet};
 ghost use Rattle.nodes.specs.Layout.{cell-limit};
+ghost use Rattle.checker.specs.Circles.{HeadsOf};
 ghost use Rattle.counting.specs.Limits.{most-heads, row-width, max-fuel, counts-room, cut, row};
-ghost use Rattle.counting.specs.Counting.{leaf-of, Counts, Placed, Tallied, SameRows, Repeated};
+ghost use Rattle.counting.specs.Counting.{leaf-of, Counts, Placed, Tallied, PartOf, SameIn, Unchanged, NextCount};
+use checker::circles::HeadSets;
+use checker::circles::heads_of;
 use elements::cell;
 use elements::cut_sum;
 use limits::MAX_PROCESSES;
 use limits::MAX_SUMMANDS;
+use nodes::with_bit;
 
 // From here on counts are not told apart: a table has fewer summands and fewer equations.
 pub const MOST: usize = MAX_SUMMANDS + 1;
@@ -103,62 +107,95 @@ pub fn count(cells: &[u16], at: usize, counts: &[u16], base: usize) -> Counted
     }
 }
 
-// One row more: calls followed once more. Row f is read while the row behind it is written.
-fn round(cells: &[u16], starts: &[u16], n: usize, f: usize, t: &mut [u16])
-    requires { ⌜ (n ≤ row-width) × (f < max-fuel) × (length (now t) ≡ counts-room) ⌝ }
-    ensures { λ _. ⌜ ((H : Sheet) → length (H .procs) ≡ n → Placed H (now (cells .entry)) (now (starts .entry)) → Tallied H f (now (t .entry)) → Tallied H (f + 1) (now (t .exit))) ⌝ }
+// The processes at the head of each right side.
+fn head_sets(cells: &[u16], starts: &[u16], n: usize) -> HeadSets
+    requires { ⌜ n ≤ row-width ⌝ }
+    ensures { λ r. ⌜ length (r .of) ≡ row-width ⌝ }
+    ensures { λ r. ⌜ ((H : Sheet) → length (H .procs) ≡ n → Placed H (now (cells .entry)) (now (starts .entry)) → HeadsOf H n (r .of)) ⌝ }
 {
+    let mut of = [0u32; ROW];
+    let mut k: usize = 0;
+    while k < n {
+        let r = heads_of(cells, cell(starts, k));
+        of[k] = r.set;
+        k += 1;
+    }
+    HeadSets { of: of }
+}
+
+// Is there a row before row f, and is the first set part of the second?
+fn settled(set: u32, same: u32, f: usize) -> bool
+    ensures { λ r. ⌜ (r ≡ true → (0 < f) × PartOf set same) ⌝ }
+{
+    if f == 0 {
+        return false;
+    }
+    set | same == same
+}
+
+// The count of process k in row f + 1: that of row f, if the processes at its head have in row f the counts of the row before it.
+fn next_count(cells: &[u16], at: usize, t: &[u16], f: usize, k: usize, set: u32, same: u32) -> usize
+    requires { ⌜ (f < max-fuel) × (k < row-width) ⌝ }
+    ensures { λ r. ⌜ r < cell-limit ⌝ }
+    ensures { λ r. ⌜ NextCount (now (cells .entry)) at (now (t .entry)) f k set same r ⌝ }
+{
+    if settled(set, same, f) {
+        return cell(t, ROW * f + k);
+    }
+    let r = count(cells, at, t, ROW * f);
+    r.heads
+}
+
+// One row more: calls followed once more. Row f is read while the row behind it is written.
+fn round(
+    cells: &[u16],
+    starts: &[u16],
+    n: usize,
+    f: usize,
+    sets: HeadSets,
+    same: u32,
+    t: &mut [u16],
+)
+    requires { ⌜ (n ≤ row-width) × (f < max-fuel) × (length (sets .of) ≡ row-width) × (length (now t) ≡ counts-room) ⌝ }
+    ensures { λ _. ⌜ ((H : Sheet) → length (H .procs) ≡ n → Placed H (now (cells .entry)) (now (starts .entry)) → HeadsOf H n (sets .of) → Unchanged (now (t .entry)) f same → Tallied H f (now (t .entry)) → Tallied H (f + 1) (now (t .exit))) ⌝ }
+{
+    let of = sets.of;
     let mut k: usize = 0;
     while k < n {
         let p = cell(starts, k);
-        let r = count(cells, p, &*t, ROW * f);
-        t[ROW * (f + 1) + k] = r.heads as u16;
+        let c = next_count(cells, p, &*t, f, k, of[k], same);
+        t[ROW * (f + 1) + k] = c as u16;
         k += 1;
     }
 }
 
-// Are the rows f and f + 1 the same?
-fn same_rows(t: &[u16], f: usize) -> bool
-    requires { ⌜ f < max-fuel ⌝ }
-    ensures { λ r. ⌜ (r ≡ true → SameRows (now (t .entry)) f) ⌝ }
+// The processes whose counts are the same in the rows f and f + 1.
+fn unchanged(t: &[u16], n: usize, f: usize) -> u32
+    requires { ⌜ (n ≤ row-width) × (f < max-fuel) ⌝ }
+    ensures { λ r. ⌜ SameIn (now (t .entry)) f r ⌝ }
 {
+    let mut same: u32 = 0;
     let mut k: usize = 0;
-    while k < ROW {
-        if cell(t, ROW * (f + 1) + k) != cell(t, ROW * f + k) {
-            return false;
+    while k < n {
+        if cell(t, ROW * (f + 1) + k) == cell(t, ROW * f + k) {
+            same = with_bit(same, k);
         }
         k += 1;
     }
-    true
+    same
 }
 
-// The row f once more.
-fn repeat(f: usize, t: &mut [u16])
-    requires { ⌜ (f < max-fuel) × (length (now t) ≡ counts-room) ⌝ }
-    ensures { λ _. ⌜ Repeated f (now (t .entry)) (now (t .exit)) row-width ⌝ }
-{
-    let mut k: usize = 0;
-    while k < ROW {
-        t[ROW * (f + 1) + k] = t[ROW * f + k];
-        k += 1;
-    }
-}
-
-// The rows 0 to `times`, written over zeros. Once a row is like the one before it, so are those after it.
+// The rows 0 to `times`, written over zeros. A right side is counted again only where a process at its head has another count.
 pub fn rounds(cells: &[u16], starts: &[u16], n: usize, times: usize, t: &mut [u16])
     requires { ⌜ (n ≤ row-width) × (times ≤ max-fuel) × (now t ≡ replicate counts-room 0) ⌝ }
     ensures { λ _. ⌜ ((H : Sheet) → length (H .procs) ≡ n → Placed H (now (cells .entry)) (now (starts .entry)) → Tallied H times (now (t .exit))) ⌝ }
 {
+    let sets = head_sets(cells, starts, n);
+    let mut same: u32 = 0;
     let mut f: usize = 0;
-    let mut still = false;
     while f < times {
-        if still {
-            repeat(f, &mut *t);
-            f += 1;
-            continue;
-        }
-        round(cells, starts, n, f, &mut *t);
-        still = same_rows(&*t, f);
+        round(cells, starts, n, f, sets, same, &mut *t);
+        same = unchanged(&*t, n, f);
         f += 1;
     }
 }
