@@ -1,6 +1,7 @@
 // The walk: step 0 up to 8 times, and its text, from a table file and from a sheet.
 ghost use mathlib.Core.Path.{_≡_};
 ghost use mathlib.Core.List.{List, _++_};
+ghost use mathlib.Core.Bool.{true, false};
 ghost use Prim.Native.Nat.{ℕ, _+_, _*_, _/_, _%_, _<_, _≤_, min};
 ghost use lib.ListN.{length, take};
 ghost use Rattle.pcrl.specs.Limits.{frame-width, stack-limit, max-stream};
@@ -10,7 +11,7 @@ ghost use Rattle.pcrl.specs.Stack.{frames-of};
 ghost use Rattle.pcrl.specs.Answers.{table-checked, start-stack};
 ghost use Rattle.pcrl.specs.Text.{decimal, bytes};
 ghost use Rattle.pcrl.specs.Walk.{walk-steps, line, walk-lines, walk-made, walk-text, step-line};
-ghost use Rattle.pcrl.specs.Blocks.{block-bytes, block-stream};
+ghost use Rattle.pcrl.specs.Blocks.{block-bytes, block-stream, max-file};
 ghost use Rattle.tables.specs.Indexed.{Indexed};
 ghost use Rattle.stacks.specs.Lent.{frames-in, stack-bytes};
 ghost use Rattle.asking.specs.Replies.{label-told};
@@ -21,6 +22,7 @@ use blocks::SHORT_FILE;
 use blocks::SHORT_STREAM;
 use elements::wide;
 use limits::MAX_STREAM;
+use limits::NO_ROOM;
 use stacks::BYTES;
 
 // "takes step 0 up to 8 times"
@@ -28,6 +30,9 @@ const STEPS: usize = 8;
 
 // No text of a walk is longer: 8 lines of 29 bytes and a closing word.
 const TEXT_LIMIT: usize = 238;
+
+// Tables of sheets of up to so many bytes mostly fit a short file.
+const SHORT_SHEET: usize = 512;
 
 // "A walk holds its depth, its steps taken and its last answer."
 pub struct Walk {
@@ -39,6 +44,12 @@ pub struct Walk {
 // The text of a walk, at the front.
 pub struct Text {
     pub bytes: [u8; TEXT_LIMIT],
+    pub length: usize,
+}
+
+// Whether the table had room in the file that was lent, and then how long the text is.
+pub struct Walked {
+    pub done: bool,
     pub length: usize,
 }
 
@@ -196,17 +207,59 @@ pub fn walk_table(file: &[u8], out: &mut [u8]) -> usize
     walk_long(file, out)
 }
 
+// The text of the walk of a sheet's bytes, as far as there is room for it, and how long that is, where the lent file is long enough for the table.
+fn walk_made(sheet: &[u8], file: &mut [u8], out: &mut [u8]) -> Walked
+    ensures { λ r. ⌜ (r .done ≡ true → Wrote (now (out .entry)) 0 (walk-text (now (sheet .entry))) (now (out .exit)) (r .length)) × ((r .done ≡ false → now (out .exit) ≡ now (out .entry)) × (max-file ≤ length (now (file .entry)) → r .done ≡ true)) ⌝ }
+{
+    let m = making::make_table(sheet, &mut *file);
+    if m.refused == NO_ROOM {
+        return Walked {
+            done: false,
+            length: 0,
+        };
+    }
+    if m.refused != 0 {
+        return Walked {
+            done: true,
+            length: put_refused(out, m.refused),
+        };
+    }
+    let n = m.length;
+    Walked {
+        done: true,
+        length: walk_table(&file[0..n], out),
+    }
+}
+
+// By a short file: to clear a long one takes longer than to walk by the table of a short sheet.
+fn walk_by_short(sheet: &[u8], out: &mut [u8]) -> Walked
+    ensures { λ r. ⌜ (r .done ≡ true → Wrote (now (out .entry)) 0 (walk-text (now (sheet .entry))) (now (out .exit)) (r .length)) × (r .done ≡ false → now (out .exit) ≡ now (out .entry)) ⌝ }
+{
+    let mut file = [0u8; SHORT_FILE];
+    walk_made(sheet, &mut file, out)
+}
+
+// By the longest file.
+fn walk_by_long(sheet: &[u8], out: &mut [u8]) -> usize
+    ensures { λ p. ⌜ Wrote (now (out .entry)) 0 (walk-text (now (sheet .entry))) (now (out .exit)) p ⌝ }
+{
+    let mut file = [0u8; MAX_FILE];
+    let w = walk_made(sheet, &mut file, out);
+    w.length
+}
+
 // The text of the walk of a sheet's bytes, as far as there is room for it, and how long that is.
 pub fn walk_sheet(sheet: &[u8], out: &mut [u8]) -> usize
     ensures { λ p. ⌜ Wrote (now (out .entry)) 0 (walk-text (now (sheet .entry))) (now (out .exit)) p ⌝ }
 {
-    let mut file = [0u8; MAX_FILE];
-    let m = making::make_table(sheet, &mut file);
-    if m.refused != 0 {
-        return put_refused(out, m.refused);
+    if SHORT_SHEET < sheet.len() {
+        return walk_by_long(sheet, out);
     }
-    let n = m.length;
-    walk_table(&file[0..n], out)
+    let w = walk_by_short(sheet, out);
+    if w.done {
+        return w.length;
+    }
+    walk_by_long(sheet, out)
 }
 
 // The whole text of the walk of a sheet's bytes.

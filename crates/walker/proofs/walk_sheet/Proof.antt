@@ -1,64 +1,54 @@
--- Refused by 1 to 10, or the walk by the file that is made.
+-- By the short file if there is room in it; else nothing was written, and the longest file has room.
 use borrow.Author.Needs.{needs}
-use native.Mathlib.Omega.{arith}
-use Rattle.texts.proofs.Writing.{wrote-as}
-use Rattle.walker.proofs.FromSheet.{sheet-refused, sheet-filed}
+use mathlib.Core.Path.{subst}
+use mathlib.Core.List.{List}
+use Prim.Native.Nat.{ℕ}
+use Rattle.pcrl.specs.Walk.{walk-text}
+use Rattle.texts.specs.Wrote.{Wrote}
 use Rattle.walker.proofs.walk_sheet.Statement.{statement}
 use Rattle.walker.proofs.walk_sheet.Tie as tie
 
-slice-aggregate-make-table : tie.Need-slice-aggregate-make-table
-slice-aggregate-make-table c = search needs
-
-make-table-requires : tie.Need-make-table-requires
-make-table-requires c κs = search needs
-
-put-refused-requires : tie.Need-put-refused-requires
-put-refused-requires c κs = search needs
+walk-by-long-requires : tie.Need-walk-by-long-requires
+walk-by-long-requires c κs = search needs
 
 same-length : tie.Need-same-length
 same-length c = search needs
 
 returns : tie.Need-returns
-returns c =
-    let m = c .before .before .before .before .before .before .before .make-table in
-    wrote-as _ _ _ _ _ _ (sheet-refused _ _ (omega arith) (m .result) (m .ensures .0) (λ e. omega (arith, c .before .before .before .before .if1))) (c .before .before .put-refused .ensures)
+returns c = search needs
 
-sub-walk-table : tie.Need-sub-walk-table
-sub-walk-table c = search needs
-
-part-walk-table-start : tie.Need-part-walk-table-start
-part-walk-table-start c = search needs
-
-part-walk-table-end : tie.Need-part-walk-table-end
-part-walk-table-end c =
-    let m = c .before .before .before .before .make-table in
-    let f = sheet-filed _ _ (omega arith) (m .result) (m .ensures .0) _ (m .last .1 .0) (m .ensures .1) (omega (arith, c .before .if1)) in
-    omega (arith, f .fits, m .kept .1 .0)
-
-walk-table-requires : tie.Need-walk-table-requires
-walk-table-requires c κs = search needs
+walk-by-short-requires : tie.Need-walk-by-short-requires
+walk-by-short-requires c κs = search needs
 
 same-length-2 : tie.Need-same-length-2
 same-length-2 c = search needs
 
 returns-2 : tie.Need-returns-2
-returns-2 c =
-    let m = c .before .before .before .before .before .before .before .before .before .make-table in
-    let f = sheet-filed _ _ (omega arith) (m .result) (m .ensures .0) _ (m .last .1 .0) (m .ensures .1) (omega (arith, c .before .before .before .before .before .before .if1)) in
-    wrote-as _ _ _ _ _ _ (f .text) (c .before .before .walk-table .ensures)
+returns-2 c = c .before .before .before .walk-by-short .ensures .0 (c .if2 .taken)
+
+walk-by-long-requires-2 : tie.Need-walk-by-long-requires-2
+walk-by-long-requires-2 c κs = search needs
+
+same-length-3 : tie.Need-same-length-3
+same-length-3 c = search needs
+
+returns-3 : tie.Need-returns-3
+returns-3 c =
+    let short = c .before .before .before .before .before .before .before .walk-by-short in
+    let long = c .before .before .walk-by-long2 in
+    let a = c .before .before .before .before .before .before .before .before .before .before .before .before .args in
+    subst (λ (l : List ℕ). Wrote l 0 (walk-text (a .sheet .now)) (long .last .1 .0) (long .result)) (short .ensures .1 (c .before .before .before .before .if2 .left)) (long .ensures)
 
 pub walk-sheet-spec : {M : Type 1} → statement M
 walk-sheet-spec =
     tie.close
     (tie.spec
-    slice-aggregate-make-table
-    make-table-requires
-    put-refused-requires
+    walk-by-long-requires
     same-length
     returns
-    sub-walk-table
-    part-walk-table-start
-    part-walk-table-end
-    walk-table-requires
+    walk-by-short-requires
     same-length-2
-    returns-2)
+    returns-2
+    walk-by-long-requires-2
+    same-length-3
+    returns-3)
