@@ -22,14 +22,14 @@ use Rattle.laws.specs.Each.{each-length}
 use Rattle.theory.specs.Lending.{Holds, passes-15}
 use Rattle.theory.specs.Asked.{AnswerIs, at-end, too-large, too-deep, goes-to, answer-exactly}
 use Rattle.terms.specs.Stands.{list-at}
-use Rattle.tables.specs.declared.Index.{Index}
-use Rattle.tables.specs.Indexed.{Indexed}
 use Rattle.stacks.specs.Lent.{frame-bytes, frame-at, frames-at, frames-in, stack-bytes}
 use Rattle.stacks.proofs.Views.{no-frame, length-frames-in, getD-frames-in}
 use Rattle.stacks.proofs.Filling.{length-frames-at}
-use Rattle.stacks.proofs.RightFrameLaws.{used-right, index-params}
+use Rattle.stacks.proofs.RightFrameLaws.{used-right}
 use Rattle.firing.specs.declared.Fired.{Fired}
 use Rattle.firing.specs.Fires.{listing}
+use Rattle.firing.specs.Known.{KnownTable}
+use Rattle.firing.proofs.Indexing.{sorts-there}
 use Rattle.firing.specs.Told as firing
 use Rattle.firing.specs.Told.{told}
 use Rattle.labels.specs.Labels.{label-of}
@@ -189,12 +189,12 @@ module _ (T : Table) (bytes : List ℕ) (d k : ℕ) (long : length bytes ≡ sta
         ap (drop d) (holds .frames) ∙ drop-at (reverse s) (replicate (stack-limit - length s) (zero-frame frame-width)) d (length-reverse s ∙ sym h) ∙ ap (λ (x : ℕ). replicate x (zero-frame frame-width)) n
 
     -- what the search is asked, by the index: the top frame's equation, and its parameters' values
-    pub looked : (stream : List ℕ) (index : Index) → Indexed T stream index → (e p n : ℕ) (sorts part : List ℕ) → e ≡ getD bytes at 0 → p ≡ getD (index .params) e 0 → sorts ≡ list-at stream p → n ≡ length sorts → part ≡ take n (drop (at + 1) bytes)
+    pub looked : (stream funcs acts params rows : List ℕ) → KnownTable T stream funcs acts params rows → (e p n : ℕ) (sorts part : List ℕ) → e ≡ getD bytes at 0 → p ≡ getD params e 0 → sorts ≡ list-at stream p → n ≡ length sorts → part ≡ take n (drop (at + 1) bytes)
         → (e ≡ top .number) × ((part ≡ used T top) × ((e < length (T .equations)) × InSorts (T .sig) (equation T e .params) part))
     unfolding RightFrame
-    looked stream index x e p n sorts part is place list many cut =
+    looked stream funcs acts params rows x e p n sorts part is place list many cut =
         let number : e ≡ top .number = is ∙ sym number-is in
         let b : e < length (T .equations) = let r = top-right .0 in omega arith in
-        let own : sorts ≡ equation T (top .number) .params = list ∙ ap (list-at stream) place ∙ index-params T stream index x e b ∙ ap (λ (i : ℕ). equation T i .params) number in
-        let params : part ≡ used T top = params-are n part (many ∙ ap length own) cut in
-        (number, (params, (b, subst (λ (i : ℕ). InSorts (T .sig) (equation T i .params) part) (sym number) (subst (InSorts (T .sig) (equation T (top .number) .params)) (sym params) (top-right .1 .0)))))
+        let own : sorts ≡ equation T (top .number) .params = list ∙ ap (list-at stream) place ∙ sorts-there T stream funcs acts params rows x e b ∙ ap (λ (i : ℕ). equation T i .params) number in
+        let own-values : part ≡ used T top = params-are n part (many ∙ ap length own) cut in
+        (number, (own-values, (b, subst (λ (i : ℕ). InSorts (T .sig) (equation T i .params) part) (sym number) (subst (InSorts (T .sig) (equation T (top .number) .params)) (sym own-values) (top-right .1 .0)))))

@@ -8,6 +8,7 @@ ghost use Rattle.pcrl.specs.Table.{Table};
 ghost use Rattle.pcrl.specs.Right.{RightTable};
 ghost use Rattle.pcrl.specs.Stack.{RightFrames};
 ghost use Rattle.tables.specs.Indexed.{Indexed};
+ghost use Rattle.firing.specs.Known.{KnownTable, ActsAt};
 ghost use Rattle.stacks.specs.Lent.{frames-in, stack-bytes};
 ghost use Rattle.asking.specs.Encoding.{answer-bytes, filled, encode-answer};
 ghost use Rattle.asking.specs.Replies.{AskIs, AllIs, answer-told};
@@ -61,22 +62,33 @@ pub fn plain(refused: u8, kind: u8, depth: usize) -> Told
 }
 
 // "Asked for step k (from 0)"
-pub fn ask(s: &[u8], index: tables::Index, frames: &mut [u8], depth: usize, k: u64) -> Told
+pub fn ask(
+    s: &[u8],
+    funcs: &[u16],
+    acts: &[u16],
+    params: &[u16],
+    rows: &[u16],
+    frames: &mut [u8],
+    depth: usize,
+    k: u64,
+) -> Told
     requires { ⌜ (length (now s) ≤ max-stream) × ((length (now frames) ≡ stack-bytes) × (depth ≤ stack-limit)) ⌝ }
-    ensures { λ r. ⌜ (r .depth ≤ stack-limit) × ((T : Table) → RightTable T → Indexed T (now (s .entry)) index → RightFrames frame-width stack-limit T (frames-in frame-width (now (frames .entry))) depth → AskIs T (frames-in frame-width (now (frames .entry))) depth k r (frames-in frame-width (now (frames .exit)))) ⌝ }
+    ensures { λ r. ⌜ (r .depth ≤ stack-limit) × ((T : Table) → KnownTable T (now (s .entry)) (now (funcs .entry)) (now (acts .entry)) (now (params .entry)) (now (rows .entry)) → RightFrames frame-width stack-limit T (frames-in frame-width (now (frames .entry))) depth → AskIs T (frames-in frame-width (now (frames .entry))) depth k r (frames-in frame-width (now (frames .exit)))) ⌝ }
 {
     if depth == 0 {
         return plain(0, ENDED, 0);
     }
     let top = (depth - 1) * FRAME;
     let e = terms::wide(frames[top]);
-    let places = index.params;
-    let sorts = terms::list_at(s, terms::place(&places, e));
+    let sorts = terms::list_at(s, terms::place(params, e));
     let n = sorts.len();
     let mut made = [0u8; MADE];
     let f = firing::fire(
         s,
-        index,
+        funcs,
+        acts,
+        params,
+        rows,
         e,
         stacks::part(&frames[0..], top + 1, n),
         k,
@@ -141,8 +153,8 @@ fn value(arity: u8, i: u8, v: u8) -> u8
 }
 
 // An answer in 24 bytes.
-pub fn encode(s: &[u8], index: tables::Index, r: Told) -> Encoded
-    ensures { λ e. ⌜ ((T : Table) → RightTable T → Indexed T (now (s .entry)) index → r .depth ≤ stack-limit → e .bytes ≡ encode-answer (answer-told (T .sig) r)) ⌝ }
+pub fn encode(s: &[u8], acts: &[u16], actions: usize, r: Told) -> Encoded
+    ensures { λ e. ⌜ ((T : Table) → RightTable T → ActsAt (T .sig) (now (s .entry)) (now (acts .entry)) actions → r .depth ≤ stack-limit → e .bytes ≡ encode-answer (answer-told (T .sig) r)) ⌝ }
 {
     if r.refused != 0 {
         return encode_kind(r.refused);
@@ -160,7 +172,7 @@ pub fn encode(s: &[u8], index: tables::Index, r: Told) -> Encoded
         counted(r.arity),
         v,
         w,
-        texts::name(s, index, r.action),
+        texts::name(s, acts, actions, r.action),
     )
 }
 
@@ -176,11 +188,16 @@ pub fn ask_each(
     requires { ⌜ (length (now s) ≤ max-stream) × ((length (now frames) ≡ stack-bytes) × ((depth ≤ stack-limit) × (answer-bytes * length (now ks) ≤ length (now out)))) ⌝ }
     ensures { λ r. ⌜ ((T : Table) → RightTable T → Indexed T (now (s .entry)) index → RightFrames frame-width stack-limit T (frames-in frame-width (now (frames .entry))) depth → AllIs T (frames-in frame-width (now (frames .entry))) depth (now (ks .entry)) (now (out .entry)) (now (out .exit)) (frames-in frame-width (now (frames .exit))) r) ⌝ }
 {
+    let funcs = index.funcs;
+    let acts = index.acts;
+    let params = index.params;
+    let rows = index.rows;
+    let actions = index.actions;
     let mut d = depth;
     let mut i = 0;
     while i < ks.len() {
-        let r = ask(s, index, frames, d, ks[i]);
-        let e = encode(s, index, r);
+        let r = ask(s, &funcs, &acts, &params, &rows, frames, d, ks[i]);
+        let e = encode(s, &acts, actions, r);
         let bytes = e.bytes;
         let at = i * ANSWER;
         let end = at + ANSWER;

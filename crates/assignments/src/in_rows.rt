@@ -22,7 +22,7 @@ use crate::one_part::none_found;
 use crate::one_part::test;
 use crate::values;
 use crate::wide_block;
-use evaluation::rows::Row;
+use evaluation::rows::KeptLanes;
 
 // So many blocks are enough to look for rows, and a row has so many at the fewest.
 const MANY: usize = 16;
@@ -82,8 +82,8 @@ fn row_tried(
     end: usize,
     block: u32,
     w: u32,
-    met: Row,
-) -> Row
+    met: KeptLanes,
+) -> KeptLanes
     ensures { λ r. ⌜ (from + 1 ≤ end → end ≤ from + 1 + max-term → end ≤ length (now (s .entry)) → v < length (now (e .entry)) → (met .some ≡ 0 → (i : ℕ) → i < 16 → getD (met .at) i 0 ≡ 0) → Sifted (λ i. pick (ltb block w) (pick (ltb 0 block) (holds (now (s .entry)) (now (funcs .entry)) (set (now (e .entry)) v i) from end) true) true) (met .at) (r .at) (r .some)) ⌝ }
 {
     if met.some == 0 {
@@ -112,11 +112,11 @@ fn row_test(
     blocks: &[u32; 8],
     n: usize,
     w: u32,
-) -> Row
+) -> KeptLanes
     requires { ⌜ n ≤ max-conditions ⌝ }
     ensures { λ r. ⌜ (((i : ℕ) → i < n → Standing (now (s .entry)) (now (froms .entry)) (now (ends .entry)) i) → v < length (now (e .entry)) → RowMet (λ i. inner (now (s .entry)) (now (funcs .entry)) (now (froms .entry)) (now (ends .entry)) (now (blocks .entry)) w (set (now (e .entry)) v i)) n (r .at) (r .some)) ⌝ }
 {
-    let mut met = Row {
+    let mut met = KeptLanes {
         at: [1u8; 16],
         some: 1,
     };

@@ -28,7 +28,7 @@ use Rattle.texts.specs.Wrote.{Wrote}
 use Rattle.lettering.specs.Named.{named-by, Lettered}
 use Rattle.lettering.specs.declared.Letters.{Letters}
 use Rattle.lettering.proofs.Laws.{proc-is}
-use Rattle.clauses.specs.declared.data.TermPut.{TermPut}
+use Rattle.clauses.specs.declared.data.TextPut.{TextPut}
 use Rattle.clauses.specs.Terms.{Puts}
 use Rattle.clauses.specs.Written.{Ground, ActionPut, CallPut, CallsPut}
 use Rattle.clauses.proofs.Upto.{Upto, upto-start, upto-more, upto-all, wrote-then, wrote-by}
@@ -44,7 +44,7 @@ no-call = (0, [])
 
 module _ (s funcs : List ℕ) (l : Letters) where
   -- n terms in brackets
-  abbrev pub TermsPut : ℕ → ℕ → List ℕ → ℕ → List ℕ → TermPut → Type 0
+  abbrev pub TermsPut : ℕ → ℕ → List ℕ → ℕ → List ℕ → TextPut → Type 0
   TermsPut from n out at out′ r =
       (S : Sig) (Γ Ds : List ℕ) (ds : List Data) (rest : List ℕ) → KnownTerms S s funcs → length Γ ≤ variable-code → Each (RightTerm S Γ) Ds ds → length ds ≡ n → Lettered (S .acts) l → drop from s ≡ all encode-data ds ++ rest
       → Puts s out at (given-text (S .acts) ds) rest r out′
@@ -52,7 +52,7 @@ module _ (s funcs : List ℕ) (l : Letters) where
   -- AN ACTION
 
   module _ (acts : List ℕ) (from : ℕ) (out : List ℕ) (at : ℕ) (room : at ≤ length out) (b : ℕ) (eb : b ≡ getD s from 0) where
-    pub tau-put : (out′ : List ℕ) (r : TermPut) → b ≡ tau-code → r .from ≡ from + 1 → Wrote out at (bytes "tau") out′ (r .at) → ActionPut s funcs l acts from out at out′ r
+    pub tau-put : (out′ : List ℕ) (r : TextPut) → b ≡ tau-code → r .from ≡ from + 1 → Wrote out at (bytes "tau") out′ (r .at) → ActionPut s funcs l acts from out at out′ r
     unfolding takes-of act-text all
     tau-put out′ r e ef w S Ps params Γ act ts rest g parts is right here =
         let x = act-here S Ps s acts params parts act from (all encode-data ts ++ rest) is here in
@@ -63,7 +63,7 @@ module _ (s funcs : List ℕ) (l : Letters) where
           left = ap (λ (k : ℕ). drop k s) ef ∙ x .1 ∙ ap (λ (ds : List Data). all encode-data ds ++ rest) none;
         }
 
-    pub named-put : (p n : ℕ) (name mid : List ℕ) (a : ℕ) (out′ : List ℕ) (r : TermPut) → (b ≡ tau-code → ⊥) → p ≡ getD acts b 0 → n ≡ getD s (p + 1 + getD s p 0) 0 → name ≡ list-at s p
+    pub named-put : (p n : ℕ) (name mid : List ℕ) (a : ℕ) (out′ : List ℕ) (r : TextPut) → (b ≡ tau-code → ⊥) → p ≡ getD acts b 0 → n ≡ getD s (p + 1 + getD s p 0) 0 → name ≡ list-at s p
         → Wrote out at name mid a → TermsPut (from + 1) n mid a out′ r → ActionPut s funcs l acts from out at out′ r
     unfolding act-text IsAct
     named-put p n name mid a out′ r nt ep en ename w terms S Ps params Γ act ts rest g parts is right here =
@@ -83,7 +83,7 @@ module _ (s funcs : List ℕ) (l : Letters) where
   -- A CALL
 
   module _ (params : List ℕ) (from : ℕ) (out : List ℕ) (at : ℕ) (room : at ≤ length out) where
-    pub call-put : (e k : ℕ) (o₁ : List ℕ) (a : ℕ) (o₂ : List ℕ) (b : ℕ) (out′ : List ℕ) (r : TermPut) → e ≡ getD s from 0 → e < 256 → k ≡ getD s (getD params e 0) 0
+    pub call-put : (e k : ℕ) (o₁ : List ℕ) (a : ℕ) (o₂ : List ℕ) (b : ℕ) (out′ : List ℕ) (r : TextPut) → e ≡ getD s from 0 → e < 256 → k ≡ getD s (getD params e 0) 0
         → Wrote out at (bytes ".") o₁ a → Wrote o₁ a (named-by (byte "p") (l .procs) e) o₂ b → TermsPut (from + 1) k o₂ b out′ r → CallPut s funcs l params from out at out′ r
     unfolding call-text
     call-put e k o₁ a o₂ b out′ r ee small ek w₁ w₂ terms S Ps acts Γ c rest g parts right here =
@@ -107,7 +107,7 @@ module _ (s funcs : List ℕ) (l : Letters) where
         let b = byte-at s from (length cs) (all encode-call cs ++ rest) here in
         (en ∙ b .0, (b .1, upto-start room refl))
 
-    pub calling-more : (mid : List ℕ) (f p i : ℕ) (last : List ℕ) (r : TermPut) → i < n → CallPut s funcs l params f mid p last r → Calling params from n out at mid f p i → Calling params from n out at last (r .from) (r .at) (i + 1)
+    pub calling-more : (mid : List ℕ) (f p i : ℕ) (last : List ℕ) (r : TextPut) → i < n → CallPut s funcs l params f mid p last r → Calling params from n out at mid f p i → Calling params from n out at last (r .from) (r .at) (i + 1)
     unfolding Calling
     calling-more mid f p i last r h call old S Ps acts Γ cs rest g parts right here =
         let (en, (left, u)) = old S Ps acts Γ cs rest g parts right here in
@@ -117,7 +117,7 @@ module _ (s funcs : List ℕ) (l : Letters) where
         let t = call S Ps acts Γ c more g parts (every-at (RightCall S Ps Γ) cs no-call i right below) (left ∙ all-first encode-call cs i no-call rest below) in
         (en, (t .left, upto-more u (all-here (call-text (S .acts)) cs i no-call below) (t .wrote)))
 
-    pub calling-all : (out′ : List ℕ) (r : TermPut) (i : ℕ) → n ≤ i → Calling params from n out at out′ (r .from) (r .at) i → CallsPut s funcs l params from out at out′ r
+    pub calling-all : (out′ : List ℕ) (r : TextPut) (i : ℕ) → n ≤ i → Calling params from n out at out′ (r .from) (r .at) i → CallsPut s funcs l params from out at out′ r
     unfolding Calling
     calling-all out′ r i h old S Ps acts Γ cs rest g parts right here =
         let (en, (left, u)) = old S Ps acts Γ cs rest g parts right here in

@@ -18,7 +18,7 @@ use Rattle.texts.specs.Wrote.{Wrote}
 use Rattle.texts.proofs.Writing.{wrote-nothing}
 use Rattle.lettering.specs.Named.{Lettered}
 use Rattle.lettering.specs.declared.Letters.{Letters}
-use Rattle.clauses.specs.declared.data.TermPut.{TermPut}
+use Rattle.clauses.specs.declared.data.TextPut.{TextPut}
 use Rattle.clauses.specs.Terms.{Puts}
 use Rattle.clauses.specs.Written.{Ground, CondsAt, Marks, CondPut, CondsPut}
 use Rattle.clauses.proofs.Upto.{Upto, upto-start, upto-more, upto-all, wrote-then, wrote-by}
@@ -49,7 +49,7 @@ module _ (s funcs : List ℕ) (l : Letters) where
   -- ONE CONDITION
 
   module _ (from : ℕ) (out : List ℕ) (at : ℕ) (room : at ≤ length out) where
-    pub condition-put : (b : ℕ) (o₁ : List ℕ) (a : ℕ) (o₂ : List ℕ) (r : TermPut) (o₃ : List ℕ) (z : ℕ) → b ≡ min from (length s) + 1 → Wrote out at (bytes "<|") o₁ a
+    pub condition-put : (b : ℕ) (o₁ : List ℕ) (a : ℕ) (o₂ : List ℕ) (r : TextPut) (o₃ : List ℕ) (z : ℕ) → b ≡ min from (length s) + 1 → Wrote out at (bytes "<|") o₁ a
         → ((S : Sig) (Γ : List ℕ) (D : ℕ) (d : Data) (rest : List ℕ) → KnownTerms S s funcs → length Γ ≤ variable-code → RightTerm S Γ D d → Lettered (S .acts) l → drop b s ≡ encode-data d ++ rest → Puts s o₁ a (data-text (S .acts) d) rest r o₂)
         → Wrote o₂ (r .at) (bytes "|>") o₃ z → CondPut s funcs l whole-text from out at o₃ z
     unfolding RightCond

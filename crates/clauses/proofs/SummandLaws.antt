@@ -27,7 +27,7 @@ use Rattle.firing.proofs.Skipping.{drop-within}
 use Rattle.texts.specs.Wrote.{Wrote}
 use Rattle.lettering.specs.Named.{Lettered}
 use Rattle.lettering.specs.declared.Letters.{Letters}
-use Rattle.clauses.specs.declared.data.TermPut.{TermPut}
+use Rattle.clauses.specs.declared.data.TextPut.{TextPut}
 use Rattle.clauses.specs.Written.{Ground, Marks, SumsPut, CondsPut, ActionPut, CallsPut, SummandPut}
 use Rattle.clauses.proofs.Upto.{Upto, upto-start, upto-more, upto-all, wrote-then, wrote-by}
 use Rattle.clauses.proofs.TextLaws.{mark-text, marks-put, joined-first, joined-none, right-none, right-some}
@@ -42,7 +42,7 @@ behind-vars s from b vars more e here =
 
 module _ (s funcs acts params : List ℕ) (l : Letters) where
   pub summand-put : (from n : ℕ) (out : List ℕ) (at : ℕ) → at ≤ length out
-      → (m b : ℕ) (sizes : List ℕ) (c : Conditions) (o₁ : List ℕ) (a₁ : ℕ) (o₂ : List ℕ) (a₂ : ℕ) (o₃ : List ℕ) (r₃ : TermPut) (o₄ : List ℕ) (r₄ : TermPut) (o₅ : List ℕ) (a₅ : ℕ) (o₆ : List ℕ) (r : TermPut) → m ≡ getD s from 0 → b ≡ from + 1 + getD s from 0
+      → (m b : ℕ) (sizes : List ℕ) (c : Conditions) (o₁ : List ℕ) (a₁ : ℕ) (o₂ : List ℕ) (a₂ : ℕ) (o₃ : List ℕ) (r₃ : TextPut) (o₄ : List ℕ) (r₄ : TextPut) (o₅ : List ℕ) (a₅ : ℕ) (o₆ : List ℕ) (r : TextPut) → m ≡ getD s from 0 → b ≡ from + 1 + getD s from 0
       → ((S : Sig) (Γ : List ℕ) (cs : List (ℕ × Data)) (rest : List ℕ) → KnownTerms S s funcs → length Γ ≤ variable-code → Every (RightCond S Γ) cs → length cs ≤ max-conditions → drop b s ≡ encode-list encode-cond cs ++ rest → Prepared s n sizes cs rest c)
       → SumsPut s l from n out at o₁ a₁ → CondsPut s funcs l before-text (c .froms) (c .count) o₁ a₁ o₂ a₂ → ActionPut s funcs l acts (c .end) o₂ a₂ o₃ r₃ → CallsPut s funcs l params (r₃ .from) o₃ (r₃ .at) o₄ r₄ → CondsPut s funcs l behind-text (c .froms) (c .count) o₄ (r₄ .at) o₅ a₅
       → Wrote o₅ a₅ (replicate m (byte ")")) o₆ (r .at) → r .from ≡ min (r₄ .from) (length s) → SummandPut s funcs l acts params from n out at o₆ r
@@ -101,7 +101,7 @@ module _ (s funcs acts params : List ℕ) (l : Letters) (row n : ℕ) (out : Lis
         positive : (k : ℕ) → (k ≡ 0 → ⊥) → 0 < k
         positive k n = omega arith
 
-    pub joining-more : (mid : List ℕ) (f p i j : ℕ) (o₁ : List ℕ) (r : TermPut) (last : List ℕ) (z : ℕ) → i < m → j ≡ i + 1 → SummandPut s funcs l acts params f n mid p o₁ r → Marks o₁ (r .at) (byte "+") j m last z
+    pub joining-more : (mid : List ℕ) (f p i j : ℕ) (o₁ : List ℕ) (r : TextPut) (last : List ℕ) (z : ℕ) → i < m → j ≡ i + 1 → SummandPut s funcs l acts params f n mid p o₁ r → Marks o₁ (r .at) (byte "+") j m last z
         → Joining m mid f p i → Joining m last (r .from) z j
     unfolding Joining RightSummands
     joining-more mid f p i j o₁ r last z h ej one mark old S Ps Δ hs rest known parts right en few letters here =

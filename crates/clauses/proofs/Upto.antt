@@ -6,7 +6,7 @@ use native.Mathlib.Omega.{arith}
 use lib.ListN.{length}
 use Rattle.texts.specs.Wrote.{Wrote}
 use Rattle.texts.proofs.Writing.{wrote-nothing, wrote-more, wrote-fits, wrote-as}
-use Rattle.clauses.specs.declared.data.TermPut.{TermPut}
+use Rattle.clauses.specs.declared.data.TextPut.{TextPut}
 use Rattle.clauses.specs.Terms.{Within}
 use Rattle.clauses.specs.Written.{Ends}
 
@@ -28,10 +28,10 @@ ends-none h = record { fits = h; same = refl }
 pub ends-more : {out mid last : List ℕ} {p z : ℕ} → Ends out p mid → Ends mid z last → Ends out z last
 ends-more a b = let e = a .same in let f = b .fits in record { fits = omega arith; same = b .same ∙ a .same }
 
-pub within-ends : {s out out′ : List ℕ} {from : ℕ} {r : TermPut} → Within s out from r out′ → Ends out (r .at) out′
+pub within-ends : {s out out′ : List ℕ} {from : ℕ} {r : TextPut} → Within s out from r out′ → Ends out (r .at) out′
 within-ends w = record { fits = w .fits; same = w .same }
 
-pub within-more : {s out mid last : List ℕ} {from p : ℕ} {r : TermPut} → Ends out p mid → Within s mid from r last → Within s out from r last
+pub within-more : {s out mid last : List ℕ} {from p : ℕ} {r : TextPut} → Ends out p mid → Within s mid from r last → Within s out from r last
 within-more a b = let e = a .same in let f = b .fits in record { fits = omega arith; same = b .same ∙ a .same; inside = b .inside }
 
 -- of the whole, all but what is left is written

@@ -20,7 +20,7 @@ use Rattle.firing.specs.Known.{KnownParts}
 use Rattle.texts.specs.Wrote.{Wrote}
 use Rattle.lettering.specs.Named.{named-by, sort-by, Lettered}
 use Rattle.lettering.specs.declared.Letters.{Letters}
-use Rattle.clauses.specs.declared.data.TermPut.{TermPut}
+use Rattle.clauses.specs.declared.data.TextPut.{TextPut}
 use Rattle.clauses.specs.Terms.{Puts}
 
 -- what is known of the table, of the sorts of the variables and of the letters
@@ -68,18 +68,18 @@ module _ (s funcs : List ℕ) (l : Letters) where
   abbrev pub CondsPut : (List Action → List (ℕ × Data) → List ℕ) → List ℕ → ℕ → List ℕ → ℕ → List ℕ → ℕ → Type 0
   CondsPut text froms n out at out′ r = (S : Sig) (Γ : List ℕ) (cs : List (ℕ × Data)) → Ground S s funcs Γ l → Every (RightCond S Γ) cs → CondsAt s cs froms n → Wrote out at (text (S .acts) cs) out′ r
 
-  abbrev pub ActionPut : List ℕ → ℕ → List ℕ → ℕ → List ℕ → TermPut → Type 0
+  abbrev pub ActionPut : List ℕ → ℕ → List ℕ → ℕ → List ℕ → TextPut → Type 0
   ActionPut acts from out at out′ r = (S : Sig) (Ps : List (List ℕ)) (params Γ : List ℕ) (act : Act) (ts : List Data) (rest : List ℕ) → Ground S s funcs Γ l → KnownParts S Ps s acts params → IsAct S act → Each (RightTerm S Γ) (takes-of S act) ts
       → drop from s ≡ encode-act act ++ (all encode-data ts ++ rest) → Puts s out at (act-text (S .acts) act ts) rest r out′
 
-  abbrev pub CallPut : List ℕ → ℕ → List ℕ → ℕ → List ℕ → TermPut → Type 0
+  abbrev pub CallPut : List ℕ → ℕ → List ℕ → ℕ → List ℕ → TextPut → Type 0
   CallPut params from out at out′ r = (S : Sig) (Ps : List (List ℕ)) (acts Γ : List ℕ) (c : ℕ × List Data) (rest : List ℕ) → Ground S s funcs Γ l → KnownParts S Ps s acts params → RightCall S Ps Γ c
       → drop from s ≡ encode-call c ++ rest → Puts s out at (call-text (S .acts) c) rest r out′
 
-  abbrev pub CallsPut : List ℕ → ℕ → List ℕ → ℕ → List ℕ → TermPut → Type 0
+  abbrev pub CallsPut : List ℕ → ℕ → List ℕ → ℕ → List ℕ → TextPut → Type 0
   CallsPut params from out at out′ r = (S : Sig) (Ps : List (List ℕ)) (acts Γ : List ℕ) (cs : List (ℕ × List Data)) (rest : List ℕ) → Ground S s funcs Γ l → KnownParts S Ps s acts params → Every (RightCall S Ps Γ) cs
       → drop from s ≡ encode-list encode-call cs ++ rest → Puts s out at (all (call-text (S .acts)) cs) rest r out′
 
-  abbrev pub SummandPut : List ℕ → List ℕ → ℕ → ℕ → List ℕ → ℕ → List ℕ → TermPut → Type 0
+  abbrev pub SummandPut : List ℕ → List ℕ → ℕ → ℕ → List ℕ → ℕ → List ℕ → TextPut → Type 0
   SummandPut acts params from n out at out′ r = (S : Sig) (Ps : List (List ℕ)) (Δ : List ℕ) (h : Summand) (rest : List ℕ) → KnownTerms S s funcs → KnownParts S Ps s acts params → RightSummand S Ps Δ h → length Δ ≡ n → n ≤ frame-width → Lettered (S .acts) l
       → drop from s ≡ encode-summand h ++ rest → Puts s out at (summand-text (S .acts) n h) rest r out′

@@ -39,7 +39,7 @@ use texts::put_byte;
 use texts::put_decimal;
 
 // Where the stream was read to, and where the text ends.
-pub struct TermPut {
+pub struct TextPut {
     pub from: usize,
     pub at: usize,
 }
@@ -143,7 +143,7 @@ pub fn put_term(
     from: usize,
     out: &mut [u8],
     at: usize,
-) -> TermPut
+) -> TextPut
     requires { ⌜ (at ≤ length (now out)) × (length (now s) ≤ max-stream) ⌝ }
     ensures { λ r. ⌜ Within (now (s .entry)) (now (out .entry)) from r (now (out .exit)) ⌝ }
     ensures { λ r. ⌜ ((S : Sig) (Γ : List ℕ) (D : ℕ) (d : Data) (rest : List ℕ) → KnownTerms S (now (s .entry)) (now (funcs .entry)) → length Γ ≤ variable-code → RightTerm S Γ D d → Lettered (S .acts) l → drop from (now (s .entry)) ≡ encode-data d ++ rest → Puts (now (s .entry)) (now (out .entry)) at (data-text (S .acts) d) rest r (now (out .exit))) ⌝ }
@@ -161,10 +161,10 @@ pub fn put_term(
         opens = t.opens;
         place = t.place;
         if place == NONE {
-            return TermPut { from: i, at: p };
+            return TextPut { from: i, at: p };
         }
     }
-    TermPut { from: i, at: p }
+    TextPut { from: i, at: p }
 }
 
 // What stands before the term number i of several.
@@ -186,22 +186,22 @@ pub fn put_terms(
     n: usize,
     out: &mut [u8],
     at: usize,
-) -> TermPut
+) -> TextPut
     requires { ⌜ (at ≤ length (now out)) × (length (now s) ≤ max-stream) ⌝ }
     ensures { λ r. ⌜ Within (now (s .entry)) (now (out .entry)) from r (now (out .exit)) ⌝ }
     ensures { λ r. ⌜ ((S : Sig) (Γ Ds : List ℕ) (ds : List Data) (rest : List ℕ) → KnownTerms S (now (s .entry)) (now (funcs .entry)) → length Γ ≤ variable-code → Each (RightTerm S Γ) Ds ds → length ds ≡ n → Lettered (S .acts) l → drop from (now (s .entry)) ≡ all encode-data ds ++ rest → Puts (now (s .entry)) (now (out .entry)) at (given-text (S .acts) ds) rest r (now (out .exit))) ⌝ }
 {
     if n == 0 {
-        return TermPut { from: from, at: at };
+        return TextPut { from: from, at: at };
     }
-    let mut r = TermPut { from: from, at: at };
+    let mut r = TextPut { from: from, at: at };
     let mut i: usize = 0;
     while i < n {
         let a = put_byte(out, r.at, led(i));
         r = put_term(s, funcs, l, r.from, out, a);
         i += 1;
     }
-    TermPut {
+    TextPut {
         from: r.from,
         at: put_byte(out, r.at, b')'),
     }

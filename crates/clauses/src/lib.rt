@@ -20,7 +20,7 @@ ghost use Rattle.clauses.specs.Written.{Ends, Marks, sum-by, SumsPut, Co
 pub mod data; // data terms
 pub mod operands; // what is to be written behind operands
 
-use crate::data::TermPut;
+use crate::data::TextPut;
 use crate::data::put_term;
 use crate::data::put_terms;
 use assignments::Conditions;
@@ -193,14 +193,14 @@ fn put_action(
     from: usize,
     out: &mut [u8],
     at: usize,
-) -> TermPut
+) -> TextPut
     requires { ⌜ (at ≤ length (now out)) × ((length (now s) ≤ max-stream) × (from ≤ max-stream * 3)) ⌝ }
     ensures { λ r. ⌜ Within (now (s .entry)) (now (out .entry)) (from + 1) r (now (out .exit)) ⌝ }
     ensures { λ r. ⌜ ActionPut (now (s .entry)) (now (funcs .entry)) l (now (acts .entry)) from (now (out .entry)) at (now (out .exit)) r ⌝ }
 {
     let b = peek(s, from);
     if b == TAU {
-        return TermPut {
+        return TextPut {
             from: from + 1,
             at: put_bytes(out, at, b"tau"),
         };
@@ -220,7 +220,7 @@ fn put_call(
     from: usize,
     out: &mut [u8],
     at: usize,
-) -> TermPut
+) -> TextPut
     requires { ⌜ (at ≤ length (now out)) × ((length (now s) ≤ max-stream) × (from ≤ max-stream * 5)) ⌝ }
     ensures { λ r. ⌜ Within (now (s .entry)) (now (out .entry)) (from + 1) r (now (out .exit)) ⌝ }
     ensures { λ r. ⌜ CallPut (now (s .entry)) (now (funcs .entry)) l (now (params .entry)) from (now (out .entry)) at (now (out .exit)) r ⌝ }
@@ -241,13 +241,13 @@ fn put_calls(
     from: usize,
     out: &mut [u8],
     at: usize,
-) -> TermPut
+) -> TextPut
     requires { ⌜ (at ≤ length (now out)) × ((length (now s) ≤ max-stream) × (from ≤ max-stream * 4)) ⌝ }
     ensures { λ r. ⌜ Ends (now (out .entry)) (r .at) (now (out .exit)) ⌝ }
     ensures { λ r. ⌜ CallsPut (now (s .entry)) (now (funcs .entry)) l (now (params .entry)) from (now (out .entry)) at (now (out .exit)) r ⌝ }
 {
     let n = wide(peek(s, from));
-    let mut r = TermPut {
+    let mut r = TextPut {
         from: from + 1,
         at: at,
     };
@@ -270,7 +270,7 @@ fn put_summand(
     n: usize,
     out: &mut [u8],
     at: usize,
-) -> TermPut
+) -> TextPut
     requires { ⌜ (at ≤ length (now out)) × ((length (now s) ≤ max-stream) × ((from ≤ 65536) × (n ≤ 255))) ⌝ }
     ensures { λ r. ⌜ Ends (now (out .entry)) (r .at) (now (out .exit)) × (r .from ≤ length (now (s .entry))) ⌝ }
     ensures { λ r. ⌜ SummandPut (now (s .entry)) (now (funcs .entry)) l (now (acts .entry)) (now (params .entry)) from n (now (out .entry)) at (now (out .exit)) r ⌝ }
@@ -282,7 +282,7 @@ fn put_summand(
     let d = put_action(s, funcs, acts, l, c.end, out, b);
     let e = put_calls(s, funcs, params, l, d.from, out, d.at);
     let f = put_behind(s, funcs, l, c, out, e.at);
-    TermPut {
+    TextPut {
         from: smaller(e.from, s.len()),
         at: put_closing(out, f, m),
     }

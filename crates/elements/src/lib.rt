@@ -86,12 +86,15 @@ pub fn smaller(a: usize, b: usize) -> usize
     if a < b { a } else { b }
 }
 
-// A sum cut at `most`, for counts that are not told apart from there on.
+// A sum cut at `most`, for counts that are not told apart from there on. The compiler leaves out the first test where b is known to be small.
 pub fn cut_sum(most: usize, a: usize, b: usize) -> usize
-    requires { ⌜ a ≤ most ⌝ }
+    requires { ⌜ (a ≤ most) × (most < 65536) ⌝ }
     ensures { λ r. ⌜ r ≡ min most (a + b) ⌝ }
 {
-    if b >= most - a { most } else { a + b }
+    if b >= most {
+        return most;
+    }
+    smaller(a + b, most)
 }
 
 pub fn larger(a: usize, b: usize) -> usize

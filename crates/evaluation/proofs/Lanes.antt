@@ -8,11 +8,11 @@ use native.Mathlib.Omega.{arith}
 use lib.Dec.{eqb, ltb}
 use lib.ListN.{length, getD, drop, take, set, replicate}
 use lib.Seq.{getD-drop, getD-set-same, getD-set-other}
-use borrow.Author.Tests.{ltb-true, ltb-false}
+use borrow.Author.Tests.{ltb-true, ltb-false, eqb-true, eqb-false}
 use Rattle.pcrl.specs.Stream.{variable-code, function-code}
 use Rattle.pcrl.specs.Decode.{node-of}
 use Rattle.evaluation.specs.Run.{pick, operator-code, operator-worth, argument-count, worth-of, run}
-use Rattle.evaluation.specs.Rows.{lane, RowPut, LanesKept}
+use Rattle.evaluation.specs.Rows.{lane, RowPut, Marked, LanesKept}
 use Rattle.evaluation.proofs.Bytes.{worth-value, worth-variable, worth-one, worth-two, worth-operator, run-none, run-more}
 
 -- ONE ROW, LANE BY LANE
@@ -52,6 +52,21 @@ put-all rows d f n rows′ e p = record { lanes = λ i h. p .so-far i (omega ari
 -- the same row by other words
 pub put-as : (rows : List ℕ) (d : ℕ) (f g : ℕ → ℕ) (rows′ : List ℕ) → ((i : ℕ) → i < 16 → f i ≡ g i) → RowPut rows d f rows′ → RowPut rows d g rows′
 put-as rows d f g rows′ h p = record { lanes = λ i k. p .lanes i k ∙ h i k; others = p .others }
+
+-- a row is marked as one value only if it is one
+pub mark-put : (rows marks : List ℕ) (d : ℕ) (f : ℕ → ℕ) (rows′ : List ℕ) (m : ℕ) → 51 ≤ length marks → d < 51 → (m ≡ 0 → (i : ℕ) → f i ≡ f 0) → RowPut rows d f rows′ → Marked rows marks → Marked rows′ (set marks d m)
+mark-put rows marks d f rows′ m l k h p w r q e i o = go (eqb r d) refl
+  where
+    go : (b : Bool) → eqb r d ≡ b → lane rows′ r i ≡ lane rows′ r 0
+    go true y =
+        let z : r ≡ d = eqb-true r d y in
+        let u : m ≡ 0 = sym (getD-set-same marks d m 0 (omega arith)) ∙ ap (λ (x : ℕ). getD (set marks d m) x 0) (sym z) ∙ e in
+        rw z (p .lanes i o ∙ h u i ∙ sym (p .lanes 0 (omega arith)))
+    go false y =
+        let z = eqb-false r d y in
+        let u : getD marks r 0 ≡ 0 = sym (getD-set-other marks d r m 0 z) ∙ e in
+        let v : (x : ℕ) → x < 16 → lane rows′ r x ≡ lane rows r x = λ x c. p .others (r * 16 + x) (λ a b. z (omega arith)) in
+        v i o ∙ w r q u i o ∙ sym (v 0 (omega arith))
 
 -- THE ROW OF A BYTE
 

@@ -1,4 +1,4 @@
--- What the index of a right table makes known of an equation's summands.
+-- What the index of a right table makes known, and what that says of an equation's summands.
 use mathlib.Core.Path.{_≡_, ap, sym, subst, _∙_}
 use mathlib.Core.List.{List, [], _++_}
 use Prim.Native.Nat.{ℕ, _+_, _<_, _≤_}
@@ -7,7 +7,7 @@ use lib.ListN.{length, getD, take, drop, length-map, List·getD-map}
 use lib.Seq.{getD-take, length-take-le, ext-getD}
 use Rattle.pcrl.specs.Limits.{frame-width, max-arity}
 use Rattle.pcrl.specs.Tests.{Every}
-use Rattle.pcrl.specs.Sheet.{no-func, Action, no-action, size, func}
+use Rattle.pcrl.specs.Sheet.{no-func, Sig, Action, no-action, size, func}
 use Rattle.pcrl.specs.Table.{Summand, Equation, Table, no-equation, equation, params-of, summands-of}
 use Rattle.pcrl.specs.Stack.{InSorts}
 use Rattle.pcrl.specs.Stream.{encode-numbers, encode-list, encode-sorts, encode-func, encode-action, encode-summand}
@@ -16,24 +16,18 @@ use Rattle.laws.specs.Each.{each-length}
 use Rattle.laws.specs.Every.{every-at, every-weaken}
 use Rattle.theory.specs.TableRight.{params-length, params-at}
 use Rattle.theory.specs.StepRight.{summands-right}
-use Rattle.terms.specs.Stands.{Stands, Standing}
-use Rattle.terms.proofs.Places.{stands-there, item-at}
+use Rattle.terms.specs.Stands.{Stands, Standing, list-at}
+use Rattle.terms.proofs.Places.{stands-there, item-at, list-is}
 use Rattle.evaluation.specs.Known.{KnownTerms}
 use Rattle.tables.specs.Indexed.{Indexed}
 use Rattle.tables.specs.declared.Index.{Index}
-use Rattle.firing.specs.Known.{KnownParts, AtRow}
+use Rattle.firing.specs.Known.{KnownParts, AtRow, KnownTable, ActsAt}
 
 -- a piece stands at its place in an array of which only the first n places are used
 pub there : {A : Type 0} (encode : A → List ℕ) (s : List ℕ) (xs : List A) (places : List ℕ) (n : ℕ) (a : A) → n ≡ length xs → Standing encode s xs (take n places) → (i : ℕ) → i < length xs → Stands s (getD places i 0) (encode (getD xs i a))
 there encode s xs places n a e k i h = subst (λ (p : ℕ). Stands s p (encode (getD xs i a))) (getD-take n places i 0 (omega arith)) (stands-there encode s xs (take n places) k a i h)
 
 module _ (T : Table) (s : List ℕ) (index : Index) (indexed : Indexed T s index) (right : RightTable T) where
-  Ps : List (List ℕ)
-  Ps = params-of (T .equations)
-
-  many : length (params-of (T .equations)) ≡ length (T .equations)
-  many = params-length T
-
   right-sig : RightSig (T .sig)
   unfolding RightTable
   right-sig = right .0 .0
@@ -57,44 +51,62 @@ module _ (T : Table) (s : List ℕ) (index : Index) (indexed : Indexed T s index
   parts-known =
       record {
         act-at = λ a h. there encode-action s (T .sig .acts) (index .acts) (index .actions) no-action (indexed .actions-are) (indexed .parts .acts-stand) a h;
-        params-at = λ e h. there encode-numbers s (params-of (T .equations)) (index .params) (index .equations) [] (indexed .equations-are ∙ sym many) (indexed .parts .params-stand) e h;
+        params-at = λ e h. there encode-numbers s (params-of (T .equations)) (index .params) (index .equations) [] (indexed .equations-are ∙ sym (params-length T)) (indexed .parts .params-stand) e h;
         few-acts = right-sig .1 .1 .0 .0;
         few-sorts = every-weaken (RightAction (T .sig .sorts)) (λ (a : Action). length (a .takes) ≤ max-arity) (λ a k. k .1 .0) (T .sig .acts) (right-sig .1 .1 .0 .1);
         few-params = few-parameters;
       }
 
-  module _ (e : ℕ) (below : e < length (T .equations)) (vs : List ℕ) (in-sorts : InSorts (T .sig) (equation T e .params) vs) where
+  pub known-table : KnownTable T s (index .funcs) (index .acts) (index .params) (index .rows)
+  unfolding equation summands-of
+  known-table =
+      record {
+        right = right;
+        terms = terms-known;
+        parts = parts-known;
+        rows-at = λ e h.
+            let es = T .equations in
+            let m : length (summands-of es) ≡ length es = length-map es (λ (x : Equation). x .summands) in
+            let same : getD (summands-of es) e [] ≡ equation T e .summands = List·getD-map (λ (x : Equation). x .summands) es e no-equation in
+            subst (λ (hs : List Summand). Stands s (getD (index .rows) e 0) (encode-list encode-summand hs)) same (there (encode-list encode-summand) s (summands-of es) (index .rows) (index .equations) [] (indexed .equations-are ∙ sym m) (indexed .parts .rows-stand) e (omega arith));
+      }
+
+pub acts-at : (T : Table) (s : List ℕ) (index : Index) → Indexed T s index → ActsAt (T .sig) s (index .acts) (index .actions)
+acts-at T s index indexed = record {
+  count = indexed .actions-are;
+  act-at = λ a h. there encode-action s (T .sig .acts) (index .acts) (index .actions) no-action (indexed .actions-are) (indexed .parts .acts-stand) a h;
+}
+
+module _ (T : Table) (s funcs acts params rows : List ℕ) (known : KnownTable T s funcs acts params rows) where
+  many : length (params-of (T .equations)) ≡ length (T .equations)
+  many = params-length T
+
+  module _ (e : ℕ) (below : e < length (T .equations)) where
     own : getD (params-of (T .equations)) e [] ≡ equation T e .params
     own = params-at T e
 
-    pub at-row : AtRow (T .sig) (params-of (T .equations)) s (index .funcs) (index .acts) (index .params) (equation T e .params) vs (equation T e .summands)
-    at-row =
-        record {
-          known = terms-known;
-          parts = parts-known;
-          right = summands-right T right e below;
-          few = subst (λ (Ds : List ℕ). length Ds ≤ frame-width) own (every-at (λ (Ds : List ℕ). length Ds ≤ frame-width) (params-of (T .equations)) [] e few-parameters (let z = many in omega arith));
-          in-sorts = in-sorts;
-        }
+    -- the sorts of the equation's parameters stand at its place
+    pub sorts-there : list-at s (getD params e 0) ≡ equation T e .params
+    sorts-there = let n = many in list-is s (getD params e 0) (getD (params-of (T .equations)) e []) (known .parts .params-at e (omega arith)) ∙ own
 
-    -- the summands stand at the row's place
-    pub row-here : (row : ℕ) → row ≡ getD (index .rows) e 0 → (rest : List ℕ) × (drop row s ≡ encode-list encode-summand (equation T e .summands) ++ rest)
-    unfolding equation summands-of
-    row-here row er =
-        let es = T .equations in
-        let m : length (summands-of es) ≡ length es = length-map es (λ (x : Equation). x .summands) in
-        let z : getD (summands-of es) e [] ≡ equation T e .summands = List·getD-map (λ (x : Equation). x .summands) es e no-equation in
-        let st : Stands s (getD (index .rows) e 0) (encode-list encode-summand (getD (summands-of es) e [])) = there (encode-list encode-summand) s (summands-of es) (index .rows) (index .equations) [] (indexed .equations-are ∙ sym m) (indexed .parts .rows-stand) e (omega arith) in
-        let st′ : Stands s row (encode-list encode-summand (equation T e .summands)) = subst (λ (hs : List Summand). Stands s row (encode-list encode-summand hs)) z (subst (λ (p : ℕ). Stands s p (encode-list encode-summand (getD (summands-of es) e []))) (sym er) st) in
-        (st′ .0, st′ .1)
+    module _ (vs : List ℕ) (in-sorts : InSorts (T .sig) (equation T e .params) vs) where
+      pub at-row : AtRow (T .sig) (params-of (T .equations)) s funcs acts params (equation T e .params) vs (equation T e .summands)
+      at-row =
+          record {
+            known = known .terms;
+            parts = known .parts;
+            right = summands-right T (known .right) e below;
+            few = subst (λ (Ds : List ℕ). length Ds ≤ frame-width) own (every-at (λ (Ds : List ℕ). length Ds ≤ frame-width) (params-of (T .equations)) [] e (known .parts .few-params) (let z = many in omega arith));
+            in-sorts = in-sorts;
+          }
 
-    -- as many values as parameters
-    pub values-first : (p : ℕ) (first params : List ℕ) → p ≡ length (getD (params-of (T .equations)) e []) → length first ≡ 8 → p ≤ frame-width → ((i : ℕ) → i < p → getD first i 0 ≡ getD params i 0) → take (length vs) params ≡ vs → take p first ≡ vs
-    unfolding InSorts
-    values-first p first params ep l8 few same ev =
-        let n : length (equation T e .params) ≡ length vs = each-length (λ (D v : ℕ). v < size (T .sig) D) (equation T e .params) vs in-sorts in
-        let q : p ≡ length vs = ep ∙ ap length own ∙ n in
-        let l : length (take p first) ≡ p = length-take-le p first (omega arith) in
-        ext-getD 0 (take p first) vs (omega arith) (λ i h.
-        let k : i < p = omega arith in
-        getD-take p first i 0 k ∙ same i k ∙ sym (getD-take (length vs) params i 0 (omega arith)) ∙ ap (λ (x : List ℕ). getD x i 0) ev)
+      -- as many values as parameters
+      pub values-first : (p : ℕ) (first params : List ℕ) → p ≡ length (getD (params-of (T .equations)) e []) → length first ≡ 8 → p ≤ frame-width → ((i : ℕ) → i < p → getD first i 0 ≡ getD params i 0) → take (length vs) params ≡ vs → take p first ≡ vs
+      unfolding InSorts
+      values-first p first params ep l8 few same ev =
+          let n : length (equation T e .params) ≡ length vs = each-length (λ (D v : ℕ). v < size (T .sig) D) (equation T e .params) vs in-sorts in
+          let q : p ≡ length vs = ep ∙ ap length own ∙ n in
+          let l : length (take p first) ≡ p = length-take-le p first (omega arith) in
+          ext-getD 0 (take p first) vs (omega arith) (λ i h.
+          let k : i < p = omega arith in
+          getD-take p first i 0 k ∙ same i k ∙ sym (getD-take (length vs) params i 0 (omega arith)) ∙ ap (λ (x : List ℕ). getD x i 0) ev)

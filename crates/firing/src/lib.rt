@@ -8,7 +8,6 @@ use elements::wide;
 use limits::MAX_ARITY;
 use limits::MAX_CALLS;
 use stacks::FRAME;
-use tables::Index;
 ghost use mathlib.Core.Path.{_≡_};
 ghost use mathlib.Core.List.{List, [], _++_, map};
 ghost use Prim.Native.Nat.{ℕ, _+_, _-_, _*_, _≤_, _<_, max};
@@ -24,11 +23,10 @@ ghost use Rattle.pcrl.specs.Table.{Summand, Table, equation};
 ghost use Rattle.pcrl.specs.Stream.{variable-code, encode-data, encode-list, encode-act, encode-call, encode-summand};
 ghost use Rattle.pcrl.specs.Label.{label};
 ghost use Rattle.evaluation.specs.Known.{KnownTerms};
-ghost use Rattle.pcrl.specs.Right.{RightTerm, RightCall, RightTable};
+ghost use Rattle.pcrl.specs.Right.{RightTerm, RightCall};
 ghost use Rattle.pcrl.specs.Stack.{InSorts};
 ghost use Rattle.pcrl.specs.Steps.{call-frame, fired};
-ghost use Rattle.tables.specs.Indexed.{Indexed};
-ghost use Rattle.firing.specs.Known.{Valued, KnownParts, AtRow};
+ghost use Rattle.firing.specs.Known.{Valued, KnownParts, AtRow, KnownTable};
 ghost use Rattle.firing.specs.Fires.{frame-bytes, listing, act-of, InBounds, Gives, Fires};
 
 pub const TAU: u8 = limits::TAU;
@@ -245,16 +243,22 @@ fn fire_rows(
 }
 
 // STEP k OF EQUATION e, WHERE ITS PARAMETERS HAVE THE GIVEN VALUES.
-pub fn fire(s: &[u8], index: Index, e: usize, params: &[u8], k: u64, made: &mut [u8]) -> Fired
+pub fn fire(
+    s: &[u8],
+    funcs: &[u16],
+    acts: &[u16],
+    places: &[u16],
+    rows: &[u16],
+    e: usize,
+    params: &[u8],
+    k: u64,
+    made: &mut [u8],
+) -> Fired
     requires { ⌜ (length (now s) ≤ max-stream) × (max-calls * (1 + frame-width) ≤ length (now made)) ⌝ }
-    ensures { λ r. ⌜ InBounds r (now (made .entry)) (now (made .exit)) × ((T : Table) (vs : List ℕ) → Indexed T (now (s .entry)) index → RightTable T → e < length (T .equations) → InSorts (T .sig) (equation T e .params) vs → take (length vs) (now (params .entry)) ≡ vs → Fires (T .sig) (getElem? (listing T e vs) k) (length (listing T e vs)) r (now (made .entry)) (now (made .exit))) ⌝ }
+    ensures { λ r. ⌜ InBounds r (now (made .entry)) (now (made .exit)) × ((T : Table) (vs : List ℕ) → KnownTable T (now (s .entry)) (now (funcs .entry)) (now (acts .entry)) (now (places .entry)) (now (rows .entry)) → e < length (T .equations) → InSorts (T .sig) (equation T e .params) vs → take (length vs) (now (params .entry)) ≡ vs → Fires (T .sig) (getElem? (listing T e vs) k) (length (listing T e vs)) r (now (made .entry)) (now (made .exit))) ⌝ }
 {
-    let funcs = index.funcs;
-    let acts = index.acts;
-    let places = index.params;
-    let rows = index.rows;
-    let p = wide(parameters(s, &places, e));
+    let p = wide(parameters(s, places, e));
     let first = first_values(params, p);
-    let row = cell(&rows, e);
-    fire_rows(s, &funcs, &acts, &places, first, p, row, k, made)
+    let row = cell(rows, e);
+    fire_rows(s, funcs, acts, places, first, p, row, k, made)
 }

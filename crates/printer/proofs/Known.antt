@@ -15,10 +15,8 @@ use Rattle.theory.specs.TableRight.{params-length, params-at}
 use Rattle.theory.specs.StepRight.{summands-right}
 use Rattle.terms.specs.Stands.{Stands, list-at}
 use Rattle.terms.proofs.Places.{number-at, behind, count-at, list-is}
-use Rattle.tables.specs.declared.Index.{Index}
-use Rattle.tables.specs.Indexed.{Indexed}
-use Rattle.firing.proofs.Indexing.{there, terms-known, parts-known}
-use Rattle.printer.specs.Lines.{KnownTable}
+use Rattle.firing.specs.Known.{KnownTable}
+use Rattle.firing.proofs.Indexing.{sorts-there}
 
 module _ (T : Table) (s : List ℕ) (p : ℕ) (h : Stands s p (encode-start (T .start))) where
   pub start-at : getD s p 0 ≡ T .start .0
@@ -53,7 +51,7 @@ module _ (T : Table) (s funcs acts params rows : List ℕ) (known : KnownTable T
 
   module _ (e : ℕ) (below : e < length (T .equations)) where
     pub sorts-at : list-at s (getD params e 0) ≡ equation T e .params
-    sorts-at = let n = params-length T in list-is s (getD params e 0) (getD (params-of (T .equations)) e []) (known .parts .params-at e (omega arith)) ∙ params-at T e
+    sorts-at = sorts-there T s funcs acts params rows known e below
 
     right-sorts : RightSorts (T .sig) frame-width (equation T e .params)
     unfolding RightTable RightEquations
@@ -74,20 +72,6 @@ module _ (T : Table) (s funcs acts params rows : List ℕ) (known : KnownTable T
         let h = each-at _ (params-of (T .equations)) (summands-of (T .equations)) e [] [] (omega arith) (known .right .0 .1 .0 .1) in
         let same : getD (summands-of (T .equations)) e [] ≡ equation T e .summands = List·getD-map (λ (x : Equation). x .summands) (T .equations) e no-equation in
         (subst (λ (hs : List Summand). length hs ≤ max-summands) same (h .0), summands-right T (known .right) e below)
-
--- what an index makes known
-pub known-table : (T : Table) (s : List ℕ) (index : Index) → Indexed T s index → RightTable T → KnownTable T s (index .funcs) (index .acts) (index .params) (index .rows)
-unfolding equation summands-of
-known-table T s index indexed right = record {
-  right = right;
-  terms = terms-known T s index indexed right;
-  parts = parts-known T s index indexed right;
-  rows-at = λ e h.
-      let es = T .equations in
-      let m : length (summands-of es) ≡ length es = length-map es (λ (x : Equation). x .summands) in
-      let same : getD (summands-of es) e [] ≡ equation T e .summands = List·getD-map (λ (x : Equation). x .summands) es e no-equation in
-      subst (λ (hs : List Summand). Stands s (getD (index .rows) e 0) (encode-list encode-summand hs)) same (there (encode-list encode-summand) s (summands-of es) (index .rows) (index .equations) [] (indexed .equations-are ∙ sym m) (indexed .parts .rows-stand) e (omega arith));
-}
 
 -- the start stands inside the stream
 pub start-inside : (s : List ℕ) (p : ℕ) (x : ℕ × List ℕ) → Stands s p (encode-start x) → Stands s (min p (length s)) (encode-start x)

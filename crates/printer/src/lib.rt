@@ -8,7 +8,7 @@ ghost use Rattle.pcrl.specs.Right.{RightTable};
 ghost use Rattle.pcrl.specs.Printer.{table-text};
 ghost use Rattle.tables.specs.Indexed.{Indexed};
 ghost use Rattle.texts.specs.Wrote.{Wrote};
-ghost use Rattle.printer.specs.Lines.{KnownTable};
+ghost use Rattle.firing.specs.Known.{KnownTable};
 ghost use Rattle.printer.specs.Counted.{Counted};
 
 pub mod delivery; // from any bytes

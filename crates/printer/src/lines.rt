@@ -12,7 +12,8 @@ ghost use Rattle.rendering.specs.Texts.{bracketed-text, concat, proc-line-text,
 ghost use Rattle.terms.specs.Stands.{Stands};
 ghost use Rattle.texts.specs.Wrote.{Wrote};
 ghost use Rattle.lettering.specs.Named.{Lettered};
-ghost use Rattle.printer.specs.Lines.{param-by, proc-head-by, KnownTable};
+ghost use Rattle.firing.specs.Known.{KnownTable};
+ghost use Rattle.printer.specs.Lines.{param-by, proc-head-by};
 use clauses::put_right;
 use declarations::bytes_at;
 use declarations::put_values;

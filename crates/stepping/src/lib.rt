@@ -105,11 +105,24 @@ fn ask_in(
     if !stacks::right_frames(&stream[0..n], index, &frames[0..], depth) {
         return refusal(WRONG_STACK, depth);
     }
-    let r = asking::ask(&stream[0..n], index, &mut frames[0..BYTES], depth, k);
+    let funcs = index.funcs;
+    let acts = index.acts;
+    let params = index.params;
+    let rows = index.rows;
+    let r = asking::ask(
+        &stream[0..n],
+        &funcs,
+        &acts,
+        &params,
+        &rows,
+        &mut frames[0..BYTES],
+        depth,
+        k,
+    );
     if r.refused != 0 {
         return refusal(r.refused, r.depth);
     }
-    let e = asking::encode(&stream[0..n], index, r);
+    let e = asking::encode(&stream[0..n], &acts, index.actions, r);
     let bytes = e.bytes;
     *out = bytes;
     Answered {

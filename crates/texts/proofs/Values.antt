@@ -7,19 +7,17 @@ use borrow.Author.Tests.{eq-eqb, ne-eqb}
 use mathlib.Core.Bool.{Bool, true, false}
 use lib.Dec.{eqb}
 use lib.ListN.{length, getD, take, List·getD-eq-default}
-use lib.Seq.{take-nil, getD-take}
+use lib.Seq.{take-nil}
 use Rattle.pcrl.specs.Text.{bytes, decimal}
 use Rattle.pcrl.specs.Sheet.{Sig, Act, tau, action, no-action}
 use Rattle.pcrl.specs.Label.{Label, silent, named, label}
-use Rattle.pcrl.specs.Table.{Table}
-use Rattle.pcrl.specs.Stream.{encode-action, tau-code}
+use Rattle.pcrl.specs.Stream.{tau-code}
 use Rattle.terms.specs.Stands.{list-at}
-use Rattle.terms.proofs.Places.{stands-there, name-stands, list-is}
-use Rattle.tables.specs.declared.Index.{Index}
-use Rattle.tables.specs.Indexed.{Indexed}
+use Rattle.terms.proofs.Places.{name-stands, list-is}
 use Rattle.laws.specs.Tests.{where-yes, where-no}
 use native.Mathlib.Decide.{ℕ-discrete}
 use Rattle.firing.specs.Fires.{act-of}
+use Rattle.firing.specs.Known.{ActsAt}
 use Rattle.labels.specs.Labels.{label-of}
 use Rattle.pcrl.specs.Walk.{values-text, label-text, line, step-line}
 use Rattle.texts.specs.Pieces.{bracketed}
@@ -43,16 +41,12 @@ two-values (suc (suc n)) v w h =
 -- LABELS
 
 -- the name of an action, where it stands
-pub name-is : (T : Table) (s : List ℕ) (index : Index) → Indexed T s index → (a : ℕ) → a < index .actions → list-at s (getD (index .acts) a 0) ≡ getD (T .sig .acts) a no-action .name
-name-is T s index x a h =
-    let own = take (index .actions) (index .acts) in
-    let n = x .actions-are in
-    let at : getD own a 0 ≡ getD (index .acts) a 0 = getD-take (index .actions) (index .acts) a 0 h in
-    let there = stands-there encode-action s (T .sig .acts) own (x .parts .acts-stand) no-action a (omega arith) in
-    ap (list-at s) (sym at) ∙ list-is s (getD own a 0) _ (name-stands s (getD own a 0) (getD (T .sig .acts) a no-action) there)
+module _ (S : Sig) (s acts : List ℕ) (actions : ℕ) (known : ActsAt S s acts actions) (a : ℕ) where
+  pub name-is : a < actions → list-at s (getD acts a 0) ≡ getD (S .acts) a no-action .name
+  name-is h = let n = known .count in list-is s (getD acts a 0) _ (name-stands s (getD acts a 0) (getD (S .acts) a no-action) (known .act-at a (omega arith)))
 
-pub no-name : (T : Table) (s : List ℕ) (index : Index) → Indexed T s index → (a : ℕ) → index .actions ≤ a → [] ≡ getD (T .sig .acts) a no-action .name
-no-name T s index x a h = let n = x .actions-are in sym (ap (λ y. y .name) (List·getD-eq-default (T .sig .acts) no-action {n = a} (omega arith)))
+  pub no-name : actions ≤ a → [] ≡ getD (S .acts) a no-action .name
+  no-name h = let n = known .count in sym (ap (λ y. y .name) (List·getD-eq-default (S .acts) no-action {n = a} (omega arith)))
 
 pub tau-text : (S : Sig) (a : ℕ) (vs : List ℕ) → a ≡ tau-code → bytes "tau" ≡ label-text (label-of S a vs)
 unfolding label-of act-of label label-text

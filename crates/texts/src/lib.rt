@@ -3,11 +3,12 @@ ghost use mathlib.Core.Path.{_≡_};
 ghost use mathlib.Core.List.{List, [], _∷_};
 ghost use Prim.Native.Nat.{ℕ, _+_, _%_, _<_, _≤_};
 ghost use lib.ListN.{length, getD, take};
-ghost use Rattle.pcrl.specs.Sheet.{no-action};
+ghost use Rattle.pcrl.specs.Sheet.{Sig, no-action};
 ghost use Rattle.pcrl.specs.Table.{Table};
 ghost use Rattle.pcrl.specs.Text.{decimal};
 ghost use Rattle.pcrl.specs.Walk.{label-text, step-line};
 ghost use Rattle.tables.specs.Indexed.{Indexed};
+ghost use Rattle.firing.specs.Known.{ActsAt};
 ghost use Rattle.labels.specs.Labels.{label-of};
 ghost use Rattle.texts.specs.Wrote.{Wrote};
 ghost use Rattle.texts.specs.Pieces.{bracketed};
@@ -89,15 +90,15 @@ pub fn put_values(out: &mut [u8], at: usize, arity: u8, v: u8, w: u8) -> usize
     put_byte(out, d, b')')
 }
 
-pub fn name(s: &[u8], index: tables::Index, action: u8) -> &[u8]
-    ensures { λ r. ⌜ ((T : Table) → Indexed T (now (s .entry)) index → now r ≡ getD (T .sig .acts) action no-action .name) ⌝ }
+// The name of an action, by where the actions stand and how many there are.
+pub fn name<'a>(s: &'a [u8], acts: &[u16], actions: usize, action: u8) -> &'a [u8]
+    ensures { λ r. ⌜ ((S : Sig) → ActsAt S (now (s .entry)) (now (acts .entry)) actions → now r ≡ getD (S .acts) action no-action .name) ⌝ }
 {
     let a = wide(action);
-    if index.actions <= a {
+    if actions <= a {
         return &s[0..0];
     }
-    let places = index.acts;
-    terms::list_at(s, cell(&places, a))
+    terms::list_at(s, cell(acts, a))
 }
 
 // "label (name, bracketed values by commas, no blanks; tau as `tau`)"
@@ -117,7 +118,8 @@ pub fn put_label(
     if action == TAU {
         return put_bytes(out, at, b"tau");
     }
-    let p = put_bytes(out, at, name(s, index, action));
+    let acts = index.acts;
+    let p = put_bytes(out, at, name(s, &acts, index.actions, action));
     put_values(out, p, arity, v, w)
 }
 

@@ -7,14 +7,14 @@ ghost use lib.ListN.{length, take};
 ghost use Rattle.pcrl.specs.Limits.{frame-width, stack-limit, max-stream};
 ghost use Rattle.pcrl.specs.Table.{Table};
 ghost use Rattle.pcrl.specs.Right.{RightTable};
-ghost use Rattle.pcrl.specs.Stack.{frames-of};
+ghost use Rattle.pcrl.specs.Stack.{RightFrames, frames-of};
 ghost use Rattle.pcrl.specs.Answers.{table-checked, start-stack};
 ghost use Rattle.pcrl.specs.Text.{decimal, bytes};
 ghost use Rattle.pcrl.specs.Walk.{walk-steps, line, walk-lines, walk-made, walk-text, step-line};
 ghost use Rattle.pcrl.specs.Blocks.{block-bytes, block-stream, max-file};
 ghost use Rattle.tables.specs.Indexed.{Indexed};
 ghost use Rattle.stacks.specs.Lent.{frames-in, stack-bytes};
-ghost use Rattle.asking.specs.Replies.{label-told};
+ghost use Rattle.asking.specs.Replies.{AskIs, label-told};
 ghost use Rattle.texts.specs.Wrote.{Wrote};
 ghost use Rattle.walker.specs.Moves.{moved-by};
 use blocks::MAX_FILE;
@@ -126,6 +126,18 @@ fn put_step(
     )
 }
 
+// Asked for step 0.
+fn ask_first(s: &[u8], index: tables::Index, frames: &mut [u8], depth: usize) -> asking::Told
+    requires { ⌜ (length (now s) ≤ max-stream) × ((length (now frames) ≡ stack-bytes) × (depth ≤ stack-limit)) ⌝ }
+    ensures { λ r. ⌜ (r .depth ≤ stack-limit) × ((T : Table) → RightTable T → Indexed T (now (s .entry)) index → RightFrames frame-width stack-limit T (frames-in frame-width (now (frames .entry))) depth → AskIs T (frames-in frame-width (now (frames .entry))) depth 0 r (frames-in frame-width (now (frames .exit)))) ⌝ }
+{
+    let funcs = index.funcs;
+    let acts = index.acts;
+    let params = index.params;
+    let rows = index.rows;
+    asking::ask(s, &funcs, &acts, &params, &rows, frames, depth, 0)
+}
+
 // The lines of a walk from frames that hold the start, and how long they are.
 fn put_walk(s: &[u8], index: tables::Index, frames: &mut [u8], out: &mut [u8]) -> usize
     requires { ⌜ (length (now s) ≤ max-stream) × (length (now frames) ≡ stack-bytes) ⌝ }
@@ -139,7 +151,7 @@ fn put_walk(s: &[u8], index: tables::Index, frames: &mut [u8], out: &mut [u8]) -
     };
     let mut at = 0;
     while w.taken < STEPS {
-        let r = asking::ask(s, index, frames, w.depth, 0);
+        let r = ask_first(s, index, frames, w.depth);
         if r.refused != 0 {
             return texts::put_bytes(out, at, b"stuck\n");
         }

@@ -1,34 +1,25 @@
 -- The four answers, each by what the search of the top frame's equation found.
 use borrow.Author.Needs.{needs}
-use Rattle.asking.proofs.ask.Statement.{statement}
-use Rattle.asking.proofs.ask.Tie as tie
-use Rattle.asking.proofs.ask.Lts as lts
-use Rattle.firing.proofs.fire.Reads as fire-reads
-use Rattle.stacks.proofs.part.Reads as part-reads
-use Rattle.stacks.proofs.replace.Reads as replace-reads
-use Rattle.terms.proofs.list_at.Reads as list-at-reads
-use Rattle.terms.proofs.place.Reads as place-reads
-use Rattle.terms.proofs.wide.Reads as wide-reads
 use native.Mathlib.Omega.{arith}
-use mathlib.Core.Path.{_≡_, refl, sym, ap, _∙_, subst}
-use mathlib.Core.List.{List, _++_}
+use mathlib.Core.Path.{_≡_, refl, ap, _∙_}
+use mathlib.Core.List.{List}
 use Prim.Native.Nat.{ℕ, _+_, _-_, _*_, _<_}
 use borrow.Author.Tests.{not-true, not-false}
-use lib.ListN.{length, getD, take, drop}
+use lib.ListN.{length, take, drop}
 use lib.Seq.{take-all, take-length}
 use Rattle.firing.proofs.Telling.{told-is}
-use Rattle.pcrl.specs.Limits.{frame-width, stack-limit}
-use Rattle.pcrl.specs.Stack.{Frame}
-use Rattle.stacks.specs.Lent.{frames-at, frames-in}
+use Rattle.pcrl.specs.Limits.{frame-width}
+use Rattle.stacks.specs.Lent.{frames-at}
 use Rattle.stacks.proofs.Filling.{length-frames-at}
-use Rattle.asking.specs.Replies.{AskIs}
 use Rattle.asking.proofs.Stepping.{told-found, told-none, ended-is, none-is, deep-is, step-is, zeros-behind, looked}
+use Rattle.asking.proofs.ask.Statement.{statement}
+use Rattle.asking.proofs.ask.Tie as tie
 
 plain-requires : tie.Need-plain-requires
 plain-requires c κs = search needs
 
 returns : tie.Need-returns
-returns c = (omega (arith, c .plain .ensures .1 .1), λ T r x p. ended-is T (c .before .before .before .before .args .frames .now) (c .before .before .before .before .args .depth) (c .before .before .before .before .args .k) (c .before .before .before .before .pre .1 .0) p (c .plain .result) (omega arith) (c .plain .ensures .0) (c .plain .ensures .1 .0) (c .plain .ensures .1 .1))
+returns c = (omega (arith, c .plain .ensures .1 .1), λ T x p. let a = c .before .before .before .before .before .before .before .before .args in ended-is T (a .frames .now) (a .depth) (a .k) (c .before .before .before .before .before .before .before .before .pre .1 .0) p (c .plain .result) (omega arith) (c .plain .ensures .0) (c .plain .ensures .1 .0) (c .plain .ensures .1 .1))
 
 sub-top : tie.Need-sub-top
 sub-top c = search needs
@@ -41,9 +32,6 @@ slice-read-wide c = search needs
 
 wide-requires : tie.Need-wide-requires
 wide-requires c κs = search needs
-
-slice-aggregate-place : tie.Need-slice-aggregate-place
-slice-aggregate-place c = search needs
 
 place-requires : tie.Need-place-requires
 place-requires c κs = search needs
@@ -70,7 +58,7 @@ slice-aggregate-fire : tie.Need-slice-aggregate-fire
 slice-aggregate-fire c = search needs
 
 fire-requires : tie.Need-fire-requires
-fire-requires c κs = omega (arith, c .before .before .before .before .before .before .before .before .before .before .before .before .before .pre)
+fire-requires c κs = omega (arith, c .before .before .before .before .before .before .before .before .before .before .before .before .before .before .before .pre)
 
 plain-requires-2 : tie.Need-plain-requires-2
 plain-requires-2 c κs = search needs
@@ -80,15 +68,16 @@ same-length c = search needs
 
 returns-2 : tie.Need-returns-2
 returns-2 c = (
-  omega (arith, c .plain2 .ensures .1 .1, c .before .before .before .before .before .before .before .before .before .before .before .before .before .before .before .before .before .before .pre),
-  λ T r x p.
-      let a = c .before .before .before .before .before .before .before .before .before .before .before .before .before .before .before .before .before .before .args in
+  omega (arith, c .plain2 .ensures .1 .1, c .before .before .before .before .before .before .before .before .before .before .before .before .before .before .before .before .before .before .before .before .pre),
+  λ T x p.
+      let a = c .before .before .before .before .before .before .before .before .before .before .before .before .before .before .before .before .before .before .before .before .args in
       let bytes = a .frames .now in
       let f = c .before .before .before .before .fire .result in
-      let some-frame : 0 < a .depth = omega (arith, c .before .before .before .before .before .before .before .before .before .before .before .before .before .before .before .if1) in
+      let made = c .before .before .before .before .fire .last .1 .1 .1 .1 .1 .1 .1 .1 .0 in
+      let some-frame : 0 < a .depth = omega (arith, c .before .before .before .before .before .before .before .before .before .before .before .before .before .if1) in
       let whole : take (length bytes - 0) bytes ≡ bytes = take-all (length bytes - 0) bytes (omega arith) in
-      let (number, (params, (b, sorted))) = looked T bytes (a .depth) (a .k) (c .before .before .before .before .before .before .before .before .before .before .before .before .before .before .before .before .before .before .pre .1 .0) p some-frame (a .s .now) (a .index) x _ _ _ _ _ (c .before .before .before .before .before .before .before .before .before .before .before .before .before .wide .ensures .0) (c .before .before .before .before .before .before .before .before .before .before .place .ensures .0) (c .before .before .before .before .before .before .before .before .before .list-at .ensures) refl (c .before .before .before .before .before .before .part .ensures ∙ ap (λ (l : List ℕ). take (length (c .before .before .before .before .before .before .before .before .before .list-at .result .now)) (drop ((a .depth - 1) * 5 + 1) l)) whole) in
-      none-is T bytes (a .depth) (a .k) (c .before .before .before .before .before .before .before .before .before .before .before .before .before .before .before .before .before .before .pre .1 .0) p some-frame _ _ number params (c .plain2 .result) (told-is (T .sig) _ _ f _ (c .before .before .before .before .fire .last .1 .1 .1 .1 .1 .0) (c .before .before .before .before .fire .ensures .1 T (c .before .before .before .before .before .before .part .result .now) x r b sorted (take-length (c .before .before .before .before .before .before .part .result .now))) ∙ told-none (T .sig) f (c .before .before .before .before .fire .last .1 .1 .1 .1 .1 .0) (not-true _ (c .before .if2 .taken)))
+      let (number, (params, (b, sorted))) = looked T bytes (a .depth) (a .k) (c .before .before .before .before .before .before .before .before .before .before .before .before .before .before .before .before .before .before .before .before .pre .1 .0) p some-frame (a .s .now) (a .funcs .now) (a .acts .now) (a .params .now) (a .rows .now) x _ _ _ _ _ (c .before .before .before .before .before .before .before .before .before .before .before .wide .ensures .0) (c .before .before .before .before .before .before .before .before .before .before .place .ensures .0) (c .before .before .before .before .before .before .before .before .before .list-at .ensures) refl (c .before .before .before .before .before .before .part .ensures ∙ ap (λ (l : List ℕ). take (length (c .before .before .before .before .before .before .before .before .before .list-at .result .now)) (drop ((a .depth - 1) * 5 + 1) l)) whole) in
+      none-is T bytes (a .depth) (a .k) (c .before .before .before .before .before .before .before .before .before .before .before .before .before .before .before .before .before .before .before .before .pre .1 .0) p some-frame _ _ number params (c .plain2 .result) (told-is (T .sig) _ _ f _ (c .before .before .before .before .fire .last .1 .1 .1 .1 .1 .1 .1 .1 .0) (c .before .before .before .before .fire .ensures .1 T (c .before .before .before .before .before .before .part .result .now) x b sorted (take-length (c .before .before .before .before .before .before .part .result .now))) ∙ told-none (T .sig) f made (not-true _ (c .before .if2 .taken)))
       (c .plain2 .ensures .0) (c .plain2 .ensures .1 .0) (c .plain2 .ensures .1 .1),
 )
 
@@ -96,7 +85,7 @@ sub-if3 : tie.Need-sub-if3
 sub-if3 c = search needs
 
 add-if3 : tie.Need-add-if3
-add-if3 c = omega (arith, c .before .before .before .before .fire .ensures .0 .few-calls, c .before .before .before .before .before .before .before .before .before .before .before .before .before .before .before .before .before .before .pre)
+add-if3 c = omega (arith, c .before .before .before .before .fire .ensures .0 .few-calls, c .before .before .before .before .before .before .before .before .before .before .before .before .before .before .before .before .before .before .before .before .pre)
 
 plain-requires-3 : tie.Need-plain-requires-3
 plain-requires-3 c κs = search needs
@@ -106,16 +95,16 @@ same-length-2 c = search needs
 
 returns-3 : tie.Need-returns-3
 returns-3 c = (
-  omega (arith, c .plain3 .ensures .1 .1, c .before .before .before .before .before .before .before .before .before .before .before .before .before .before .before .before .before .before .before .before .pre),
-  λ T r x p.
-      let a = c .before .before .before .before .before .before .before .before .before .before .before .before .before .before .before .before .before .before .before .before .args in
+  omega (arith, c .plain3 .ensures .1 .1, c .before .before .before .before .before .before .before .before .before .before .before .before .before .before .before .before .before .before .before .before .before .before .pre),
+  λ T x p.
+      let a = c .before .before .before .before .before .before .before .before .before .before .before .before .before .before .before .before .before .before .before .before .before .before .args in
       let bytes = a .frames .now in
       let f = c .before .before .before .before .before .before .fire .result in
-      let made = c .before .before .before .before .before .before .fire .last .1 .1 .1 .1 .1 .0 in
-      let some-frame : 0 < a .depth = omega (arith, c .before .before .before .before .before .before .before .before .before .before .before .before .before .before .before .before .before .if1) in
+      let made = c .before .before .before .before .before .before .fire .last .1 .1 .1 .1 .1 .1 .1 .1 .0 in
+      let some-frame : 0 < a .depth = omega (arith, c .before .before .before .before .before .before .before .before .before .before .before .before .before .before .before .if1) in
       let whole : take (length bytes - 0) bytes ≡ bytes = take-all (length bytes - 0) bytes (omega arith) in
-      let (number, (params, (b, sorted))) = looked T bytes (a .depth) (a .k) (c .before .before .before .before .before .before .before .before .before .before .before .before .before .before .before .before .before .before .before .before .pre .1 .0) p some-frame (a .s .now) (a .index) x _ _ _ _ _ (c .before .before .before .before .before .before .before .before .before .before .before .before .before .before .before .wide .ensures .0) (c .before .before .before .before .before .before .before .before .before .before .before .before .place .ensures .0) (c .before .before .before .before .before .before .before .before .before .before .before .list-at .ensures) refl (c .before .before .before .before .before .before .before .before .part .ensures ∙ ap (λ (l : List ℕ). take (length (c .before .before .before .before .before .before .before .before .before .before .before .list-at .result .now)) (drop ((a .depth - 1) * 5 + 1) l)) whole) in
-      deep-is T bytes (a .depth) (a .k) (c .before .before .before .before .before .before .before .before .before .before .before .before .before .before .before .before .before .before .before .before .pre .1 .0) p some-frame _ _ number params _ (frames-at frame-width (f .calls) made) (told-is (T .sig) _ _ f _ (c .before .before .before .before .before .before .fire .last .1 .1 .1 .1 .1 .0) (c .before .before .before .before .before .before .fire .ensures .1 T (c .before .before .before .before .before .before .before .before .part .result .now) x r b sorted (take-length (c .before .before .before .before .before .before .before .before .part .result .now))) ∙ told-found (T .sig) f made (not-false _ (c .before .before .before .if2 .left)))
+      let (number, (params, (b, sorted))) = looked T bytes (a .depth) (a .k) (c .before .before .before .before .before .before .before .before .before .before .before .before .before .before .before .before .before .before .before .before .before .before .pre .1 .0) p some-frame (a .s .now) (a .funcs .now) (a .acts .now) (a .params .now) (a .rows .now) x _ _ _ _ _ (c .before .before .before .before .before .before .before .before .before .before .before .before .before .wide .ensures .0) (c .before .before .before .before .before .before .before .before .before .before .before .before .place .ensures .0) (c .before .before .before .before .before .before .before .before .before .before .before .list-at .ensures) refl (c .before .before .before .before .before .before .before .before .part .ensures ∙ ap (λ (l : List ℕ). take (length (c .before .before .before .before .before .before .before .before .before .before .before .list-at .result .now)) (drop ((a .depth - 1) * 5 + 1) l)) whole) in
+      deep-is T bytes (a .depth) (a .k) (c .before .before .before .before .before .before .before .before .before .before .before .before .before .before .before .before .before .before .before .before .before .before .pre .1 .0) p some-frame _ _ number params _ (frames-at frame-width (f .calls) made) (told-is (T .sig) _ _ f _ (c .before .before .before .before .before .before .fire .last .1 .1 .1 .1 .1 .1 .1 .1 .0) (c .before .before .before .before .before .before .fire .ensures .1 T (c .before .before .before .before .before .before .before .before .part .result .now) x b sorted (take-length (c .before .before .before .before .before .before .before .before .part .result .now))) ∙ told-found (T .sig) f made (not-false _ (c .before .before .before .if2 .left)))
       (c .plain3 .result) (omega (arith, c .before .if3, length-frames-at frame-width (f .calls) made)) (c .plain3 .ensures .0) (c .plain3 .ensures .1 .1),
 )
 
@@ -123,13 +112,13 @@ slice-aggregate-replace : tie.Need-slice-aggregate-replace
 slice-aggregate-replace c = search needs
 
 replace-requires : tie.Need-replace-requires
-replace-requires c κs = omega (arith, c .before .before .before .before .before .before .before .before .before .before .before .before .before .before .before .before .before .before .before .before .before .pre, c .before .before .before .before .before .before .before .before .before .before .before .before .before .before .before .before .before .before .if1, c .before .before .if3, c .before .before .before .before .before .before .before .fire .ensures .0 .few-calls, c .before .before .before .before .before .before .before .fire .kept .1 .1 .1 .1 .1 .0)
+replace-requires c κs = omega (arith, c .before .before .before .before .before .before .before .before .before .before .before .before .before .before .before .before .before .before .before .before .before .before .before .pre, c .before .before .before .before .before .before .before .before .before .before .before .before .before .before .before .before .if1, c .before .before .if3, c .before .before .before .before .before .before .before .fire .ensures .0 .few-calls, c .before .before .before .before .before .before .before .fire .kept .1 .1 .1 .1 .1 .1 .1 .1 .0)
 
 sub-t24 : tie.Need-sub-t24
-sub-t24 c = omega (arith, c .before .before .before .before .before .before .before .before .before .before .before .before .before .before .before .before .before .before .before .before .before .before .if1)
+sub-t24 c = omega (arith, c .before .before .before .before .before .before .before .before .before .before .before .before .before .before .before .before .before .before .before .before .if1)
 
-add-t15 : tie.Need-add-t15
-add-t15 c = search needs
+add-t17 : tie.Need-add-t17
+add-t17 c = search needs
 
 same-length-3 : tie.Need-same-length-3
 same-length-3 c = search needs
@@ -137,17 +126,17 @@ same-length-3 c = search needs
 returns-4 : tie.Need-returns-4
 returns-4 c = (
   omega (arith, c .before .before .before .before .before .before .before .if3),
-  λ T r x p.
-      let a = c .before .before .before .before .before .before .before .before .before .before .before .before .before .before .before .before .before .before .before .before .before .before .before .before .before .before .args in
+  λ T x p.
+      let a = c .before .before .before .before .before .before .before .before .before .before .before .before .before .before .before .before .before .before .before .before .before .before .before .before .before .before .before .before .args in
       let bytes = a .frames .now in
       let f = c .before .before .before .before .before .before .before .before .before .before .before .before .fire .result in
-      let made = c .before .before .before .before .before .before .before .before .before .before .before .before .fire .last .1 .1 .1 .1 .1 .0 in
-      let some-frame : 0 < a .depth = omega (arith, c .before .before .before .before .before .before .before .before .before .before .before .before .before .before .before .before .before .before .before .before .before .before .before .if1) in
+      let made = c .before .before .before .before .before .before .before .before .before .before .before .before .fire .last .1 .1 .1 .1 .1 .1 .1 .1 .0 in
+      let some-frame : 0 < a .depth = omega (arith, c .before .before .before .before .before .before .before .before .before .before .before .before .before .before .before .before .before .before .before .before .before .if1) in
       let whole : take (length bytes - 0) bytes ≡ bytes = take-all (length bytes - 0) bytes (omega arith) in
+      let (number, (params, (b, sorted))) = looked T bytes (a .depth) (a .k) (c .before .before .before .before .before .before .before .before .before .before .before .before .before .before .before .before .before .before .before .before .before .before .before .before .before .before .before .before .pre .1 .0) p some-frame (a .s .now) (a .funcs .now) (a .acts .now) (a .params .now) (a .rows .now) x _ _ _ _ _ (c .before .before .before .before .before .before .before .before .before .before .before .before .before .before .before .before .before .before .before .wide .ensures .0) (c .before .before .before .before .before .before .before .before .before .before .before .before .before .before .before .before .before .before .place .ensures .0) (c .before .before .before .before .before .before .before .before .before .before .before .before .before .before .before .before .before .list-at .ensures) refl (c .before .before .before .before .before .before .before .before .before .before .before .before .before .before .part .ensures ∙ ap (λ (l : List ℕ). take (length (c .before .before .before .before .before .before .before .before .before .before .before .before .before .before .before .before .before .list-at .result .now)) (drop ((a .depth - 1) * 5 + 1) l)) whole) in
       let n = length-frames-at frame-width (f .calls) made in
-      let (number, (params, (b, sorted))) = looked T bytes (a .depth) (a .k) (c .before .before .before .before .before .before .before .before .before .before .before .before .before .before .before .before .before .before .before .before .before .before .before .before .before .before .pre .1 .0) p some-frame (a .s .now) (a .index) x _ _ _ _ _ (c .before .before .before .before .before .before .before .before .before .before .before .before .before .before .before .before .before .before .before .before .before .wide .ensures .0) (c .before .before .before .before .before .before .before .before .before .before .before .before .before .before .before .before .before .before .place .ensures .0) (c .before .before .before .before .before .before .before .before .before .before .before .before .before .before .before .before .before .list-at .ensures) refl (c .before .before .before .before .before .before .before .before .before .before .before .before .before .before .part .ensures ∙ ap (λ (l : List ℕ). take (length (c .before .before .before .before .before .before .before .before .before .before .before .before .before .before .before .before .before .list-at .result .now)) (drop ((a .depth - 1) * 5 + 1) l)) whole) in
-      step-is T bytes (a .depth) (a .k) (c .before .before .before .before .before .before .before .before .before .before .before .before .before .before .before .before .before .before .before .before .before .before .before .before .before .before .pre .1 .0) p some-frame _ _ number params _ (frames-at frame-width (f .calls) made) (told-is (T .sig) _ _ f _ (c .before .before .before .before .before .before .before .before .before .before .before .before .fire .last .1 .1 .1 .1 .1 .0) (c .before .before .before .before .before .before .before .before .before .before .before .before .fire .ensures .1 T (c .before .before .before .before .before .before .before .before .before .before .before .before .before .before .part .result .now) x r b sorted (take-length (c .before .before .before .before .before .before .before .before .before .before .before .before .before .before .part .result .now))) ∙ told-found (T .sig) f made (not-false _ (c .before .before .before .before .before .before .before .before .before .if2 .left)))
-      _ _ (omega (arith, c .before .before .before .before .before .before .before .if3)) refl refl refl (omega arith) (c .before .before .before .before .replace .ensures (zeros-behind T bytes (a .depth) (a .k) (c .before .before .before .before .before .before .before .before .before .before .before .before .before .before .before .before .before .before .before .before .before .before .before .before .before .before .pre .1 .0) p some-frame)),
+      step-is T bytes (a .depth) (a .k) (c .before .before .before .before .before .before .before .before .before .before .before .before .before .before .before .before .before .before .before .before .before .before .before .before .before .before .before .before .pre .1 .0) p some-frame _ _ number params _ (frames-at frame-width (f .calls) made) (told-is (T .sig) _ _ f _ (c .before .before .before .before .before .before .before .before .before .before .before .before .fire .last .1 .1 .1 .1 .1 .1 .1 .1 .0) (c .before .before .before .before .before .before .before .before .before .before .before .before .fire .ensures .1 T (c .before .before .before .before .before .before .before .before .before .before .before .before .before .before .part .result .now) x b sorted (take-length (c .before .before .before .before .before .before .before .before .before .before .before .before .before .before .part .result .now))) ∙ told-found (T .sig) f made (not-false _ (c .before .before .before .before .before .before .before .before .before .if2 .left)))
+      _ _ (omega (arith, c .before .before .before .before .before .before .before .if3)) refl refl refl (omega arith) (c .before .before .before .before .replace .ensures (zeros-behind T bytes (a .depth) (a .k) (c .before .before .before .before .before .before .before .before .before .before .before .before .before .before .before .before .before .before .before .before .before .before .before .before .before .before .before .before .pre .1 .0) p some-frame)),
 )
 
 pub ask-spec : {M : Type 1} → statement M
@@ -160,7 +149,6 @@ ask-spec =
     mul-top
     slice-read-wide
     wide-requires
-    slice-aggregate-place
     place-requires
     list-at-requires
     sub-part
@@ -181,6 +169,6 @@ ask-spec =
     slice-aggregate-replace
     replace-requires
     sub-t24
-    add-t15
+    add-t17
     same-length-3
     returns-4)

@@ -12,13 +12,13 @@ encode-kind-requires : tie.Need-encode-kind-requires
 encode-kind-requires c κs = search needs
 
 returns : tie.Need-returns
-returns c = λ T right x deep. c .encode-kind .ensures ∙ encode-refused (T .sig) (c .before .before .before .args .t3) (omega (arith, c .before .if1))
+returns c = λ T right x deep. c .encode-kind .ensures ∙ encode-refused (T .sig) (c .before .before .before .before .args .t4) (omega (arith, c .before .if1))
 
 encode-kind-requires-2 : tie.Need-encode-kind-requires-2
 encode-kind-requires-2 c κs = search needs
 
 returns-2 : tie.Need-returns-2
-returns-2 c = λ T right x deep. c .encode-kind2 .ensures ∙ encode-kind (T .sig) (c .before .before .before .before .args .t3) (omega (arith, c .before .before .if1)) (omega (arith, c .before .if2))
+returns-2 c = λ T right x deep. c .encode-kind2 .ensures ∙ encode-kind (T .sig) (c .before .before .before .before .before .args .t4) (omega (arith, c .before .before .if1)) (omega (arith, c .before .if2))
 
 slice-aggregate-encode-step : tie.Need-slice-aggregate-encode-step
 slice-aggregate-encode-step c = search needs
@@ -27,7 +27,7 @@ encode-step-requires : tie.Need-encode-step-requires
 encode-step-requires c κs = search needs
 
 returns-3 : tie.Need-returns-3
-returns-3 c = λ T right x deep. c .encode-step .ensures ∙ encode-tau (T .sig) (c .before .before .before .before .before .before .args .t3) (omega (arith, c .before .before .before .before .if1)) (omega (arith, c .before .before .before .if2)) deep (omega (arith, c .before .before .if3))
+returns-3 c = λ T right x deep. c .encode-step .ensures ∙ encode-tau (T .sig) (c .before .before .before .before .before .before .before .args .t4) (omega (arith, c .before .before .before .before .if1)) (omega (arith, c .before .before .before .if2)) deep (omega (arith, c .before .before .if3))
 
 element-copy-out-value : tie.Need-element-copy-out-value
 element-copy-out-value c = search needs
@@ -52,11 +52,11 @@ encode-step-requires-2 c κs = search needs
 
 returns-4 : tie.Need-returns-4
 returns-4 c = λ T right x deep.
-    let r = c .before .before .before .before .before .before .before .before .before .before .before .args .t3 in
-    let is = c .before .name .ensures T x in
+    let r = c .before .before .before .before .before .before .before .before .before .before .before .before .args .t4 in
+    let is = c .before .name .ensures (T .sig) x in
     c .encode-step2 .ensures
     ∙ encode-named (T .sig) r (omega (arith, c .before .before .before .before .before .before .before .before .before .if1)) (omega (arith, c .before .before .before .before .before .before .before .before .if2)) deep (λ e. omega (arith, c .before .before .before .before .before .before .before .if3)) (c .before .name .result .now) is (encode-action T right (r .action) (c .before .name .result .now) is) (c .before .before .counted .result) (c .before .before .before .before .before .value .result) (c .before .before .before .value2 .result) (getD (r .values) 0 0) (getD (r .values) 1 0)
-    (two-values (r .values) (values-two r _ (c .before .before .before .before .before .before .before .before .before .before .before .good .1 .1 .0))) (c .before .before .counted .ensures) (c .before .before .before .before .before .value .ensures) (c .before .before .before .value2 .ensures)
+    (two-values (r .values) (values-two r _ (c .before .before .before .before .before .before .before .before .before .before .before .before .good .1 .1 .1 .0))) (c .before .before .counted .ensures) (c .before .before .before .before .before .value .ensures) (c .before .before .before .value2 .ensures)
 
 pub encode-spec : {M : Type 1} → statement M
 encode-spec =

@@ -1,19 +1,16 @@
--- The index of a right table gives the places that the search wants.
+-- What is known of a right table gives the places that the search wants.
 use borrow.Author.Needs.{needs}
-use Rattle.firing.proofs.fire.Statement.{statement}
-use Rattle.firing.proofs.fire.Tie as tie
 use native.Mathlib.Omega.{arith}
-use Prim.Native.Nat.{_-_}
-use mathlib.Core.Path.{_≡_, _∙_}
+use mathlib.Core.Path.{_≡_, ap, _∙_}
 use mathlib.Core.List.{[]}
-use lib.ListN.{length, getD}
+use Prim.Native.Nat.{ℕ}
+use lib.ListN.{length, getD, drop}
 use Rattle.pcrl.specs.Table.{equation, params-of}
 use Rattle.theory.specs.TableRight.{params-length}
 use Rattle.firing.specs.Fires.{listing}
-use Rattle.firing.proofs.Indexing.{parts-known, at-row, row-here, values-first}
-
-slice-aggregate-parameters : tie.Need-slice-aggregate-parameters
-slice-aggregate-parameters c = search needs
+use Rattle.firing.proofs.Indexing.{at-row, values-first}
+use Rattle.firing.proofs.fire.Statement.{statement}
+use Rattle.firing.proofs.fire.Tie as tie
 
 parameters-requires : tie.Need-parameters-requires
 parameters-requires c κs = search needs
@@ -24,23 +21,11 @@ wide-requires c κs = search needs
 first-values-requires : tie.Need-first-values-requires
 first-values-requires c κs = search needs
 
-slice-aggregate-cell : tie.Need-slice-aggregate-cell
-slice-aggregate-cell c = search needs
-
 cell-requires : tie.Need-cell-requires
 cell-requires c κs = search needs
 
-slice-aggregate-fire-rows : tie.Need-slice-aggregate-fire-rows
-slice-aggregate-fire-rows c = search needs
-
-slice-aggregate-fire-rows-2 : tie.Need-slice-aggregate-fire-rows-2
-slice-aggregate-fire-rows-2 c = search needs
-
-slice-aggregate-fire-rows-3 : tie.Need-slice-aggregate-fire-rows-3
-slice-aggregate-fire-rows-3 c = search needs
-
 fire-rows-requires : tie.Need-fire-rows-requires
-fire-rows-requires c κs = (c .before .before .before .before .before .before .before .before .before .before .before .before .before .before .before .before .before .pre .0, (omega (arith, c .before .before .before .before .before .before .before .before .parameters .ensures .0, c .before .before .before .before .before .before .before .wide .ensures .0), (c .before .before .before .before .before .before .first-values .ensures .1 .1, (c .before .before .before .before .cell .ensures .1, c .before .before .before .before .before .before .before .before .before .before .before .before .before .before .before .before .before .pre .1))))
+fire-rows-requires c κs = (c .before .before .before .before .before .before .before .before .before .before .before .before .pre .0, (omega (arith, c .before .before .before .before .parameters .ensures .0, c .before .before .before .wide .ensures .0), (c .before .before .first-values .ensures .1 .1, (c .before .cell .ensures .1, c .before .before .before .before .before .before .before .before .before .before .before .before .pre .1))))
 
 same-length : tie.Need-same-length
 same-length c = search needs
@@ -49,27 +34,22 @@ returns : tie.Need-returns
 unfolding listing
 returns c = (
   c .before .before .fire-rows .ensures .0,
-  λ T vs indexed right below in-sorts taken. let a = c .before .before .before .before .before .before .before .before .before .before .before .before .before .before .before .before .before .before .before .before .args in let s = a .s .now in let x = a .index in
-      let (rest, here) = row-here T s x indexed right (a .e) below vs in-sorts (c .before .before .before .before .before .before .before .cell .result) (c .before .before .before .before .before .before .before .cell .ensures .0) in
+  λ T vs known below in-sorts taken. let a = c .before .before .before .before .before .before .before .before .before .before .before .before .before .before .before .args in let s = a .s .now in
+      let (rest, here) = known .rows-at (a .e) below in
       let n = params-length T in
-      let count : c .before .before .before .before .before .before .before .before .before .before .wide .result ≡ length (getD (params-of (T .equations)) (a .e) []) = c .before .before .before .before .before .before .before .before .before .before .wide .ensures .0 ∙ c .before .before .before .before .before .before .before .before .before .before .before .parameters .ensures .1 (T .sig) (params-of (T .equations)) (x .acts) (parts-known T s x indexed right) (omega arith) in
-      let same = values-first T s x indexed right (a .e) below vs in-sorts (c .before .before .before .before .before .before .before .before .before .before .wide .result) (c .before .before .before .before .before .before .before .before .before .first-values .result .at) (a .params .now) count (c .before .before .before .before .before .before .before .before .before .first-values .ensures .0) (omega (arith, c .before .before .before .before .before .before .before .before .before .before .before .parameters .ensures .0, c .before .before .before .before .before .before .before .before .before .before .wide .ensures .0)) (c .before .before .before .before .before .before .before .before .before .first-values .ensures .1 .0) taken in
-      c .before .before .fire-rows .ensures .1 (T .sig) (params-of (T .equations)) (equation T (a .e) .params) vs (equation T (a .e) .summands) rest (at-row T s x indexed right (a .e) below vs in-sorts) same here,
+      let count : c .before .before .before .before .before .before .wide .result ≡ length (getD (params-of (T .equations)) (a .e) []) = c .before .before .before .before .before .before .wide .ensures .0 ∙ c .before .before .before .before .before .before .before .parameters .ensures .1 (T .sig) (params-of (T .equations)) (a .acts .now) (known .parts) (omega arith) in
+      let same = values-first T s (a .funcs .now) (a .acts .now) (a .places .now) (a .rows .now) known (a .e) below vs in-sorts (c .before .before .before .before .before .before .wide .result) (c .before .before .before .before .before .first-values .result .at) (a .params .now) count (c .before .before .before .before .before .first-values .ensures .0) (omega (arith, c .before .before .before .before .before .before .before .parameters .ensures .0, c .before .before .before .before .before .before .wide .ensures .0)) (c .before .before .before .before .before .first-values .ensures .1 .0) taken in
+      c .before .before .fire-rows .ensures .1 (T .sig) (params-of (T .equations)) (equation T (a .e) .params) vs (equation T (a .e) .summands) rest (at-row T s (a .funcs .now) (a .acts .now) (a .places .now) (a .rows .now) known (a .e) below vs in-sorts) same (ap (λ (i : ℕ). drop i s) (c .before .before .before .before .cell .ensures .0) ∙ here),
 )
 
 pub fire-spec : {M : Type 1} → statement M
 fire-spec =
     tie.close
     (tie.spec
-    slice-aggregate-parameters
     parameters-requires
     wide-requires
     first-values-requires
-    slice-aggregate-cell
     cell-requires
-    slice-aggregate-fire-rows
-    slice-aggregate-fire-rows-2
-    slice-aggregate-fire-rows-3
     fire-rows-requires
     same-length
     returns)

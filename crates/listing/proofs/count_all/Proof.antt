@@ -24,7 +24,7 @@ count-heads-requires : tie.Need-count-heads-requires Inv-loop μ-loop
 count-heads-requires c κs = c .before .before .before .before .before .before .before .before .before .pre .1
 
 cut-sum-requires : tie.Need-cut-sum-requires Inv-loop μ-loop
-cut-sum-requires c κs = c .before .before .before .loop .inv .0 .1
+cut-sum-requires c κs = (c .before .before .before .loop .inv .0 .1, omega arith)
 
 add-k : tie.Need-add-k Inv-loop μ-loop
 add-k c = search needs

@@ -9,7 +9,7 @@ use lib.Seq.{take-all}
 use Rattle.pcrl.specs.Text.{bytes, byte, decimal}
 use Rattle.texts.specs.Wrote.{Wrote}
 use Rattle.texts.proofs.Writing.{wrote-nothing, wrote-more, wrote-fits, wrote-as}
-use Rattle.printer.proofs.Known.{known-table}
+use Rattle.firing.proofs.Indexing.{known-table}
 use Rattle.printer.proofs.Whole.{index-counts}
 use Rattle.printer.proofs.put_sheet.Statement.{statement}
 use Rattle.printer.proofs.put_sheet.Tie as tie

@@ -34,8 +34,8 @@ plain-requires c κs = search needs
 loop-holds : tie.Need-loop-holds Inv-loop μ-loop
 loop-holds c = ((refl, (refl, (omega arith, omega arith))), λ T right x e. walking-start T right _ _ e)
 
-ask-requires : tie.Need-ask-requires Inv-loop μ-loop
-ask-requires c κs = omega (arith, c .before .before .before .loop .inv .0, c .before .before .before .before .before .before .before .before .pre)
+ask-first-requires : tie.Need-ask-first-requires Inv-loop μ-loop
+ask-first-requires c κs = omega (arith, c .before .before .before .loop .inv .0, c .before .before .before .before .before .before .before .before .pre)
 
 slice-aggregate-put-bytes : tie.Need-slice-aggregate-put-bytes Inv-loop μ-loop
 slice-aggregate-put-bytes c = search needs
@@ -44,7 +44,7 @@ put-bytes-requires : tie.Need-put-bytes-requires Inv-loop μ-loop
 put-bytes-requires c κs = c .before .before .before .before .before .before .before .before .before .before .loop .inv .0 .1 .1 .1
 
 same-length : tie.Need-same-length Inv-loop μ-loop
-same-length c = c .before .before .before .before .before .before .before .before .before .ask .kept .1 .1 .0 ∙ c .before .before .before .before .before .before .before .before .before .before .before .before .before .loop .inv .0 .0
+same-length c = c .before .before .before .before .before .before .before .before .before .ask-first .kept .1 .1 .0 ∙ c .before .before .before .before .before .before .before .before .before .before .before .before .before .loop .inv .0 .0
 
 same-length-2 : tie.Need-same-length-2 Inv-loop μ-loop
 same-length-2 c = c .before .before .put-bytes .kept .0 ∙ c .before .before .before .before .before .before .before .before .before .before .before .before .before .loop .inv .0 .1 .0
@@ -53,7 +53,7 @@ returns : tie.Need-returns Inv-loop μ-loop
 unfolding line
 returns c = λ T right x e.
     let g = c .before .before .before .before .before .before .before .before .before .before .before .before .before .loop .inv .1 T right x e in
-    ends-refused T right (c .before .before .before .before .before .before .before .before .before .before .before .before .before .before .before .before .before .before .args .out .now) _ (c .before .before .before .before .before .before .before .before .before .before .before .before .before .loop .w .depth) (c .before .before .before .before .before .before .before .before .before .before .before .before .before .loop .w .taken) (c .before .before .before .before .before .before .before .before .before .before .before .before .before .loop .out) (c .before .before .before .before .before .before .before .before .before .before .before .before .before .loop .at) g (omega (arith, c .before .before .before .before .before .before .before .before .before .before .before .if1)) (c .before .before .before .before .before .before .before .before .before .ask .result) (frames-in frame-width (c .before .before .before .before .before .before .before .before .before .ask .last .1 .1 .0)) (c .before .before .before .before .before .before .before .before .before .ask .ensures .1 T right x (g .right)) (omega (arith, c .before .before .before .before .before .if2)) _ _ (c .before .before .put-bytes .ensures)
+    ends-refused T right (c .before .before .before .before .before .before .before .before .before .before .before .before .before .before .before .before .before .before .args .out .now) _ (c .before .before .before .before .before .before .before .before .before .before .before .before .before .loop .w .depth) (c .before .before .before .before .before .before .before .before .before .before .before .before .before .loop .w .taken) (c .before .before .before .before .before .before .before .before .before .before .before .before .before .loop .out) (c .before .before .before .before .before .before .before .before .before .before .before .before .before .loop .at) g (omega (arith, c .before .before .before .before .before .before .before .before .before .before .before .if1)) (c .before .before .before .before .before .before .before .before .before .ask-first .result) (frames-in frame-width (c .before .before .before .before .before .before .before .before .before .ask-first .last .1 .1 .0)) (c .before .before .before .before .before .before .before .before .before .ask-first .ensures .1 T right x (g .right)) (omega (arith, c .before .before .before .before .before .if2)) _ _ (c .before .before .put-bytes .ensures)
 
 slice-aggregate-put-bytes-2 : tie.Need-slice-aggregate-put-bytes-2 Inv-loop μ-loop
 slice-aggregate-put-bytes-2 c = search needs
@@ -62,7 +62,7 @@ put-bytes-requires-2 : tie.Need-put-bytes-requires-2 Inv-loop μ-loop
 put-bytes-requires-2 c κs = c .before .before .before .before .before .before .before .before .before .before .before .before .loop .inv .0 .1 .1 .1
 
 same-length-3 : tie.Need-same-length-3 Inv-loop μ-loop
-same-length-3 c = c .before .before .before .before .before .before .before .before .before .before .before .ask .kept .1 .1 .0 ∙ c .before .before .before .before .before .before .before .before .before .before .before .before .before .before .before .loop .inv .0 .0
+same-length-3 c = c .before .before .before .before .before .before .before .before .before .before .before .ask-first .kept .1 .1 .0 ∙ c .before .before .before .before .before .before .before .before .before .before .before .before .before .before .before .loop .inv .0 .0
 
 same-length-4 : tie.Need-same-length-4 Inv-loop μ-loop
 same-length-4 c = c .before .before .put-bytes2 .kept .0 ∙ c .before .before .before .before .before .before .before .before .before .before .before .before .before .before .before .loop .inv .0 .1 .0
@@ -71,7 +71,7 @@ returns-2 : tie.Need-returns-2 Inv-loop μ-loop
 unfolding line
 returns-2 c = λ T right x e.
     let g = c .before .before .before .before .before .before .before .before .before .before .before .before .before .before .before .loop .inv .1 T right x e in
-    ends-ended T right (c .before .before .before .before .before .before .before .before .before .before .before .before .before .before .before .before .before .before .before .before .args .out .now) _ (c .before .before .before .before .before .before .before .before .before .before .before .before .before .before .before .loop .w .depth) (c .before .before .before .before .before .before .before .before .before .before .before .before .before .before .before .loop .w .taken) (c .before .before .before .before .before .before .before .before .before .before .before .before .before .before .before .loop .out) (c .before .before .before .before .before .before .before .before .before .before .before .before .before .before .before .loop .at) g (omega (arith, c .before .before .before .before .before .before .before .before .before .before .before .before .before .if1)) (c .before .before .before .before .before .before .before .before .before .before .before .ask .result) (frames-in frame-width (c .before .before .before .before .before .before .before .before .before .before .before .ask .last .1 .1 .0)) (c .before .before .before .before .before .before .before .before .before .before .before .ask .ensures .1 T right x (g .right)) (omega (arith, c .before .before .before .before .before .before .before .if2)) (omega (arith, c .before .before .before .before .before .if3)) _ _ (c .before .before .put-bytes2 .ensures)
+    ends-ended T right (c .before .before .before .before .before .before .before .before .before .before .before .before .before .before .before .before .before .before .before .before .args .out .now) _ (c .before .before .before .before .before .before .before .before .before .before .before .before .before .before .before .loop .w .depth) (c .before .before .before .before .before .before .before .before .before .before .before .before .before .before .before .loop .w .taken) (c .before .before .before .before .before .before .before .before .before .before .before .before .before .before .before .loop .out) (c .before .before .before .before .before .before .before .before .before .before .before .before .before .before .before .loop .at) g (omega (arith, c .before .before .before .before .before .before .before .before .before .before .before .before .before .if1)) (c .before .before .before .before .before .before .before .before .before .before .before .ask-first .result) (frames-in frame-width (c .before .before .before .before .before .before .before .before .before .before .before .ask-first .last .1 .1 .0)) (c .before .before .before .before .before .before .before .before .before .before .before .ask-first .ensures .1 T right x (g .right)) (omega (arith, c .before .before .before .before .before .before .before .if2)) (omega (arith, c .before .before .before .before .before .if3)) _ _ (c .before .before .put-bytes2 .ensures)
 
 slice-aggregate-put-bytes-3 : tie.Need-slice-aggregate-put-bytes-3 Inv-loop μ-loop
 slice-aggregate-put-bytes-3 c = search needs
@@ -80,7 +80,7 @@ put-bytes-requires-3 : tie.Need-put-bytes-requires-3 Inv-loop μ-loop
 put-bytes-requires-3 c κs = c .before .before .before .before .before .before .before .before .before .before .before .before .before .before .loop .inv .0 .1 .1 .1
 
 same-length-5 : tie.Need-same-length-5 Inv-loop μ-loop
-same-length-5 c = c .before .before .before .before .before .before .before .before .before .before .before .before .before .ask .kept .1 .1 .0 ∙ c .before .before .before .before .before .before .before .before .before .before .before .before .before .before .before .before .before .loop .inv .0 .0
+same-length-5 c = c .before .before .before .before .before .before .before .before .before .before .before .before .before .ask-first .kept .1 .1 .0 ∙ c .before .before .before .before .before .before .before .before .before .before .before .before .before .before .before .before .before .loop .inv .0 .0
 
 same-length-6 : tie.Need-same-length-6 Inv-loop μ-loop
 same-length-6 c = c .before .before .put-bytes3 .kept .0 ∙ c .before .before .before .before .before .before .before .before .before .before .before .before .before .before .before .before .before .loop .inv .0 .1 .0
@@ -89,7 +89,7 @@ returns-3 : tie.Need-returns-3 Inv-loop μ-loop
 unfolding line
 returns-3 c = λ T right x e.
     let g = c .before .before .before .before .before .before .before .before .before .before .before .before .before .before .before .before .before .loop .inv .1 T right x e in
-    ends-stuck T right (c .before .before .before .before .before .before .before .before .before .before .before .before .before .before .before .before .before .before .before .before .before .before .args .out .now) _ (c .before .before .before .before .before .before .before .before .before .before .before .before .before .before .before .before .before .loop .w .depth) (c .before .before .before .before .before .before .before .before .before .before .before .before .before .before .before .before .before .loop .w .taken) (c .before .before .before .before .before .before .before .before .before .before .before .before .before .before .before .before .before .loop .out) (c .before .before .before .before .before .before .before .before .before .before .before .before .before .before .before .before .before .loop .at) g (omega (arith, c .before .before .before .before .before .before .before .before .before .before .before .before .before .before .before .if1)) (c .before .before .before .before .before .before .before .before .before .before .before .before .before .ask .result) (frames-in frame-width (c .before .before .before .before .before .before .before .before .before .before .before .before .before .ask .last .1 .1 .0)) (c .before .before .before .before .before .before .before .before .before .before .before .before .before .ask .ensures .1 T right x (g .right)) (omega (arith, c .before .before .before .before .before .before .before .before .before .if2)) (omega (arith, c .before .before .before .before .before .if4)) _ _ (c .before .before .put-bytes3 .ensures)
+    ends-stuck T right (c .before .before .before .before .before .before .before .before .before .before .before .before .before .before .before .before .before .before .before .before .before .before .args .out .now) _ (c .before .before .before .before .before .before .before .before .before .before .before .before .before .before .before .before .before .loop .w .depth) (c .before .before .before .before .before .before .before .before .before .before .before .before .before .before .before .before .before .loop .w .taken) (c .before .before .before .before .before .before .before .before .before .before .before .before .before .before .before .before .before .loop .out) (c .before .before .before .before .before .before .before .before .before .before .before .before .before .before .before .before .before .loop .at) g (omega (arith, c .before .before .before .before .before .before .before .before .before .before .before .before .before .before .before .if1)) (c .before .before .before .before .before .before .before .before .before .before .before .before .before .ask-first .result) (frames-in frame-width (c .before .before .before .before .before .before .before .before .before .before .before .before .before .ask-first .last .1 .1 .0)) (c .before .before .before .before .before .before .before .before .before .before .before .before .before .ask-first .ensures .1 T right x (g .right)) (omega (arith, c .before .before .before .before .before .before .before .before .before .if2)) (omega (arith, c .before .before .before .before .before .if4)) _ _ (c .before .before .put-bytes3 .ensures)
 
 add-put-step : tie.Need-add-put-step Inv-loop μ-loop
 add-put-step c = omega (arith, c .before .before .before .before .before .before .before .before .before .before .before .before .if1)
@@ -102,23 +102,23 @@ stepped-requires c κs = search needs
 
 loop-less : tie.Need-loop-less Inv-loop μ-loop
 loop-less c =
-    let taken : c .stepped .result .taken ≡ c .before .before .before .before .before .before .before .before .before .before .before .before .before .before .before .before .before .before .loop .w .taken + 1 = ap (λ (y : Walk). y .taken) (c .stepped .ensures ∙ sym (step-moves (c .before .before .before .before .before .before .before .before .before .before .before .before .before .before .before .before .before .before .loop .w) (c .before .before .before .before .before .before .before .before .before .before .before .before .before .before .ask .result) (omega (arith, c .before .before .before .before .before .before .before .before .before .before .if2)) (omega (arith, c .before .before .before .before .before .before .before .before .if3, c .before .before .before .before .before .before .if4)) (omega (arith, c .before .before .before .before .before .before .before .before .before .before .before .before .before .before .before .before .if1)))) in
+    let taken : c .stepped .result .taken ≡ c .before .before .before .before .before .before .before .before .before .before .before .before .before .before .before .before .before .before .loop .w .taken + 1 = ap (λ (y : Walk). y .taken) (c .stepped .ensures ∙ sym (step-moves (c .before .before .before .before .before .before .before .before .before .before .before .before .before .before .before .before .before .before .loop .w) (c .before .before .before .before .before .before .before .before .before .before .before .before .before .before .ask-first .result) (omega (arith, c .before .before .before .before .before .before .before .before .before .before .if2)) (omega (arith, c .before .before .before .before .before .before .before .before .if3, c .before .before .before .before .before .before .if4)) (omega (arith, c .before .before .before .before .before .before .before .before .before .before .before .before .before .before .before .before .if1)))) in
     omega (arith, c .before .before .before .before .before .before .before .before .before .before .before .before .before .before .before .before .if1)
 
 loop-again : tie.Need-loop-again Inv-loop μ-loop
 loop-again c =
     let w = c .before .before .before .before .before .before .before .before .before .before .before .before .before .before .before .before .before .before .loop .w in
-    let r = c .before .before .before .before .before .before .before .before .before .before .before .before .before .before .ask .result in
+    let r = c .before .before .before .before .before .before .before .before .before .before .before .before .before .before .ask-first .result in
     let now : c .stepped .result ≡ moved-if true w r = c .stepped .ensures ∙ sym (step-moves w r (omega (arith, c .before .before .before .before .before .before .before .before .before .before .if2)) (omega (arith, c .before .before .before .before .before .before .before .before .if3, c .before .before .before .before .before .before .if4)) (omega (arith, c .before .before .before .before .before .before .before .before .before .before .before .before .before .before .before .before .if1))) in
     let depth : c .stepped .result .depth ≡ r .depth = ap (λ (y : Walk). y .depth) now in
-    let limit = c .before .before .before .before .before .before .before .before .before .before .before .before .before .before .ask .ensures .0 in (
-      (c .before .before .before .before .before .before .before .before .before .before .before .before .before .before .ask .kept .1 .1 .0 ∙ c .before .before .before .before .before .before .before .before .before .before .before .before .before .before .before .before .before .before .loop .inv .0 .0, (c .before .before .before .put-step .kept .0 ∙ c .before .before .before .before .before .before .before .before .before .before .before .before .before .before .before .before .before .before .loop .inv .0 .1 .0, (omega arith, omega (arith, c .before .before .before .put-step .ensures .0, c .before .before .before .put-step .kept .0)))),
+    let limit = c .before .before .before .before .before .before .before .before .before .before .before .before .before .before .ask-first .ensures .0 in (
+      (c .before .before .before .before .before .before .before .before .before .before .before .before .before .before .ask-first .kept .1 .1 .0 ∙ c .before .before .before .before .before .before .before .before .before .before .before .before .before .before .before .before .before .before .loop .inv .0 .0, (c .before .before .before .put-step .kept .0 ∙ c .before .before .before .before .before .before .before .before .before .before .before .before .before .before .before .before .before .before .loop .inv .0 .1 .0, (omega arith, omega (arith, c .before .before .before .put-step .ensures .0, c .before .before .before .put-step .kept .0)))),
       λ T right x e.
           let g = c .before .before .before .before .before .before .before .before .before .before .before .before .before .before .before .before .before .before .loop .inv .1 T right x e in
           let i : (w .taken + 1) % 256 ≡ w .taken + 1 = omega (arith, c .before .before .before .before .before .before .before .before .before .before .before .before .before .before .before .before .if1) in
           let d : r .depth % 256 ≡ r .depth = omega arith in
-          subst (λ (y : Walk). Walking T (c .before .before .before .before .before .before .before .before .before .before .before .before .before .before .before .before .before .before .before .before .before .before .before .args .out .now) (frames-in frame-width (c .before .before .before .before .before .before .before .before .before .before .before .before .before .before .ask .last .1 .1 .0)) (y .depth) (y .taken) (c .before .before .before .put-step .last .0) (c .before .before .before .put-step .result)) (sym now)
-          (walking-on T right (c .before .before .before .before .before .before .before .before .before .before .before .before .before .before .before .before .before .before .before .before .before .before .before .args .out .now) _ (w .depth) (w .taken) (c .before .before .before .before .before .before .before .before .before .before .before .before .before .before .before .before .before .before .loop .out) (c .before .before .before .before .before .before .before .before .before .before .before .before .before .before .before .before .before .before .loop .at) g (omega (arith, c .before .before .before .before .before .before .before .before .before .before .before .before .before .before .before .before .if1)) r (frames-in frame-width (c .before .before .before .before .before .before .before .before .before .before .before .before .before .before .ask .last .1 .1 .0)) (c .before .before .before .before .before .before .before .before .before .before .before .before .before .before .ask .ensures .1 T right x (g .right)) (omega (arith, c .before .before .before .before .before .before .before .before .before .before .if2)) (omega (arith, c .before .before .before .before .before .before .before .before .if3, c .before .before .before .before .before .before .if4)) _ _
+          subst (λ (y : Walk). Walking T (c .before .before .before .before .before .before .before .before .before .before .before .before .before .before .before .before .before .before .before .before .before .before .before .args .out .now) (frames-in frame-width (c .before .before .before .before .before .before .before .before .before .before .before .before .before .before .ask-first .last .1 .1 .0)) (y .depth) (y .taken) (c .before .before .before .put-step .last .0) (c .before .before .before .put-step .result)) (sym now)
+          (walking-on T right (c .before .before .before .before .before .before .before .before .before .before .before .before .before .before .before .before .before .before .before .before .before .before .before .args .out .now) _ (w .depth) (w .taken) (c .before .before .before .before .before .before .before .before .before .before .before .before .before .before .before .before .before .before .loop .out) (c .before .before .before .before .before .before .before .before .before .before .before .before .before .before .before .before .before .before .loop .at) g (omega (arith, c .before .before .before .before .before .before .before .before .before .before .before .before .before .before .before .before .if1)) r (frames-in frame-width (c .before .before .before .before .before .before .before .before .before .before .before .before .before .before .ask-first .last .1 .1 .0)) (c .before .before .before .before .before .before .before .before .before .before .before .before .before .before .ask-first .ensures .1 T right x (g .right)) (omega (arith, c .before .before .before .before .before .before .before .before .before .before .if2)) (omega (arith, c .before .before .before .before .before .before .before .before .if3, c .before .before .before .before .before .before .if4)) _ _
           (wrote-as _ _ _ _ _ _ (ap₂ (λ (y z : ℕ). step-line y (label-told (T .sig) r) z) i d) (c .before .before .before .put-step .ensures .1 T x))),
     )
 
@@ -164,7 +164,7 @@ put-walk-spec =
     μ-loop
     plain-requires
     loop-holds
-    ask-requires
+    ask-first-requires
     slice-aggregate-put-bytes
     put-bytes-requires
     same-length

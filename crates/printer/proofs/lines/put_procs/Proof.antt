@@ -15,7 +15,7 @@ use Rattle.pcrl.specs.Printer.{numbered}
 use Rattle.rendering.specs.Texts.{concat, proc-line-text}
 use Rattle.rendering.specs.TextLaws.{numbered-more}
 use Rattle.lettering.specs.Named.{Lettered}
-use Rattle.printer.specs.Lines.{KnownTable}
+use Rattle.firing.specs.Known.{KnownTable}
 use Rattle.printer.proofs.lines.put_procs.Statement.{statement}
 use Rattle.printer.proofs.lines.put_procs.Tie as tie
 
