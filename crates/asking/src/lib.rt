@@ -12,6 +12,8 @@ ghost use Rattle.firing.specs.Known.{KnownTable, ActsAt};
 ghost use Rattle.stacks.specs.Lent.{frames-in, stack-bytes};
 ghost use Rattle.asking.specs.Encoding.{answer-bytes, filled, encode-answer};
 ghost use Rattle.asking.specs.Replies.{AskIs, AllIs, answer-told};
+use elements::cell;
+use elements::wide;
 use firing::TAU;
 use stacks::FRAME;
 use stacks::LIMIT;
@@ -79,8 +81,8 @@ pub fn ask(
         return plain(0, ENDED, 0);
     }
     let top = (depth - 1) * FRAME;
-    let e = terms::wide(frames[top]);
-    let sorts = terms::list_at(s, terms::place(params, e));
+    let e = wide(frames[top]);
+    let sorts = terms::list_at(s, cell(params, e));
     let n = sorts.len();
     let mut made = [0u8; MADE];
     let f = firing::fire(

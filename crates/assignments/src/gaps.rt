@@ -19,6 +19,7 @@ use crate::one_part::find_from;
 use crate::one_part::find_in;
 use crate::one_part::found_at;
 use crate::one_part::none_found;
+use elements::smaller;
 
 // Assignments of a variable before a gap, one in it and one behind it, at the fewest: two values each.
 const FEWEST: usize = 8;
@@ -42,7 +43,7 @@ fn lowest(s: &[u8], froms: &[usize; 8], ends: &[usize; 8], n: usize, p: usize) -
     let mut low: usize = 8;
     let mut i: usize = 0;
     while i < n {
-        low = evaluation::smaller(low, term_low(s, froms[i], ends[i], p));
+        low = smaller(low, term_low(s, froms[i], ends[i], p));
         i += 1;
     }
     low

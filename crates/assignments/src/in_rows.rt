@@ -22,6 +22,7 @@ use crate::one_part::none_found;
 use crate::one_part::test;
 use crate::values;
 use crate::wide_block;
+use elements::wide;
 use evaluation::rows::KeptLanes;
 
 // So many blocks are enough to look for rows, and a row has so many at the fewest.
@@ -205,7 +206,7 @@ pub fn find_rows(
         return gone_to(from, k);
     }
     let sizes = z.at;
-    let size = terms::wide(sizes[l]);
+    let size = wide(sizes[l]);
     let w = block_size(z, l);
     let b = narrow(w);
     let mut j = from;

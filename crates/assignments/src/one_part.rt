@@ -16,6 +16,7 @@ use crate::in_rows::find_rows;
 use crate::in_rows::first_row;
 use crate::values;
 use crate::wide_block;
+use elements::smaller;
 
 // The first number of the next block of d.
 pub fn next(j: usize, d: usize) -> usize
@@ -138,7 +139,7 @@ pub fn find_from(
         let a = e.at;
         let d = test(s, funcs, &a, froms, ends, blocks, n, 0);
         if d == 0 {
-            let r = evaluation::smaller(next(j, g), to);
+            let r = smaller(next(j, g), to);
             let m = (r - j) as u64;
             if left < m {
                 return found_at(j + (left as usize));

@@ -20,6 +20,7 @@ use crate::one_part::found_at;
 use crate::one_part::none_found;
 use crate::rounds::find_rounds;
 use crate::wide_block;
+use elements::smaller;
 
 // The conditions in two parts: blocks of the early ones, which are of b assignments at least, and of the late ones; 0 for a condition that is not of the part.
 // `grain`: the early ones change only between blocks of it; `low`: the late ones name no sum variable before it. They are apart if that is level l.
@@ -47,11 +48,11 @@ fn parted(
         let w = wide_block(d);
         if w < b {
             late[i] = d;
-            low = evaluation::smaller(low, term_low(s, froms[i], ends[i], p));
+            low = smaller(low, term_low(s, froms[i], ends[i], p));
             i += 1;
         } else {
             early[i] = d;
-            grain = evaluation::smaller(grain, w);
+            grain = smaller(grain, w);
             i += 1;
         }
     }

@@ -9,6 +9,11 @@ ghost use Rattle.evaluation.specs.Run.{pick, operator-code, operator-cou
 
 pub mod rows; // terms for all values of one variable at once
 
+use elements::cell;
+use elements::larger;
+use elements::peek;
+use elements::smaller;
+use elements::wide;
 use terms::AND;
 use terms::EQUAL;
 use terms::FUNCTION;
@@ -36,13 +41,13 @@ fn operator_arguments(n: usize) -> usize
 fn arguments(s: &[u8], funcs: &[u16], b: u8) -> usize
     ensures { λ r. ⌜ (r ≡ argument-count (now (s .entry)) (now (funcs .entry)) (node-of b)) × (r ≤ 3) ⌝ }
 {
-    let n = terms::wide(b);
+    let n = wide(b);
     if n < FUNCTION {
         return 0;
     }
     if n < NOT {
-        let p = terms::place(funcs, n - FUNCTION);
-        if terms::peek(s, p) == 1 {
+        let p = cell(funcs, n - FUNCTION);
+        if peek(s, p) == 1 {
             return 1;
         }
         return 2;
@@ -84,31 +89,31 @@ fn worth(s: &[u8], funcs: &[u16], e: &[u8], stack: &[u8], t: usize, b: u8, x: u8
     requires { ⌜ t ≤ 48 ⌝ }
     ensures { λ r. ⌜ r ≡ worth-of (now (s .entry)) (now (funcs .entry)) (now (e .entry)) (node-of b) x (getD (now (stack .entry)) t 0) (getD (now (stack .entry)) (t + 1) 0) ⌝ }
 {
-    let n = terms::wide(b);
+    let n = wide(b);
     if n < VARIABLE {
         return b;
     }
     if n < FUNCTION {
-        return terms::peek(e, n - VARIABLE);
+        return peek(e, n - VARIABLE);
     }
     if n < NOT {
-        let p = terms::place(funcs, n - FUNCTION);
-        if terms::peek(s, p) == 1 {
-            return terms::peek(s, p + 3 + terms::wide(x));
+        let p = cell(funcs, n - FUNCTION);
+        if peek(s, p) == 1 {
+            return peek(s, p + 3 + wide(x));
         }
-        let d = terms::wide(terms::peek(s, p + 2));
-        let y = terms::peek(stack, t);
-        let i = row(x, terms::peek(s, 1 + d), y);
-        return terms::peek(s, p + 4 + i);
+        let d = wide(peek(s, p + 2));
+        let y = peek(stack, t);
+        let i = row(x, peek(s, 1 + d), y);
+        return peek(s, p + 4 + i);
     }
-    operator_worth(n, x, terms::peek(stack, t), terms::peek(stack, t + 1))
+    operator_worth(n, x, peek(stack, t), peek(stack, t + 1))
 }
 
 // The place of y in row x, where the rows are of the given length.
 fn row(x: u8, length: u8, y: u8) -> usize
     ensures { λ r. ⌜ (r ≡ x * length + y) × (r < 65536) ⌝ }
 {
-    terms::wide(x) * terms::wide(length) + terms::wide(y)
+    wide(x) * wide(length) + wide(y)
 }
 
 // The place behind n terms.
@@ -116,7 +121,7 @@ pub fn skip(s: &[u8], funcs: &[u16], at: usize, n: u8) -> usize
     requires { ⌜ length (now s) ≤ max-stream ⌝ }
     ensures { λ r. ⌜ (r ≡ at + extent (now (s .entry)) (now (funcs .entry)) (drop at (now (s .entry))) n) × ((at ≤ r) × (r ≤ max at (length (now (s .entry))))) ⌝ }
 {
-    let mut need = terms::wide(n);
+    let mut need = wide(n);
     let mut i = at;
     while i < s.len() {
         if need == 0 {
@@ -132,7 +137,7 @@ pub fn skip(s: &[u8], funcs: &[u16], at: usize, n: u8) -> usize
 fn variable(b: u8) -> usize
     ensures { λ r. ⌜ r ≡ named (node-of b) ⌝ }
 {
-    let n = terms::wide(b);
+    let n = wide(b);
     if n < VARIABLE {
         return 0;
     }
@@ -140,18 +145,6 @@ fn variable(b: u8) -> usize
         return n - VARIABLE + 1;
     }
     0
-}
-
-pub fn larger(a: usize, b: usize) -> usize
-    ensures { λ r. ⌜ r ≡ max a b ⌝ }
-{
-    if a < b { b } else { a }
-}
-
-pub fn smaller(a: usize, b: usize) -> usize
-    ensures { λ r. ⌜ r ≡ min a b ⌝ }
-{
-    if a < b { a } else { b }
 }
 
 // The lower of m and the variable before n, if that is none of the first p.

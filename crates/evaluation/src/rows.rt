@@ -11,7 +11,10 @@ use crate::TERM;
 use crate::operator_arguments;
 use crate::operator_worth;
 use crate::row;
-use crate::smaller;
+use elements::cell;
+use elements::peek;
+use elements::smaller;
+use elements::wide;
 use terms::FUNCTION;
 use terms::NOT;
 use terms::VARIABLE;
@@ -70,7 +73,7 @@ fn one(s: &[u8], q: usize, rows: &mut [u8], t: usize, d: usize)
     let r = d * LANES;
     let mut i: usize = 0;
     while i < LANES {
-        rows[r + i] = terms::peek(s, q + terms::wide(rows[x + i]));
+        rows[r + i] = peek(s, q + wide(rows[x + i]));
         i += 1;
     }
 }
@@ -84,7 +87,7 @@ fn one_inside(s: &[u8], q: usize, rows: &mut [u8], t: usize, d: usize)
     let r = d * LANES;
     let mut i: usize = 0;
     while i < LANES {
-        rows[r + i] = s[q + terms::wide(rows[x + i])];
+        rows[r + i] = s[q + wide(rows[x + i])];
         i += 1;
     }
 }
@@ -99,7 +102,7 @@ fn two(s: &[u8], q: usize, width: u8, rows: &mut [u8], t: usize, d: usize)
     let r = d * LANES;
     let mut i: usize = 0;
     while i < LANES {
-        rows[r + i] = terms::peek(s, q + row(rows[x + i], width, rows[y + i]));
+        rows[r + i] = peek(s, q + row(rows[x + i], width, rows[y + i]));
         i += 1;
     }
 }
@@ -127,7 +130,7 @@ fn unary(s: &[u8], q: usize, rows: &mut [u8], marks: &mut [u8], t: usize, d: usi
 {
     if marks[t] == 0 {
         let x = rows[t * LANES];
-        fill(rows, d, terms::peek(s, q + terms::wide(x)));
+        fill(rows, d, peek(s, q + wide(x)));
         marks[d] = 0;
         return;
     }
@@ -167,7 +170,7 @@ fn node(
     requires { ⌜ (0 < t) × ((t ≤ 48) × ((816 ≤ length (now rows)) × (51 ≤ length (now marks)))) ⌝ }
     ensures { λ r. ⌜ (r < 48) × ((r ≡ min (t + argument-count (now (s .entry)) (now (funcs .entry)) (node-of b)) 48 - 1) × (v < length (now (e .entry)) → Marked (now (rows .entry)) (now (marks .entry)) → RowPut (now (rows .entry)) r (λ i. worth-of (now (s .entry)) (now (funcs .entry)) (set (now (e .entry)) v i) (node-of b) (lane (now (rows .entry)) t i) (lane (now (rows .entry)) (t + 1) i) (lane (now (rows .entry)) (t + 2) i)) (now (rows .exit)) × Marked (now (rows .exit)) (now (marks .exit)))) ⌝ }
 {
-    let n = terms::wide(b);
+    let n = wide(b);
     if n < VARIABLE {
         let d = onto(t, 0);
         fill(rows, d, b);
@@ -182,19 +185,19 @@ fn node(
             marks[d] = 1;
             return d;
         }
-        fill(rows, d, terms::peek(e, i));
+        fill(rows, d, peek(e, i));
         marks[d] = 0;
         return d;
     }
     if n < NOT {
-        let p = terms::place(funcs, n - FUNCTION);
-        if terms::peek(s, p) == 1 {
+        let p = cell(funcs, n - FUNCTION);
+        if peek(s, p) == 1 {
             let d = onto(t, 1);
             unary(s, p + 3, rows, marks, t, d);
             return d;
         }
         let d = onto(t, 2);
-        let width = terms::peek(s, 1 + terms::wide(terms::peek(s, p + 2)));
+        let width = peek(s, 1 + wide(peek(s, p + 2)));
         binary(s, p + 4, width, rows, marks, t, d);
         return d;
     }
@@ -246,7 +249,7 @@ fn keep(rows: &[u8], t: usize, wanted: u8, met: KeptLanes) -> KeptLanes
     while i < LANES {
         let m = same(rows[r + i], wanted, b[i]);
         a[i] = m;
-        some += terms::wide(m);
+        some += wide(m);
         i += 1;
     }
     KeptLanes { at: a, some: some }

@@ -12,6 +12,9 @@ ghost use Rattle.terms.specs.Stands.{KnownData, list-at};
 ghost use Rattle.terms.specs.Ends.{rests, ended};
 ghost use Rattle.terms.specs.Fitting.{NextFits};
 ghost use Rattle.terms.specs.Numbers.{read-list, ListEnds};
+use elements::cell;
+use elements::peek;
+use elements::wide;
 use limits::AND_CODE;
 use limits::EQUAL_CODE;
 use limits::FUNCTION_CODE;
@@ -42,35 +45,6 @@ pub struct Next {
     pub at: usize,
 }
 
-pub fn peek(s: &[u8], i: usize) -> u8
-    ensures { λ r. ⌜ r ≡ getD (now (s .entry)) i 0 ⌝ }
-{
-    if i < s.len() { s[i] } else { 0 }
-}
-
-pub fn wide(x: u8) -> usize
-    ensures { λ r. ⌜ (r ≡ x) × (r < 256) ⌝ }
-{
-    x as usize
-}
-
-// The i-th of the places that were kept.
-pub fn place(places: &[u16], i: usize) -> usize
-    ensures { λ r. ⌜ (r ≡ getD (now (places .entry)) i 0) × (r < 65536) ⌝ }
-{
-    if i < places.len() {
-        wide_place(places[i])
-    } else {
-        0
-    }
-}
-
-fn wide_place(x: u16) -> usize
-    ensures { λ r. ⌜ (r ≡ x) × (r < 65536) ⌝ }
-{
-    x as usize
-}
-
 // The numbers of the counted list that stands at p.
 pub fn list_at(s: &[u8], p: usize) -> &[u8]
     ensures { λ r. ⌜ now r ≡ list-at (now (s .entry)) p ⌝ }
@@ -79,7 +53,7 @@ pub fn list_at(s: &[u8], p: usize) -> &[u8]
         return &s[0..0];
     }
     let b = p + 1;
-    let e = b + elements::wide(s[p]);
+    let e = b + wide(s[p]);
     if s.len() < e {
         return &s[b..];
     }
@@ -101,9 +75,9 @@ fn fits(s: &[u8], sizes: &[u8], funcs: &[u16], scope: &[u8], b: u8, d: u8) -> bo
     requires { ⌜ b < 0x60 ⌝ }
     ensures { λ r. ⌜ ((S : Sig) → KnownData S (now (s .entry)) (now (sizes .entry)) (now (funcs .entry)) → Says r (Fits S (now (scope .entry)) d (node-of b))) ⌝ }
 {
-    let n = elements::wide(b);
+    let n = wide(b);
     if n < VARIABLE_CODE {
-        return b < elements::peek(sizes, elements::wide(d));
+        return b < peek(sizes, wide(d));
     }
     if n < FUNCTION_CODE {
         let i = n - VARIABLE_CODE;
@@ -114,8 +88,8 @@ fn fits(s: &[u8], sizes: &[u8], funcs: &[u16], scope: &[u8], b: u8, d: u8) -> bo
     }
     let f = n - FUNCTION_CODE;
     if f < funcs.len() {
-        let p = elements::cell(funcs, f);
-        return elements::peek(s, p + 1 + elements::wide(elements::peek(s, p))) == d;
+        let p = cell(funcs, f);
+        return peek(s, p + 1 + wide(peek(s, p))) == d;
     }
     false
 }
@@ -126,16 +100,16 @@ fn after(sorts: &mut [u8], top: usize, s: &[u8], funcs: &[u16], b: u8) -> usize
     ensures { λ r. ⌜ ((S : Sig) (Γ sizes : List ℕ) (D : ℕ) → KnownData S (now (s .entry)) sizes (now (funcs .entry)) → Fits S Γ D (node-of b) → drop r (now (sorts .exit)) ≡ wants S Γ (node-of b) ++ drop (top + 1) (now (sorts .entry))) × ((top ≤ r + 1) × (r ≤ length (now (sorts .entry)))) ⌝ }
 {
     let rest = top + 1;
-    let n = elements::wide(b);
+    let n = wide(b);
     if n < FUNCTION_CODE {
         return rest;
     }
-    let p = elements::cell(funcs, n - FUNCTION_CODE);
-    let x = elements::peek(s, p + 1);
-    if elements::peek(s, p) == 1 {
+    let p = cell(funcs, n - FUNCTION_CODE);
+    let x = peek(s, p + 1);
+    if peek(s, p) == 1 {
         return push(sorts, rest, x);
     }
-    let t = push(sorts, rest, elements::peek(s, p + 2));
+    let t = push(sorts, rest, peek(s, p + 2));
     push(sorts, t, x)
 }
 
@@ -144,13 +118,13 @@ fn operator_fits(s: &[u8], sizes: &[u8], i: usize, d: u8) -> bool
     requires { ⌜ (i < length (now s)) × (0x60 ≤ getD (now s) i 0) ⌝ }
     ensures { λ r. ⌜ ((S : Sig) (Γ : List ℕ) → now (sizes .entry) ≡ S .sorts → Says r (NextFits S Γ d (drop i (now (s .entry))))) ⌝ }
 {
-    let n = elements::wide(s[i]);
+    let n = wide(s[i]);
     if n == EQUAL_CODE {
         let j = i + 1;
         if s.len() <= j {
             return false;
         }
-        if sizes.len() <= elements::wide(s[j]) {
+        if sizes.len() <= wide(s[j]) {
             return false;
         }
         return d == BOOL_SORT;
@@ -167,12 +141,12 @@ fn operands(sorts: &mut [u8], top: usize, s: &[u8], i: usize) -> usize
     ensures { λ r. ⌜ ((S : Sig) (Γ : List ℕ) (D : ℕ) (k : NextFits S Γ D (drop i (now (s .entry)))) → drop r (now (sorts .exit)) ≡ wants S Γ (k .node) ++ drop (top + 1) (now (sorts .entry))) × ((top ≤ r + 1) × (r ≤ length (now (sorts .entry)))) ⌝ }
 {
     let rest = top + 1;
-    let n = elements::wide(s[i]);
+    let n = wide(s[i]);
     if n == NOT_CODE {
         return push(sorts, rest, BOOL_SORT);
     }
     if n == EQUAL_CODE {
-        let d = elements::peek(s, i + 1);
+        let d = peek(s, i + 1);
         let t = push(sorts, rest, d);
         return push(sorts, t, d);
     }
@@ -186,7 +160,7 @@ fn past(s: &[u8], i: usize) -> usize
     ensures { λ r. ⌜ ((x : Node) (ys : List ℕ) → read-node (drop i (now (s .entry))) ≡ found x ys → drop r (now (s .entry)) ≡ ys) ⌝ }
 {
     let j = i + 1;
-    if elements::wide(s[i]) == EQUAL_CODE {
+    if wide(s[i]) == EQUAL_CODE {
         if j < s.len() {
             return j + 1;
         }
@@ -212,7 +186,7 @@ pub fn read_term(s: &[u8], sizes: &[u8], funcs: &[u16], scope: &[u8], at: usize,
         left -= 1;
         let b = s[i];
         let d = sorts[top];
-        if elements::wide(b) < NOT_CODE {
+        if wide(b) < NOT_CODE {
             if !fits(s, sizes, funcs, scope, b, d) {
                 return Next { ok: false, at: 0 };
             }
@@ -276,7 +250,7 @@ pub fn read_list(s: &[u8], at: usize, least: u8, most: u8, low: u8, limit: usize
         if s[i] < low {
             return Next { ok: false, at: 0 };
         }
-        if limit <= elements::wide(s[i]) {
+        if limit <= wide(s[i]) {
             return Next { ok: false, at: 0 };
         }
         i += 1;

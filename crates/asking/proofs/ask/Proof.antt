@@ -33,8 +33,8 @@ slice-read-wide c = search needs
 wide-requires : tie.Need-wide-requires
 wide-requires c κs = search needs
 
-place-requires : tie.Need-place-requires
-place-requires c κs = search needs
+cell-requires : tie.Need-cell-requires
+cell-requires c κs = search needs
 
 list-at-requires : tie.Need-list-at-requires
 list-at-requires c κs = search needs
@@ -76,7 +76,7 @@ returns-2 c = (
       let made = c .before .before .before .before .fire .last .1 .1 .1 .1 .1 .1 .1 .1 .0 in
       let some-frame : 0 < a .depth = omega (arith, c .before .before .before .before .before .before .before .before .before .before .before .before .before .if1) in
       let whole : take (length bytes - 0) bytes ≡ bytes = take-all (length bytes - 0) bytes (omega arith) in
-      let (number, (params, (b, sorted))) = looked T bytes (a .depth) (a .k) (c .before .before .before .before .before .before .before .before .before .before .before .before .before .before .before .before .before .before .before .before .pre .1 .0) p some-frame (a .s .now) (a .funcs .now) (a .acts .now) (a .params .now) (a .rows .now) x _ _ _ _ _ (c .before .before .before .before .before .before .before .before .before .before .before .wide .ensures .0) (c .before .before .before .before .before .before .before .before .before .before .place .ensures .0) (c .before .before .before .before .before .before .before .before .before .list-at .ensures) refl (c .before .before .before .before .before .before .part .ensures ∙ ap (λ (l : List ℕ). take (length (c .before .before .before .before .before .before .before .before .before .list-at .result .now)) (drop ((a .depth - 1) * 5 + 1) l)) whole) in
+      let (number, (params, (b, sorted))) = looked T bytes (a .depth) (a .k) (c .before .before .before .before .before .before .before .before .before .before .before .before .before .before .before .before .before .before .before .before .pre .1 .0) p some-frame (a .s .now) (a .funcs .now) (a .acts .now) (a .params .now) (a .rows .now) x _ _ _ _ _ (c .before .before .before .before .before .before .before .before .before .before .before .wide .ensures .0) (c .before .before .before .before .before .before .before .before .before .before .cell .ensures .0) (c .before .before .before .before .before .before .before .before .before .list-at .ensures) refl (c .before .before .before .before .before .before .part .ensures ∙ ap (λ (l : List ℕ). take (length (c .before .before .before .before .before .before .before .before .before .list-at .result .now)) (drop ((a .depth - 1) * 5 + 1) l)) whole) in
       none-is T bytes (a .depth) (a .k) (c .before .before .before .before .before .before .before .before .before .before .before .before .before .before .before .before .before .before .before .before .pre .1 .0) p some-frame _ _ number params (c .plain2 .result) (told-is (T .sig) _ _ f _ (c .before .before .before .before .fire .last .1 .1 .1 .1 .1 .1 .1 .1 .0) (c .before .before .before .before .fire .ensures .1 T (c .before .before .before .before .before .before .part .result .now) x b sorted (take-length (c .before .before .before .before .before .before .part .result .now))) ∙ told-none (T .sig) f made (not-true _ (c .before .if2 .taken)))
       (c .plain2 .ensures .0) (c .plain2 .ensures .1 .0) (c .plain2 .ensures .1 .1),
 )
@@ -103,7 +103,7 @@ returns-3 c = (
       let made = c .before .before .before .before .before .before .fire .last .1 .1 .1 .1 .1 .1 .1 .1 .0 in
       let some-frame : 0 < a .depth = omega (arith, c .before .before .before .before .before .before .before .before .before .before .before .before .before .before .before .if1) in
       let whole : take (length bytes - 0) bytes ≡ bytes = take-all (length bytes - 0) bytes (omega arith) in
-      let (number, (params, (b, sorted))) = looked T bytes (a .depth) (a .k) (c .before .before .before .before .before .before .before .before .before .before .before .before .before .before .before .before .before .before .before .before .before .before .pre .1 .0) p some-frame (a .s .now) (a .funcs .now) (a .acts .now) (a .params .now) (a .rows .now) x _ _ _ _ _ (c .before .before .before .before .before .before .before .before .before .before .before .before .before .wide .ensures .0) (c .before .before .before .before .before .before .before .before .before .before .before .before .place .ensures .0) (c .before .before .before .before .before .before .before .before .before .before .before .list-at .ensures) refl (c .before .before .before .before .before .before .before .before .part .ensures ∙ ap (λ (l : List ℕ). take (length (c .before .before .before .before .before .before .before .before .before .before .before .list-at .result .now)) (drop ((a .depth - 1) * 5 + 1) l)) whole) in
+      let (number, (params, (b, sorted))) = looked T bytes (a .depth) (a .k) (c .before .before .before .before .before .before .before .before .before .before .before .before .before .before .before .before .before .before .before .before .before .before .pre .1 .0) p some-frame (a .s .now) (a .funcs .now) (a .acts .now) (a .params .now) (a .rows .now) x _ _ _ _ _ (c .before .before .before .before .before .before .before .before .before .before .before .before .before .wide .ensures .0) (c .before .before .before .before .before .before .before .before .before .before .before .before .cell .ensures .0) (c .before .before .before .before .before .before .before .before .before .before .before .list-at .ensures) refl (c .before .before .before .before .before .before .before .before .part .ensures ∙ ap (λ (l : List ℕ). take (length (c .before .before .before .before .before .before .before .before .before .before .before .list-at .result .now)) (drop ((a .depth - 1) * 5 + 1) l)) whole) in
       deep-is T bytes (a .depth) (a .k) (c .before .before .before .before .before .before .before .before .before .before .before .before .before .before .before .before .before .before .before .before .before .before .pre .1 .0) p some-frame _ _ number params _ (frames-at frame-width (f .calls) made) (told-is (T .sig) _ _ f _ (c .before .before .before .before .before .before .fire .last .1 .1 .1 .1 .1 .1 .1 .1 .0) (c .before .before .before .before .before .before .fire .ensures .1 T (c .before .before .before .before .before .before .before .before .part .result .now) x b sorted (take-length (c .before .before .before .before .before .before .before .before .part .result .now))) ∙ told-found (T .sig) f made (not-false _ (c .before .before .before .if2 .left)))
       (c .plain3 .result) (omega (arith, c .before .if3, length-frames-at frame-width (f .calls) made)) (c .plain3 .ensures .0) (c .plain3 .ensures .1 .1),
 )
@@ -133,7 +133,7 @@ returns-4 c = (
       let made = c .before .before .before .before .before .before .before .before .before .before .before .before .fire .last .1 .1 .1 .1 .1 .1 .1 .1 .0 in
       let some-frame : 0 < a .depth = omega (arith, c .before .before .before .before .before .before .before .before .before .before .before .before .before .before .before .before .before .before .before .before .before .if1) in
       let whole : take (length bytes - 0) bytes ≡ bytes = take-all (length bytes - 0) bytes (omega arith) in
-      let (number, (params, (b, sorted))) = looked T bytes (a .depth) (a .k) (c .before .before .before .before .before .before .before .before .before .before .before .before .before .before .before .before .before .before .before .before .before .before .before .before .before .before .before .before .pre .1 .0) p some-frame (a .s .now) (a .funcs .now) (a .acts .now) (a .params .now) (a .rows .now) x _ _ _ _ _ (c .before .before .before .before .before .before .before .before .before .before .before .before .before .before .before .before .before .before .before .wide .ensures .0) (c .before .before .before .before .before .before .before .before .before .before .before .before .before .before .before .before .before .before .place .ensures .0) (c .before .before .before .before .before .before .before .before .before .before .before .before .before .before .before .before .before .list-at .ensures) refl (c .before .before .before .before .before .before .before .before .before .before .before .before .before .before .part .ensures ∙ ap (λ (l : List ℕ). take (length (c .before .before .before .before .before .before .before .before .before .before .before .before .before .before .before .before .before .list-at .result .now)) (drop ((a .depth - 1) * 5 + 1) l)) whole) in
+      let (number, (params, (b, sorted))) = looked T bytes (a .depth) (a .k) (c .before .before .before .before .before .before .before .before .before .before .before .before .before .before .before .before .before .before .before .before .before .before .before .before .before .before .before .before .pre .1 .0) p some-frame (a .s .now) (a .funcs .now) (a .acts .now) (a .params .now) (a .rows .now) x _ _ _ _ _ (c .before .before .before .before .before .before .before .before .before .before .before .before .before .before .before .before .before .before .before .wide .ensures .0) (c .before .before .before .before .before .before .before .before .before .before .before .before .before .before .before .before .before .before .cell .ensures .0) (c .before .before .before .before .before .before .before .before .before .before .before .before .before .before .before .before .before .list-at .ensures) refl (c .before .before .before .before .before .before .before .before .before .before .before .before .before .before .part .ensures ∙ ap (λ (l : List ℕ). take (length (c .before .before .before .before .before .before .before .before .before .before .before .before .before .before .before .before .before .list-at .result .now)) (drop ((a .depth - 1) * 5 + 1) l)) whole) in
       let n = length-frames-at frame-width (f .calls) made in
       step-is T bytes (a .depth) (a .k) (c .before .before .before .before .before .before .before .before .before .before .before .before .before .before .before .before .before .before .before .before .before .before .before .before .before .before .before .before .pre .1 .0) p some-frame _ _ number params _ (frames-at frame-width (f .calls) made) (told-is (T .sig) _ _ f _ (c .before .before .before .before .before .before .before .before .before .before .before .before .fire .last .1 .1 .1 .1 .1 .1 .1 .1 .0) (c .before .before .before .before .before .before .before .before .before .before .before .before .fire .ensures .1 T (c .before .before .before .before .before .before .before .before .before .before .before .before .before .before .part .result .now) x b sorted (take-length (c .before .before .before .before .before .before .before .before .before .before .before .before .before .before .part .result .now))) ∙ told-found (T .sig) f made (not-false _ (c .before .before .before .before .before .before .before .before .before .if2 .left)))
       _ _ (omega (arith, c .before .before .before .before .before .before .before .if3)) refl refl refl (omega arith) (c .before .before .before .before .replace .ensures (zeros-behind T bytes (a .depth) (a .k) (c .before .before .before .before .before .before .before .before .before .before .before .before .before .before .before .before .before .before .before .before .before .before .before .before .before .before .before .before .pre .1 .0) p some-frame)),
@@ -149,7 +149,7 @@ ask-spec =
     mul-top
     slice-read-wide
     wide-requires
-    place-requires
+    cell-requires
     list-at-requires
     sub-part
     part-part-start

@@ -15,20 +15,20 @@ wide-requires c κs = search needs
 returns : tie.Need-returns
 returns c = let a = c .before .before .before .before .args in (no-arguments (a .s .now) (a .funcs .now) (a .b) (omega (arith, c .before .wide .ensures .0)), omega arith)
 
-place-requires : tie.Need-place-requires
-place-requires c κs = search needs
+cell-requires : tie.Need-cell-requires
+cell-requires c κs = search needs
 
 peek-requires : tie.Need-peek-requires
 peek-requires c κs = search needs
 
 returns-2 : tie.Need-returns-2
-returns-2 c = let a = c .before .before .before .before .before .before .before .before .args in let w = c .before .before .before .before .before .wide in let p = c .before .before .place in let z : w .result - 64 ≡ a .b - 64 = omega (arith, w .ensures .0) in (
+returns-2 c = let a = c .before .before .before .before .before .before .before .before .args in let w = c .before .before .before .before .before .wide in let p = c .before .before .cell in let z : w .result - 64 ≡ a .b - 64 = omega (arith, w .ensures .0) in (
   one-argument (a .s .now) (a .funcs .now) (a .b) (p .result) (omega (arith, w .ensures .0)) (omega (arith, w .ensures .0)) (p .ensures .0 ∙ ap (λ (i : ℕ). getD (a .funcs .now) i 0) z) (sym (c .before .peek .ensures) ∙ c .if3 .taken),
   omega arith,
 )
 
 returns-3 : tie.Need-returns-3
-returns-3 c = let a = c .before .before .before .before .before .before .before .before .args in let w = c .before .before .before .before .before .wide in let p = c .before .before .place in let z : w .result - 64 ≡ a .b - 64 = omega (arith, w .ensures .0) in (
+returns-3 c = let a = c .before .before .before .before .before .before .before .before .args in let w = c .before .before .before .before .before .wide in let p = c .before .before .cell in let z : w .result - 64 ≡ a .b - 64 = omega (arith, w .ensures .0) in (
   two-arguments (a .s .now) (a .funcs .now) (a .b) (p .result) (omega (arith, w .ensures .0)) (omega (arith, w .ensures .0)) (p .ensures .0 ∙ ap (λ (i : ℕ). getD (a .funcs .now) i 0) z) (λ h. c .if3 .left (c .before .peek .ensures ∙ h)),
   omega arith,
 )
@@ -48,7 +48,7 @@ arguments-spec =
     (tie.spec
     wide-requires
     returns
-    place-requires
+    cell-requires
     peek-requires
     returns-2
     returns-3

@@ -22,8 +22,8 @@ returns-2 : tie.Need-returns-2
 returns-2 c = let a = c .before .before .before .before .before .before .before .before .args in let w = c .before .before .before .wide in let z : w .result - 32 ≡ a .b - 32 = omega (arith, w .ensures .0) in
     c .peek .ensures ∙ ap (λ (i : ℕ). getD (a .e .now) i 0) z ∙ worth-variable (a .s .now) (a .funcs .now) (a .e .now) (a .b) (a .x) _ _ (omega (arith, w .ensures .0)) (omega (arith, w .ensures .0))
 
-place-requires : tie.Need-place-requires
-place-requires c κs = search needs
+cell-requires : tie.Need-cell-requires
+cell-requires c κs = search needs
 
 peek-requires-2 : tie.Need-peek-requires-2
 peek-requires-2 c κs = search needs
@@ -41,7 +41,7 @@ peek-requires-3 : tie.Need-peek-requires-3
 peek-requires-3 c κs = search needs
 
 returns-3 : tie.Need-returns-3
-returns-3 c = let a = c .before .before .before .before .before .before .before .before .before .before .before .before .before .args in let w = c .before .before .before .before .before .before .before .before .wide in let p = c .before .before .before .before .place in let z : w .result - 64 ≡ a .b - 64 = omega (arith, w .ensures .0) in
+returns-3 c = let a = c .before .before .before .before .before .before .before .before .before .before .before .before .before .args in let w = c .before .before .before .before .before .before .before .before .wide in let p = c .before .before .before .before .cell in let z : w .result - 64 ≡ a .b - 64 = omega (arith, w .ensures .0) in
     let y : p .result + 3 + c .before .wide2 .result ≡ p .result + 3 + a .x = omega (arith, c .before .wide2 .ensures .0) in
     c .peek3 .ensures ∙ ap (λ (i : ℕ). getD (a .s .now) i 0) y
     ∙ worth-one (a .s .now) (a .funcs .now) (a .e .now) (a .b) (a .x) _ _ (p .result) (omega (arith, w .ensures .0)) (omega (arith, w .ensures .0)) (p .ensures .0 ∙ ap (λ (i : ℕ). getD (a .funcs .now) i 0) z) (sym (c .before .before .before .peek2 .ensures) ∙ c .before .before .if4 .taken)
@@ -77,7 +77,7 @@ peek-requires-7 : tie.Need-peek-requires-7
 peek-requires-7 c κs = search needs
 
 returns-4 : tie.Need-returns-4
-returns-4 c = let a = c .before .before .before .before .before .before .before .before .before .before .before .before .before .before .before .before .before .args in let w = c .before .before .before .before .before .before .before .before .before .before .before .before .wide in let p = c .before .before .before .before .before .before .before .before .place in let z : w .result - 64 ≡ a .b - 64 = omega (arith, w .ensures .0) in
+returns-4 c = let a = c .before .before .before .before .before .before .before .before .before .before .before .before .before .before .before .before .before .args in let w = c .before .before .before .before .before .before .before .before .before .before .before .before .wide in let p = c .before .before .before .before .before .before .before .before .cell in let z : w .result - 64 ≡ a .b - 64 = omega (arith, w .ensures .0) in
     let d : 1 + c .before .before .before .before .wide3 .result ≡ 1 + getD (a .s .now) (p .result + 2) 0 = ap (λ (x : ℕ). 1 + x) (c .before .before .before .before .wide3 .ensures .0 ∙ c .before .before .before .before .before .peek4 .ensures) in
     let i : c .before .row .result ≡ a .x * getD (a .s .now) (1 + getD (a .s .now) (p .result + 2) 0) 0 + getD (a .stack .now) (a .t) 0 =
     c .before .row .ensures .0 ∙ ap₂ (λ (n y : ℕ). a .x * n + y) (c .before .before .peek6 .ensures ∙ ap (λ (x : ℕ). getD (a .s .now) x 0) d) (c .before .before .before .peek5 .ensures) in
@@ -110,7 +110,7 @@ worth-spec =
     returns
     peek-requires
     returns-2
-    place-requires
+    cell-requires
     peek-requires-2
     add-peek
     wide-requires-2

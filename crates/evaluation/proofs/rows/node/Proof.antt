@@ -67,8 +67,8 @@ same-length-6 c = search needs
 returns-3 : tie.Need-returns-3
 returns-3 c = let a = c .before .before .before .before .before .before .before .before .before .before .before .before .before .before .before .args in let n = c .before .before .before .before .before .before .before .before .before .wide .ensures .0 in (c .before .before .before .before .before .before .onto2 .ensures .1, (c .before .before .before .before .before .before .onto2 .ensures .0 ∙ ap (λ (k : ℕ). min (a .t + k) 48 - 1) (no-arguments (a .s .now) (a .funcs .now) (a .b) (omega arith)), λ h w. (put-other (a .s .now) (a .funcs .now) (a .e .now) (a .v) (a .b) (c .before .before .before .before .before .before .before .before .before .wide .result) (a .t) (a .rows .now) _ (c .before .before .before .before .before .before .onto2 .result) n (c .before .before .before .peek .result) (omega arith) (omega arith) (c .before .before .before .before .before .if3 .left) (c .before .before .before .peek .ensures) (c .before .before .fill2 .ensures), mark-put (a .rows .now) (a .marks .now) (c .before .before .before .before .before .before .onto2 .result) _ _ 0 (omega arith) (omega (arith, c .before .before .before .before .before .before .onto2 .ensures .1)) (λ e i. refl) (c .before .before .fill2 .ensures) w)))
 
-place-requires : tie.Need-place-requires
-place-requires c κs = search needs
+cell-requires : tie.Need-cell-requires
+cell-requires c κs = search needs
 
 peek-requires-2 : tie.Need-peek-requires-2
 peek-requires-2 c κs = search needs
@@ -89,7 +89,7 @@ same-length-8 : tie.Need-same-length-8
 same-length-8 c = search needs
 
 returns-4 : tie.Need-returns-4
-returns-4 c = let a = c .before .before .before .before .before .before .before .before .before .before .before .before .before .before .before .before .before .before .before .before .args in let n = c .before .before .before .before .before .before .before .before .before .before .before .before .before .before .wide .ensures .0 in (c .before .before .before .before .before .before .before .onto3 .ensures .1, (c .before .before .before .before .before .before .before .onto3 .ensures .0 ∙ ap (λ (k : ℕ). min (a .t + k) 48 - 1) (one-argument (a .s .now) (a .funcs .now) (a .b) (c .before .before .before .before .before .before .before .before .before .before .place .result) (omega arith) (omega arith) (c .before .before .before .before .before .before .before .before .before .before .place .ensures .0 ∙ (let z : c .before .before .before .before .before .before .before .before .before .before .before .before .before .before .wide .result - 64 ≡ a .b - 64 = omega arith in ap (λ (i : ℕ). getD (a .funcs .now) i 0) z)) (sym (c .before .before .before .before .before .before .before .before .before .peek2 .ensures) ∙ c .before .before .before .before .before .before .before .before .if5 .taken)), λ h w. (put-one (a .s .now) (a .funcs .now) (a .e .now) (a .v) (a .b) (c .before .before .before .before .before .before .before .before .before .before .before .before .before .before .wide .result) (a .t) (a .rows .now) _ (c .before .before .before .before .before .before .before .onto3 .result) n (c .before .before .before .before .before .before .before .before .before .before .place .result) (omega arith) (omega arith) (c .before .before .before .before .before .before .before .before .before .before .place .ensures .0) (sym (c .before .before .before .before .before .before .before .before .before .peek2 .ensures) ∙ c .before .before .before .before .before .before .before .before .if5 .taken) (c .before .before .before .before .unary .ensures w .0), c .before .before .before .before .unary .ensures w .1)))
+returns-4 c = let a = c .before .before .before .before .before .before .before .before .before .before .before .before .before .before .before .before .before .before .before .before .args in let n = c .before .before .before .before .before .before .before .before .before .before .before .before .before .before .wide .ensures .0 in (c .before .before .before .before .before .before .before .onto3 .ensures .1, (c .before .before .before .before .before .before .before .onto3 .ensures .0 ∙ ap (λ (k : ℕ). min (a .t + k) 48 - 1) (one-argument (a .s .now) (a .funcs .now) (a .b) (c .before .before .before .before .before .before .before .before .before .before .cell .result) (omega arith) (omega arith) (c .before .before .before .before .before .before .before .before .before .before .cell .ensures .0 ∙ (let z : c .before .before .before .before .before .before .before .before .before .before .before .before .before .before .wide .result - 64 ≡ a .b - 64 = omega arith in ap (λ (i : ℕ). getD (a .funcs .now) i 0) z)) (sym (c .before .before .before .before .before .before .before .before .before .peek2 .ensures) ∙ c .before .before .before .before .before .before .before .before .if5 .taken)), λ h w. (put-one (a .s .now) (a .funcs .now) (a .e .now) (a .v) (a .b) (c .before .before .before .before .before .before .before .before .before .before .before .before .before .before .wide .result) (a .t) (a .rows .now) _ (c .before .before .before .before .before .before .before .onto3 .result) n (c .before .before .before .before .before .before .before .before .before .before .cell .result) (omega arith) (omega arith) (c .before .before .before .before .before .before .before .before .before .before .cell .ensures .0) (sym (c .before .before .before .before .before .before .before .before .before .peek2 .ensures) ∙ c .before .before .before .before .before .before .before .before .if5 .taken) (c .before .before .before .before .unary .ensures w .0), c .before .before .before .before .unary .ensures w .1)))
 
 onto-requires-4 : tie.Need-onto-requires-4
 onto-requires-4 c κs = search needs
@@ -122,7 +122,7 @@ same-length-10 : tie.Need-same-length-10
 same-length-10 c = search needs
 
 returns-5 : tie.Need-returns-5
-returns-5 c = let a = c .before .before .before .before .before .before .before .before .before .before .before .before .before .before .before .before .before .before .before .before .before .before .before .args in let n = c .before .before .before .before .before .before .before .before .before .before .before .before .before .before .before .before .before .wide .ensures .0 in (c .before .before .before .before .before .before .before .before .before .before .onto4 .ensures .1, (c .before .before .before .before .before .before .before .before .before .before .onto4 .ensures .0 ∙ ap (λ (k : ℕ). min (a .t + k) 48 - 1) (two-arguments (a .s .now) (a .funcs .now) (a .b) (c .before .before .before .before .before .before .before .before .before .before .before .before .before .place .result) (omega arith) (omega arith) (c .before .before .before .before .before .before .before .before .before .before .before .before .before .place .ensures .0 ∙ (let z : c .before .before .before .before .before .before .before .before .before .before .before .before .before .before .before .before .before .wide .result - 64 ≡ a .b - 64 = omega arith in ap (λ (i : ℕ). getD (a .funcs .now) i 0) z)) (λ q. c .before .before .before .before .before .before .before .before .before .before .before .if5 .left (c .before .before .before .before .before .before .before .before .before .before .before .before .peek2 .ensures ∙ q))), λ h w. (put-two (a .s .now) (a .funcs .now) (a .e .now) (a .v) (a .b) (c .before .before .before .before .before .before .before .before .before .before .before .before .before .before .before .before .before .wide .result) (a .t) (a .rows .now) _ (c .before .before .before .before .before .before .before .before .before .before .onto4 .result) n (c .before .before .before .before .before .before .before .before .before .before .before .before .before .place .result) (omega arith) (omega arith) (c .before .before .before .before .before .before .before .before .before .before .before .before .before .place .ensures .0) (c .before .before .before .before .before .before .before .peek4 .result) (λ q. c .before .before .before .before .before .before .before .before .before .before .before .if5 .left (c .before .before .before .before .before .before .before .before .before .before .before .before .peek2 .ensures ∙ q)) (c .before .before .before .before .before .before .before .peek4 .ensures ∙ ap (λ (x : ℕ). getD (a .s .now) (1 + x) 0) (c .before .before .before .before .before .before .before .before .wide2 .ensures .0 ∙ c .before .before .before .before .before .before .before .before .before .peek3 .ensures)) (c .before .before .before .before .binary .ensures w .0), c .before .before .before .before .binary .ensures w .1)))
+returns-5 c = let a = c .before .before .before .before .before .before .before .before .before .before .before .before .before .before .before .before .before .before .before .before .before .before .before .args in let n = c .before .before .before .before .before .before .before .before .before .before .before .before .before .before .before .before .before .wide .ensures .0 in (c .before .before .before .before .before .before .before .before .before .before .onto4 .ensures .1, (c .before .before .before .before .before .before .before .before .before .before .onto4 .ensures .0 ∙ ap (λ (k : ℕ). min (a .t + k) 48 - 1) (two-arguments (a .s .now) (a .funcs .now) (a .b) (c .before .before .before .before .before .before .before .before .before .before .before .before .before .cell .result) (omega arith) (omega arith) (c .before .before .before .before .before .before .before .before .before .before .before .before .before .cell .ensures .0 ∙ (let z : c .before .before .before .before .before .before .before .before .before .before .before .before .before .before .before .before .before .wide .result - 64 ≡ a .b - 64 = omega arith in ap (λ (i : ℕ). getD (a .funcs .now) i 0) z)) (λ q. c .before .before .before .before .before .before .before .before .before .before .before .if5 .left (c .before .before .before .before .before .before .before .before .before .before .before .before .peek2 .ensures ∙ q))), λ h w. (put-two (a .s .now) (a .funcs .now) (a .e .now) (a .v) (a .b) (c .before .before .before .before .before .before .before .before .before .before .before .before .before .before .before .before .before .wide .result) (a .t) (a .rows .now) _ (c .before .before .before .before .before .before .before .before .before .before .onto4 .result) n (c .before .before .before .before .before .before .before .before .before .before .before .before .before .cell .result) (omega arith) (omega arith) (c .before .before .before .before .before .before .before .before .before .before .before .before .before .cell .ensures .0) (c .before .before .before .before .before .before .before .peek4 .result) (λ q. c .before .before .before .before .before .before .before .before .before .before .before .if5 .left (c .before .before .before .before .before .before .before .before .before .before .before .before .peek2 .ensures ∙ q)) (c .before .before .before .before .before .before .before .peek4 .ensures ∙ ap (λ (x : ℕ). getD (a .s .now) (1 + x) 0) (c .before .before .before .before .before .before .before .before .wide2 .ensures .0 ∙ c .before .before .before .before .before .before .before .before .before .peek3 .ensures)) (c .before .before .before .before .binary .ensures w .0), c .before .before .before .before .binary .ensures w .1)))
 
 operator-arguments-requires : tie.Need-operator-arguments-requires
 operator-arguments-requires c κs = search needs
@@ -168,7 +168,7 @@ node-spec =
     same-length-5
     same-length-6
     returns-3
-    place-requires
+    cell-requires
     peek-requires-2
     onto-requires-3
     add-unary
