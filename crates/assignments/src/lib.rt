@@ -161,7 +161,7 @@ pub fn environment(params: Eight, p: usize, w: Four) -> Eight
 }
 
 // The k-th of all assignments.
-fn find_any(sizes: Four, k: u64) -> Found
+pub fn find_any(sizes: Four, k: u64) -> Found
     requires { ⌜ Sizes (sizes .at) ⌝ }
     ensures { λ r. ⌜ ((acc : ℕ → Bool) → ((i : ℕ) → acc i ≡ true) → Finds (places acc (product (sizes .at)) 0) k (r .found) (r .at) (r .left)) ⌝ }
 {

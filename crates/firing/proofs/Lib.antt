@@ -3,6 +3,7 @@ pub mod Counting
 pub mod Framing
 pub mod Skipping
 pub mod Listing
+pub mod Seeking
 pub mod Meeting
 pub mod Rowing
 pub mod Indexing

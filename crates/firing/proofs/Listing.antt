@@ -12,6 +12,7 @@ use Rattle.pcrl.specs.Lists.{tabulate}
 use Rattle.pcrl.specs.Sheet.{Sig, size}
 use Rattle.pcrl.specs.Stack.{InSorts}
 use Rattle.pcrl.specs.Steps.{values-of, if-met}
+use Rattle.laws.specs.Says.{Says}
 use Rattle.evaluation.specs.Run.{pick}
 use Rattle.evaluation.specs.Known.{Alike}
 use Rattle.assignments.specs.Places.{product, valuesOf, places}
@@ -115,21 +116,28 @@ sizes-values S vars j = values-padded (map (size S) vars) (4 - length vars) j
 
 -- THOSE THAT PASS A TEST
 
-module _ {A P : Type 0} where
-  pub met-one : (d : Dec P) (a : A) (b : Bool) → (P → b ≡ true) → ((P → ⊥) → b ≡ false) → (rest : List A) → if-met d a ++ rest ≡ pick b (a ∷ rest) rest
-  unfolding if-met
-  met-one (yes h) a b y n rest = rw (y h) refl
-  met-one (no h) a b y n rest = rw (n h) refl
+abbrev pub answer : {P : Type 0} → Dec P → Bool
+answer (yes h) = true
+answer (no h) = false
 
-pub passing : {A : Type 0} (P : ℕ → Type 0) (d : (j : ℕ) → Dec (P j)) (F : ℕ → A) (acc : ℕ → Bool) → ((j : ℕ) → P j → acc j ≡ true) → ((j : ℕ) → (P j → ⊥) → acc j ≡ false)
-    → (n j : ℕ) (g : ℕ → ℕ) → ((i : ℕ) → g i ≡ j + i) → all (λ i. if-met (d i) (F i)) (tabulate n g) ≡ map F (places acc n j)
+pub answers : {P : Type 0} (d : Dec P) → Says (answer d) P
+answers (yes h) = h
+answers (no h) = h
+
+met-one : {A P : Type 0} (d : Dec P) (a : A) (rest : List A) → if-met d a ++ rest ≡ pick (answer d) (a ∷ rest) rest
+unfolding if-met
+met-one (yes h) a rest = refl
+met-one (no h) a rest = refl
+
+pub passing : {A : Type 0} (P : ℕ → Type 0) (d : (j : ℕ) → Dec (P j)) (F : ℕ → A) (n j : ℕ) (g : ℕ → ℕ) → ((i : ℕ) → g i ≡ j + i) → all (λ i. if-met (d i) (F i)) (tabulate n g) ≡ map F (places (λ i. answer (d i)) n j)
 unfolding tabulate all places
-passing P d F acc y m zero j g h = refl
-passing {A} P d F acc y m (suc n) j g h =
+passing P d F zero j g h = refl
+passing {A} P d F (suc n) j g h =
     let z : g 0 ≡ j = h 0 ∙ omega arith in
-    let rest : all (λ i. if-met (d i) (F i)) (tabulate n (λ i. g (suc i))) ≡ map F (places acc n (j + 1)) = passing P d F acc y m n (j + 1) (λ i. g (suc i)) (λ i. let w : g (suc i) ≡ j + suc i = h (suc i) in omega arith) in
-    rw z (met-one (d j) (F j) (acc j) (y j) (m j) (all (λ i. if-met (d i) (F i)) (tabulate n (λ i. g (suc i)))) ∙ ap (λ (l : List A). pick (acc j) (F j ∷ l) l) rest ∙ go (acc j))
+    let acc : ℕ → Bool = λ i. answer (d i) in
+    let rest : all (λ i. if-met (d i) (F i)) (tabulate n (λ i. g (suc i))) ≡ map F (places acc n (j + 1)) = passing P d F n (j + 1) (λ i. g (suc i)) (λ i. let w : g (suc i) ≡ j + suc i = h (suc i) in omega arith) in
+    rw z (met-one (d j) (F j) (all (λ i. if-met (d i) (F i)) (tabulate n (λ i. g (suc i)))) ∙ ap (λ (l : List A). pick (acc j) (F j ∷ l) l) rest ∙ go (acc j))
   where
-    go : (b : Bool) → pick b (F j ∷ map F (places acc n (j + 1))) (map F (places acc n (j + 1))) ≡ map F (pick b (j ∷ places acc n (j + 1)) (places acc n (j + 1)))
+    go : (b : Bool) → pick b (F j ∷ map F (places (λ i. answer (d i)) n (j + 1))) (map F (places (λ i. answer (d i)) n (j + 1))) ≡ map F (pick b (j ∷ places (λ i. answer (d i)) n (j + 1)) (places (λ i. answer (d i)) n (j + 1)))
     go true = refl
     go false = refl

@@ -18,24 +18,26 @@ use Rattle.pcrl.specs.Table.{Summand}
 use Rattle.pcrl.specs.Label.{Label, label}
 use Rattle.pcrl.specs.Stack.{Frame, InSorts}
 use Rattle.pcrl.specs.Stream.{variable-code, encode-data, encode-numbers, encode-list, encode-cond, encode-act, encode-call, encode-summand}
-use Rattle.pcrl.specs.Steps.{call-frame, outcome, fired}
+use Rattle.pcrl.specs.Steps.{meets?, call-frame, outcome, fired}
 use Rattle.pcrl.specs.Right.{AreSorts, RightSorts, RightTerm, RightCond, RightCall, RightSummand}
 use Rattle.laws.specs.Every.{every-at}
 use Rattle.laws.specs.Lists.{getElem?-past, some-append}
 use Rattle.terms.specs.Stands.{Stands}
-use Rattle.terms.proofs.Places.{behind, before, list-end}
+use Rattle.terms.proofs.Places.{list-end}
 use Rattle.evaluation.specs.Known.{KnownTerms, Alike}
 use Rattle.assignments.specs.Places.{product, valuesOf, places}
-use Rattle.assignments.specs.Conditions.{env, met, Ready, Finds}
-use Rattle.assignments.specs.declared.Conditions.{Conditions}
-use Rattle.opening.specs.Opened.{sizes-of, Prepared}
+use Rattle.assignments.specs.Conditions.{env, Finds}
+use Rattle.opening.specs.Opened.{sizes-of}
 use Rattle.opening.proofs.Standing.{all-first}
 use Rattle.firing.specs.Known.{Valued, KnownParts, AtRow}
+use Rattle.firing.specs.Seeks.{Seeks}
 use Rattle.firing.specs.Fires.{Gives, Fires}
 use Rattle.firing.specs.declared.Fired.{Fired}
+use Rattle.firing.specs.declared.Sought.{Sought}
 use Rattle.firing.proofs.Framing.{byte-at}
 use Rattle.firing.proofs.Skipping.{drop-within}
-use Rattle.firing.proofs.Meeting.{short, whole, whole-in, whole-alike, ready, acc, fired-is}
+use Rattle.firing.proofs.Listing.{answers}
+use Rattle.firing.proofs.Meeting.{short, whole, whole-valued, passes, fired-is}
 
 -- THE k-TH OF TWO LISTS
 
@@ -105,70 +107,56 @@ module _ (S : Sig) (Ps : List (List ℕ)) (s funcs acts params Δ vs : List ℕ)
       let z : b ≡ at + length (encode-numbers (h .vars)) = e ∙ list-end s at (h .vars) vars-stand in
       ap (λ (x : ℕ). drop x s) z ∙ sym (drop-drop (length (encode-numbers (h .vars))) at s) ∙ ap (drop (length (encode-numbers (h .vars)))) stands ∙ drop-at (encode-numbers (h .vars)) (encode-list encode-cond (h .conds) ++ rest-of) (length (encode-numbers (h .vars))) refl
 
-  module _ (p : ℕ) (first : List ℕ) (e : take p first ≡ vs) (sizes : List ℕ) (ez : sizes ≡ sizes-of S (h .vars)) (c : Conditions)
-      (conds : (S : Sig) (Γ : List ℕ) (cs : List (ℕ × Data)) (rest : List ℕ) → KnownTerms S s funcs → length Γ ≤ variable-code → Every (RightCond S Γ) cs → length cs ≤ max-conditions → drop (at + 1 + getD s at 0) s ≡ encode-list encode-cond cs ++ rest → Prepared s p sizes cs rest c)
-      (k : ℕ) (found : Bool) (j left : ℕ)
-      (finds : ((i : ℕ) → i < c .count → Ready s p sizes (c .froms) (c .ends) (c .blocks) (c .reach) (c .low) i) → Finds (places (λ i. met s funcs (c .froms) (c .ends) (c .count) (env p first (valuesOf sizes i))) (product sizes) 0) k found j left) where
-    prepared : Prepared s p (sizes-of S (h .vars)) (h .conds) rest-of c
-    prepared = subst (λ (z : List ℕ). Prepared s p z (h .conds) rest-of c) ez (conds S (Δ ++ h .vars) (h .conds) rest-of known (short S s funcs Δ vs h known few in-Δ sorts few-vars) conds-right few-conds (conds-here (at + 1 + getD s at 0) refl))
+  gives : ℕ → Label × List Frame
+  gives i = outcome frame-width S (whole S s funcs Δ vs h known few in-Δ sorts few-vars i) h
 
-    passes : ℕ → Bool
-    passes = acc S s funcs Δ vs h known few in-Δ sorts few-vars conds-right p first e rest-of c prepared
+  module _ (p : ℕ) (first : List ℕ) (e : take p first ≡ vs) (sizes : List ℕ) (ez : sizes ≡ sizes-of S (h .vars)) (b : ℕ) (eb : b ≡ at + 1 + getD s at 0) (k : ℕ) (o : Sought) (seeks : Seeks s funcs first p sizes b k o) where
+    those : List ℕ
+    those = places (passes S s funcs Δ vs h known few in-Δ sorts few-vars) (product sizes) 0
 
-    answered : Finds (places passes (product (sizes-of S (h .vars))) 0) k found j left
-    unfolding passes
-    answered =
-        let r = ready S s funcs Δ vs h known few in-Δ sorts few-vars conds-right p first e rest-of c prepared in
-        subst (λ (z : List ℕ). Finds (places (λ i. met s funcs (c .froms) (c .ends) (c .count) (env p first (valuesOf z i))) (product z) 0) k found j left) ez
-        (finds (subst (λ (z : List ℕ). (i : ℕ) → i < c .count → Ready s p z (c .froms) (c .ends) (c .blocks) (c .reach) (c .low) i) (sym ez) r))
+    sought : Finds those k (o .found) (o .at) (o .left) × (drop (o .end) s ≡ rest-of)
+    unfolding Seeks those
+    sought =
+        seeks S (Δ ++ h .vars) rest-of (h .conds) (whole S s funcs Δ vs h known few in-Δ sorts few-vars) (passes S s funcs Δ vs h known few in-Δ sorts few-vars) (whole-valued S s funcs Δ vs h known few in-Δ sorts few-vars p first sizes e ez)
+        (λ j. answers (meets? S (whole S s funcs Δ vs h known few in-Δ sorts few-vars j) (h .conds))) conds-right few-conds (conds-here b eb)
 
-    gives : ℕ → Label × List Frame
-    gives i = outcome frame-width S (whole S s funcs Δ vs h known few in-Δ sorts few-vars i) h
-
-    listed : fired frame-width S vs h ≡ map gives (places passes (product (sizes-of S (h .vars))) 0)
-    unfolding passes gives
-    listed = fired-is S s funcs Δ vs h known few in-Δ sorts few-vars conds-right p first e rest-of c prepared
+    listed : fired frame-width S vs h ≡ map gives those
+    unfolding those gives
+    listed = fired-is S s funcs Δ vs h known few in-Δ sorts few-vars ∙ ap (λ (z : List ℕ). map gives (places (passes S s funcs Δ vs h known few in-Δ sorts few-vars) (product z) 0)) (sym ez)
 
     -- it is passed
-    pub passed : found ≡ false → k ≡ left + length (fired frame-width S vs h)
+    pub passed : o .found ≡ false → k ≡ o .left + length (fired frame-width S vs h)
     unfolding Finds
     passed q =
-        let a : Finds (places passes (product (sizes-of S (h .vars))) 0) k false j left = subst (λ (b : Bool). Finds (places passes (product (sizes-of S (h .vars))) 0) k b j left) q answered in
-        let l : length (fired frame-width S vs h) ≡ length (places passes (product (sizes-of S (h .vars))) 0) = ap length listed ∙ length-map (places passes (product (sizes-of S (h .vars))) 0) gives in
+        let a : Finds those k false (o .at) (o .left) = subst (λ (b : Bool). Finds those k b (o .at) (o .left)) q (sought .0) in
+        let l : length (fired frame-width S vs h) ≡ length those = ap length listed ∙ length-map those gives in
         omega arith
 
     -- or the step is found in it
-    pub hit : found ≡ true → getElem? (fired frame-width S vs h) k ≡ some (outcome frame-width S (whole S s funcs Δ vs h known few in-Δ sorts few-vars j) h)
+    pub hit : o .found ≡ true → getElem? (fired frame-width S vs h) k ≡ some (outcome frame-width S (whole S s funcs Δ vs h known few in-Δ sorts few-vars (o .at)) h)
     unfolding Finds gives
     hit q =
-        let a : Finds (places passes (product (sizes-of S (h .vars))) 0) k true j left = subst (λ (b : Bool). Finds (places passes (product (sizes-of S (h .vars))) 0) k b j left) q answered in
-        ap (λ (l : List (Label × List Frame)). getElem? l k) listed ∙ some-map gives (places passes (product (sizes-of S (h .vars))) 0) k j a
+        let a : Finds those k true (o .at) (o .left) = subst (λ (b : Bool). Finds those k b (o .at) (o .left)) q (sought .0) in
+        ap (λ (l : List (Label × List Frame)). getElem? l k) listed ∙ some-map gives those k (o .at) a
 
-    pub label-here : drop (c .end) s ≡ rest-of
-    label-here = prepared .ends-at
-
-    pub valued : (f w : List ℕ) → w ≡ valuesOf sizes j → Alike f (env p first w) → Valued S s funcs f (Δ ++ h .vars) (whole S s funcs Δ vs h known few in-Δ sorts few-vars j)
+    pub valued : (f w : List ℕ) → w ≡ valuesOf sizes (o .at) → Alike f (env p first w) → Valued S s funcs f (Δ ++ h .vars) (whole S s funcs Δ vs h known few in-Δ sorts few-vars (o .at))
     valued f w ew a =
-        record {
-          known = known;
-          short = short S s funcs Δ vs h known few in-Δ sorts few-vars;
-          in-sorts = whole-in S s funcs Δ vs h known few in-Δ sorts few-vars j;
-          alike = λ i. a i ∙ ap (λ (y : List ℕ). getD (env p first y) i 0) (ew ∙ ap (λ (z : List ℕ). valuesOf z j) ez) ∙ whole-alike S s funcs Δ vs h known few in-Δ sorts few-vars p first e j i;
-        }
+        let v = whole-valued S s funcs Δ vs h known few in-Δ sorts few-vars p first sizes e ez (o .at) in
+        record { known = known; short = v .short; in-sorts = v .in-sorts; alike = λ i. a i ∙ ap (λ (y : List ℕ). getD (env p first y) i 0) ew ∙ v .alike i }
 
     -- where the summand ends
     pub ends-behind : (r : ℕ)
-        → ((S : Sig) (Ps : List (List ℕ)) (Γ : List ℕ) (a : Act) (ts : List Data) (cs : List (ℕ × List Data)) (rest : List ℕ) → KnownTerms S s funcs → length Γ ≤ variable-code → KnownParts S Ps s acts params → IsAct S a → Each (RightTerm S Γ) (takes-of S a) ts → Every (RightCall S Ps Γ) cs → length cs ≤ max-calls → drop (c .end) s ≡ encode-act a ++ (all encode-data ts ++ (encode-list encode-call cs ++ rest)) → drop r s ≡ rest)
+        → ((S : Sig) (Ps : List (List ℕ)) (Γ : List ℕ) (a : Act) (ts : List Data) (cs : List (ℕ × List Data)) (rest : List ℕ) → KnownTerms S s funcs → length Γ ≤ variable-code → KnownParts S Ps s acts params → IsAct S a → Each (RightTerm S Γ) (takes-of S a) ts → Every (RightCall S Ps Γ) cs → length cs ≤ max-calls → drop (o .end) s ≡ encode-act a ++ (all encode-data ts ++ (encode-list encode-call cs ++ rest)) → drop r s ≡ rest)
         → drop r s ≡ more
-    ends-behind r f = f S Ps (Δ ++ h .vars) (h .act) (h .terms) (h .calls) more known (short S s funcs Δ vs h known few in-Δ sorts few-vars) parts act-right terms-right calls-right few-calls label-here
+    ends-behind r f = f S Ps (Δ ++ h .vars) (h .act) (h .terms) (h .calls) more known (short S s funcs Δ vs h known few in-Δ sorts few-vars) parts act-right terms-right calls-right few-calls (sought .1)
 
     -- what is answered
-    pub fires-here : (f w before after : List ℕ) (r : Fired) → w ≡ valuesOf sizes j → Alike f (env p first w)
-        → ((S : Sig) (Ps : List (List ℕ)) (Γ vs : List ℕ) (a : Act) (ts : List Data) (cs : List (ℕ × List Data)) (rest : List ℕ) → Valued S s funcs f Γ vs → KnownParts S Ps s acts params → IsAct S a → Each (RightTerm S Γ) (takes-of S a) ts → Every (RightCall S Ps Γ) cs → length cs ≤ max-calls → drop (c .end) s ≡ encode-act a ++ (all encode-data ts ++ (encode-list encode-call cs ++ rest)) → Gives S (label S a (map (eval S vs) ts)) (map (call-frame frame-width S vs) cs) r before after)
-        → (n : ℕ) → Fires S (some (outcome frame-width S (whole S s funcs Δ vs h known few in-Δ sorts few-vars j) h)) n r before after
+    pub fires-here : (f w before after : List ℕ) (r : Fired) → w ≡ valuesOf sizes (o .at) → Alike f (env p first w)
+        → ((S : Sig) (Ps : List (List ℕ)) (Γ vs : List ℕ) (a : Act) (ts : List Data) (cs : List (ℕ × List Data)) (rest : List ℕ) → Valued S s funcs f Γ vs → KnownParts S Ps s acts params → IsAct S a → Each (RightTerm S Γ) (takes-of S a) ts → Every (RightCall S Ps Γ) cs → length cs ≤ max-calls → drop (o .end) s ≡ encode-act a ++ (all encode-data ts ++ (encode-list encode-call cs ++ rest)) → Gives S (label S a (map (eval S vs) ts)) (map (call-frame frame-width S vs) cs) r before after)
+        → (n : ℕ) → Fires S (some (outcome frame-width S (whole S s funcs Δ vs h known few in-Δ sorts few-vars (o .at)) h)) n r before after
     unfolding Fires outcome
     fires-here f w before after r ew a given n =
-        given S Ps (Δ ++ h .vars) (whole S s funcs Δ vs h known few in-Δ sorts few-vars j) (h .act) (h .terms) (h .calls) more (valued f w ew a) parts act-right terms-right calls-right few-calls label-here
+        given S Ps (Δ ++ h .vars) (whole S s funcs Δ vs h known few in-Δ sorts few-vars (o .at)) (h .act) (h .terms) (h .calls) more (valued f w ew a) parts act-right terms-right calls-right few-calls (sought .1)
 
 -- ALL SUMMANDS: k is asked for, `left` of it is left before the i-th of n summands, which begins at a place
 
@@ -201,17 +189,11 @@ module _ (s funcs acts params first : List ℕ) (p row k n : ℕ) where
       let o : getElem? (all (fired frame-width S vs) hs) k ≡ none = getElem?-past (all (fired frame-width S vs) hs) k (omega arith) in
       subst (λ (x : Option (Label × List Frame)). Fires S x (length (all (fired frame-width S vs) hs)) r before before) (sym o) (nf, (np ∙ omega arith, refl))
 
-  module _ (at left i : ℕ) (below : i < n) (w : Rowing s funcs acts params first p row k n at left i) (sizes : List ℕ) (c : Conditions) (b : ℕ) (eb : b ≡ at + 1 + getD s at 0)
-      (sized : (S : Sig) (funcs vars : List ℕ) → KnownTerms S s funcs → Stands s at (encode-numbers vars) → AreSorts (S .sorts) vars → length vars ≤ max-variables → sizes ≡ sizes-of S vars)
-      (conds : (S : Sig) (Γ : List ℕ) (cs : List (ℕ × Data)) (rest : List ℕ) → KnownTerms S s funcs → length Γ ≤ variable-code → Every (RightCond S Γ) cs → length cs ≤ max-conditions → drop b s ≡ encode-list encode-cond cs ++ rest → Prepared s p sizes cs rest c)
-      (found : Bool) (j left′ : ℕ)
-      (finds : ((i : ℕ) → i < c .count → Ready s p sizes (c .froms) (c .ends) (c .blocks) (c .reach) (c .low) i) → Finds (places (λ i. met s funcs (c .froms) (c .ends) (c .count) (env p first (valuesOf sizes i))) (product sizes) 0) left found j left′) where
-    conds′ : (S : Sig) (Γ : List ℕ) (cs : List (ℕ × Data)) (rest : List ℕ) → KnownTerms S s funcs → length Γ ≤ variable-code → Every (RightCond S Γ) cs → length cs ≤ max-conditions → drop (at + 1 + getD s at 0) s ≡ encode-list encode-cond cs ++ rest → Prepared s p sizes cs rest c
-    conds′ S Γ cs rest kn sh ev fw he = conds S Γ cs rest kn sh ev fw (ap (λ (x : ℕ). drop x s) eb ∙ he)
-
-    pub row-more : (end : ℕ) → found ≡ false
-        → ((S : Sig) (Ps : List (List ℕ)) (Γ : List ℕ) (a : Act) (ts : List Data) (cs : List (ℕ × List Data)) (rest : List ℕ) → KnownTerms S s funcs → length Γ ≤ variable-code → KnownParts S Ps s acts params → IsAct S a → Each (RightTerm S Γ) (takes-of S a) ts → Every (RightCall S Ps Γ) cs → length cs ≤ max-calls → drop (c .end) s ≡ encode-act a ++ (all encode-data ts ++ (encode-list encode-call cs ++ rest)) → drop end s ≡ rest)
-        → Rowing s funcs acts params first p row k n end left′ (i + 1)
+  module _ (at left i : ℕ) (below : i < n) (w : Rowing s funcs acts params first p row k n at left i) (sizes : List ℕ) (b : ℕ) (eb : b ≡ at + 1 + getD s at 0)
+      (sized : (S : Sig) (funcs vars : List ℕ) → KnownTerms S s funcs → Stands s at (encode-numbers vars) → AreSorts (S .sorts) vars → length vars ≤ max-variables → sizes ≡ sizes-of S vars) (o : Sought) (seeks : Seeks s funcs first p sizes b left o) where
+    pub row-more : (end : ℕ) → o .found ≡ false
+        → ((S : Sig) (Ps : List (List ℕ)) (Γ : List ℕ) (a : Act) (ts : List Data) (cs : List (ℕ × List Data)) (rest : List ℕ) → KnownTerms S s funcs → length Γ ≤ variable-code → KnownParts S Ps s acts params → IsAct S a → Each (RightTerm S Γ) (takes-of S a) ts → Every (RightCall S Ps Γ) cs → length cs ≤ max-calls → drop (o .end) s ≡ encode-act a ++ (all encode-data ts ++ (encode-list encode-call cs ++ rest)) → drop end s ≡ rest)
+        → Rowing s funcs acts params first p row k n end (o .left) (i + 1)
     unfolding Rowing
     row-more end nf gone S Ps Δ vs hs rest there e here =
         let (en, (left-here, (g, m))) = w S Ps Δ vs hs rest there e here in
@@ -221,21 +203,21 @@ module _ (s funcs acts params first : List ℕ) (p row k n : ℕ) where
         let more : List ℕ = all encode-summand (drop (i + 1) hs) ++ rest in
         let this : drop at s ≡ encode-summand h ++ more = left-here ∙ all-first encode-summand hs i no-summand rest in-list in
         let ez : sizes ≡ sizes-of S (h .vars) = sized S funcs (h .vars) (there .known) (vars-stand S Ps s funcs acts params Δ vs h (there .known) (there .parts) (there .few) (there .in-sorts) right at more this) (sorts S Ps s funcs acts params Δ vs h (there .known) (there .parts) (there .few) (there .in-sorts) right at more this) (few-vars S Ps s funcs acts params Δ vs h (there .known) (there .parts) (there .few) (there .in-sorts) right at more this) in
-        let gone-by : left ≡ left′ + length (fired frame-width S vs h) = passed S Ps s funcs acts params Δ vs h (there .known) (there .parts) (there .few) (there .in-sorts) right at more this p first e sizes ez c conds′ left found j left′ finds nf in
+        let gone-by : left ≡ o .left + length (fired frame-width S vs h) = passed S Ps s funcs acts params Δ vs h (there .known) (there .parts) (there .few) (there .in-sorts) right at more this p first e sizes ez b eb left o seeks nf in
         let split : all (fired frame-width S vs) (drop i hs) ≡ fired frame-width S vs h ++ all (fired frame-width S vs) (drop (i + 1) hs) = all-cons (fired frame-width S vs) hs i no-summand in-list in
         let len : length (all (fired frame-width S vs) (drop i hs)) ≡ length (fired frame-width S vs h) + length (all (fired frame-width S vs) (drop (i + 1) hs)) = ap length split ∙ length-append (fired frame-width S vs h) (all (fired frame-width S vs) (drop (i + 1) hs)) in (
           en,
           (
-            ends-behind S Ps s funcs acts params Δ vs h (there .known) (there .parts) (there .few) (there .in-sorts) right at more this p first e sizes ez c conds′ left found j left′ finds end gone,
+            ends-behind S Ps s funcs acts params Δ vs h (there .known) (there .parts) (there .few) (there .in-sorts) right at more this p first e sizes ez b eb left o seeks end gone,
             (
-              g ∙ ap (λ (l : List (Label × List Frame)). getElem? l left) split ∙ past-first (fired frame-width S vs h) (all (fired frame-width S vs) (drop (i + 1) hs)) left left′ gone-by,
+              g ∙ ap (λ (l : List (Label × List Frame)). getElem? l left) split ∙ past-first (fired frame-width S vs h) (all (fired frame-width S vs) (drop (i + 1) hs)) left (o .left) gone-by,
               omega arith,
             ),
           ),
         )
 
-    pub row-found : (f v before after : List ℕ) (r : Fired) → found ≡ true → v ≡ valuesOf sizes j → Alike f (env p first v)
-        → ((S : Sig) (Ps : List (List ℕ)) (Γ vs : List ℕ) (a : Act) (ts : List Data) (cs : List (ℕ × List Data)) (rest : List ℕ) → Valued S s funcs f Γ vs → KnownParts S Ps s acts params → IsAct S a → Each (RightTerm S Γ) (takes-of S a) ts → Every (RightCall S Ps Γ) cs → length cs ≤ max-calls → drop (c .end) s ≡ encode-act a ++ (all encode-data ts ++ (encode-list encode-call cs ++ rest)) → Gives S (label S a (map (eval S vs) ts)) (map (call-frame frame-width S vs) cs) r before after)
+    pub row-found : (f v before after : List ℕ) (r : Fired) → o .found ≡ true → v ≡ valuesOf sizes (o .at) → Alike f (env p first v)
+        → ((S : Sig) (Ps : List (List ℕ)) (Γ vs : List ℕ) (a : Act) (ts : List Data) (cs : List (ℕ × List Data)) (rest : List ℕ) → Valued S s funcs f Γ vs → KnownParts S Ps s acts params → IsAct S a → Each (RightTerm S Γ) (takes-of S a) ts → Every (RightCall S Ps Γ) cs → length cs ≤ max-calls → drop (o .end) s ≡ encode-act a ++ (all encode-data ts ++ (encode-list encode-call cs ++ rest)) → Gives S (label S a (map (eval S vs) ts)) (map (call-frame frame-width S vs) cs) r before after)
         → (S : Sig) (Ps : List (List ℕ)) (Δ vs : List ℕ) (hs : List Summand) (rest : List ℕ) → AtRow S Ps s funcs acts params Δ vs hs → take p first ≡ vs → drop row s ≡ encode-list encode-summand hs ++ rest
         → Fires S (getElem? (all (fired frame-width S vs) hs) k) (length (all (fired frame-width S vs) hs)) r before after
     unfolding Rowing
@@ -247,8 +229,8 @@ module _ (s funcs acts params first : List ℕ) (p row k n : ℕ) where
         let more : List ℕ = all encode-summand (drop (i + 1) hs) ++ rest in
         let this : drop at s ≡ encode-summand h ++ more = left-here ∙ all-first encode-summand hs i no-summand rest in-list in
         let ez : sizes ≡ sizes-of S (h .vars) = sized S funcs (h .vars) (there .known) (vars-stand S Ps s funcs acts params Δ vs h (there .known) (there .parts) (there .few) (there .in-sorts) right at more this) (sorts S Ps s funcs acts params Δ vs h (there .known) (there .parts) (there .few) (there .in-sorts) right at more this) (few-vars S Ps s funcs acts params Δ vs h (there .known) (there .parts) (there .few) (there .in-sorts) right at more this) in
-        let at-k = hit S Ps s funcs acts params Δ vs h (there .known) (there .parts) (there .few) (there .in-sorts) right at more this p first e sizes ez c conds′ left found j left′ finds yes-found in
+        let at-k = hit S Ps s funcs acts params Δ vs h (there .known) (there .parts) (there .few) (there .in-sorts) right at more this p first e sizes ez b eb left o seeks yes-found in
         let split : all (fired frame-width S vs) (drop i hs) ≡ fired frame-width S vs h ++ all (fired frame-width S vs) (drop (i + 1) hs) = all-cons (fired frame-width S vs) hs i no-summand in-list in
-        let o = g ∙ ap (λ (l : List (Label × List Frame)). getElem? l left) split ∙ some-append (fired frame-width S vs h) (all (fired frame-width S vs) (drop (i + 1) hs)) left _ at-k in
-        subst (λ (x : Option (Label × List Frame)). Fires S x (length (all (fired frame-width S vs) hs)) r before after) (sym o)
-        (fires-here S Ps s funcs acts params Δ vs h (there .known) (there .parts) (there .few) (there .in-sorts) right at more this p first e sizes ez c conds′ left found j left′ finds f v before after r ev alike given (length (all (fired frame-width S vs) hs)))
+        let at-left = g ∙ ap (λ (l : List (Label × List Frame)). getElem? l left) split ∙ some-append (fired frame-width S vs h) (all (fired frame-width S vs) (drop (i + 1) hs)) left _ at-k in
+        subst (λ (x : Option (Label × List Frame)). Fires S x (length (all (fired frame-width S vs) hs)) r before after) (sym at-left)
+        (fires-here S Ps s funcs acts params Δ vs h (there .known) (there .parts) (there .few) (there .in-sorts) right at more this p first e sizes ez b eb left o seeks f v before after r ev alike given (length (all (fired frame-width S vs) hs)))

@@ -1,3 +1,4 @@
 pub mod Known
+pub mod Seeks
 pub mod Fires
 pub mod Told

@@ -1,6 +1,6 @@
 // Step k of an equation, found in the stream: its label, and the frames of its calls.
 use assignments::Eight;
-use assignments::Found;
+use assignments::Four;
 use elements::cell;
 use elements::peek;
 use elements::smaller;
@@ -23,10 +23,12 @@ ghost use Rattle.pcrl.specs.Table.{Summand, Table, equation};
 ghost use Rattle.pcrl.specs.Stream.{variable-code, encode-data, encode-list, encode-act, encode-call, encode-summand};
 ghost use Rattle.pcrl.specs.Label.{label};
 ghost use Rattle.evaluation.specs.Known.{KnownTerms};
+ghost use Rattle.assignments.specs.Places.{Sizes};
 ghost use Rattle.pcrl.specs.Right.{RightTerm, RightCall};
 ghost use Rattle.pcrl.specs.Stack.{InSorts};
 ghost use Rattle.pcrl.specs.Steps.{call-frame, fired};
 ghost use Rattle.firing.specs.Known.{Valued, KnownParts, AtRow, KnownTable};
+ghost use Rattle.firing.specs.Seeks.{Seeks};
 ghost use Rattle.firing.specs.Fires.{frame-bytes, listing, act-of, InBounds, Gives, Fires};
 
 pub const TAU: u8 = limits::TAU;
@@ -206,6 +208,40 @@ fn none(passed: u64) -> Fired
     }
 }
 
+// An assignment by its number, or how much of k is left; and where the conditions end.
+struct Sought {
+    found: bool,
+    at: usize,
+    left: u64,
+    end: usize,
+}
+
+// The k-th assignment that meets the conditions whose count stands at a place. Where there are none, nothing is opened.
+fn seek(s: &[u8], funcs: &[u16], first: Eight, p: usize, at: usize, z: Four, k: u64) -> Sought
+    requires { ⌜ (length (now s) ≤ max-stream) × ((p ≤ frame-width) × (((i : ℕ) → p ≤ i → getD (first .at) i 0 ≡ 0) × ((at ≤ max-stream + max-stream) × Sizes (z .at)))) ⌝ }
+    ensures { λ r. ⌜ (r .end ≤ max-stream + max-stream + 16) × Seeks (now (s .entry)) (now (funcs .entry)) (first .at) p (z .at) at k r ⌝ }
+{
+    if peek(s, at) == 0 {
+        let f = assignments::find_any(z, k);
+        Sought {
+            found: f.found,
+            at: f.at,
+            left: f.left,
+            end: at + 1,
+        }
+    } else {
+        let c = opening::conditions(s, funcs, at, p, z);
+        let end = c.end;
+        let f = assignments::find(s, funcs, first, p, z, c, k);
+        Sought {
+            found: f.found,
+            at: f.at,
+            left: f.left,
+            end: end,
+        }
+    }
+}
+
 // Step k of the summands whose count stands at a place, where the first p variables have their values.
 fn fire_rows(
     s: &[u8],
@@ -227,16 +263,14 @@ fn fire_rows(
     let mut i: usize = 0;
     while i < n {
         let z = opening::sizes(s, at);
-        let c = opening::conditions(s, funcs, at + 1 + wide(peek(s, at)), p, z);
-        let l = c.end;
-        let f = assignments::find(s, funcs, first, p, z, c, left);
+        let f = seek(s, funcs, first, p, at + 1 + wide(peek(s, at)), z, left);
         if f.found {
             let e = assignments::environment(first, p, assignments::values(z, f.at));
             let a = e.at;
-            return fire_at(s, funcs, acts, params, &a, l, made);
+            return fire_at(s, funcs, acts, params, &a, f.end, made);
         }
         left = f.left;
-        at = past(s, funcs, acts, params, l);
+        at = past(s, funcs, acts, params, f.end);
         i += 1;
     }
     none(less(k, left))

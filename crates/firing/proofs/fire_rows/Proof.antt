@@ -1,6 +1,5 @@
 -- Each summand is opened where the one before it ends; it is passed, or step k is found in it.
-use Rattle.firing.proofs.fire_rows.Statement.{statement}
-use Rattle.firing.proofs.fire_rows.Tie as tie
+use borrow.Author.Needs.{needs}
 use native.Mathlib.Omega.{arith}
 use Prim.Native.Nat.{ℕ, _+_, _-_, _≤_}
 use mathlib.Core.Path.{_≡_, refl, sym, _∙_, ap, subst}
@@ -11,7 +10,8 @@ use Rattle.pcrl.specs.Reader.{all}
 use Rattle.pcrl.specs.Steps.{fired}
 use Rattle.firing.specs.Fires.{Fires}
 use Rattle.firing.proofs.Rowing.{Rowing, row-start, row-end, row-more, row-found}
-use borrow.Author.Needs.{needs}
+use Rattle.firing.proofs.fire_rows.Statement.{statement}
+use Rattle.firing.proofs.fire_rows.Tie as tie
 
 abbrev Inv-loop : tie.InvT-loop
 Inv-loop s funcs acts params first p row k made₀ n at₀ left₀ i₀ made at left i = (i ≤ n) × ((at ≤ length s) × ((made ≡ made₀) × Rowing s funcs acts params (first .at) p row k n at left i))
@@ -37,8 +37,8 @@ loop-holds c = let a = c .before .before .before .before .before .before .before
 sizes-requires : tie.Need-sizes-requires Inv-loop μ-loop
 sizes-requires c κs = omega (arith, c .before .loop .inv .1 .0, c .before .before .before .before .before .before .before .before .before .before .pre .0)
 
-add-conditions : tie.Need-add-conditions Inv-loop μ-loop
-add-conditions c = omega (arith, c .before .before .loop .inv .1 .0, c .before .before .before .before .before .before .before .before .before .before .before .pre .0)
+add-seek : tie.Need-add-seek Inv-loop μ-loop
+add-seek c = omega (arith, c .before .before .loop .inv .1 .0, c .before .before .before .before .before .before .before .before .before .before .before .pre .0)
 
 peek-requires-2 : tie.Need-peek-requires-2 Inv-loop μ-loop
 peek-requires-2 c κs = search needs
@@ -46,41 +46,38 @@ peek-requires-2 c κs = search needs
 wide-requires-2 : tie.Need-wide-requires-2 Inv-loop μ-loop
 wide-requires-2 c κs = search needs
 
-add-conditions-2 : tie.Need-add-conditions-2 Inv-loop μ-loop
-add-conditions-2 c = omega (arith, c .before .before .before .before .loop .inv .1 .0, c .before .before .before .before .before .before .before .before .before .before .before .before .before .pre .0, c .wide2 .ensures .1)
+add-seek-2 : tie.Need-add-seek-2 Inv-loop μ-loop
+add-seek-2 c = omega (arith, c .before .before .before .before .loop .inv .1 .0, c .before .before .before .before .before .before .before .before .before .before .before .before .before .pre .0, c .wide2 .ensures .1)
 
-conditions-requires : tie.Need-conditions-requires Inv-loop μ-loop
-conditions-requires c κs = (c .before .before .before .before .before .before .before .before .before .before .before .before .before .pre .0, (omega (arith, c .before .before .before .before .loop .inv .1 .0, c .before .before .before .before .before .before .before .before .before .before .before .before .before .pre .0, c .wide2 .ensures .1), c .before .before .sizes .ensures .0))
-
-find-requires : tie.Need-find-requires Inv-loop μ-loop
-find-requires c κs = (c .before .before .before .before .before .before .before .before .before .before .before .before .before .before .pre .1 .0, (c .before .before .before .before .before .before .before .before .before .before .before .before .before .before .pre .1 .1 .0, (c .conditions .ensures .0, c .before .before .before .sizes .ensures .0)))
+seek-requires : tie.Need-seek-requires Inv-loop μ-loop
+seek-requires c κs = let q = c .before .before .before .before .before .before .before .before .before .before .before .before .before .pre in (q .0, (q .1 .0, (q .1 .1 .0, (omega (arith, c .before .before .before .before .loop .inv .1 .0, q .0, c .wide2 .ensures .1), c .before .before .sizes .ensures .0))))
 
 values-requires : tie.Need-values-requires Inv-loop μ-loop
-values-requires c κs = λ i h. c .before .before .before .before .before .sizes .ensures .0 i h .0
+values-requires c κs = λ i h. c .before .before .before .before .sizes .ensures .0 i h .0
 
 environment-requires : tie.Need-environment-requires Inv-loop μ-loop
-environment-requires c κs = (c .before .before .before .before .before .before .before .before .before .before .before .before .before .before .before .before .before .pre .1 .0, c .before .before .before .before .before .before .before .before .before .before .before .before .before .before .before .before .before .pre .1 .1 .0)
+environment-requires c κs = let q = c .before .before .before .before .before .before .before .before .before .before .before .before .before .before .before .before .pre in (q .1 .0, q .1 .1 .0)
 
 slice-aggregate-fire-at : tie.Need-slice-aggregate-fire-at Inv-loop μ-loop
 slice-aggregate-fire-at c = search needs
 
 fire-at-requires : tie.Need-fire-at-requires Inv-loop μ-loop
-fire-at-requires c κs = (c .before .before .before .before .before .before .before .before .before .before .before .before .before .before .before .before .before .before .before .before .before .pre .0, (omega (arith, c .before .before .before .before .before .before .before .conditions .ensures .1 .0), omega (arith, c .before .before .before .before .before .before .before .before .before .before .before .before .before .before .before .before .before .before .before .before .before .pre .1 .1 .1 .1, ap length (c .before .before .before .before .before .before .before .before .before .before .before .before .loop .inv .1 .1 .0))))
+fire-at-requires c κs = let q = c .before .before .before .before .before .before .before .before .before .before .before .before .before .before .before .before .before .before .before .before .pre in (q .0, (omega (arith, c .before .before .before .before .before .before .seek .ensures .0), omega (arith, q .1 .1 .1 .1, ap length (c .before .before .before .before .before .before .before .before .before .before .before .loop .inv .1 .1 .0))))
 
 same-length : tie.Need-same-length Inv-loop μ-loop
-same-length c = c .before .before .fire-at .ensures .0 .as-long ∙ ap length (c .before .before .before .before .before .before .before .before .before .before .before .before .before .before .before .loop .inv .1 .1 .0)
+same-length c = c .before .before .fire-at .ensures .0 .as-long ∙ ap length (c .before .before .before .before .before .before .before .before .before .before .before .before .before .before .loop .inv .1 .1 .0)
 
 returns : tie.Need-returns Inv-loop μ-loop
 returns c = (
-  record { few-calls = c .before .before .fire-at .ensures .0 .few-calls; few-values = c .before .before .fire-at .ensures .0 .few-values; as-long = c .before .before .fire-at .ensures .0 .as-long ∙ ap length (c .before .before .before .before .before .before .before .before .before .before .before .before .before .before .before .loop .inv .1 .1 .0) },
-  λ S Ps Δ vs hs rest there e here. let a = c .before .before .before .before .before .before .before .before .before .before .before .before .before .before .before .before .before .before .before .before .before .before .before .before .args in let l = c .before .before .before .before .before .before .before .before .before .before .before .before .before .before .before .loop in
-      let eb : l .at + 1 + c .before .before .before .before .before .before .before .before .before .before .before .wide2 .result ≡ l .at + 1 + getD (a .s .now) (l .at) 0 = ap (λ (x : ℕ). l .at + 1 + x) (c .before .before .before .before .before .before .before .before .before .before .before .wide2 .ensures .0 ∙ c .before .before .before .before .before .before .before .before .before .before .before .before .peek2 .ensures) in
-      subst (λ (m : List ℕ). Fires S (getElem? (all (fired frame-width S vs) hs) (a .k)) (length (all (fired frame-width S vs) hs)) (c .before .before .fire-at .result) m (c .before .before .fire-at .last .1 .1 .1 .1 .1 .1 .0)) (l .inv .1 .1 .0)
-      (row-found (a .s .now) (a .funcs .now) (a .acts .now) (a .params .now) (a .first .at) (a .p) (a .row) (a .k) (c .before .before .before .before .before .before .before .before .before .before .before .before .before .before .before .before .before .wide .result) (l .at) (l .left) (l .i) (c .before .before .before .before .before .before .before .before .before .before .before .before .before .before .loop-test .taken) (l .inv .1 .1 .1) (c .before .before .before .before .before .before .before .before .before .before .before .before .before .sizes .result .at) (c .before .before .before .before .before .before .before .before .before .before .conditions .result) (l .at + 1 + c .before .before .before .before .before .before .before .before .before .before .before .wide2 .result) eb (c .before .before .before .before .before .before .before .before .before .before .before .before .before .sizes .ensures .1) (c .before .before .before .before .before .before .before .before .before .before .conditions .ensures .1 .1) (c .before .before .before .before .before .before .before .before .before .find .result .found) (c .before .before .before .before .before .before .before .before .before .find .result .at) (c .before .before .before .before .before .before .before .before .before .find .result .left) (c .before .before .before .before .before .before .before .before .before .find .ensures) (c .before .before .before .before .before .before .environment .result .at) (c .before .before .before .before .before .before .before .values .result .at) (l .made) (c .before .before .fire-at .last .1 .1 .1 .1 .1 .1 .0) (c .before .before .fire-at .result) (c .before .before .before .before .before .before .before .before .if1 .taken) (c .before .before .before .before .before .before .before .values .ensures) (c .before .before .before .before .before .before .environment .ensures) (c .before .before .fire-at .ensures .1) S Ps Δ vs hs rest there e here),
+  let b = c .before .before .fire-at .ensures .0 in record { few-calls = b .few-calls; few-values = b .few-values; as-long = b .as-long ∙ ap length (c .before .before .before .before .before .before .before .before .before .before .before .before .before .before .loop .inv .1 .1 .0) },
+  λ S Ps Δ vs hs rest there e here. let a = c .before .before .before .before .before .before .before .before .before .before .before .before .before .before .before .before .before .before .before .before .before .before .before .args in let l = c .before .before .before .before .before .before .before .before .before .before .before .before .before .before .loop in let v = c .before .before .before .before .before .before .before .values in let f = c .before .before .fire-at in let o = c .before .before .before .before .before .before .before .before .before .seek in
+      let eb : l .at + 1 + c .before .before .before .before .before .before .before .before .before .before .wide2 .result ≡ l .at + 1 + getD (a .s .now) (l .at) 0 = ap (λ (x : ℕ). l .at + 1 + x) (c .before .before .before .before .before .before .before .before .before .before .wide2 .ensures .0 ∙ c .before .before .before .before .before .before .before .before .before .before .before .peek2 .ensures) in
+      subst (λ (m : List ℕ). Fires S (getElem? (all (fired frame-width S vs) hs) (a .k)) (length (all (fired frame-width S vs) hs)) (f .result) m (f .last .1 .1 .1 .1 .1 .1 .0)) (l .inv .1 .1 .0)
+      (row-found (a .s .now) (a .funcs .now) (a .acts .now) (a .params .now) (a .first .at) (a .p) (a .row) (a .k) (c .before .before .before .before .before .before .before .before .before .before .before .before .before .before .before .before .wide .result) (l .at) (l .left) (l .i) (c .before .before .before .before .before .before .before .before .before .before .before .before .before .loop-test .taken) (l .inv .1 .1 .1) (c .before .before .before .before .before .before .before .before .before .before .before .before .sizes .result .at) (l .at + 1 + c .before .before .before .before .before .before .before .before .before .before .wide2 .result) eb (c .before .before .before .before .before .before .before .before .before .before .before .before .sizes .ensures .1) (o .result) (o .ensures .1) (c .before .before .before .before .before .before .environment .result .at) (v .result .at) (l .made) (f .last .1 .1 .1 .1 .1 .1 .0) (f .result) (c .before .before .before .before .before .before .before .before .if1 .taken) (v .ensures) (c .before .before .before .before .before .before .environment .ensures) (f .ensures .1) S Ps Δ vs hs rest there e here),
 )
 
 past-requires : tie.Need-past-requires Inv-loop μ-loop
-past-requires c κs = (c .before .before .before .before .before .before .before .before .before .before .before .before .before .before .before .before .pre .0, omega (arith, c .before .before .conditions .ensures .1 .0))
+past-requires c κs = (c .before .before .before .before .before .before .before .before .before .before .before .before .before .before .before .pre .0, omega (arith, c .before .seek .ensures .0))
 
 add-i : tie.Need-add-i Inv-loop μ-loop
 add-i c = omega arith
@@ -89,9 +86,9 @@ loop-less : tie.Need-loop-less Inv-loop μ-loop
 loop-less c = omega arith
 
 loop-again : tie.Need-loop-again Inv-loop μ-loop
-loop-again c = let a = c .before .before .before .before .before .before .before .before .before .before .before .before .before .before .before .before .before .args in let l = c .before .before .before .before .before .before .before .before .loop in
-    let eb : l .at + 1 + c .before .before .before .before .wide2 .result ≡ l .at + 1 + getD (a .s .now) (l .at) 0 = ap (λ (x : ℕ). l .at + 1 + x) (c .before .before .before .before .wide2 .ensures .0 ∙ c .before .before .before .before .before .peek2 .ensures) in
-    (omega arith, (c .past .ensures .0, (l .inv .1 .1 .0, row-more (a .s .now) (a .funcs .now) (a .acts .now) (a .params .now) (a .first .at) (a .p) (a .row) (a .k) (c .before .before .before .before .before .before .before .before .before .before .wide .result) (l .at) (l .left) (l .i) (c .before .before .before .before .before .before .before .loop-test .taken) (l .inv .1 .1 .1) (c .before .before .before .before .before .before .sizes .result .at) (c .before .before .before .conditions .result) (l .at + 1 + c .before .before .before .before .wide2 .result) eb (c .before .before .before .before .before .before .sizes .ensures .1) (c .before .before .before .conditions .ensures .1 .1) (c .before .before .find .result .found) (c .before .before .find .result .at) (c .before .before .find .result .left) (c .before .before .find .ensures) (c .past .result) (c .before .if1 .left) (c .past .ensures .1))))
+loop-again c = let a = c .before .before .before .before .before .before .before .before .before .before .before .before .before .before .before .before .args in let l = c .before .before .before .before .before .before .before .loop in let o = c .before .before .seek in
+    let eb : l .at + 1 + c .before .before .before .wide2 .result ≡ l .at + 1 + getD (a .s .now) (l .at) 0 = ap (λ (x : ℕ). l .at + 1 + x) (c .before .before .before .wide2 .ensures .0 ∙ c .before .before .before .before .peek2 .ensures) in
+    (omega arith, (c .past .ensures .0, (l .inv .1 .1 .0, row-more (a .s .now) (a .funcs .now) (a .acts .now) (a .params .now) (a .first .at) (a .p) (a .row) (a .k) (c .before .before .before .before .before .before .before .before .before .wide .result) (l .at) (l .left) (l .i) (c .before .before .before .before .before .before .loop-test .taken) (l .inv .1 .1 .1) (c .before .before .before .before .before .sizes .result .at) (l .at + 1 + c .before .before .before .wide2 .result) eb (c .before .before .before .before .before .sizes .ensures .1) (o .result) (o .ensures .1) (c .past .result) (c .before .if1 .left) (c .past .ensures .1))))
 
 less-requires : tie.Need-less-requires Inv-loop μ-loop
 less-requires c κs = search needs
@@ -122,12 +119,11 @@ fire-rows-spec =
     smaller-requires
     loop-holds
     sizes-requires
-    add-conditions
+    add-seek
     peek-requires-2
     wide-requires-2
-    add-conditions-2
-    conditions-requires
-    find-requires
+    add-seek-2
+    seek-requires
     values-requires
     environment-requires
     slice-aggregate-fire-at
