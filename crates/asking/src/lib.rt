@@ -13,13 +13,16 @@ ghost use Rattle.stacks.specs.Lent.{frames-in, stack-bytes};
 ghost use Rattle.asking.specs.Encoding.{answer-bytes, filled, encode-answer};
 ghost use Rattle.asking.specs.Replies.{AskIs, AllIs, answer-told};
 use elements::cell;
+use elements::low;
 use elements::wide;
 use firing::TAU;
+use limits::MAX_CALLS;
+use limits::TOO_DEEP;
 use stacks::FRAME;
 use stacks::LIMIT;
 
 // Bytes of the frames of 8 calls.
-const MADE: usize = 40;
+const MADE: usize = MAX_CALLS * FRAME;
 
 // Bytes of an answer.
 pub const ANSWER: usize = 24;
@@ -30,9 +33,6 @@ const ENDED: u8 = 0;
 const NONE: u8 = 1;
 
 const STEPPED: u8 = 2;
-
-// Question 16: "at most 64 frames after it?"
-const TOO_DEEP: u8 = 16;
 
 // An answer: the number of the question that refused, or 0 and what was answered; and the depth after it.
 pub struct Told {
@@ -112,12 +112,6 @@ pub fn ask(
         values: values,
         depth: depth - 1 + f.calls,
     }
-}
-
-fn low(n: usize) -> u8
-    ensures { λ r. ⌜ r ≡ n % 256 ⌝ }
-{
-    (n % 256) as u8
 }
 
 // A kind, and zeros behind it.
