@@ -1,12 +1,10 @@
 -- A name's key, byte by byte of its run; names that are looked up by their keys; what is left of a list of names.
 use mathlib.Core.Path.{_≡_, refl, sym, _∙_, ap}
 use mathlib.Core.List.{List, [], _∷_, map}
-use mathlib.Core.Logic.{⊎-elim}
 use Prim.Native.Nat.{ℕ, zero, suc, _+_, _-_, _≤_, _<_}
 use native.Mathlib.Omega.{arith}
-use native.Mathlib.Nat.{eq-or-lt-of-le}
-use lib.ListN.{length, take, drop, getD, set, length-map, length-take, length-drop}
-use lib.Seq.{getD-drop, getD-set-same, getD-set-other}
+use lib.ListN.{length, take, drop, getD, length-map, length-take, length-drop}
+use lib.Seq.{getD-drop}
 use Rattle.pcrl.specs.Tree.{Name}
 use Rattle.pcrl.specs.Names.{number-of}
 use Rattle.lexer.specs.Cells.{first-name}
@@ -34,13 +32,6 @@ key-goes s c k p b k′ p′ h e n m q =
     h ∙ (ap (key-on k) g ∙ ap (λ (j : ℕ). key-on j (run-at s p′)) (sym m))
 
 module _ (s names : List ℕ) where
-  -- the first i keys are right
-  abbrev pub KeysUpTo : List ℕ → ℕ → Type 0
-  KeysUpTo keys i = (j : ℕ) → j < i → getD keys j 0 ≡ key-of (name-at s (getD names j 0))
-
-  pub keys-more : (keys : List ℕ) (i v : ℕ) → i < length keys → v ≡ key-of (name-at s (getD names i 0)) → KeysUpTo keys i → KeysUpTo (set keys i v) (i + 1)
-  keys-more keys i v r e h j l = let m : j ≤ i = omega arith in ⊎-elim (λ q. rw q (getD-set-same keys i v 0 r ∙ e)) (λ q. getD-set-other keys i j v 0 (λ z. omega arith) ∙ h j q) (eq-or-lt-of-le m)
-
   module _ (keys : List ℕ) where
     pub keyed-fewer : (m n : ℕ) → m ≤ n → Keyed s names keys n → Keyed s names keys m
     keyed-fewer m n h K = record { names-few = omega arith; keys-few = omega arith; key-at = λ i l. K .key-at i (omega arith) }

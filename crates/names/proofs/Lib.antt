@@ -5,6 +5,7 @@ pub mod Numbers
 pub mod Among
 pub mod KeyLaws
 pub mod KindLaws
+pub mod ListLaws
 pub mod Symbols
 pub mod Items
 pub mod Rooms

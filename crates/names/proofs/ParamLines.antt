@@ -18,11 +18,13 @@ use Rattle.pcrl.specs.Tokens.{name}
 use Rattle.pcrl.specs.Maybe.{_>>=_}
 use Rattle.pcrl.specs.Names.{Names, declared, number-of, new-variable, resolve-params}
 use Rattle.parser.specs.Cells.{Symbol, token, enc-items, enc-param}
+use Rattle.names.specs.declared.Kinds.{Kinds}
 use Rattle.names.specs.declared.Params.{Params}
 use Rattle.names.specs.NameCells.{name-at, scope-at}
 use Rattle.names.specs.Standing.{symbols}
 use Rattle.names.specs.Items.{item-count}
-use Rattle.names.specs.Rows.{sorts-at, ParamsRead}
+use Rattle.names.specs.NameKinds.{total-of, sorts-in}
+use Rattle.names.specs.Rows.{ParamsRead}
 use Rattle.names.proofs.Symbols.{name-is, symbols-behind}
 use Rattle.names.proofs.Items.{count-is, item-first, items-later, items-behind}
 use Rattle.names.proofs.Numbers.{number-in, found-some, found-none}
@@ -57,16 +59,16 @@ module _ (N : Names) where
       go none = refl
       go (some x) = let z : d ++ (D ∷ x .1) ≡ (d ++ (D ∷ [])) ++ x .1 = sym (append-assoc d (D ∷ []) (x .1)) in ap (λ (l : List ℕ). some (x .0, l)) z
 
-module _ (s cells sorts names : List ℕ) (n at p : ℕ) where
+module _ (s cells names : List ℕ) (kinds : Kinds) (at : ℕ) where
   -- the first k parameters are in scope and in the row
   pub record ParamsOf (N : Names) (ps : List (Name × Name)) (rows scope : List ℕ) (k : ℕ) : Type 0 where
     pub done : List ℕ
     pub many : length done ≡ k
     pub whole : resolve-params N [] ps ≡ before done (resolve-params N (scope-at s scope k) (drop k ps))
-    pub held : (j : ℕ) → j < k → Numbered rows p (getD done j 0) j
+    pub held : (j : ℕ) → j < k → Numbered rows 0 (getD done j 0) j
 
   abbrev pub ParamsGone : (rows scope : List ℕ) (k : ℕ) → Type 0
-  ParamsGone rows scope k = (N : Names) (ps : List (Name × Name)) (rest : List Symbol) → N .sorts ≡ sorts-at s cells sorts → declared N ≡ bytes "Bool" ∷ scope-at s names n
+  ParamsGone rows scope k = (N : Names) (ps : List (Name × Name)) (rest : List Symbol) → N .sorts ≡ sorts-in s names kinds → declared N ≡ bytes "Bool" ∷ scope-at s names (total-of kinds)
       → drop at (symbols s cells) ≡ enc-items enc-param ps ++ rest → length ps ≤ frame-width → ParamsOf N ps rows scope k
 
   pub params-start : (rows scope : List ℕ) → ParamsGone rows scope 0
@@ -108,15 +110,15 @@ module _ (s cells sorts names : List ℕ) (n at p : ℕ) where
   params-many : (ps : List (Name × Name)) (m : ℕ) (rest : List Symbol) → m ≡ item-count cells 3 at 4 → length ps ≤ frame-width → drop at (symbols s cells) ≡ enc-items enc-param ps ++ rest → m ≡ length ps
   params-many ps m rest h l e = let c = count-is s cells enc-param 2 (λ x. refl) ps at 4 rest e in omega arith
 
-  is-new : (N : Names) (scope : List Name) (v : ℕ) (x : Name) (t : Bool) → declared N ≡ bytes "Bool" ∷ scope-at s names n → name-at s v ≡ x
-      → t ≡ and (negated (among (name-at s v) (bytes "Bool" ∷ scope-at s names n))) (negated (among (name-at s v) scope)) → new-variable N scope x ≡ t
+  is-new : (N : Names) (scope : List Name) (v : ℕ) (x : Name) (t : Bool) → declared N ≡ bytes "Bool" ∷ scope-at s names (total-of kinds) → name-at s v ≡ x
+      → t ≡ and (negated (among (name-at s v) (bytes "Bool" ∷ scope-at s names (total-of kinds)))) (negated (among (name-at s v) scope)) → new-variable N scope x ≡ t
   unfolding new-variable
   is-new N scope v x t d e h = rw (d, ← e) (sym h)
 
   module _ (rows scope : List ℕ) (m k v : ℕ) (t : Bool) (g : ParamsGone rows scope k) (many : m ≡ item-count cells 3 at 4) (less : k < m) (there : v ≡ getD cells (at + 3 * k + 1) 0)
-      (new : t ≡ and (negated (among (name-at s v) (bytes "Bool" ∷ scope-at s names n))) (negated (among (name-at s v) (scope-at s scope k)))) where
+      (new : t ≡ and (negated (among (name-at s v) (bytes "Bool" ∷ scope-at s names (total-of kinds)))) (negated (among (name-at s v) (scope-at s scope k)))) where
     -- the name is not new
-    pub params-old : (rows′ scope′ : List ℕ) (r : Params) → t ≡ false → r .ok ≡ false → ParamsRead s cells sorts names n at rows′ p scope′ r
+    pub params-old : (rows′ scope′ : List ℕ) (r : Params) → t ≡ false → r .ok ≡ false → ParamsRead s cells names kinds at rows′ scope′ r
     params-old rows′ scope′ r f o N ps rest e d a h =
         let l = params-many ps m rest many h a in
         let b = param-at ps k rest (omega arith) a in
@@ -125,27 +127,27 @@ module _ (s cells sorts names : List ℕ) (n at p : ℕ) where
         let z : resolve-params N [] ps ≡ none = G .whole ∙ ap (before (G .done)) (ap (resolve-params N (scope-at s scope k)) (b .next) ∙ old-name N (scope-at s scope k) (b .param) (drop (k + 1) ps) w) in
         rw z o
 
-    module _ (q D : ℕ) (few : length (sorts-at s cells sorts) ≤ q) (f : t ≡ true) (number : D ≡ number-in q (name-at s (getD cells (at + 3 * k + 2) 0)) (sorts-at s cells sorts)) where
+    module _ (q D : ℕ) (few : length (sorts-in s names kinds) ≤ q) (f : t ≡ true) (number : D ≡ number-in q (name-at s (getD cells (at + 3 * k + 2) 0)) (sorts-in s names kinds)) where
       -- its sort is none
-      pub params-no-sort : (rows′ scope′ : List ℕ) (r : Params) → q ≤ D → r .ok ≡ false → ParamsRead s cells sorts names n at rows′ p scope′ r
+      pub params-no-sort : (rows′ scope′ : List ℕ) (r : Params) → q ≤ D → r .ok ≡ false → ParamsRead s cells names kinds at rows′ scope′ r
       params-no-sort rows′ scope′ r u o N ps rest e d a h =
           let l = params-many ps m rest many h a in
           let b = param-at ps k rest (omega arith) a in
           let G = g N ps rest e d a h in
           let w = is-new N (scope-at s scope k) v (b .param .0) t d (ap (name-at s) there ∙ b .name-there) new ∙ f in
-          let x : number-of (b .param .1) (N .sorts) ≡ none = rw (e, ← b .sort-there) (found-none q (name-at s (getD cells (at + 3 * k + 2) 0)) (sorts-at s cells sorts) D few number u) in
+          let x : number-of (b .param .1) (N .sorts) ≡ none = rw (e, ← b .sort-there) (found-none q (name-at s (getD cells (at + 3 * k + 2) 0)) (sorts-in s names kinds) D few number u) in
           let z : resolve-params N [] ps ≡ none = G .whole ∙ ap (before (G .done)) (ap (resolve-params N (scope-at s scope k)) (b .next) ∙ no-sort N (scope-at s scope k) (b .param) (drop (k + 1) ps) w x) in
           rw z o
 
       -- one more
-      pub params-go : (j : ℕ) → D < q → k < length scope → j ≡ p + 1 + k → j < length rows → ParamsGone (set rows j D) (set scope k v) (k + 1)
+      pub params-go : (j : ℕ) → D < q → k < length scope → j ≡ 1 + k → j < length rows → ParamsGone (set rows j D) (set scope k v) (k + 1)
       params-go j u c hj room N ps rest e d a h =
           let l = params-many ps m rest many h a in
           let b = param-at ps k rest (omega arith) a in
           let G = g N ps rest e d a h in
           let vx = ap (name-at s) there ∙ b .name-there in
           let w = is-new N (scope-at s scope k) v (b .param .0) t d vx new ∙ f in
-          let x : number-of (b .param .1) (N .sorts) ≡ some D = rw (e, ← b .sort-there) (found-some q (number-of (name-at s (getD cells (at + 3 * k + 2) 0)) (sorts-at s cells sorts)) D number u) in
+          let x : number-of (b .param .1) (N .sorts) ≡ some D = rw (e, ← b .sort-there) (found-some q (number-of (name-at s (getD cells (at + 3 * k + 2) 0)) (sorts-in s names kinds)) D number u) in
           let sc : scope-at s scope k ++ (b .param .0 ∷ []) ≡ scope-at s (set scope k v) (k + 1) = ap (λ (y : Name). scope-at s scope k ++ (y ∷ [])) (sym vx) ∙ sym (scope-more s scope k v c) in
           record {
             done = G .done ++ (D ∷ []);
@@ -156,15 +158,15 @@ module _ (s cells sorts names : List ℕ) (n at p : ℕ) where
             held = λ i o. row-more (G .done) (G .many) (G .held) i o;
           }
         where
-          row-more : (done : List ℕ) → length done ≡ k → ((i : ℕ) → i < k → Numbered rows p (getD done i 0) i) → (i : ℕ) → i < k + 1 → Numbered (set rows j D) p (getD (done ++ (D ∷ [])) i 0) i
+          row-more : (done : List ℕ) → length done ≡ k → ((i : ℕ) → i < k → Numbered rows 0 (getD done i 0) i) → (i : ℕ) → i < k + 1 → Numbered (set rows j D) 0 (getD (done ++ (D ∷ [])) i 0) i
           row-more done dk held i o = ⊎-elim
-              (λ z. let y : p + 1 + i ≡ j = omega arith in rw (getD-at done D [] 0 i (dk ∙ sym z), y) (getD-set-same rows j D 0 room))
-              (λ z. let y : i < k = z in rw (List·getD-append done (D ∷ []) 0 i (omega arith)) (getD-set-other rows j (p + 1 + i) D 0 (λ x. omega arith) ∙ held i y))
+              (λ z. let y : 1 + i ≡ j = omega arith in rw (getD-at done D [] 0 i (dk ∙ sym z), y) (getD-set-same rows j D 0 room))
+              (λ z. let y : i < k = z in rw (List·getD-append done (D ∷ []) 0 i (omega arith)) (getD-set-other rows j (1 + i) D 0 (λ x. omega arith) ∙ held i y))
               (eq-or-lt-of-le {n = i} {m = k} (omega arith))
 
   -- all of them
-  pub params-end : (rows scope : List ℕ) (k m : ℕ) (r : Params) → m ≡ item-count cells 3 at 4 → k ≡ m → p < length rows → ParamsGone rows scope k → r .ok ≡ true → r .count ≡ m → r .at ≡ at + 3 * m + 1
-      → ParamsRead s cells sorts names n at (set rows p m) p scope r
+  pub params-end : (rows scope : List ℕ) (k m : ℕ) (r : Params) → m ≡ item-count cells 3 at 4 → k ≡ m → 0 < length rows → ParamsGone rows scope k → r .ok ≡ true → r .count ≡ m → r .at ≡ at + 3 * m + 1
+      → ParamsRead s cells names kinds at (set rows 0 m) scope r
   unfolding resolve-params
   params-end rows scope k m r many km room g o c i N ps rest e d a h =
       let l = params-many ps m rest many h a in
@@ -180,8 +182,8 @@ module _ (s cells sorts names : List ℕ) (n at p : ℕ) where
           many = c ∙ (sym km ∙ sym gm);
           scoped = ap (scope-at s scope) (c ∙ sym km);
           sorts = record {
-            many = getD-set-same rows p m 0 room ∙ (sym km ∙ sym gm);
-            each = λ i t. getD-set-other rows p (p + 1 + i) m 0 (λ x. omega arith) ∙ G .held i (omega arith);
+            many = getD-set-same rows 0 m 0 room ∙ (sym km ∙ sym gm);
+            each = λ i t. getD-set-other rows 0 (1 + i) m 0 (λ x. omega arith) ∙ G .held i (omega arith);
           };
           next = items-behind s cells enc-param 2 (λ x. refl) ps at (r .at) rest (omega arith) a;
         },

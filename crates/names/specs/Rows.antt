@@ -17,7 +17,9 @@ use Rattle.grammar.specs.Formed.{FormedFunc, FormedAct}
 use Rattle.parser.specs.Cells.{Symbol, enc-func, enc-act, enc-items, enc-param, enc-numeral}
 use Rattle.nodes.specs.Held.{SortsAt, FuncAt, ActAt}
 use Rattle.names.specs.NameCells.{names-at, scope-at}
+use Rattle.names.specs.NameKinds.{total-of, sorts-in}
 use Rattle.names.specs.Standing.{symbols, LinesAt}
+use Rattle.names.specs.declared.Kinds.{Kinds}
 use Rattle.names.specs.declared.Row.{Row}
 use Rattle.names.specs.declared.Params.{Params}
 
@@ -70,15 +72,15 @@ FuncRows s cells sorts lines rows values places ok =
     (N : Names) (ls : List FuncLine) → N .sorts ≡ sorts-at s cells sorts → LinesAt enc-func s cells lines ls → Every FormedFunc ls → Every SmallValues ls
     → length (all (λ (l : FuncLine). l .values) ls) ≤ length values → Answers (InRows no-func (λ g i. FuncAt g rows values places i)) (for-each (resolve-func N) ls) ok
 
--- parameters: their names in scope, the row at p, and what stands behind them
-pub record ParamRow (s : List ℕ) (x : List Name × List ℕ) (m rest : List Symbol) (rows : List ℕ) (p : ℕ) (scope : List ℕ) (r : Params) : Type 0 where
+-- parameters: their names in scope, their row, and what stands behind them
+pub record ParamRow (s : List ℕ) (x : List Name × List ℕ) (m rest : List Symbol) (row scope : List ℕ) (r : Params) : Type 0 where
   pub many : r .count ≡ length (x .1)
   pub scoped : scope-at s scope (r .count) ≡ x .0
-  pub sorts : SortsAt (x .1) rows p
+  pub sorts : SortsAt (x .1) row 0
   pub next : drop (r .at) m ≡ rest
 
-abbrev pub ParamsRead : (s cells sorts names : List ℕ) (n at : ℕ) (rows : List ℕ) (p : ℕ) (scope : List ℕ) → Params → Type 0
-ParamsRead s cells sorts names n at rows p scope r =
-    (N : Names) (ps : List (Name × Name)) (rest : List Symbol) → N .sorts ≡ sorts-at s cells sorts → declared N ≡ bytes "Bool" ∷ scope-at s names n
+abbrev pub ParamsRead : (s cells names : List ℕ) (kinds : Kinds) (at : ℕ) (row scope : List ℕ) → Params → Type 0
+ParamsRead s cells names kinds at row scope r =
+    (N : Names) (ps : List (Name × Name)) (rest : List Symbol) → N .sorts ≡ sorts-in s names kinds → declared N ≡ bytes "Bool" ∷ scope-at s names (total-of kinds)
     → drop at (symbols s cells) ≡ enc-items enc-param ps ++ rest → length ps ≤ frame-width
-    → Answers (λ x. ParamRow s x (symbols s cells) rest rows p scope r) (resolve-params N [] ps) (r .ok)
+    → Answers (λ x. ParamRow s x (symbols s cells) rest row scope r) (resolve-params N [] ps) (r .ok)

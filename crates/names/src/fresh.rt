@@ -6,10 +6,12 @@ ghost use lib.ListN.{length, take};
 ghost use Rattle.pcrl.specs.Text.{bytes};
 ghost use Rattle.pcrl.specs.Tests.{and, negated, among, distinct};
 ghost use Rattle.names.specs.NameCells.{name-at, name-cell, names-at, scope-at};
-ghost use Rattle.names.specs.NameKeys.{Keyed};
+ghost use Rattle.names.specs.NameKinds.{total-of};
+ghost use Rattle.names.specs.NameList.{names-in, kinds-in, KeyedNames};
 use crate::find::is_bool;
 use crate::find::scope_number;
 use crate::keys::number_in;
+use crate::keys::total;
 use elements::peek_cell;
 use elements::wide_cell;
 
@@ -50,19 +52,20 @@ pub fn declared_names(
     gather(cells, procs, names, c)
 }
 
-// "Every declared name new (Bool is taken)", n names.
-pub fn all_new(s: &[u8], names: &[u16], keys: &[u8], n: usize) -> bool
-    requires { ⌜ Keyed (now s) (now names) (now keys) n ⌝ }
-    ensures { λ r. ⌜ r ≡ distinct (bytes "Bool" ∷ scope-at (now (s .entry)) (now (names .entry)) n) ⌝ }
+// "Every declared name new (Bool is taken)."
+pub fn all_new(s: &[u8], declared: &[u16]) -> bool
+    requires { ⌜ KeyedNames (now s) (now declared) ⌝ }
+    ensures { λ r. ⌜ r ≡ distinct (bytes "Bool" ∷ scope-at (now (s .entry)) (names-in (now (declared .entry))) (total-of (kinds-in (now (declared .entry))))) ⌝ }
 {
+    let n = total(declared);
     let mut i: usize = 0;
     while i < n {
-        let c = names[i];
+        let c = declared[i];
         if is_bool(s, c) {
             return false;
         }
         let left = n - i - 1;
-        if number_in(s, names, keys, i + 1, left, c) < left {
+        if number_in(s, declared, i + 1, left, c) < left {
             return false;
         }
         i += 1;
@@ -70,24 +73,17 @@ pub fn all_new(s: &[u8], names: &[u16], keys: &[u8], n: usize) -> bool
     true
 }
 
-// A variable unlike Bool, the other n declared names and the k variables in scope.
-pub fn new_variable(
-    s: &[u8],
-    names: &[u16],
-    keys: &[u8],
-    n: usize,
-    scope: &[u16],
-    k: usize,
-    c: u16,
-) -> bool
-    requires { ⌜ Keyed (now s) (now names) (now keys) n × (k ≤ length (now scope)) ⌝ }
-    ensures { λ r. ⌜ r ≡ and (negated (among (name-at (now (s .entry)) c) (bytes "Bool" ∷ scope-at (now (s .entry)) (now (names .entry)) n)))
+// A variable unlike Bool, the other declared names and the k variables in scope.
+pub fn new_variable(s: &[u8], declared: &[u16], scope: &[u16], k: usize, c: u16) -> bool
+    requires { ⌜ KeyedNames (now s) (now declared) × (k ≤ length (now scope)) ⌝ }
+    ensures { λ r. ⌜ r ≡ and (negated (among (name-at (now (s .entry)) c) (bytes "Bool" ∷ scope-at (now (s .entry)) (names-in (now (declared .entry))) (total-of (kinds-in (now (declared .entry)))))))
         (negated (among (name-at (now (s .entry)) c) (scope-at (now (s .entry)) (now (scope .entry)) k))) ⌝ }
 {
     if is_bool(s, c) {
         return false;
     }
-    if number_in(s, names, keys, 0, n, c) < n {
+    let n = total(declared);
+    if number_in(s, declared, 0, n, c) < n {
         return false;
     }
     scope_number(s, scope, k, c) == k

@@ -1,19 +1,27 @@
 // Names with their keys: a name is looked up by its key, and compared byte by byte only where the keys agree.
 ghost use mathlib.Core.Path.{_≡_};
-ghost use Prim.Native.Nat.{suc, _+_, _≤_, _<_};
-ghost use lib.ListN.{length, getD};
+ghost use Prim.Native.Nat.{suc, _+_, _≤_};
+ghost use lib.ListN.{length, take, getD};
 ghost use Rattle.pcrl.specs.Names.{number-of};
 ghost use Rattle.laws.specs.Says.{Says};
-ghost use Rattle.nodes.specs.Layout.{cell-limit};
 ghost use Rattle.names.specs.NameCells.{name-at, or-count};
 ghost use Rattle.names.specs.NameKeys.{mix, key-of, Keyed, names-from};
 ghost use Rattle.names.specs.NameKinds.{total-of, sorts-in, funcs-in, acts-in, procs-in};
+ghost use Rattle.names.specs.NameList.{max-names, list-cells, names-in, keys-in, kinds-in, KeyedNames};
+use crate::ACT_COUNT;
+use crate::FIRST_KEY;
+use crate::FUNC_COUNT;
 use crate::Kinds;
+use crate::PROC_COUNT;
+use crate::SORT_COUNT;
 use crate::find::first_byte;
 use crate::find::is_bool;
 use crate::find::letter;
 use crate::find::same_name;
+use elements::cell;
+use elements::cell_of;
 use elements::low;
+use elements::short;
 use elements::wide;
 
 // The key of a name that goes on with the byte b.
@@ -40,39 +48,57 @@ fn key(s: &[u8], c: u16) -> u8
     k
 }
 
-// The keys of n names.
-pub fn put_keys(s: &[u8], names: &[u16], n: usize, keys: &mut [u8])
-    requires { ⌜ (n ≤ length (now names)) × (n ≤ length (now keys)) ⌝ }
-    ensures { λ r. ⌜ Keyed (now (s .entry)) (now (names .entry)) (now (keys .exit)) n ⌝ }
+// The names that lines declare, so many of each kind, their keys and these numbers.
+pub fn put_names(s: &[u8], names: &[u16], kinds: Kinds, declared: &mut [u16])
+    requires { ⌜ (total-of kinds ≤ length (now names)) × (total-of kinds ≤ max-names) × (length (now declared) ≡ list-cells) ⌝ }
+    ensures keyed { λ r. ⌜ KeyedNames (now (s .entry)) (now (declared .exit)) ⌝ }
+    ensures kinds { λ r. ⌜ kinds-in (now (declared .exit)) ≡ kinds ⌝ }
+    ensures names { λ r. ⌜ take (total-of kinds) (names-in (now (declared .exit))) ≡ take (total-of kinds) (now (names .entry)) ⌝ }
 {
+    let n = kinds.sorts + kinds.funcs + kinds.acts + kinds.procs;
     let mut i: usize = 0;
     while i < n {
-        keys[i] = key(s, names[i]);
+        declared[i] = names[i];
+        declared[FIRST_KEY + i] = cell_of(key(s, names[i]));
         i += 1;
     }
+    declared[SORT_COUNT] = short(kinds.sorts);
+    declared[FUNC_COUNT] = short(kinds.funcs);
+    declared[ACT_COUNT] = short(kinds.acts);
+    declared[PROC_COUNT] = short(kinds.procs);
+}
+
+// How many declared names there are.
+pub fn total(declared: &[u16]) -> usize
+    ensures { λ r. ⌜ r ≡ total-of (kinds-in (now (declared .entry))) ⌝ }
+{
+    let sorts = cell(declared, SORT_COUNT);
+    let funcs = cell(declared, FUNC_COUNT);
+    let acts = cell(declared, ACT_COUNT);
+    sorts + funcs + acts + cell(declared, PROC_COUNT)
 }
 
 // Is the name at place i that of cell c, whose key is k?
-fn same_keyed(s: &[u8], names: &[u16], keys: &[u8], i: usize, c: u16, k: u8) -> bool
-    requires { ⌜ Keyed (now s) (now names) (now keys) (i + 1) × (k ≡ key-of (name-at (now s) c)) ⌝ }
-    ensures { λ r. ⌜ Says r (name-at (now (s .entry)) c ≡ name-at (now (s .entry)) (getD (now (names .entry)) i 0)) ⌝ }
+fn same_keyed(s: &[u8], declared: &[u16], i: usize, c: u16, k: u8) -> bool
+    requires { ⌜ Keyed (now s) (names-in (now declared)) (keys-in (now declared)) (i + 1) × (k ≡ key-of (name-at (now s) c)) ⌝ }
+    ensures { λ r. ⌜ Says r (name-at (now (s .entry)) c ≡ name-at (now (s .entry)) (getD (names-in (now (declared .entry))) i 0)) ⌝ }
 {
-    if keys[i] != k {
+    if declared[FIRST_KEY + i] != cell_of(k) {
         return false;
     }
-    same_name(s, c, names[i])
+    same_name(s, c, declared[i])
 }
 
 // Which of the names from lo on is that of cell c, counted from 0; or how many there are.
-pub fn number_in(s: &[u8], names: &[u16], keys: &[u8], lo: usize, count: usize, c: u16) -> usize
-    requires { ⌜ Keyed (now s) (now names) (now keys) (lo + count) ⌝ }
+pub fn number_in(s: &[u8], declared: &[u16], lo: usize, count: usize, c: u16) -> usize
+    requires { ⌜ Keyed (now s) (names-in (now declared)) (keys-in (now declared)) (lo + count) ⌝ }
     ensures most { λ r. ⌜ r ≤ count ⌝ }
-    ensures number { λ r. ⌜ r ≡ or-count count (number-of (name-at (now (s .entry)) c) (names-from (now (s .entry)) (now (names .entry)) lo count)) ⌝ }
+    ensures number { λ r. ⌜ r ≡ or-count count (number-of (name-at (now (s .entry)) c) (names-from (now (s .entry)) (names-in (now (declared .entry))) lo count)) ⌝ }
 {
     let k = key(s, c);
     let mut i: usize = 0;
     while i < count {
-        if same_keyed(s, names, keys, lo + i, c, k) {
+        if same_keyed(s, declared, lo + i, c, k) {
             return i;
         }
         i += 1;
@@ -80,56 +106,44 @@ pub fn number_in(s: &[u8], names: &[u16], keys: &[u8], lo: usize, count: usize, 
     count
 }
 
-// How many declared names there are.
-pub fn total(kinds: Kinds) -> usize
-    requires { ⌜ total-of kinds < cell-limit ⌝ }
-    ensures { λ r. ⌜ r ≡ total-of kinds ⌝ }
-{
-    kinds.sorts + kinds.funcs + kinds.acts + kinds.procs
-}
-
 // The number of the sort, Bool's is 0; or how many sorts there are.
-pub fn sort_in(s: &[u8], names: &[u16], keys: &[u8], kinds: Kinds, c: u16) -> usize
-    requires { ⌜ Keyed (now s) (now names) (now keys) (total-of kinds) ⌝ }
-    ensures most { λ r. ⌜ r ≤ kinds .sorts + 1 ⌝ }
-    ensures number { λ r. ⌜ r ≡ or-count (suc (kinds .sorts)) (number-of (name-at (now (s .entry)) c) (sorts-in (now (s .entry)) (now (names .entry)) kinds)) ⌝ }
+pub fn sort_in(s: &[u8], declared: &[u16], c: u16) -> usize
+    requires { ⌜ KeyedNames (now s) (now declared) ⌝ }
+    ensures most { λ r. ⌜ r ≤ kinds-in (now (declared .entry)) .sorts + 1 ⌝ }
+    ensures number { λ r. ⌜ r ≡ or-count (suc (kinds-in (now (declared .entry)) .sorts)) (number-of (name-at (now (s .entry)) c) (sorts-in (now (s .entry)) (names-in (now (declared .entry))) (kinds-in (now (declared .entry))))) ⌝ }
 {
     if is_bool(s, c) {
         return 0;
     }
-    number_in(s, names, keys, 0, kinds.sorts, c) + 1
+    number_in(s, declared, 0, cell(declared, SORT_COUNT), c) + 1
 }
 
 // The number of the function, or how many there are.
-pub fn func_in(s: &[u8], names: &[u16], keys: &[u8], kinds: Kinds, c: u16) -> usize
-    requires { ⌜ Keyed (now s) (now names) (now keys) (total-of kinds) ⌝ }
-    ensures most { λ r. ⌜ r ≤ kinds .funcs ⌝ }
-    ensures number { λ r. ⌜ r ≡ or-count (kinds .funcs) (number-of (name-at (now (s .entry)) c) (funcs-in (now (s .entry)) (now (names .entry)) kinds)) ⌝ }
+pub fn func_in(s: &[u8], declared: &[u16], c: u16) -> usize
+    requires { ⌜ KeyedNames (now s) (now declared) ⌝ }
+    ensures most { λ r. ⌜ r ≤ kinds-in (now (declared .entry)) .funcs ⌝ }
+    ensures number { λ r. ⌜ r ≡ or-count (kinds-in (now (declared .entry)) .funcs) (number-of (name-at (now (s .entry)) c) (funcs-in (now (s .entry)) (names-in (now (declared .entry))) (kinds-in (now (declared .entry))))) ⌝ }
 {
-    number_in(s, names, keys, kinds.sorts, kinds.funcs, c)
+    let lo = cell(declared, SORT_COUNT);
+    number_in(s, declared, lo, cell(declared, FUNC_COUNT), c)
 }
 
 // The same of an action,
-pub fn act_in(s: &[u8], names: &[u16], keys: &[u8], kinds: Kinds, c: u16) -> usize
-    requires { ⌜ Keyed (now s) (now names) (now keys) (total-of kinds) ⌝ }
-    ensures most { λ r. ⌜ r ≤ kinds .acts ⌝ }
-    ensures number { λ r. ⌜ r ≡ or-count (kinds .acts) (number-of (name-at (now (s .entry)) c) (acts-in (now (s .entry)) (now (names .entry)) kinds)) ⌝ }
+pub fn act_in(s: &[u8], declared: &[u16], c: u16) -> usize
+    requires { ⌜ KeyedNames (now s) (now declared) ⌝ }
+    ensures most { λ r. ⌜ r ≤ kinds-in (now (declared .entry)) .acts ⌝ }
+    ensures number { λ r. ⌜ r ≡ or-count (kinds-in (now (declared .entry)) .acts) (number-of (name-at (now (s .entry)) c) (acts-in (now (s .entry)) (names-in (now (declared .entry))) (kinds-in (now (declared .entry))))) ⌝ }
 {
-    number_in(s, names, keys, kinds.sorts + kinds.funcs, kinds.acts, c)
+    let lo = cell(declared, SORT_COUNT) + cell(declared, FUNC_COUNT);
+    number_in(s, declared, lo, cell(declared, ACT_COUNT), c)
 }
 
 // and of a process.
-pub fn proc_in(s: &[u8], names: &[u16], keys: &[u8], kinds: Kinds, c: u16) -> usize
-    requires { ⌜ Keyed (now s) (now names) (now keys) (total-of kinds) ⌝ }
-    ensures most { λ r. ⌜ r ≤ kinds .procs ⌝ }
-    ensures number { λ r. ⌜ r ≡ or-count (kinds .procs) (number-of (name-at (now (s .entry)) c) (procs-in (now (s .entry)) (now (names .entry)) kinds)) ⌝ }
+pub fn proc_in(s: &[u8], declared: &[u16], c: u16) -> usize
+    requires { ⌜ KeyedNames (now s) (now declared) ⌝ }
+    ensures most { λ r. ⌜ r ≤ kinds-in (now (declared .entry)) .procs ⌝ }
+    ensures number { λ r. ⌜ r ≡ or-count (kinds-in (now (declared .entry)) .procs) (number-of (name-at (now (s .entry)) c) (procs-in (now (s .entry)) (names-in (now (declared .entry))) (kinds-in (now (declared .entry))))) ⌝ }
 {
-    number_in(
-        s,
-        names,
-        keys,
-        kinds.sorts + kinds.funcs + kinds.acts,
-        kinds.procs,
-        c,
-    )
+    let lo = cell(declared, SORT_COUNT) + cell(declared, FUNC_COUNT) + cell(declared, ACT_COUNT);
+    number_in(s, declared, lo, cell(declared, PROC_COUNT), c)
 }

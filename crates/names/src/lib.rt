@@ -5,7 +5,28 @@ pub mod counts; // question 6
 pub mod fresh; // every declared name new, each variable unlike those there
 pub mod rows; // the signature in rows of bytes
 
-// How many names of each kind are declared, Bool not counted. They stand in one list, in this order.
+use limits::MAX_ACTIONS;
+use limits::MAX_FUNCTIONS;
+use limits::MAX_PROCESSES;
+use limits::MAX_SORTS;
+
+// The declared names in one array, Bool not among them: the cells of the names, kind after kind, then their keys, then how
+// many there are of each kind.
+pub const MAX_NAMES: usize = MAX_SORTS + MAX_FUNCTIONS + MAX_ACTIONS + MAX_PROCESSES;
+
+pub const FIRST_KEY: usize = MAX_NAMES;
+
+pub const SORT_COUNT: usize = FIRST_KEY + MAX_NAMES;
+
+pub const FUNC_COUNT: usize = SORT_COUNT + 1;
+
+pub const ACT_COUNT: usize = SORT_COUNT + 2;
+
+pub const PROC_COUNT: usize = SORT_COUNT + 3;
+
+pub const DECLARED_CELLS: usize = SORT_COUNT + 4;
+
+// How many names of each kind are declared, in this order.
 pub struct Kinds {
     pub sorts: usize,
     pub funcs: usize,

@@ -8,16 +8,19 @@ ghost use Rattle.pcrl.specs.Limits.{max-sorts, max-arity, frame-width};
 ghost use Rattle.nodes.specs.Layout.{cell-limit};
 ghost use Rattle.nodes.specs.Held.{func-width, act-width, SortsAt};
 ghost use Rattle.names.specs.NameCells.{byte-of};
-ghost use Rattle.names.specs.NameKeys.{Keyed};
+ghost use Rattle.names.specs.NameList.{names-in, kinds-in, KeyedNames};
 ghost use Rattle.names.specs.Items.{far, name-step, item-count, item-names, numeral-at, item-values};
 ghost use Rattle.names.specs.Rows.{Kept, Answers, ActRows, FuncRead, FuncRows, ParamsRead, sorts-at, numbered};
 use crate::Params;
 use crate::Row;
+use crate::SORT_COUNT;
 use crate::counts::NAME_STEP;
 use crate::counts::PARAM_STEP;
 use crate::counts::items;
 use crate::find::sort_number;
 use crate::fresh::new_variable;
+use crate::keys::sort_in;
+use elements::cell;
 use elements::peek_cell;
 use elements::short;
 use elements::wide_cell;
@@ -171,43 +174,33 @@ pub fn func_rows(
     true
 }
 
-// At p: how many parameters, then their sorts' numbers; their names' cells in scope.
+// A process's row: how many parameters, then their sorts' numbers; their names' cells in scope.
 pub fn param_row(
     s: &[u8],
     cells: &[u16],
-    sorts: &[u16],
-    names: &[u16],
-    keys: &[u8],
-    n: usize,
+    declared: &[u16],
     at: usize,
-    rows: &mut [u8],
-    p: usize,
+    row: &mut [u8],
     scope: &mut [u16],
 ) -> Params
-    requires { ⌜ (length (now sorts) < max-sorts) × Keyed (now s) (now names) (now keys) n × (at < far) × (p + frame-width < length (now rows)) × (frame-width ≤ length (now scope)) ⌝ }
-    ensures kept { λ r. ⌜ Kept p (now (rows .entry)) (now (rows .exit)) ⌝ }
+    requires { ⌜ KeyedNames (now s) (now declared) × (at < far) × (frame-width < length (now row)) × (frame-width ≤ length (now scope)) ⌝ }
     ensures few { λ r. ⌜ r .count ≤ frame-width ⌝ }
-    ensures params { λ r. ⌜ ParamsRead (now (s .entry)) (now (cells .entry)) (now (sorts .entry)) (now (names .entry)) n at (now (rows .exit)) p (now (scope .exit)) r ⌝ }
+    ensures params { λ r. ⌜ ParamsRead (now (s .entry)) (now (cells .entry)) (names-in (now (declared .entry))) (kinds-in (now (declared .entry))) at (now (row .exit)) (now (scope .exit)) r ⌝ }
 {
+    let sorts = cell(declared, SORT_COUNT);
     let m = items(cells, PARAM_STEP, at, FRAME_WIDTH);
     let mut k: usize = 0;
     while k < m {
         let v = peek_cell(cells, at + PARAM_STEP * k + 1);
-        if !new_variable(s, names, keys, n, scope, k, v) {
+        if !new_variable(s, declared, scope, k, v) {
             return Params {
                 ok: false,
                 count: k,
                 at: at,
             };
         }
-        let d = sort_number(
-            s,
-            cells,
-            sorts,
-            sorts.len(),
-            peek_cell(cells, at + PARAM_STEP * k + 2),
-        );
-        if d > sorts.len() {
+        let d = sort_in(s, declared, peek_cell(cells, at + PARAM_STEP * k + 2));
+        if d > sorts {
             return Params {
                 ok: false,
                 count: k,
@@ -215,10 +208,10 @@ pub fn param_row(
             };
         }
         scope[k] = v;
-        rows[p + 1 + k] = d as u8;
+        row[1 + k] = d as u8;
         k += 1;
     }
-    rows[p] = m as u8;
+    row[0] = m as u8;
     Params {
         ok: true,
         count: m,

@@ -228,12 +228,26 @@ module _ (N : Names) (S : Sig) (scope : List Name) (Γ : List ℕ) where
       by (some x) = ors-grouped x d ∙ sym (then-assoc (joins or-cell (suc (more-ors d))) (enc-data x) (each-cells (conjunction-cells N S scope Γ) (disjuncts d)))
 
   -- ---- what is given to a name
-  pub given-some : (first number : ℕ) (ds : RawDatas) → given-cells N S scope Γ first number (some ds) ≡ some (first ∷ number ∷ count-of ds ∷ []) ⊕ datas-cells N S scope Γ ds
+  pub given-some : (ds : RawDatas) → given-cells N S scope Γ (some ds) ≡ some (count-of ds ∷ []) ⊕ datas-cells N S scope Γ ds
   unfolding given-cells datas-cells resolve-given _⊕_
-  given-some first number ds = by (resolve-datas N S scope Γ ds) (resolved-count ds)
+  given-some ds = by (resolve-datas N S scope Γ ds) (resolved-count ds)
     where
       by : (o : Option Datas) → ((es : Datas) → o ≡ some es → length (list-of es) ≡ count-of ds)
-          → (_>>=_ (_>>=_ o (λ es. some (list-of es))) (λ es. some (first ∷ number ∷ length es ∷ enc-datas es)))
-          ≡ some (first ∷ number ∷ count-of ds ∷ []) ⊕ (_>>=_ o (λ es. some (enc-arguments es)))
+          → (_>>=_ (_>>=_ o (λ es. some (list-of es))) (λ es. some (length es ∷ enc-datas es)))
+          ≡ some (count-of ds ∷ []) ⊕ (_>>=_ o (λ es. some (enc-arguments es)))
       by none h = refl
-      by (some es) h = ap (λ k. some (first ∷ number ∷ k ∷ enc-datas (list-of es))) (h es refl) ∙ ap (λ l. some (first ∷ number ∷ count-of ds ∷ l)) (arguments-are es)
+      by (some es) h = ap (λ k. some (k ∷ enc-datas (list-of es))) (h es refl) ∙ ap (λ l. some (count-of ds ∷ l)) (arguments-are es)
+
+  -- a node for a name: its first cell and number, and what is given to it
+  unfoldable pub node-cells : ℕ → ℕ → Option RawDatas → Option (List ℕ)
+  node-cells first number ds = do
+    es ← resolve-given N S scope Γ ds
+    some (first ∷ number ∷ length es ∷ enc-datas es)
+
+  pub node-given : (first number : ℕ) (ds : Option RawDatas) → node-cells first number ds ≡ some (first ∷ number ∷ []) ⊕ given-cells N S scope Γ ds
+  unfolding node-cells given-cells _⊕_
+  node-given first number ds = by (resolve-given N S scope Γ ds)
+    where
+      by : (o : Option (List Data)) → (_>>=_ o (λ es. some (first ∷ number ∷ length es ∷ enc-datas es))) ≡ some (first ∷ number ∷ []) ⊕ (_>>=_ o (λ es. some (length es ∷ enc-datas es)))
+      by none = refl
+      by (some es) = refl

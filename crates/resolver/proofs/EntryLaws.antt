@@ -26,8 +26,10 @@ use Rattle.resolver.specs.declared.RightSide.{RightSide}
 use Rattle.resolver.specs.Raw.{choice, enc-term, resolve-term, term-depth}
 use Rattle.resolver.specs.Sorting.{scope-sorts, scope-results, Gives, KnownSorts}
 use Rattle.resolver.specs.Writing.{Writes}
-use Rattle.resolver.specs.Resolving.{Outcome, lost, took, given-cells, term-cells, ResolvesGiven, ResolvesTerm, Answers, ResolvesRight, called, ResolvesInit}
+use Rattle.resolver.specs.Resolving.{Outcome, lost, took, term-cells, ResolvesTerm, Answers, ResolvesRight, called, ResolvesInit}
 use Rattle.resolver.proofs.Symbols.{next, pair}
+use Rattle.resolver.proofs.DataCells.{node-cells}
+use Rattle.resolver.proofs.GivenLaws.{ResolvesNode}
 use Rattle.resolver.proofs.Lookup.{known, unknown, procs-most}
 
 -- the answer by the place
@@ -79,9 +81,9 @@ module _ (s raw names : List ℕ) (kinds : Kinds) (scope : List ℕ) (at w : ℕ
       let v : number-of (l .name) (N .procs) ≡ none = ap (number-of (l .name)) p ∙ ap (λ (x : Name). number-of x (procs-in s names kinds)) (sym y) ∙ u in
       rw v z
 
-  pub init-answered : k < kinds .procs → (number : ℕ) → number ≡ k → (a : Step) (o′ : List ℕ) → ResolvesGiven s raw names kinds scope 0 (at + 1) 8 number w o a o′
+  pub init-answered : k < kinds .procs → (number : ℕ) → number ≡ k → (a : Step) (o′ : List ℕ) → ResolvesNode s raw names kinds scope 0 (at + 1) 8 number w o a o′
       → ResolvesInit s raw names kinds scope at w o (record { ok = leb (a .at) (length raw); next = a .at; w = a .w }) o′
-  unfolding resolve-init enc-init given-cells scope-at scope-sorts enc
+  unfolding resolve-init enc-init node-cells scope-at scope-sorts enc
   init-answered h number en a o′ g N S l rest gi f p e =
       let u = known (name-at s c) (procs-in s names kinds) k (kinds .procs) (procs-most s names kinds) found h in
       let y = init-name N l rest e in

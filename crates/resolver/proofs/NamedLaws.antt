@@ -20,9 +20,11 @@ use Rattle.parser.specs.declared.Step.{Step}
 use Rattle.resolver.specs.declared.Known.{Known}
 use Rattle.resolver.specs.Raw.{Term, part, enc-term, tokens-of}
 use Rattle.resolver.specs.Sorting.{scope-sorts}
-use Rattle.resolver.specs.Resolving.{Outcome, lost, given-cells, term-cells, Naming, ResolvesGiven, ResolvesNamed}
+use Rattle.resolver.specs.Resolving.{Outcome, lost, term-cells, Naming, ResolvesNamed}
 use Rattle.resolver.proofs.Symbols.{pair}
+use Rattle.resolver.proofs.DataCells.{node-cells}
 use Rattle.resolver.proofs.DataLaws.{became}
+use Rattle.resolver.proofs.GivenLaws.{ResolvesNode}
 use Rattle.resolver.proofs.ProcessCells.{action-cells, process-cells, unnamed-cells}
 use Rattle.resolver.proofs.Terms.{SingleTag, only-tag, plain-tag, last-tag, group-tag, View, single, plus, cond, then, delta, tau, bare, given, sum, seen}
 
@@ -76,7 +78,7 @@ module _ (s raw names : List ℕ) (kinds : Kinds) (scope : List ℕ) (n at : ℕ
         go none (some k) p q m x ds y = let b : true ≡ false = sym (m .0) ∙ unknown in let l : _≡_ {A = ℕ} 0 1 = cc in absurd (omega arith)
         go none none p q m x ds y = became (sym (unnamed-cells N S (scope-at s scope n) (scope-sorts scope n) after x ds (cc) (cc))) (lost z)
 
-    pub part-took : f .known ≡ true → (r : Step) (o′ : List ℕ) → ResolvesGiven s raw names kinds scope n at (f .first) (f .number) w o r o′ → ResolvesNamed s raw names kinds scope n at after w o r o′
+    pub part-took : f .known ≡ true → (r : Step) (o′ : List ℕ) → ResolvesNode s raw names kinds scope n at (f .first) (f .number) w o r o′ → ResolvesNamed s raw names kinds scope n at after w o r o′
     unfolding Naming
     part-took is-known r o′ resolves N S t rest so fs as′ ps e h h′ =
         let v = seen s raw at t rest e in
@@ -85,12 +87,12 @@ module _ (s raw names : List ℕ) (kinds : Kinds) (scope : List ℕ) (n at : ℕ
       where
         go : (i k : Option ℕ) → number-of (name-at s c) (acts-in s names kinds) ≡ i → number-of (name-at s c) (procs-in s names kinds) ≡ k → Naming after i k f
             → (x : Name) (ds : Option RawDatas) → name-at s c ≡ x
-            → Outcome raw (symbols s raw) rest w o (r .at) (r .w) o′ (given-cells N S (scope-at s scope n) (scope-sorts scope n) (f .first) (f .number) ds)
+            → Outcome raw (symbols s raw) rest w o (r .at) (r .w) o′ (node-cells N S (scope-at s scope n) (scope-sorts scope n) (f .first) (f .number) ds)
             → Outcome raw (symbols s raw) rest w o (r .at) (r .w) o′ (term-cells N S (scope-at s scope n) (scope-sorts scope n) after (part (Part.named x ds)))
         go (some i) k p q m x ds y u =
-            became (ap (λ (j : ℕ). given-cells N S (scope-at s scope n) (scope-sorts scope n) j (f .number) ds) (m .1) ∙ ap (λ (j : ℕ). given-cells N S (scope-at s scope n) (scope-sorts scope n) (after-mark * one-if after + atom-kind) j ds) (m .2)
+            became (ap (λ (j : ℕ). node-cells N S (scope-at s scope n) (scope-sorts scope n) j (f .number) ds) (m .1) ∙ ap (λ (j : ℕ). node-cells N S (scope-at s scope n) (scope-sorts scope n) (after-mark * one-if after + atom-kind) j ds) (m .2)
             ∙ sym (action-cells N S (scope-at s scope n) (scope-sorts scope n) after x ds i (cc))) u
         go none (some k) p q m x ds y u =
-            became (ap (λ (j : ℕ). given-cells N S (scope-at s scope n) (scope-sorts scope n) j (f .number) ds) (m .1) ∙ ap (λ (j : ℕ). given-cells N S (scope-at s scope n) (scope-sorts scope n) call-kind j ds) (m .2)
+            became (ap (λ (j : ℕ). node-cells N S (scope-at s scope n) (scope-sorts scope n) j (f .number) ds) (m .1) ∙ ap (λ (j : ℕ). node-cells N S (scope-at s scope n) (scope-sorts scope n) call-kind j ds) (m .2)
             ∙ sym (process-cells N S (scope-at s scope n) (scope-sorts scope n) after x ds k (cc) (cc))) u
         go none none p q m x ds y u = let b : true ≡ false = sym is-known ∙ m in let l : _≡_ {A = ℕ} 0 1 = cc in absurd (omega arith)

@@ -36,11 +36,11 @@ use Rattle.resolver.proofs.DataLaws.{became}
 abbrev pub SaysNew : (s names : List ℕ) → Kinds → (scope : List ℕ) (n x : ℕ) → Bool → Type 0
 SaysNew s names kinds scope n x r = (N : Names) → Declared s names kinds N → r ≡ new-variable N (scope-at s scope n) (name-at s x)
 
-pub says-new : (s names : List ℕ) (kinds : Kinds) (scope : List ℕ) (n x m : ℕ) (r : Bool) → m ≡ total-of kinds
-    → r ≡ and (negated (among (name-at s x) (bytes "Bool" ∷ scope-at s names m))) (negated (among (name-at s x) (scope-at s scope n))) → SaysNew s names kinds scope n x r
+pub says-new : (s names : List ℕ) (kinds : Kinds) (scope : List ℕ) (n x : ℕ) (r : Bool)
+    → r ≡ and (negated (among (name-at s x) (bytes "Bool" ∷ scope-at s names (total-of kinds)))) (negated (among (name-at s x) (scope-at s scope n))) → SaysNew s names kinds scope n x r
 unfolding new-variable declared
-says-new s names kinds scope n x m r em e N D =
-    let all : N .sorts ++ (N .funcs ++ (N .acts ++ N .procs)) ≡ bytes "Bool" ∷ scope-at s names m = rw (D .sorts-are, D .funcs-are, D .acts-are, D .procs-are, em) (kinds-joined s names kinds) in
+says-new s names kinds scope n x r e N D =
+    let all : N .sorts ++ (N .funcs ++ (N .acts ++ N .procs)) ≡ bytes "Bool" ∷ scope-at s names (total-of kinds) = rw (D .sorts-are, D .funcs-are, D .acts-are, D .procs-are) (kinds-joined s names kinds) in
     e ∙ ap (λ (l : List Name). and (negated (among (name-at s x) l)) (negated (among (name-at s x) (scope-at s scope n)))) (sym all)
 
 -- ---- the sum that binds the variable

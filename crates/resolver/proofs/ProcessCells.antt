@@ -11,7 +11,8 @@ use Rattle.pcrl.specs.Sheet.{Data, Proc, Sig}
 use Rattle.pcrl.specs.Names.{Names, number-of, new-variable, named, resolve-data, resolve-given, resolve-choice, resolve-conditional, resolve-sequence, resolve-part}
 use Rattle.nodes.specs.Layout.{enc-data, enc-datas, after-mark, one-if, atom-kind, alt-kind, cond-kind, call-kind, seq-kind, act-number, enc}
 use Rattle.resolver.specs.Raw.{choice, conditional, sequence, part, resolve-term}
-use Rattle.resolver.specs.Resolving.{data-cells, given-cells, term-cells, binder-cells, _⊕_}
+use Rattle.resolver.specs.Resolving.{data-cells, term-cells, binder-cells, _⊕_}
+use Rattle.resolver.proofs.DataCells.{node-cells}
 
 module _ (N : Names) (S : Sig) (scope : List Name) (Γ : List ℕ) (after : Bool) where
   pub plus-cells : (c : Conditional) (d : Choice)
@@ -82,8 +83,8 @@ module _ (N : Names) (S : Sig) (scope : List Name) (Γ : List ℕ) (after : Bool
       by true = refl
 
   pub action-cells : (x : Name) (ds : Option RawDatas) (i : ℕ) → number-of x (N .acts) ≡ some i
-      → term-cells N S scope Γ after (part (Part.named x ds)) ≡ given-cells N S scope Γ (after-mark * one-if after + atom-kind) (i + 1) ds
-  unfolding term-cells given-cells resolve-term resolve-choice named enc act-number
+      → term-cells N S scope Γ after (part (Part.named x ds)) ≡ node-cells N S scope Γ (after-mark * one-if after + atom-kind) (i + 1) ds
+  unfolding term-cells node-cells resolve-term resolve-choice named enc act-number
   action-cells x ds i e = rw e (by (resolve-given N S scope Γ ds))
     where
       by : (o : Option (List Data)) → (_>>=_ (_>>=_ o (λ es. named N S (some i) (number-of x (N .procs)) es)) (λ a. some (enc after a)))
@@ -92,8 +93,8 @@ module _ (N : Names) (S : Sig) (scope : List Name) (Γ : List ℕ) (after : Bool
       by (some es) = refl
 
   pub process-cells : (x : Name) (ds : Option RawDatas) (k : ℕ) → number-of x (N .acts) ≡ none → number-of x (N .procs) ≡ some k
-      → term-cells N S scope Γ after (part (Part.named x ds)) ≡ given-cells N S scope Γ call-kind k ds
-  unfolding term-cells given-cells resolve-term resolve-choice named enc
+      → term-cells N S scope Γ after (part (Part.named x ds)) ≡ node-cells N S scope Γ call-kind k ds
+  unfolding term-cells node-cells resolve-term resolve-choice named enc
   process-cells x ds k e f = rw (e, f) (by (resolve-given N S scope Γ ds))
     where
       by : (o : Option (List Data)) → (_>>=_ (_>>=_ o (λ es. named N S none (some k) es)) (λ a. some (enc after a)))

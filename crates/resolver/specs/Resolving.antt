@@ -92,11 +92,11 @@ module _ (N : Names) (S : Sig) (scope : List Name) (Γ : List ℕ) where
     es ← resolve-datas N S scope Γ ds
     some (enc-arguments es)
 
-  -- a node for a name and what is given to it
-  unfoldable pub given-cells : ℕ → ℕ → Option RawDatas → Option (List ℕ)
-  given-cells first number ds = do
+  -- how many data are given to a name, and the data
+  unfoldable pub given-cells : Option RawDatas → Option (List ℕ)
+  given-cells ds = do
     es ← resolve-given N S scope Γ ds
-    some (first ∷ number ∷ length es ∷ enc-datas es)
+    some (length es ∷ enc-datas es)
 
   unfoldable pub term-cells : Bool → Term → Option (List ℕ)
   term-cells after t = do
@@ -147,10 +147,10 @@ ResolvesDatas s raw names kinds scope n at w o r o′ = (N : Names) (S : Sig) (d
     → drop at (symbols s raw) ≡ raw-datas ds ++ rest
     → Outcome raw (symbols s raw) rest w o (r .at) (r .w) o′ (datas-cells N S (scope-at s scope n) (scope-sorts scope n) ds) × (r .at ≤ length raw → (r .count ≡ count-of ds) × (r .count < cell-limit))
 
-abbrev pub ResolvesGiven : (s raw names : List ℕ) (kinds : Kinds) (scope : List ℕ) (n at first number w : ℕ) (o : List ℕ) → Step → List ℕ → Type 0
-ResolvesGiven s raw names kinds scope n at first number w o r o′ = (N : Names) (S : Sig) (x : Name) (ds : Option RawDatas) (rest : List Symbol)
+abbrev pub ResolvesGiven : (s raw names : List ℕ) (kinds : Kinds) (scope : List ℕ) (n at w : ℕ) (o : List ℕ) → Step → List ℕ → Type 0
+ResolvesGiven s raw names kinds scope n at w o r o′ = (N : Names) (S : Sig) (x : Name) (ds : Option RawDatas) (rest : List Symbol)
     → N .funcs ≡ funcs-in s names kinds → KnownSorts kinds scope n S
-    → drop at (symbols s raw) ≡ enc-call x ds ++ rest → Outcome raw (symbols s raw) rest w o (r .at) (r .w) o′ (given-cells N S (scope-at s scope n) (scope-sorts scope n) first number ds)
+    → drop at (symbols s raw) ≡ enc-call x ds ++ rest → Outcome raw (symbols s raw) rest w o (r .at) (r .w) o′ (given-cells N S (scope-at s scope n) (scope-sorts scope n) ds)
 
 -- the cell of `==` over data with these first cells, if it fits
 abbrev pub EqualCell : (scope : List ℕ) (c d : ℕ) → ℕ → Type 0

@@ -1,18 +1,18 @@
 // "In data a name without brackets is a variable in scope, one with brackets a function."
 ghost use Prim.Native.Nat.{_+_, _<_};
 ghost use lib.ListN.{length};
-ghost use Rattle.names.specs.NameKeys.{Keyed};
-ghost use Rattle.names.specs.NameKinds.{total-of};
+ghost use Rattle.names.specs.NameList.{names-in, kinds-in, KeyedNames};
 ghost use Rattle.resolver.specs.Resolving.{Ahead, Few, ResolvesData, ResolvesConjunction, ResolvesComparison, ResolvesNegation, ResolvesAtom, ResolvesDatas, ResolvesGiven};
 use crate::DataRun;
 use crate::cells::put_joins;
 use crate::operators::equal_cell;
+use elements::cell;
 use elements::peek_cell;
 use elements::short;
 use elements::wide_cell;
 use lexer::FIRST_NAME;
 use lexer::FIRST_NUMERAL;
-use names::Kinds;
+use names::FUNC_COUNT;
 use names::find::scope_number;
 use names::keys::func_in;
 use parser::Step;
@@ -43,18 +43,16 @@ const OR_CELL: u16 = (4 * nodes::OR + nodes::FUNCTION) as u16;
 pub fn data_term(
     s: &[u8],
     raw: &[u16],
-    names: &[u16],
-    keys: &[u8],
-    kinds: Kinds,
+    declared: &[u16],
     scope: &[u16],
     n: usize,
     at: usize,
     out: &mut [u16],
     w: usize,
 ) -> Step
-    requires { ⌜ Few (now raw) kinds (now scope) n × Keyed (now s) (now names) (now keys) (total-of kinds) ⌝ }
+    requires { ⌜ Few (now raw) (kinds-in (now declared)) (now scope) n × KeyedNames (now s) (now declared) ⌝ }
     ensures ahead { λ r. ⌜ Ahead (length (now (raw .entry))) at (r .at) ⌝ }
-    ensures data { λ r. ⌜ ResolvesData (now (s .entry)) (now (raw .entry)) (now (names .entry)) kinds (now (scope .entry)) n at w (now (out .entry)) r (now (out .exit)) ⌝ }
+    ensures data { λ r. ⌜ ResolvesData (now (s .entry)) (now (raw .entry)) (names-in (now (declared .entry))) (kinds-in (now (declared .entry))) (now (scope .entry)) n at w (now (out .entry)) r (now (out .exit)) ⌝ }
 {
     let k = peek_cell(raw, at);
     if k < FIRST_ORS {
@@ -68,7 +66,7 @@ pub fn data_term(
     let mut v = put_joins(out, w, OR_CELL, more);
     let mut i: usize = 0;
     while i <= more {
-        let a = conjunction(s, raw, names, keys, kinds, scope, n, p, out, v);
+        let a = conjunction(s, raw, declared, scope, n, p, out, v);
         p = a.at;
         v = a.w;
         i += 1;
@@ -80,18 +78,16 @@ pub fn data_term(
 fn conjunction(
     s: &[u8],
     raw: &[u16],
-    names: &[u16],
-    keys: &[u8],
-    kinds: Kinds,
+    declared: &[u16],
     scope: &[u16],
     n: usize,
     at: usize,
     out: &mut [u16],
     w: usize,
 ) -> Step
-    requires { ⌜ Few (now raw) kinds (now scope) n × Keyed (now s) (now names) (now keys) (total-of kinds) ⌝ }
+    requires { ⌜ Few (now raw) (kinds-in (now declared)) (now scope) n × KeyedNames (now s) (now declared) ⌝ }
     ensures ahead { λ r. ⌜ Ahead (length (now (raw .entry))) at (r .at) ⌝ }
-    ensures data { λ r. ⌜ ResolvesConjunction (now (s .entry)) (now (raw .entry)) (now (names .entry)) kinds (now (scope .entry)) n at w (now (out .entry)) r (now (out .exit)) ⌝ }
+    ensures data { λ r. ⌜ ResolvesConjunction (now (s .entry)) (now (raw .entry)) (names-in (now (declared .entry))) (kinds-in (now (declared .entry))) (now (scope .entry)) n at w (now (out .entry)) r (now (out .exit)) ⌝ }
 {
     let k = peek_cell(raw, at);
     if k < FIRST_ANDS {
@@ -102,7 +98,7 @@ fn conjunction(
     let mut v = put_joins(out, w, AND_CELL, more);
     let mut i: usize = 0;
     while i <= more {
-        let a = comparison(s, raw, names, keys, kinds, scope, n, p, out, v);
+        let a = comparison(s, raw, declared, scope, n, p, out, v);
         p = a.at;
         v = a.w;
         i += 1;
@@ -114,30 +110,28 @@ fn conjunction(
 fn comparison(
     s: &[u8],
     raw: &[u16],
-    names: &[u16],
-    keys: &[u8],
-    kinds: Kinds,
+    declared: &[u16],
     scope: &[u16],
     n: usize,
     at: usize,
     out: &mut [u16],
     w: usize,
 ) -> Step
-    requires { ⌜ Few (now raw) kinds (now scope) n × Keyed (now s) (now names) (now keys) (total-of kinds) ⌝ }
+    requires { ⌜ Few (now raw) (kinds-in (now declared)) (now scope) n × KeyedNames (now s) (now declared) ⌝ }
     ensures ahead { λ r. ⌜ Ahead (length (now (raw .entry))) at (r .at) ⌝ }
-    ensures data { λ r. ⌜ ResolvesComparison (now (s .entry)) (now (raw .entry)) (now (names .entry)) kinds (now (scope .entry)) n at w (now (out .entry)) r (now (out .exit)) ⌝ }
+    ensures data { λ r. ⌜ ResolvesComparison (now (s .entry)) (now (raw .entry)) (names-in (now (declared .entry))) (kinds-in (now (declared .entry))) (now (scope .entry)) n at w (now (out .entry)) r (now (out .exit)) ⌝ }
 {
     let k = peek_cell(raw, at);
     if k == ALONE_TAG {
-        return negation(s, raw, names, keys, kinds, scope, n, at + 1, out, w);
+        return negation(s, raw, declared, scope, n, at + 1, out, w);
     }
     if k != EQUAL_TAG {
         return lost(raw, w);
     }
     let c = put(out, w, 0);
     let v = put(out, c, 2);
-    let a = negation(s, raw, names, keys, kinds, scope, n, at + 1, out, v);
-    let b = negation(s, raw, names, keys, kinds, scope, n, a.at, out, a.w);
+    let a = negation(s, raw, declared, scope, n, at + 1, out, v);
+    let b = negation(s, raw, declared, scope, n, a.at, out, a.w);
     let x = peek_cell(out, v);
     let y = peek_cell(out, a.w);
     put(out, w, equal_cell(scope, x, y));
@@ -148,18 +142,16 @@ fn comparison(
 fn negation(
     s: &[u8],
     raw: &[u16],
-    names: &[u16],
-    keys: &[u8],
-    kinds: Kinds,
+    declared: &[u16],
     scope: &[u16],
     n: usize,
     at: usize,
     out: &mut [u16],
     w: usize,
 ) -> Step
-    requires { ⌜ Few (now raw) kinds (now scope) n × Keyed (now s) (now names) (now keys) (total-of kinds) ⌝ }
+    requires { ⌜ Few (now raw) (kinds-in (now declared)) (now scope) n × KeyedNames (now s) (now declared) ⌝ }
     ensures ahead { λ r. ⌜ Ahead (length (now (raw .entry))) at (r .at) ⌝ }
-    ensures data { λ r. ⌜ ResolvesNegation (now (s .entry)) (now (raw .entry)) (now (names .entry)) kinds (now (scope .entry)) n at w (now (out .entry)) r (now (out .exit)) ⌝ }
+    ensures data { λ r. ⌜ ResolvesNegation (now (s .entry)) (now (raw .entry)) (names-in (now (declared .entry))) (kinds-in (now (declared .entry))) (now (scope .entry)) n at w (now (out .entry)) r (now (out .exit)) ⌝ }
 {
     let mut p = at;
     let mut v = w;
@@ -168,29 +160,27 @@ fn negation(
         v = put(out, a, 1);
         p += 1;
     }
-    atom(s, raw, names, keys, kinds, scope, n, p, out, v)
+    atom(s, raw, declared, scope, n, p, out, v)
 }
 
 // A numeral, a variable, a function with bracketed data, or data in brackets.
 fn atom(
     s: &[u8],
     raw: &[u16],
-    names: &[u16],
-    keys: &[u8],
-    kinds: Kinds,
+    declared: &[u16],
     scope: &[u16],
     n: usize,
     at: usize,
     out: &mut [u16],
     w: usize,
 ) -> Step
-    requires { ⌜ Few (now raw) kinds (now scope) n × Keyed (now s) (now names) (now keys) (total-of kinds) ⌝ }
+    requires { ⌜ Few (now raw) (kinds-in (now declared)) (now scope) n × KeyedNames (now s) (now declared) ⌝ }
     ensures ahead { λ r. ⌜ Ahead (length (now (raw .entry))) at (r .at) ⌝ }
-    ensures data { λ r. ⌜ ResolvesAtom (now (s .entry)) (now (raw .entry)) (now (names .entry)) kinds (now (scope .entry)) n at w (now (out .entry)) r (now (out .exit)) ⌝ }
+    ensures data { λ r. ⌜ ResolvesAtom (now (s .entry)) (now (raw .entry)) (names-in (now (declared .entry))) (kinds-in (now (declared .entry))) (now (scope .entry)) n at w (now (out .entry)) r (now (out .exit)) ⌝ }
 {
     let k = peek_cell(raw, at);
     if k == NEST_TAG {
-        return data_term(s, raw, names, keys, kinds, scope, n, at + 1, out, w);
+        return data_term(s, raw, declared, scope, n, at + 1, out, w);
     }
     if k == VALUE_TAG {
         let c = peek_cell(raw, at + 1);
@@ -218,13 +208,13 @@ fn atom(
     if k != APPLY_TAG {
         return lost(raw, w);
     }
-    let f = func_in(s, names, keys, kinds, peek_cell(raw, at + 1));
-    if f >= kinds.funcs {
+    let f = func_in(s, declared, peek_cell(raw, at + 1));
+    if f >= cell(declared, FUNC_COUNT) {
         return lost(raw, w);
     }
     let v = put(out, w, short(4 * f + 2));
     let d = put(out, v, 0);
-    let l = data_list(s, raw, names, keys, kinds, scope, n, at + 2, out, d);
+    let l = data_list(s, raw, declared, scope, n, at + 2, out, d);
     put(out, v, short(l.count));
     Step { at: l.at, w: l.w }
 }
@@ -232,24 +222,22 @@ fn atom(
 pub fn data_list(
     s: &[u8],
     raw: &[u16],
-    names: &[u16],
-    keys: &[u8],
-    kinds: Kinds,
+    declared: &[u16],
     scope: &[u16],
     n: usize,
     at: usize,
     out: &mut [u16],
     w: usize,
 ) -> DataRun
-    requires { ⌜ Few (now raw) kinds (now scope) n × Keyed (now s) (now names) (now keys) (total-of kinds) ⌝ }
+    requires { ⌜ Few (now raw) (kinds-in (now declared)) (now scope) n × KeyedNames (now s) (now declared) ⌝ }
     ensures ahead { λ r. ⌜ Ahead (length (now (raw .entry))) at (r .at) ⌝ }
-    ensures data { λ r. ⌜ ResolvesDatas (now (s .entry)) (now (raw .entry)) (now (names .entry)) kinds (now (scope .entry)) n at w (now (out .entry)) r (now (out .exit)) ⌝ }
+    ensures data { λ r. ⌜ ResolvesDatas (now (s .entry)) (now (raw .entry)) (names-in (now (declared .entry))) (kinds-in (now (declared .entry))) (now (scope .entry)) n at w (now (out .entry)) r (now (out .exit)) ⌝ }
 {
     let mut p = at;
     let mut v = w;
     let mut count: usize = 0;
     while peek_cell(raw, p) == MORE_TAG {
-        let a = data_term(s, raw, names, keys, kinds, scope, n, p + 1, out, v);
+        let a = data_term(s, raw, declared, scope, n, p + 1, out, v);
         p = a.at;
         v = a.w;
         count += 1;
@@ -262,7 +250,7 @@ pub fn data_list(
             count: count,
         };
     }
-    let a = data_term(s, raw, names, keys, kinds, scope, n, p + 1, out, v);
+    let a = data_term(s, raw, declared, scope, n, p + 1, out, v);
     DataRun {
         at: a.at,
         w: a.w,
@@ -270,36 +258,30 @@ pub fn data_list(
     }
 }
 
-// A node for a name at `at`, with its first cell and number, and the data given to the name.
+// How many data are given to the name at `at`, and the data.
 pub fn given(
     s: &[u8],
     raw: &[u16],
-    names: &[u16],
-    keys: &[u8],
-    kinds: Kinds,
+    declared: &[u16],
     scope: &[u16],
     n: usize,
     at: usize,
-    first: u16,
-    number: u16,
     out: &mut [u16],
     w: usize,
 ) -> Step
-    requires { ⌜ Few (now raw) kinds (now scope) n × Keyed (now s) (now names) (now keys) (total-of kinds) ⌝ }
+    requires { ⌜ Few (now raw) (kinds-in (now declared)) (now scope) n × KeyedNames (now s) (now declared) ⌝ }
     ensures ahead { λ r. ⌜ Ahead (length (now (raw .entry))) at (r .at) ⌝ }
-    ensures data { λ r. ⌜ ResolvesGiven (now (s .entry)) (now (raw .entry)) (now (names .entry)) kinds (now (scope .entry)) n at first number w (now (out .entry)) r (now (out .exit)) ⌝ }
+    ensures data { λ r. ⌜ ResolvesGiven (now (s .entry)) (now (raw .entry)) (names-in (now (declared .entry))) (kinds-in (now (declared .entry))) (now (scope .entry)) n at w (now (out .entry)) r (now (out .exit)) ⌝ }
 {
     let k = peek_cell(raw, at);
-    let a = put(out, w, first);
-    let b = put(out, a, number);
-    let v = put(out, b, 0);
+    let v = put(out, w, 0);
     if k == BARE_TAG {
         return Step { at: at + 2, w: v };
     }
     if k != GIVEN_TAG {
         return lost(raw, w);
     }
-    let l = data_list(s, raw, names, keys, kinds, scope, n, at + 2, out, v);
-    put(out, b, short(l.count));
+    let l = data_list(s, raw, declared, scope, n, at + 2, out, v);
+    put(out, w, short(l.count));
     Step { at: l.at, w: l.w }
 }

@@ -1,37 +1,36 @@
 // A right side and init, as the layers above ask for them.
 ghost use Prim.Native.Nat.{_<_};
 ghost use lib.ListN.{length};
-ghost use Rattle.names.specs.NameKeys.{Keyed};
-ghost use Rattle.names.specs.NameKinds.{total-of};
+ghost use Rattle.names.specs.NameList.{names-in, kinds-in, KeyedNames};
 ghost use Rattle.resolver.specs.Sorting.{ScopeKept};
 ghost use Rattle.resolver.specs.Resolving.{Few, ResolvesRight, ResolvesInit};
 use crate::RightSide;
 use crate::data::given;
 use crate::process::CALL;
 use crate::process::term;
+use elements::cell;
 use elements::peek_cell;
 use elements::short;
-use names::Kinds;
+use names::PROC_COUNT;
 use names::keys::proc_in;
+use parser::cells::put;
 
 // The right side of a process at `at`, with n names in scope.
 pub fn right_side(
     s: &[u8],
     raw: &[u16],
-    names: &[u16],
-    keys: &[u8],
-    kinds: Kinds,
+    declared: &[u16],
     scope: &mut [u16],
     n: usize,
     at: usize,
     out: &mut [u16],
     w: usize,
 ) -> RightSide
-    requires { ⌜ Few (now raw) kinds (now scope) n × Keyed (now s) (now names) (now keys) (total-of kinds) ⌝ }
+    requires { ⌜ Few (now raw) (kinds-in (now declared)) (now scope) n × KeyedNames (now s) (now declared) ⌝ }
     ensures kept { λ r. ⌜ ScopeKept n (now (scope .entry)) (now (scope .exit)) ⌝ }
-    ensures resolves { λ r. ⌜ ResolvesRight (now (s .entry)) (now (raw .entry)) (now (names .entry)) kinds (now (scope .entry)) n at w (now (out .entry)) r (now (out .exit)) ⌝ }
+    ensures resolves { λ r. ⌜ ResolvesRight (now (s .entry)) (now (raw .entry)) (names-in (now (declared .entry))) (kinds-in (now (declared .entry))) (now (scope .entry)) n at w (now (out .entry)) r (now (out .exit)) ⌝ }
 {
-    let a = term(s, raw, names, keys, kinds, scope, n, at, false, out, w);
+    let a = term(s, raw, declared, scope, n, at, false, out, w);
     RightSide {
         ok: a.at <= raw.len(),
         next: a.at,
@@ -43,39 +42,26 @@ pub fn right_side(
 pub fn init(
     s: &[u8],
     raw: &[u16],
-    names: &[u16],
-    keys: &[u8],
-    kinds: Kinds,
+    declared: &[u16],
     scope: &[u16],
     at: usize,
     out: &mut [u16],
     w: usize,
 ) -> RightSide
-    requires { ⌜ Few (now raw) kinds (now scope) 0 × (at < length (now raw)) × Keyed (now s) (now names) (now keys) (total-of kinds) ⌝ }
-    ensures { λ r. ⌜ ResolvesInit (now (s .entry)) (now (raw .entry)) (now (names .entry)) kinds (now (scope .entry)) at w (now (out .entry)) r (now (out .exit)) ⌝ }
+    requires { ⌜ Few (now raw) (kinds-in (now declared)) (now scope) 0 × (at < length (now raw)) × KeyedNames (now s) (now declared) ⌝ }
+    ensures { λ r. ⌜ ResolvesInit (now (s .entry)) (now (raw .entry)) (names-in (now (declared .entry))) (kinds-in (now (declared .entry))) (now (scope .entry)) at w (now (out .entry)) r (now (out .exit)) ⌝ }
 {
-    let k = proc_in(s, names, keys, kinds, peek_cell(raw, at + 2));
-    if k >= kinds.procs {
+    let k = proc_in(s, declared, peek_cell(raw, at + 2));
+    if k >= cell(declared, PROC_COUNT) {
         return RightSide {
             ok: false,
             next: at,
             w: w,
         };
     }
-    let a = given(
-        s,
-        raw,
-        names,
-        keys,
-        kinds,
-        scope,
-        0,
-        at + 1,
-        CALL,
-        short(k),
-        out,
-        w,
-    );
+    let b = put(out, w, CALL);
+    let v = put(out, b, short(k));
+    let a = given(s, raw, declared, scope, 0, at + 1, out, v);
     RightSide {
         ok: a.at <= raw.len(),
         next: a.at,

@@ -5,8 +5,8 @@ ghost use lib.ListN.{length};
 ghost use Rattle.pcrl.specs.Limits.{max-actions, max-processes};
 ghost use Rattle.pcrl.specs.Names.{number-of};
 ghost use Rattle.names.specs.NameCells.{name-at};
-ghost use Rattle.names.specs.NameKeys.{Keyed};
-ghost use Rattle.names.specs.NameKinds.{total-of, acts-in, procs-in};
+ghost use Rattle.names.specs.NameKinds.{acts-in, procs-in};
+ghost use Rattle.names.specs.NameList.{names-in, kinds-in, KeyedNames};
 ghost use Rattle.resolver.specs.Sorting.{ScopeKept};
 ghost use Rattle.resolver.specs.Resolving.{Ahead, Few, Naming, InScope, Binds, ResolvesConstant, ResolvesNamed, Forks, ResolvesFirst, ResolvesTerm};
 use crate::FIRST_SORT;
@@ -19,14 +19,16 @@ use crate::cells::skip;
 use crate::cells::tokens;
 use crate::data::data_term;
 use crate::data::given;
+use elements::cell;
 use elements::peek_cell;
 use elements::short;
-use names::Kinds;
+use names::ACT_COUNT;
+use names::PROC_COUNT;
+use names::SORT_COUNT;
 use names::fresh::new_variable;
 use names::keys::act_in;
 use names::keys::proc_in;
 use names::keys::sort_in;
-use names::keys::total;
 use nodes::MAX_SCOPE;
 use parser::Step;
 use parser::cells::lost;
@@ -52,20 +54,20 @@ pub const CALL: u16 = nodes::CALL as u16;
 const SEQ: u16 = nodes::SEQ as u16;
 
 // "As a part a name is an action or a process."
-fn named(s: &[u8], names: &[u16], keys: &[u8], kinds: Kinds, x: u16, after: bool) -> Known
-    requires { ⌜ (kinds .acts ≤ max-actions) × (kinds .procs ≤ max-processes) × Keyed (now s) (now names) (now keys) (total-of kinds) ⌝ }
-    ensures { λ r. ⌜ Naming after (number-of (name-at (now (s .entry)) x) (acts-in (now (s .entry)) (now (names .entry)) kinds)) (number-of (name-at (now (s .entry)) x) (procs-in (now (s .entry)) (now (names .entry)) kinds)) r ⌝ }
+fn named(s: &[u8], declared: &[u16], x: u16, after: bool) -> Known
+    requires { ⌜ (kinds-in (now declared) .acts ≤ max-actions) × (kinds-in (now declared) .procs ≤ max-processes) × KeyedNames (now s) (now declared) ⌝ }
+    ensures { λ r. ⌜ Naming after (number-of (name-at (now (s .entry)) x) (acts-in (now (s .entry)) (names-in (now (declared .entry))) (kinds-in (now (declared .entry))))) (number-of (name-at (now (s .entry)) x) (procs-in (now (s .entry)) (names-in (now (declared .entry))) (kinds-in (now (declared .entry))))) r ⌝ }
 {
-    let a = act_in(s, names, keys, kinds, x);
-    if a < kinds.acts {
+    let a = act_in(s, declared, x);
+    if a < cell(declared, ACT_COUNT) {
         return Known {
             known: true,
             first: marked(after, ATOM),
             number: short(a + 1),
         };
     }
-    let k = proc_in(s, names, keys, kinds, x);
-    if k < kinds.procs {
+    let k = proc_in(s, declared, x);
+    if k < cell(declared, PROC_COUNT) {
         return Known {
             known: true,
             first: CALL,
@@ -83,9 +85,7 @@ fn named(s: &[u8], names: &[u16], keys: &[u8], kinds: Kinds, x: u16, after: bool
 fn binder(
     s: &[u8],
     raw: &[u16],
-    names: &[u16],
-    keys: &[u8],
-    kinds: Kinds,
+    declared: &[u16],
     scope: &mut [u16],
     n: usize,
     at: usize,
@@ -93,18 +93,18 @@ fn binder(
     out: &mut [u16],
     w: usize,
 ) -> Step
-    requires { ⌜ Few (now raw) kinds (now scope) n × (at < length (now raw)) × Keyed (now s) (now names) (now keys) (total-of kinds) ⌝ }
+    requires { ⌜ Few (now raw) (kinds-in (now declared)) (now scope) n × (at < length (now raw)) × KeyedNames (now s) (now declared) ⌝ }
     ensures ahead { λ r. ⌜ Ahead (length (now (raw .entry))) (at + 1) (r .at) ⌝ }
     ensures kept { λ r. ⌜ ScopeKept n (now (scope .entry)) (now (scope .exit)) ⌝ }
-    ensures bound { λ r. ⌜ InScope (now (s .entry)) (now (raw .entry)) (now (names .entry)) kinds (now (scope .entry)) n at r (now (scope .exit)) ⌝ }
-    ensures binds { λ r. ⌜ Binds (now (s .entry)) (now (raw .entry)) (now (names .entry)) kinds (now (scope .entry)) n at after w (now (out .entry)) r (now (out .exit)) ⌝ }
+    ensures bound { λ r. ⌜ InScope (now (s .entry)) (now (raw .entry)) (names-in (now (declared .entry))) (kinds-in (now (declared .entry))) (now (scope .entry)) n at r (now (scope .exit)) ⌝ }
+    ensures binds { λ r. ⌜ Binds (now (s .entry)) (now (raw .entry)) (names-in (now (declared .entry))) (kinds-in (now (declared .entry))) (now (scope .entry)) n at after w (now (out .entry)) r (now (out .exit)) ⌝ }
 {
     let x = peek_cell(raw, at + 1);
-    if !new_variable(s, names, keys, total(kinds), scope, n, x) {
+    if !new_variable(s, declared, scope, n, x) {
         return lost(raw, w);
     }
-    let d = sort_in(s, names, keys, kinds, peek_cell(raw, at + 2));
-    if d > kinds.sorts {
+    let d = sort_in(s, declared, peek_cell(raw, at + 2));
+    if d > cell(declared, SORT_COUNT) {
         return lost(raw, w);
     }
     if n >= MAX_SCOPE {
@@ -145,9 +145,7 @@ fn constant(raw: &[u16], at: usize, after: bool, out: &mut [u16], w: usize) -> S
 fn fork(
     s: &[u8],
     raw: &[u16],
-    names: &[u16],
-    keys: &[u8],
-    kinds: Kinds,
+    declared: &[u16],
     scope: &[u16],
     n: usize,
     at: usize,
@@ -155,8 +153,8 @@ fn fork(
     out: &mut [u16],
     w: usize,
 ) -> Fork
-    requires { ⌜ Few (now raw) kinds (now scope) n × (at < length (now raw)) × Keyed (now s) (now names) (now keys) (total-of kinds) ⌝ }
-    ensures { λ r. ⌜ Forks (now (s .entry)) (now (raw .entry)) (now (names .entry)) kinds (now (scope .entry)) n at after w (now (out .entry)) r (now (out .exit)) ⌝ }
+    requires { ⌜ Few (now raw) (kinds-in (now declared)) (now scope) n × (at < length (now raw)) × KeyedNames (now s) (now declared) ⌝ }
+    ensures { λ r. ⌜ Forks (now (s .entry)) (now (raw .entry)) (names-in (now (declared .entry))) (kinds-in (now (declared .entry))) (now (scope .entry)) n at after w (now (out .entry)) r (now (out .exit)) ⌝ }
 {
     let k = peek_cell(raw, at);
     if k == THEN_TAG {
@@ -174,18 +172,7 @@ fn fork(
         };
     }
     let v = node(out, w, marked(after, COND), 0, 1);
-    let d = data_term(
-        s,
-        raw,
-        names,
-        keys,
-        kinds,
-        scope,
-        n,
-        skip(raw, at + 1),
-        out,
-        v,
-    );
+    let d = data_term(s, raw, declared, scope, n, skip(raw, at + 1), out, v);
     Fork {
         at: d.at,
         w: d.w,
@@ -197,9 +184,7 @@ fn fork(
 fn named_part(
     s: &[u8],
     raw: &[u16],
-    names: &[u16],
-    keys: &[u8],
-    kinds: Kinds,
+    declared: &[u16],
     scope: &[u16],
     n: usize,
     at: usize,
@@ -207,37 +192,24 @@ fn named_part(
     out: &mut [u16],
     w: usize,
 ) -> Step
-    requires { ⌜ Few (now raw) kinds (now scope) n × (at < length (now raw)) × Keyed (now s) (now names) (now keys) (total-of kinds) ⌝ }
+    requires { ⌜ Few (now raw) (kinds-in (now declared)) (now scope) n × (at < length (now raw)) × KeyedNames (now s) (now declared) ⌝ }
     ensures ahead { λ r. ⌜ Ahead (length (now (raw .entry))) at (r .at) ⌝ }
-    ensures resolves { λ r. ⌜ ResolvesNamed (now (s .entry)) (now (raw .entry)) (now (names .entry)) kinds (now (scope .entry)) n at after w (now (out .entry)) r (now (out .exit)) ⌝ }
+    ensures resolves { λ r. ⌜ ResolvesNamed (now (s .entry)) (now (raw .entry)) (names-in (now (declared .entry))) (kinds-in (now (declared .entry))) (now (scope .entry)) n at after w (now (out .entry)) r (now (out .exit)) ⌝ }
 {
-    let f = named(s, names, keys, kinds, peek_cell(raw, at + 1), after);
+    let f = named(s, declared, peek_cell(raw, at + 1), after);
     if !f.known {
         return lost(raw, w);
     }
-    given(
-        s,
-        raw,
-        names,
-        keys,
-        kinds,
-        scope,
-        n,
-        at,
-        f.first,
-        f.number,
-        out,
-        w,
-    )
+    let a = put(out, w, f.first);
+    let v = put(out, a, f.number);
+    given(s, raw, declared, scope, n, at, out, v)
 }
 
 // A `+`, a `.` or a conditional, up to its second part.
 fn first_part(
     s: &[u8],
     raw: &[u16],
-    names: &[u16],
-    keys: &[u8],
-    kinds: Kinds,
+    declared: &[u16],
     scope: &mut [u16],
     n: usize,
     at: usize,
@@ -245,25 +217,13 @@ fn first_part(
     out: &mut [u16],
     w: usize,
 ) -> Step
-    requires { ⌜ Few (now raw) kinds (now scope) n × (at < length (now raw)) × Keyed (now s) (now names) (now keys) (total-of kinds) ⌝ }
+    requires { ⌜ Few (now raw) (kinds-in (now declared)) (now scope) n × (at < length (now raw)) × KeyedNames (now s) (now declared) ⌝ }
     ensures ahead { λ r. ⌜ at + 1 ≤ r .at ⌝ }
     ensures kept { λ r. ⌜ ScopeKept n (now (scope .entry)) (now (scope .exit)) ⌝ }
-    ensures resolves { λ r. ⌜ ResolvesFirst (now (s .entry)) (now (raw .entry)) (now (names .entry)) kinds (now (scope .entry)) n at after w (now (out .entry)) r (now (out .exit)) ⌝ }
+    ensures resolves { λ r. ⌜ ResolvesFirst (now (s .entry)) (now (raw .entry)) (names-in (now (declared .entry))) (kinds-in (now (declared .entry))) (now (scope .entry)) n at after w (now (out .entry)) r (now (out .exit)) ⌝ }
 {
-    let h = fork(s, raw, names, keys, kinds, scope, n, at, after, out, w);
-    let a = term(
-        s,
-        raw,
-        names,
-        keys,
-        kinds,
-        scope,
-        n,
-        at + 1,
-        h.left,
-        out,
-        h.w,
-    );
+    let h = fork(s, raw, declared, scope, n, at, after, out, w);
+    let a = term(s, raw, declared, scope, n, at + 1, h.left, out, h.w);
     // the second part stands behind the condition, if there is one
     if a.at < h.at {
         return Step { at: h.at, w: a.w };
@@ -275,9 +235,7 @@ fn first_part(
 pub fn term(
     s: &[u8],
     raw: &[u16],
-    names: &[u16],
-    keys: &[u8],
-    kinds: Kinds,
+    declared: &[u16],
     scope: &mut [u16],
     n: usize,
     at: usize,
@@ -285,10 +243,10 @@ pub fn term(
     out: &mut [u16],
     w: usize,
 ) -> Step
-    requires { ⌜ Few (now raw) kinds (now scope) n × Keyed (now s) (now names) (now keys) (total-of kinds) ⌝ }
+    requires { ⌜ Few (now raw) (kinds-in (now declared)) (now scope) n × KeyedNames (now s) (now declared) ⌝ }
     ensures ahead { λ r. ⌜ Ahead (length (now (raw .entry))) at (r .at) ⌝ }
     ensures kept { λ r. ⌜ ScopeKept n (now (scope .entry)) (now (scope .exit)) ⌝ }
-    ensures resolves { λ r. ⌜ ResolvesTerm (now (s .entry)) (now (raw .entry)) (now (names .entry)) kinds (now (scope .entry)) n at after w (now (out .entry)) r (now (out .exit)) ⌝ }
+    ensures resolves { λ r. ⌜ ResolvesTerm (now (s .entry)) (now (raw .entry)) (names-in (now (declared .entry))) (kinds-in (now (declared .entry))) (now (scope .entry)) n at after w (now (out .entry)) r (now (out .exit)) ⌝ }
 {
     let mut p = at;
     let mut m = n;
@@ -297,7 +255,7 @@ pub fn term(
     while p < raw.len() {
         let k = peek_cell(raw, p);
         if k == SUM_TAG {
-            let b = binder(s, raw, names, keys, kinds, scope, m, p, r, out, v);
+            let b = binder(s, raw, declared, scope, m, p, r, out, v);
             p = b.at;
             m += 1;
             r = false;
@@ -305,7 +263,7 @@ pub fn term(
             continue;
         }
         if tokens(k) > 0 {
-            return named_part(s, raw, names, keys, kinds, scope, m, p, r, out, v);
+            return named_part(s, raw, declared, scope, m, p, r, out, v);
         }
         let f = kids(k);
         // delta or tau; one subterm, a bracket's or the last of a chain; two parts
@@ -316,7 +274,7 @@ pub fn term(
             p += 1;
             continue;
         }
-        let h = first_part(s, raw, names, keys, kinds, scope, m, p, r, out, v);
+        let h = first_part(s, raw, declared, scope, m, p, r, out, v);
         p = h.at;
         r = k == THEN_TAG;
         v = h.w;

@@ -20,18 +20,18 @@ use Rattle.resolver.specs.Sorting.{first-sort, first-result, scope-cells, scope
 use Rattle.sheets.specs.ScopePuts.{SortsPut, ResultsPut, GivesRows}
 
 -- ---- the sorts of parameters
-module _ (rows : List ℕ) (p : ℕ) (scope₀ : List ℕ) where
+module _ (row scope₀ : List ℕ) where
   -- the first i stand in the scope
   pub record SortsSoFar (i : ℕ) (scope : List ℕ) : Type 0 where
     pub names : take first-sort scope ≡ take first-sort scope₀
     pub results : scope-results scope ≡ scope-results scope₀
-    pub sorts : scope-sorts scope i ≡ take i (drop (p + 1) rows)
+    pub sorts : scope-sorts scope i ≡ take i (drop 1 row)
 
   pub sorts-start : SortsSoFar 0 scope₀
   unfolding scope-sorts
   sorts-start = record { names = refl; results = refl; sorts = refl }
 
-  pub sorts-more : (i v : ℕ) (scope : List ℕ) → SortsSoFar i scope → i < max-scope → length scope ≡ scope-cells → p + 1 + i < length rows → v ≡ getD rows (p + 1 + i) 0
+  pub sorts-more : (i v : ℕ) (scope : List ℕ) → SortsSoFar i scope → i < max-scope → length scope ≡ scope-cells → 1 + i < length row → v ≡ getD row (1 + i) 0
       → SortsSoFar (i + 1) (set scope (first-sort + i) v)
   unfolding scope-sorts scope-results
   sorts-more i v scope so h many l e = record {
@@ -41,17 +41,17 @@ module _ (rows : List ℕ) (p : ℕ) (scope₀ : List ℕ) where
         ∙ ap (λ k. take k (set (drop first-sort scope) i v)) (add-one i)
         ∙ take-suc-set (drop first-sort scope) i v (omega (arith, length-drop first-sort scope))
         ∙ ap (λ l. l ++ (v ∷ [])) (so .sorts)
-        ∙ ap (λ x. take i (drop (p + 1) rows) ++ (x ∷ [])) (e ∙ sym (getD-drop (p + 1) rows i 0))
-        ∙ sym (take-suc (drop (p + 1) rows) i 0 (omega (arith, length-drop (p + 1) rows)))
-        ∙ ap (λ k. take k (drop (p + 1) rows)) (sym (add-one i));
+        ∙ ap (λ x. take i (drop 1 row) ++ (x ∷ [])) (e ∙ sym (getD-drop 1 row i 0))
+        ∙ sym (take-suc (drop 1 row) i 0 (omega (arith, length-drop 1 row)))
+        ∙ ap (λ k. take k (drop 1 row)) (sym (add-one i));
   }
 
-  pub sorts-done : (n : ℕ) (scope : List ℕ) → SortsSoFar n scope → ((i : ℕ) → i < length rows → getD rows i 0 < byte-limit) → SortsPut rows p n scope₀ scope
+  pub sorts-done : (n : ℕ) (scope : List ℕ) → SortsSoFar n scope → ((i : ℕ) → i < length row → getD row i 0 < byte-limit) → SortsPut row n scope₀ scope
   sorts-done n scope so bytes = record {
     names = so .names;
     results = so .results;
     sorts = so .sorts;
-    small = subst⁻¹ (Every (λ D. D < byte-limit)) (so .sorts) (every-take (λ D. D < byte-limit) n (drop (p + 1) rows) (every-drop (λ D. D < byte-limit) (p + 1) rows (at-every (λ D. D < byte-limit) rows 0 bytes)));
+    small = subst⁻¹ (Every (λ D. D < byte-limit)) (so .sorts) (every-take (λ D. D < byte-limit) n (drop 1 row) (every-drop (λ D. D < byte-limit) 1 row (at-every (λ D. D < byte-limit) row 0 bytes)));
   }
 
 -- ---- the results of functions
@@ -87,15 +87,15 @@ same-names s a b n h e = ap (map (name-at s)) (sym (take-take n first-sort a h) 
 pub results-known : (kinds : Kinds) (funcs a b : List ℕ) (S : Sig) → kinds .funcs ≤ max-functions → ResultsPut funcs a b → GivesRows kinds funcs S → Gives kinds (scope-results b) S
 results-known kinds funcs a b S few put gives = record { are = λ f h. put .are f (omega arith) ∙ gives f h; small = λ f h. put .small f (omega arith) }
 
-module _ (kinds : Kinds) (funcs rows : List ℕ) (p n : ℕ) (a b c : List ℕ) (few : n ≤ max-scope) (results : ResultsPut funcs a b) (sorts : SortsPut rows p n b c) where
+module _ (kinds : Kinds) (funcs row : List ℕ) (n : ℕ) (a b c : List ℕ) (few : n ≤ max-scope) (results : ResultsPut funcs a b) (sorts : SortsPut row n b c) where
   pub filled-names : (s : List ℕ) → scope-at s c n ≡ scope-at s a n
   filled-names s = same-names s c a n few (sorts .names ∙ results .names)
 
-  pub filled-sorts : (Ds : List ℕ) → n ≡ length Ds → SortsAt Ds rows p → p + 1 + n ≤ length rows → scope-sorts c n ≡ Ds
-  filled-sorts Ds many row room =
-      let l = length-take-le n (drop (p + 1) rows) (omega (arith, length-drop (p + 1) rows)) in
-      sorts .sorts ∙ ext-getD 0 (take n (drop (p + 1) rows)) Ds (l ∙ many)
-      (λ i h. getD-take n (drop (p + 1) rows) i 0 (omega arith) ∙ getD-drop (p + 1) rows i 0 ∙ row .each i (omega arith))
+  pub filled-sorts : (Ds : List ℕ) → n ≡ length Ds → SortsAt Ds row 0 → 1 + n ≤ length row → scope-sorts c n ≡ Ds
+  filled-sorts Ds many held room =
+      let l = length-take-le n (drop 1 row) (omega (arith, length-drop 1 row)) in
+      sorts .sorts ∙ ext-getD 0 (take n (drop 1 row)) Ds (l ∙ many)
+      (λ i h. getD-take n (drop 1 row) i 0 (omega arith) ∙ getD-drop 1 row i 0 ∙ held .each i (omega arith))
 
   pub filled-known : (S : Sig) → kinds .funcs ≤ max-functions → GivesRows kinds funcs S → KnownSorts kinds c n S
   filled-known S funcs-few gives = record {

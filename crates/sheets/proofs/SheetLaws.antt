@@ -24,8 +24,8 @@ use Rattle.nodes.specs.Layout.{enc}
 use Rattle.nodes.specs.Scoped.{Scoped}
 use Rattle.nodes.specs.Held.{ProcAt, HeldProcs, Held}
 use Rattle.names.specs.NameCells.{name-at, declared-at, names-at, scope-at}
-use Rattle.names.specs.NameKeys.{Keyed}
 use Rattle.names.specs.NameKinds.{total-of, sorts-in, funcs-in, acts-in, procs-in}
+use Rattle.names.specs.NameList.{names-in, kinds-in}
 use Rattle.names.specs.declared.Kinds.{Kinds}
 use Rattle.names.specs.Standing.{At, symbols}
 use Rattle.names.specs.Rows.{Answers, sorts-at}
@@ -202,12 +202,6 @@ declared-many s raw sorts funcs acts procs names n h e =
     let size : length (map (name-at s) (take n names)) ≡ length A + (length B + (length C + length D)) = ap length e ∙ simp length-append in
     omega (arith, names-many-at s raw sorts, names-many-at s raw funcs, names-many-at s raw acts, names-many-at s raw procs, length-map (take n names) (name-at s), length-take n names)
 
--- their keys are those of all kinds
-pub names-keyed : (s raw sorts funcs acts procs names keys : List ℕ) (n : ℕ) → n ≤ length names
-    → scope-at s names n ≡ names-at s raw sorts (length sorts) ++ (names-at s raw funcs (length funcs) ++ (names-at s raw acts (length acts) ++ names-at s raw procs (length procs)))
-    → Keyed s names keys n → Keyed s names keys (total-of (kinds-of sorts funcs acts procs))
-names-keyed s raw sorts funcs acts procs names keys n h e k = subst (λ (m : ℕ). Keyed s names keys m) (declared-many s raw sorts funcs acts procs names n h e) k
-
 pub kinds-few : (raw sorts funcs acts procs : List ℕ) → FewLines raw sorts funcs acts procs → FewKinds (kinds-of sorts funcs acts procs)
 kinds-few raw sorts funcs acts procs few = record { sorts-few = omega (arith, few .sorts-few); funcs-few = few .funcs-few; acts-few = few .acts-few; procs-few = few .procs-few }
 
@@ -215,28 +209,28 @@ kinds-few raw sorts funcs acts procs few = record { sorts-few = omega (arith, fe
 abbrev Holds : List ℕ → SheetRows → (values cells : List ℕ) → Sheet → Type 0
 Holds s rows values cells H = Held H (arrays rows values cells) (rows .outline) × Named s rows H
 
--- THE WHOLE SHEET
-pub lines-resolve : (s raw sorts funcs acts procs : List ℕ) (at : ℕ) (values o o′ names : List ℕ) (n : ℕ) (fresh : Bool) (a : SigRows) (b : ProcRows) (c : RightSide) (ok : Bool)
+-- the whole sheet; listed are the names in the array of declared names
+sheet-resolves : (s raw sorts funcs acts procs : List ℕ) (at : ℕ) (values o o′ names listed : List ℕ) (n : ℕ) (fresh : Bool) (a : SigRows) (b : ProcRows) (c : RightSide) (ok : Bool)
     → FewLines raw sorts funcs acts procs → length o′ ≡ length o → n ≡ total-of (kinds-of sorts funcs acts procs)
     → scope-at s names n ≡ names-at s raw sorts (length sorts) ++ (names-at s raw funcs (length funcs) ++ (names-at s raw acts (length acts) ++ names-at s raw procs (length procs)))
-    → fresh ≡ distinct (bytes "Bool" ∷ scope-at s names n) → SignatureRead s raw sorts funcs acts values a → ProcessesRead s raw sorts procs names (kinds-of sorts funcs acts procs) (a .funcs) b o
-    → (empty scope : List ℕ) → ResultsPut (a .funcs) empty scope → ResolvesInit s raw names (kinds-of sorts funcs acts procs) scope at (b .w) o c o′ → ok ≡ and fresh (and (a .ok) (and (b .ok) (c .ok)))
+    → take n listed ≡ take n names → fresh ≡ distinct (bytes "Bool" ∷ scope-at s listed n) → SignatureRead s raw sorts funcs acts values a → ProcessesRead s raw procs listed (kinds-of sorts funcs acts procs) (a .funcs) b o
+    → (empty scope : List ℕ) → ResultsPut (a .funcs) empty scope → ResolvesInit s raw listed (kinds-of sorts funcs acts procs) scope at (b .w) o c o′ → ok ≡ and fresh (and (a .ok) (and (b .ok) (c .ok)))
     → LinesResolve s raw sorts funcs acts procs at values o′ (record { ok = ok; rows = rows-of sorts funcs acts procs names a b })
-unfolding resolve resolve-terms symbols Counted arrays
-lines-resolve s raw sorts funcs acts procs at values o o′ names n fresh a b c ok few same total scoped new sig procs-read empty scope results init-read e R stand init-at m counted bounded values-room cells-room =
+unfolding resolve resolve-terms symbols Counted arrays scope-at
+sheet-resolves s raw sorts funcs acts procs at values o o′ names listed n fresh a b c ok few same total scoped alike new sig procs-read empty scope results init-read e R stand init-at m counted bounded values-room cells-room =
     let rows : SheetRows = rows-of sorts funcs acts procs names a b in
-    let D = lines-declare s raw sorts funcs acts procs R stand names n total scoped in
+    let D = lines-declare s raw sorts funcs acts procs R stand listed n total (ap (map (name-at s)) alike ∙ scoped) in
     let known : declared (names-of R) ≡ bytes "Bool" ∷ scope-at s names n = declared-are s raw R sorts funcs acts procs (stand .sorts-at) (stand .funcs-at) (stand .acts-at) (stand .procs-at) names n scoped in
     let both = bounded .processes-few in
     let f = sig R m (stand .sorts-at) (stand .funcs-at) (stand .acts-at) counted bounded values-room in
     subst⁻¹ (λ (t : Bool). Answers (Holds s rows values o′) (resolve R) t) e
-    (answers-test (Holds s rows values o′) (distinct (declared (names-of R))) _ fresh _ (new ∙ ap distinct (sym known))
+    (answers-test (Holds s rows values o′) (distinct (declared (names-of R))) _ fresh _ (new ∙ ap distinct (ap (λ (l : List ℕ). bytes "Bool" ∷ map (name-at s) l) alike ∙ sym known))
     (subst (λ (q : Option Sheet). Answers (Holds s rows values o′) q (and (a .ok) (and (b .ok) (c .ok)))) (signature-then R _)
     (answers-then (Holds s rows values o′) (HoldsSignature sorts funcs acts values a) (resolve-signature R)
     (λ S. _>>=_ (for-each (resolve-proc (names-of R) S) (R .procs)) (λ ps. _>>=_ (resolve-init (names-of R) S (R .start)) (λ x. some (record { sig = S; procs = ps; start = x })))) (a .ok) _ f
     (λ S se held.
     let gi : GivesRows (kinds-of sorts funcs acts procs) (a .funcs) S = λ i h. held (rows .outline) refl refl refl .func-at i h .gives in
-    let g = procs-read (names-of R) S (R .procs) D gi (sort-names s raw sorts funcs acts procs R stand) (stand .procs-at) (counted .1 .1 .1 .1 .1) (bounded .sums-shallow) (omega arith) in
+    let g = procs-read (names-of R) S (R .procs) D gi (stand .procs-at) (counted .1 .1 .1 .1 .1) (bounded .sums-shallow) (omega arith) in
     let h = init-answers (symbols s raw) (init-at .0) (b .w) o (resolve-init (names-of R) S (R .start)) c o′
     (init-read (names-of R) S (R .start) (init-at .0) (results-known (kinds-of sorts funcs acts procs) (a .funcs) empty scope S (few .funcs-few) results gi) (D .funcs-are) (D .procs-are) (init-at .1)) in
     answers-then (Holds s rows values o′) (ProcessesHeld (length (names-of R .procs)) b o (3 * length (print-lines "proc" print-proc (R .procs)))) (for-each (resolve-proc (names-of R) S) (R .procs)) _ (b .ok) (c .ok) g
@@ -248,3 +242,18 @@ lines-resolve s raw sorts funcs acts procs at values o o′ names n fresh a b c 
       },
       actions-named s raw sorts funcs acts procs R stand names n scoped S se,
     )))))))
+
+-- THE WHOLE SHEET, by the array of declared names
+pub lines-resolve : (s raw sorts funcs acts procs : List ℕ) (at : ℕ) (values o o′ names l : List ℕ) (n : ℕ) (fresh : Bool) (a : SigRows) (b : ProcRows) (c : RightSide) (ok : Bool)
+    → FewLines raw sorts funcs acts procs → length o′ ≡ length o → n ≡ total-of (kinds-of sorts funcs acts procs)
+    → scope-at s names n ≡ names-at s raw sorts (length sorts) ++ (names-at s raw funcs (length funcs) ++ (names-at s raw acts (length acts) ++ names-at s raw procs (length procs)))
+    → kinds-in l ≡ kinds-of sorts funcs acts procs → take (total-of (kinds-of sorts funcs acts procs)) (names-in l) ≡ take (total-of (kinds-of sorts funcs acts procs)) names
+    → fresh ≡ distinct (bytes "Bool" ∷ scope-at s (names-in l) (total-of (kinds-in l))) → SignatureRead s raw sorts funcs acts values a → ProcessesRead s raw procs (names-in l) (kinds-in l) (a .funcs) b o
+    → (empty scope : List ℕ) → ResultsPut (a .funcs) empty scope → ResolvesInit s raw (names-in l) (kinds-in l) scope at (b .w) o c o′ → ok ≡ and fresh (and (a .ok) (and (b .ok) (c .ok)))
+    → LinesResolve s raw sorts funcs acts procs at values o′ (record { ok = ok; rows = rows-of sorts funcs acts procs names a b })
+lines-resolve s raw sorts funcs acts procs at values o o′ names l n fresh a b c ok few same total scoped kinds alike new sig procs-read empty scope results init-read e =
+    let alike′ = subst⁻¹ (λ (m : ℕ). take m (names-in l) ≡ take m names) total alike in
+    let new′ = subst⁻¹ (λ (m : ℕ). fresh ≡ distinct (bytes "Bool" ∷ scope-at s (names-in l) m)) total (subst (λ (k : Kinds). fresh ≡ distinct (bytes "Bool" ∷ scope-at s (names-in l) (total-of k))) kinds new) in
+    sheet-resolves s raw sorts funcs acts procs at values o o′ names (names-in l) n fresh a b c ok few same total scoped alike′ new′ sig
+    (subst (λ (k : Kinds). ProcessesRead s raw procs (names-in l) k (a .funcs) b o) kinds procs-read) empty scope results
+    (subst (λ (k : Kinds). ResolvesInit s raw (names-in l) k scope at (b .w) o c o′) kinds init-read) e

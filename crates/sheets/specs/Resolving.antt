@@ -20,11 +20,10 @@ use Rattle.nodes.specs.Layout.{cell-limit, enc}
 use Rattle.nodes.specs.Scoped.{Scoped}
 use Rattle.nodes.specs.Held.{SortsAt, ProcAt, HeldSig, Arrays, Held}
 use Rattle.names.specs.NameCells.{name-at}
-use Rattle.names.specs.NameKeys.{Keyed}
-use Rattle.names.specs.NameKinds.{total-of}
+use Rattle.names.specs.NameList.{kinds-in, KeyedNames}
 use Rattle.names.specs.declared.Kinds.{Kinds}
 use Rattle.names.specs.Standing.{symbols, At, LinesAt, Standing}
-use Rattle.names.specs.Rows.{Answers, InRows, sorts-at}
+use Rattle.names.specs.Rows.{Answers, InRows}
 use Rattle.resolver.specs.Raw.{sum-depth}
 use Rattle.resolver.specs.Writing.{Writes}
 use Rattle.resolver.specs.Resolving.{Declared, FewKinds}
@@ -44,12 +43,11 @@ pub record FewLines (raw sorts funcs acts procs : List ℕ) : Type 0 where
   pub acts-few : length acts ≤ max-actions
   pub procs-few : length procs ≤ max-processes
 
--- the same of declared names that are given in one list, with their keys
-pub record FewNames (s raw sorts names keys : List ℕ) (kinds : Kinds) : Type 0 where
+-- the same of declared names that stand in one array
+pub record FewNames (s raw l : List ℕ) : Type 0 where
   pub raw-few : length raw < cell-limit
-  pub sorts-few : length sorts < max-sorts
-  pub kinds-few : FewKinds kinds
-  pub keyed : Keyed s names keys (total-of kinds)
+  pub kinds-few : FewKinds (kinds-in l)
+  pub keyed : KeyedNames s l
 
 -- the lines of each kind stand at their places
 pub record LinesStand (s raw sorts funcs acts procs : List ℕ) (R : RawSheet) : Type 0 where
@@ -77,29 +75,29 @@ SignatureRead s raw sorts funcs acts values r =
     → Counted R → Bounded R n → n ≤ length values → Answers (HoldsSignature sorts funcs acts values r) (resolve-signature R) (r .ok)
 
 -- ---- processes
--- a process of a sheet with m of them: its row at p, and the cells of its right side behind w, at most so many
-pub record ProcessRow (m : ℕ) (q : Process) (rows : List ℕ) (p : ℕ) (w : ℕ) (o : List ℕ) (w′ : ℕ) (o′ : List ℕ) (most : ℕ) : Type 0 where
+-- a process of a sheet with m of them: its row, and the cells of its right side behind w, at most so many
+pub record ProcessRow (m : ℕ) (q : Process) (row : List ℕ) (w : ℕ) (o : List ℕ) (w′ : ℕ) (o′ : List ℕ) (most : ℕ) : Type 0 where
   pub few : length (q .params) ≤ frame-width
-  pub params : SortsAt (q .params) rows p
+  pub params : SortsAt (q .params) row 0
   pub scoped : Scoped m (length (q .params)) (q .right)
   pub right : Writes (enc false (q .right)) w o w′ o′
   pub size : length (enc false (q .right)) ≤ most
 
 -- for every process line that stands at `at`
-abbrev pub ProcessRead : (s raw sorts names : List ℕ) (kinds : Kinds) (funcs : List ℕ) (at : ℕ) (rows : List ℕ) (p w : ℕ) (o : List ℕ) → RightSide → List ℕ → Type 0
-ProcessRead s raw sorts names kinds funcs at rows p w o r o′ =
-    (N : Names) (S : Sig) (l : ProcLine) (rest : List Symbol) → Declared s names kinds N → GivesRows kinds funcs S → N .sorts ≡ sorts-at s raw sorts
+abbrev pub ProcessRead : (s raw names : List ℕ) (kinds : Kinds) (funcs : List ℕ) (at : ℕ) (row : List ℕ) (w : ℕ) (o : List ℕ) → RightSide → List ℕ → Type 0
+ProcessRead s raw names kinds funcs at row w o r o′ =
+    (N : Names) (S : Sig) (l : ProcLine) (rest : List Symbol) → Declared s names kinds N → GivesRows kinds funcs S
     → drop at (symbols s raw) ≡ enc-proc l ++ rest → length (l .params) ≤ frame-width → sum-depth (l .right) ≤ max-open
-    → Answers (λ q. ProcessRow (length (N .procs)) q rows p w o (r .w) o′ (3 * length (line "proc" (print-proc l)))) (resolve-proc N S l) (r .ok)
+    → Answers (λ q. ProcessRow (length (N .procs)) q row w o (r .w) o′ (3 * length (line "proc" (print-proc l)))) (resolve-proc N S l) (r .ok)
 
 -- all of them: each has its row, and its right side stands among the first w cells
 pub record ProcessesHeld (m : ℕ) (r : ProcRows) (cells : List ℕ) (most : ℕ) (ps : List Process) : Type 0 where
   pub each : InRows no-process (λ q k. ProcAt m q (r .procs) (take (r .w) cells) (r .starts) k) ps
   pub size : r .w ≤ most
 
-abbrev pub ProcessesRead : (s raw sorts procs names : List ℕ) (kinds : Kinds) (funcs : List ℕ) → ProcRows → List ℕ → Type 0
-ProcessesRead s raw sorts procs names kinds funcs r o′ =
-    (N : Names) (S : Sig) (ls : List ProcLine) → Declared s names kinds N → GivesRows kinds funcs S → N .sorts ≡ sorts-at s raw sorts → LinesAt enc-proc s raw procs ls
+abbrev pub ProcessesRead : (s raw procs names : List ℕ) (kinds : Kinds) (funcs : List ℕ) → ProcRows → List ℕ → Type 0
+ProcessesRead s raw procs names kinds funcs r o′ =
+    (N : Names) (S : Sig) (ls : List ProcLine) → Declared s names kinds N → GivesRows kinds funcs S → LinesAt enc-proc s raw procs ls
     → Every (λ (l : ProcLine). length (l .params) ≤ frame-width) ls → Every (λ (l : ProcLine). sum-depth (l .right) ≤ max-open) ls → 3 * length (print-lines "proc" print-proc ls) ≤ length o′
     → Answers (ProcessesHeld (length (N .procs)) r o′ (3 * length (print-lines "proc" print-proc ls))) (for-each (resolve-proc N S) ls) (r .ok)
 

@@ -11,11 +11,11 @@ use Rattle.nodes.specs.Held.{func-width}
 use Rattle.names.specs.declared.Kinds.{Kinds}
 use Rattle.resolver.specs.Sorting.{first-sort, scope-sorts, scope-results}
 
--- the sorts of the n parameters in the row at p stand in the scope; names and results are kept
-pub record SortsPut (rows : List ℕ) (p n : ℕ) (scope scope′ : List ℕ) : Type 0 where
+-- the sorts of the n parameters in the row stand in the scope; names and results are kept
+pub record SortsPut (row : List ℕ) (n : ℕ) (scope scope′ : List ℕ) : Type 0 where
   pub names : take first-sort scope′ ≡ take first-sort scope
   pub results : scope-results scope′ ≡ scope-results scope
-  pub sorts : scope-sorts scope′ n ≡ take n (drop (p + 1) rows)
+  pub sorts : scope-sorts scope′ n ≡ take n (drop 1 row)
   pub small : Every (λ D. D < byte-limit) (scope-sorts scope′ n)
 
 -- the results of the functions' rows stand in the scope; names are kept

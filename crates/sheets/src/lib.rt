@@ -9,6 +9,7 @@ use limits::MAX_ACTIONS;
 use limits::MAX_FUNCTIONS;
 use limits::MAX_PROCESSES;
 use limits::MAX_SORTS;
+use names::MAX_NAMES;
 use nodes::ACT_ROW;
 use nodes::FUNC_ROW;
 use nodes::Outline;
@@ -22,9 +23,6 @@ const ACT_ROWS: usize = ACT_ROW * MAX_ACTIONS;
 const PROC_ROWS: usize = PROC_ROW * MAX_PROCESSES;
 
 const PLACES: usize = MAX_FUNCTIONS + 1;
-
-// How many names can be declared, and Bool.
-const MAX_NAMES: usize = MAX_SORTS + MAX_FUNCTIONS + MAX_ACTIONS + MAX_PROCESSES;
 
 // The rows of sorts, functions and actions (crate nodes, Held), if every name in them is known.
 pub struct SigRows {

@@ -4,7 +4,6 @@ ghost use Prim.Native.Nat.{_<_};
 ghost use lib.ListN.{length};
 ghost use Rattle.nodes.specs.Layout.{cell-limit};
 ghost use Rattle.sheets.specs.Resolving.{FewLines, LinesResolve, FewFound, FoundResolve};
-use crate::MAX_NAMES;
 use crate::ResolvedRows;
 use crate::SheetRows;
 use crate::processes::processes;
@@ -12,10 +11,12 @@ use crate::scopes::put_results;
 use crate::signature::signature;
 use elements::both;
 use elements::wide_cell;
+use names::DECLARED_CELLS;
 use names::Kinds;
+use names::MAX_NAMES;
 use names::fresh::all_new;
 use names::fresh::declared_names;
-use names::keys::put_keys;
+use names::keys::put_names;
 use nodes::Outline;
 use parser::Lines;
 use resolver::SCOPE_CELLS;
@@ -37,22 +38,22 @@ fn resolve_lines(
     ensures { λ r. ⌜ LinesResolve (now (s .entry)) (now (raw .entry)) (now (sorts .entry)) (now (funcs .entry)) (now (acts .entry)) (now (procs .entry)) at (now (values .exit)) (now (out .exit)) r ⌝ }
 {
     let mut names = [0u16; MAX_NAMES];
-    let n = declared_names(raw, sorts, funcs, acts, procs, &mut names);
-    let mut keys = [0u8; MAX_NAMES];
-    put_keys(s, &names, n, &mut keys);
-    let fresh = all_new(s, &names, &keys, n);
+    declared_names(raw, sorts, funcs, acts, procs, &mut names);
     let kinds = Kinds {
         sorts: sorts.len(),
         funcs: funcs.len(),
         acts: acts.len(),
         procs: procs.len(),
     };
+    let mut declared = [0u16; DECLARED_CELLS];
+    put_names(s, &names, kinds, &mut declared);
+    let fresh = all_new(s, &declared);
     let a = signature(s, raw, sorts, funcs, acts, values);
     let func_bytes = a.funcs;
-    let b = processes(s, raw, sorts, procs, &names, &keys, kinds, &func_bytes, out);
+    let b = processes(s, raw, procs, &declared, &func_bytes, out);
     let mut scope = [0u16; SCOPE_CELLS];
     put_results(&func_bytes, &mut scope);
-    let c = init(s, raw, &names, &keys, kinds, &scope, at, out, b.w);
+    let c = init(s, raw, &declared, &scope, at, out, b.w);
     let sizes = a.sizes;
     let places = a.places;
     let act_bytes = a.acts;

@@ -26,14 +26,14 @@ pub fn put_results(funcs: &[u8], scope: &mut [u16])
     }
 }
 
-// The sorts of n parameters, from the row at p.
-pub fn put_sorts(rows: &[u8], p: usize, n: usize, scope: &mut [u16])
-    requires { ⌜ (p + n < length (now rows)) × (n ≤ max-scope) × (length (now scope) ≡ scope-cells) ⌝ }
-    ensures { λ r. ⌜ SortsPut (now (rows .entry)) p n (now (scope .entry)) (now (scope .exit)) ⌝ }
+// The sorts of n parameters, from their row.
+pub fn put_sorts(row: &[u8], n: usize, scope: &mut [u16])
+    requires { ⌜ (n < length (now row)) × (n ≤ max-scope) × (length (now scope) ≡ scope-cells) ⌝ }
+    ensures { λ r. ⌜ SortsPut (now (row .entry)) n (now (scope .entry)) (now (scope .exit)) ⌝ }
 {
     let mut i: usize = 0;
     while i < n {
-        scope[FIRST_SORT + i] = cell_of(rows[p + 1 + i]);
+        scope[FIRST_SORT + i] = cell_of(row[1 + i]);
         i += 1;
     }
 }

@@ -1,20 +1,29 @@
 -- Those of one kind stand together.
-use borrow.Author.Needs.{needs}
 use native.Mathlib.Omega.{arith}
 use Rattle.names.specs.NameKinds.{total-of, acts-in}
+use Rattle.names.specs.NameList.{names-in, keys-in, kinds-in}
 use Rattle.names.proofs.KeyLaws.{keyed-fewer}
 use Rattle.names.proofs.keys.act_in.Statement.{statement}
 use Rattle.names.proofs.keys.act_in.Tie as tie
 
-add-number-in : tie.Need-add-number-in
-add-number-in c = search needs
+cell-requires : tie.Need-cell-requires
+cell-requires c κs = tt
+
+cell-requires-2 : tie.Need-cell-requires-2
+cell-requires-2 c κs = tt
+
+cell-requires-3 : tie.Need-cell-requires-3
+cell-requires-3 c κs = tt
+
+add-lo : tie.Need-add-lo
+add-lo c = omega arith
 
 number-in-requires : tie.Need-number-in-requires
-number-in-requires c κs = keyed-fewer (c .before .before .before .before .args .s .now) (c .before .before .before .before .args .names .now) (c .before .before .before .before .args .keys .now) _ (total-of (c .before .before .before .before .args .kinds)) (omega arith) (c .before .before .before .before .pre)
+number-in-requires c κs = keyed-fewer (c .before .before .before .before .before .args .s .now) (names-in (c .before .before .before .before .before .args .declared .now)) (keys-in (c .before .before .before .before .before .args .declared .now)) _ (total-of (kinds-in (c .before .before .before .before .before .args .declared .now))) (omega arith) (c .before .before .before .before .before .pre)
 
 returns : tie.Need-returns
 unfolding acts-in
-returns c = c .number-in .ensures
+returns c = rw (← c .before .before .before .cell .ensures .0, ← c .before .before .cell2 .ensures .0, ← c .before .cell3 .ensures .0) (c .number-in .ensures)
 
 pub act-in-spec : {M : Type 1} → statement M
-act-in-spec = tie.close (tie.spec add-number-in number-in-requires returns)
+act-in-spec = tie.close (tie.spec cell-requires cell-requires-2 add-lo cell-requires-3 number-in-requires returns)

@@ -1,16 +1,23 @@
 -- Those of one kind stand together.
 use native.Mathlib.Omega.{arith}
 use Rattle.names.specs.NameKinds.{total-of, funcs-in}
+use Rattle.names.specs.NameList.{names-in, keys-in, kinds-in}
 use Rattle.names.proofs.KeyLaws.{keyed-fewer}
 use Rattle.names.proofs.keys.func_in.Statement.{statement}
 use Rattle.names.proofs.keys.func_in.Tie as tie
 
+cell-requires : tie.Need-cell-requires
+cell-requires c κs = tt
+
+cell-requires-2 : tie.Need-cell-requires-2
+cell-requires-2 c κs = tt
+
 number-in-requires : tie.Need-number-in-requires
-number-in-requires c κs = keyed-fewer (c .before .before .before .args .s .now) (c .before .before .before .args .names .now) (c .before .before .before .args .keys .now) _ (total-of (c .before .before .before .args .kinds)) (omega arith) (c .before .before .before .pre)
+number-in-requires c κs = keyed-fewer (c .before .before .before .before .args .s .now) (names-in (c .before .before .before .before .args .declared .now)) (keys-in (c .before .before .before .before .args .declared .now)) _ (total-of (kinds-in (c .before .before .before .before .args .declared .now))) (omega arith) (c .before .before .before .before .pre)
 
 returns : tie.Need-returns
 unfolding funcs-in
-returns c = c .number-in .ensures
+returns c = rw (← c .before .before .cell .ensures .0, ← c .before .cell2 .ensures .0) (c .number-in .ensures)
 
 pub func-in-spec : {M : Type 1} → statement M
-func-in-spec = tie.close (tie.spec number-in-requires returns)
+func-in-spec = tie.close (tie.spec cell-requires cell-requires-2 number-in-requires returns)

@@ -1,6 +1,7 @@
 -- A condition is found by passing over the first part.
 use mathlib.Core.Path.{sym, _∙_}
 use native.Mathlib.Omega.{arith}
+use Rattle.names.specs.NameList.{names-in, kinds-in}
 use Rattle.resolver.proofs.ForkLaws.{fork-then, fork-plus, fork-cond}
 use Rattle.resolver.proofs.process.fork.Statement.{statement}
 use Rattle.resolver.proofs.process.fork.Tie as tie
@@ -15,7 +16,7 @@ same-length : tie.Need-same-length
 same-length c = c .before .before .node .kept .0
 
 returns : tie.Need-returns
-returns c = fork-then (c .before .before .before .before .before .before .before .before .before .before .before .before .args .s .now) (c .before .before .before .before .before .before .before .before .before .before .before .before .args .raw .now) (c .before .before .before .before .before .before .before .before .before .before .before .before .args .names .now) (c .before .before .before .before .before .before .before .before .before .before .before .before .args .kinds) (c .before .before .before .before .before .before .before .before .before .before .before .before .args .scope .now) (c .before .before .before .before .before .before .before .before .before .before .before .before .args .n) (c .before .before .before .before .before .before .before .before .before .before .before .before .args .at) (c .before .before .before .before .before .before .before .before .before .before .before .before .args .after) (c .before .before .before .before .before .before .before .before .before .before .before .before .args .w) (c .before .before .before .before .before .before .before .before .before .before .before .before .args .out .now) (c .before .before .node .result) (c .before .before .node .last .0) (sym (c .before .before .before .before .before .peek-cell .ensures) ∙ c .before .before .before .before .if1 .taken) (c .before .before .node .ensures)
+returns c = fork-then (c .before .before .before .before .before .before .before .before .before .before .before .args .s .now) (c .before .before .before .before .before .before .before .before .before .before .before .args .raw .now) (names-in (c .before .before .before .before .before .before .before .before .before .before .before .args .declared .now)) (kinds-in (c .before .before .before .before .before .before .before .before .before .before .before .args .declared .now)) (c .before .before .before .before .before .before .before .before .before .before .before .args .scope .now) (c .before .before .before .before .before .before .before .before .before .before .before .args .n) (c .before .before .before .before .before .before .before .before .before .before .before .args .at) (c .before .before .before .before .before .before .before .before .before .before .before .args .after) (c .before .before .before .before .before .before .before .before .before .before .before .args .w) (c .before .before .before .before .before .before .before .before .before .before .before .args .out .now) (c .before .before .node .result) (c .before .before .node .last .0) (sym (c .before .before .before .before .before .peek-cell .ensures) ∙ c .before .before .before .before .if1 .taken) (c .before .before .node .ensures)
 
 marked-requires : tie.Need-marked-requires
 marked-requires c κs = omega arith
@@ -27,7 +28,7 @@ same-length-2 : tie.Need-same-length-2
 same-length-2 c = c .before .before .node2 .kept .0
 
 returns-2 : tie.Need-returns-2
-returns-2 c = fork-plus (c .before .before .before .before .before .before .before .before .before .before .before .before .before .before .args .s .now) (c .before .before .before .before .before .before .before .before .before .before .before .before .before .before .args .raw .now) (c .before .before .before .before .before .before .before .before .before .before .before .before .before .before .args .names .now) (c .before .before .before .before .before .before .before .before .before .before .before .before .before .before .args .kinds) (c .before .before .before .before .before .before .before .before .before .before .before .before .before .before .args .scope .now) (c .before .before .before .before .before .before .before .before .before .before .before .before .before .before .args .n) (c .before .before .before .before .before .before .before .before .before .before .before .before .before .before .args .at) (c .before .before .before .before .before .before .before .before .before .before .before .before .before .before .args .after) (c .before .before .before .before .before .before .before .before .before .before .before .before .before .before .args .w) (c .before .before .before .before .before .before .before .before .before .before .before .before .before .before .args .out .now) (c .before .before .node2 .result) (c .before .before .node2 .last .0) (sym (c .before .before .before .before .before .before .before .peek-cell .ensures) ∙ c .before .before .before .before .before .if2 .taken) (c .before .before .before .marked .result) (c .before .before .before .marked .ensures) (c .before .before .node2 .ensures)
+returns-2 c = fork-plus (c .before .before .before .before .before .before .before .before .before .before .before .before .before .args .s .now) (c .before .before .before .before .before .before .before .before .before .before .before .before .before .args .raw .now) (names-in (c .before .before .before .before .before .before .before .before .before .before .before .before .before .args .declared .now)) (kinds-in (c .before .before .before .before .before .before .before .before .before .before .before .before .before .args .declared .now)) (c .before .before .before .before .before .before .before .before .before .before .before .before .before .args .scope .now) (c .before .before .before .before .before .before .before .before .before .before .before .before .before .args .n) (c .before .before .before .before .before .before .before .before .before .before .before .before .before .args .at) (c .before .before .before .before .before .before .before .before .before .before .before .before .before .args .after) (c .before .before .before .before .before .before .before .before .before .before .before .before .before .args .w) (c .before .before .before .before .before .before .before .before .before .before .before .before .before .args .out .now) (c .before .before .node2 .result) (c .before .before .node2 .last .0) (sym (c .before .before .before .before .before .before .before .peek-cell .ensures) ∙ c .before .before .before .before .before .if2 .taken) (c .before .before .before .marked .result) (c .before .before .before .marked .ensures) (c .before .before .node2 .ensures)
 
 marked-requires-2 : tie.Need-marked-requires-2
 marked-requires-2 c κs = omega arith
@@ -36,19 +37,19 @@ node-requires-3 : tie.Need-node-requires-3
 node-requires-3 c κs = tt
 
 add-skip : tie.Need-add-skip
-add-skip c = let q = c .before .before .before .before .before .before .before .before .before .before .before .before .before .before .pre in omega arith
+add-skip c = let q = c .before .before .before .before .before .before .before .before .before .before .before .before .before .pre in omega arith
 
 skip-requires : tie.Need-skip-requires
-skip-requires c κs = let q = c .before .before .before .before .before .before .before .before .before .before .before .before .before .before .pre .0 in omega arith
+skip-requires c κs = let q = c .before .before .before .before .before .before .before .before .before .before .before .before .before .pre .0 in omega arith
 
 data-term-requires : tie.Need-data-term-requires
-data-term-requires c κs = let q = c .before .before .before .before .before .before .before .before .before .before .before .before .before .before .before .before .pre .0 in (omega arith, c .before .before .before .before .before .before .before .before .before .before .before .before .before .before .before .before .pre .2)
+data-term-requires c κs = let q = c .before .before .before .before .before .before .before .before .before .before .before .before .before .before .before .pre .0 in (omega arith, c .before .before .before .before .before .before .before .before .before .before .before .before .before .before .before .pre .2)
 
 same-length-3 : tie.Need-same-length-3
-same-length-3 c = c .before .before .data-term .kept .1 .1 .1 .1 .1 .1 .1 .1 .0 ∙ c .before .before .before .before .before .before .before .node3 .kept .0
+same-length-3 c = c .before .before .data-term .kept .1 .1 .1 .1 .1 .1 .0 ∙ c .before .before .before .before .before .before .before .node3 .kept .0
 
 returns-3 : tie.Need-returns-3
-returns-3 c = fork-cond (c .before .before .before .before .before .before .before .before .before .before .before .before .before .before .before .before .before .before .before .args .s .now) (c .before .before .before .before .before .before .before .before .before .before .before .before .before .before .before .before .before .before .before .args .raw .now) (c .before .before .before .before .before .before .before .before .before .before .before .before .before .before .before .before .before .before .before .args .names .now) (c .before .before .before .before .before .before .before .before .before .before .before .before .before .before .before .before .before .before .before .args .kinds) (c .before .before .before .before .before .before .before .before .before .before .before .before .before .before .before .before .before .before .before .args .scope .now) (c .before .before .before .before .before .before .before .before .before .before .before .before .before .before .before .before .before .before .before .args .n) (c .before .before .before .before .before .before .before .before .before .before .before .before .before .before .before .before .before .before .before .args .at) (c .before .before .before .before .before .before .before .before .before .before .before .before .before .before .before .before .before .before .before .args .after) (c .before .before .before .before .before .before .before .before .before .before .before .before .before .before .before .before .before .before .before .args .w) (c .before .before .before .before .before .before .before .before .before .before .before .before .before .before .before .before .before .before .before .args .out .now) (λ e. c .before .before .before .before .before .before .before .before .before .before .before .if1 .left (c .before .before .before .before .before .before .before .before .before .before .before .before .peek-cell .ensures ∙ e)) (λ e. c .before .before .before .before .before .before .before .before .before .before .if2 .left (c .before .before .before .before .before .before .before .before .before .before .before .before .peek-cell .ensures ∙ e)) (c .before .before .before .before .skip .result) (c .before .before .before .before .skip .ensures .1) (c .before .before .before .before .before .before .before .before .marked2 .result) (c .before .before .before .before .before .before .before .node3 .result) (c .before .before .before .before .before .before .before .node3 .last .0) (c .before .before .before .before .before .before .before .before .marked2 .ensures) (c .before .before .before .before .before .before .before .node3 .ensures) (c .before .before .data-term .result) (c .before .before .data-term .last .1 .1 .1 .1 .1 .1 .1 .1 .0) (c .before .before .data-term .ensures .1)
+returns-3 c = fork-cond (c .before .before .before .before .before .before .before .before .before .before .before .before .before .before .before .before .before .before .args .s .now) (c .before .before .before .before .before .before .before .before .before .before .before .before .before .before .before .before .before .before .args .raw .now) (names-in (c .before .before .before .before .before .before .before .before .before .before .before .before .before .before .before .before .before .before .args .declared .now)) (kinds-in (c .before .before .before .before .before .before .before .before .before .before .before .before .before .before .before .before .before .before .args .declared .now)) (c .before .before .before .before .before .before .before .before .before .before .before .before .before .before .before .before .before .before .args .scope .now) (c .before .before .before .before .before .before .before .before .before .before .before .before .before .before .before .before .before .before .args .n) (c .before .before .before .before .before .before .before .before .before .before .before .before .before .before .before .before .before .before .args .at) (c .before .before .before .before .before .before .before .before .before .before .before .before .before .before .before .before .before .before .args .after) (c .before .before .before .before .before .before .before .before .before .before .before .before .before .before .before .before .before .before .args .w) (c .before .before .before .before .before .before .before .before .before .before .before .before .before .before .before .before .before .before .args .out .now) (λ e. c .before .before .before .before .before .before .before .before .before .before .before .if1 .left (c .before .before .before .before .before .before .before .before .before .before .before .before .peek-cell .ensures ∙ e)) (λ e. c .before .before .before .before .before .before .before .before .before .before .if2 .left (c .before .before .before .before .before .before .before .before .before .before .before .before .peek-cell .ensures ∙ e)) (c .before .before .before .before .skip .result) (c .before .before .before .before .skip .ensures .1) (c .before .before .before .before .before .before .before .before .marked2 .result) (c .before .before .before .before .before .before .before .node3 .result) (c .before .before .before .before .before .before .before .node3 .last .0) (c .before .before .before .before .before .before .before .before .marked2 .ensures) (c .before .before .before .before .before .before .before .node3 .ensures) (c .before .before .data-term .result) (c .before .before .data-term .last .1 .1 .1 .1 .1 .1 .0) (c .before .before .data-term .ensures .1)
 
 pub fork-spec : {M : Type 1} → statement M
 fork-spec =

@@ -9,19 +9,16 @@ use Rattle.sheets.proofs.scopes.put_sorts.Statement.{statement}
 use Rattle.sheets.proofs.scopes.put_sorts.Tie as tie
 
 abbrev Inv-loop : tie.InvT-loop
-Inv-loop rows p n scope₀ i₀ scope i = ((i ≤ n) × (length scope ≡ length scope₀)) × SortsSoFar rows p scope₀ i scope
+Inv-loop row n scope₀ i₀ scope i = ((i ≤ n) × (length scope ≡ length scope₀)) × SortsSoFar row scope₀ i scope
 
 abbrev μ-loop : tie.MeasureT-loop
-μ-loop rows p n scope₀ i₀ scope i = n - i
+μ-loop row n scope₀ i₀ scope i = n - i
 
 loop-holds : tie.Need-loop-holds Inv-loop μ-loop
-loop-holds c = ((omega arith, refl), sorts-start (c .before .before .args .rows .now) (c .before .before .args .p) (c .before .before .args .scope .now))
+loop-holds c = ((omega arith, refl), sorts-start (c .before .before .args .row .now) (c .before .before .args .scope .now))
 
 add-cell-of : tie.Need-add-cell-of Inv-loop μ-loop
 add-cell-of c = search needs
-
-add-cell-of-2 : tie.Need-add-cell-of-2 Inv-loop μ-loop
-add-cell-of-2 c = search needs
 
 shared-slice-read-cell-of : tie.Need-shared-slice-read-cell-of Inv-loop μ-loop
 shared-slice-read-cell-of c = search needs
@@ -48,7 +45,7 @@ loop-again : tie.Need-loop-again Inv-loop μ-loop
 loop-again c =
     let here = c .before .before .before .loop in
     let q = c .before .before .before .before .before .before .pre in
-    ((omega arith, length-set (here .scope) _ _ ∙ here .inv .0 .1), sorts-more (c .before .before .before .before .before .before .args .rows .now) (c .before .before .before .before .before .before .args .p) (c .before .before .before .before .before .before .args .scope .now) (here .i) (c .cell-of .result) (here .scope) (here .inv .1) (omega arith) (here .inv .0 .1 ∙ q .2) (omega arith) (c .cell-of .ensures))
+    ((omega arith, length-set (here .scope) _ _ ∙ here .inv .0 .1), sorts-more (c .before .before .before .before .before .before .args .row .now) (c .before .before .before .before .before .before .args .scope .now) (here .i) (c .cell-of .result) (here .scope) (here .inv .1) (omega arith) (here .inv .0 .1 ∙ q .2) (omega arith) (c .cell-of .ensures))
 
 same-length : tie.Need-same-length Inv-loop μ-loop
 same-length c = c .before .loop .inv .0 .1
@@ -57,7 +54,7 @@ returns : tie.Need-returns Inv-loop μ-loop
 returns c =
     let here = c .before .loop in
     let e : here .i ≡ c .before .before .before .before .args .n = omega arith in
-    sorts-done (c .before .before .before .before .args .rows .now) (c .before .before .before .before .args .p) (c .before .before .before .before .args .scope .now) (c .before .before .before .before .args .n) (here .scope) (subst (λ (k : ℕ). SortsSoFar (c .before .before .before .before .args .rows .now) (c .before .before .before .before .args .p) (c .before .before .before .before .args .scope .now) k (here .scope)) e (here .inv .1)) (λ i h. let b = c .before .before .before .shared-slice-known .given i in omega (arith, b))
+    sorts-done (c .before .before .before .before .args .row .now) (c .before .before .before .before .args .scope .now) (c .before .before .before .before .args .n) (here .scope) (subst (λ (k : ℕ). SortsSoFar (c .before .before .before .before .args .row .now) (c .before .before .before .before .args .scope .now) k (here .scope)) e (here .inv .1)) (λ i h. let b = c .before .before .before .shared-slice-known .given i in omega (arith, b))
 
 pub put-sorts-spec : {M : Type 1} → statement M
 put-sorts-spec =
@@ -67,7 +64,6 @@ put-sorts-spec =
     μ-loop
     loop-holds
     add-cell-of
-    add-cell-of-2
     shared-slice-read-cell-of
     cell-of-requires
     add-scope

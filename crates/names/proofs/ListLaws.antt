@@ -1,0 +1,111 @@
+-- The array of declared names: written name by name with their keys, then the numbers of each kind.
+use mathlib.Core.Path.{_≡_, refl, sym, _∙_, ap}
+use mathlib.Core.List.{List, [], _∷_}
+use mathlib.Core.Logic.{⊎-elim}
+use Prim.Native.Nat.{ℕ, zero, suc, _+_, _-_, _≤_, _<_}
+use native.Mathlib.Omega.{arith}
+use native.Mathlib.Nat.{eq-or-lt-of-le}
+use lib.ListN.{length, take, drop, getD, set, length-set, length-take, length-drop}
+use lib.Seq.{getD-set-same, getD-set-other, getD-take, getD-drop, take-take}
+use Rattle.names.specs.declared.Kinds.{Kinds}
+use Rattle.names.specs.NameCells.{name-at, scope-at}
+use Rattle.names.specs.NameKeys.{key-of, Keyed}
+use Rattle.names.specs.NameKinds.{total-of, sorts-in}
+use Rattle.names.specs.NameList.{max-names, list-cells, names-in, keys-in, kinds-in, KeyedNames}
+use Rattle.names.proofs.Lists.{mapped-next}
+use Rattle.names.proofs.KeyLaws.{scope-most}
+
+-- n names with their keys: there are so few, and their keys stand in the array
+pub names-few : (s l : List ℕ) (n : ℕ) → Keyed s (names-in l) (keys-in l) n → (n ≤ max-names) × (n ≤ length l)
+names-few s l n K = let a = length-take max-names l in let b = K .names-few in (omega arith, omega arith)
+
+pub keys-few : (s l : List ℕ) (n : ℕ) → Keyed s (names-in l) (keys-in l) n → n < 1 + (length l - max-names)
+keys-few s l n K = let a = length-drop max-names l in let b = K .keys-few in omega arith
+
+-- the next of n names
+pub next-listed : (s l : List ℕ) (n i : ℕ) → Keyed s (names-in l) (keys-in l) n → i < n → drop i (scope-at s (names-in l) n) ≡ name-at s (getD l i 0) ∷ drop (i + 1) (scope-at s (names-in l) n)
+unfolding scope-at
+next-listed s l n i K h =
+    let few = names-few s l n K in
+    mapped-next (name-at s) (names-in l) n (K .names-few) i h ∙ ap (λ (c : ℕ). name-at s c ∷ drop (i + 1) (scope-at s (names-in l) n)) (getD-take max-names l i 0 (omega arith))
+
+-- Bool and the other sorts
+pub sorts-few : (s l : List ℕ) (k : Kinds) → length (sorts-in s l k) ≤ suc (k .sorts)
+unfolding sorts-in
+sorts-few s l k = let a = scope-most s l (k .sorts) in omega arith
+
+take-same : (n : ℕ) (a b : List ℕ) → n ≤ length a → n ≤ length b → ((j : ℕ) → j < n → getD a j 0 ≡ getD b j 0) → take n a ≡ take n b
+take-same zero a b h k e = refl
+take-same (suc n) [] b h k e = absurd (omega arith)
+take-same (suc n) (x ∷ a) [] h k e = absurd (omega arith)
+take-same (suc n) (x ∷ a) (y ∷ b) h k e =
+    let z : x ≡ y = e 0 (omega arith) in
+    rw z (ap (_∷_ y) (take-same n a b (omega arith) (omega arith) (λ j l. e (suc j) (omega arith))))
+
+module _ (s names : List ℕ) where
+  -- the first i names, and their keys
+  pub record ListedUpTo (l : List ℕ) (i : ℕ) : Type 0 where
+    pub many : length l ≡ list-cells
+    pub name-there : (j : ℕ) → j < i → getD l j 0 ≡ getD names j 0
+    pub key-there : (j : ℕ) → j < i → getD l (max-names + j) 0 ≡ key-of (name-at s (getD names j 0))
+
+  pub listed-start : (l : List ℕ) → length l ≡ list-cells → ListedUpTo l 0
+  listed-start l h = record { many = h; name-there = λ j k. absurd (omega arith); key-there = λ j k. absurd (omega arith) }
+
+  pub listed-more : (l : List ℕ) (i v k q : ℕ) → i < max-names → v ≡ getD names i 0 → k ≡ key-of (name-at s v) → q ≡ max-names + i → ListedUpTo l i → ListedUpTo (set (set l i v) q k) (i + 1)
+  listed-more l i v k q h e f g L =
+      let n = L .many in
+      let m = length-set l i v in
+      record {
+        many = length-set (set l i v) q k ∙ (m ∙ n);
+        name-there = λ j o. getD-set-other (set l i v) q j k 0 (λ z. omega arith) ∙ ⊎-elim
+            (λ z. rw z (getD-set-same l i v 0 (omega arith) ∙ e))
+            (λ z. getD-set-other l i j v 0 (λ y. omega arith) ∙ L .name-there j z)
+            (eq-or-lt-of-le {n = j} {m = i} (omega arith));
+        key-there = λ j o. ⊎-elim
+            (λ z. let y : max-names + j ≡ q = omega arith in
+            ap (λ (x : ℕ). getD (set (set l i v) q k) x 0) y ∙ (getD-set-same (set l i v) q k 0 (omega arith) ∙ (f ∙ ap (λ (c : ℕ). key-of (name-at s c)) (e ∙ ap (λ (x : ℕ). getD names x 0) (sym z)))))
+            (λ z. getD-set-other (set l i v) q (max-names + j) k 0 (λ y. omega arith) ∙ (getD-set-other l i (max-names + j) v 0 (λ y. omega arith) ∙ L .key-there j z))
+            (eq-or-lt-of-le {n = j} {m = i} (omega arith));
+      }
+
+  -- a number behind the keys
+  pub listed-count : (l : List ℕ) (n q v : ℕ) → n ≤ max-names → 144 ≤ q → ListedUpTo l n → ListedUpTo (set l q v) n
+  listed-count l n q v h r L = record {
+    many = length-set l q v ∙ L .many;
+    name-there = λ j o. getD-set-other l q j v 0 (λ z. omega arith) ∙ L .name-there j o;
+    key-there = λ j o. getD-set-other l q (max-names + j) v 0 (λ z. omega arith) ∙ L .key-there j o;
+  }
+
+  -- all of them
+  pub listed-all : (l : List ℕ) (k : Kinds) → total-of k ≤ max-names → total-of k ≤ length names → kinds-in l ≡ k → ListedUpTo l (total-of k)
+      → KeyedNames s l × (kinds-in l ≡ k) × (take (total-of k) (names-in l) ≡ take (total-of k) names)
+  listed-all l k h m e L =
+      let z : total-of (kinds-in l) ≡ total-of k = ap total-of e in
+      let w = L .many in (
+        record {
+          names-few = let a = length-take max-names l in omega arith;
+          keys-few = let a = length-drop max-names l in omega arith;
+          key-at = λ i o. getD-drop max-names l i 0
+              ∙ (L .key-there i (omega arith) ∙ ap (λ (c : ℕ). key-of (name-at s c)) (sym (getD-take max-names l i 0 (omega arith) ∙ L .name-there i (omega arith))));
+        },
+        e,
+        take-take (total-of k) max-names l h ∙ take-same (total-of k) l names (omega arith) m (λ j o. L .name-there j o),
+      )
+
+  -- the four numbers are put behind the keys of all names
+  pub listed-kinds : (l : List ℕ) (k : Kinds) (a b c d : ℕ) → total-of k ≤ max-names → total-of k ≤ length names → a ≡ k .sorts → b ≡ k .funcs → c ≡ k .acts → d ≡ k .procs → ListedUpTo l (total-of k)
+      → let l′ = set (set (set (set l 144 a) 145 b) 146 c) 147 d in KeyedNames s l′ × (kinds-in l′ ≡ k) × (take (total-of k) (names-in l′) ≡ take (total-of k) names)
+  listed-kinds l k a b c d h m ea eb ec ed L =
+      let l₁ = set l 144 a in
+      let l₂ = set l₁ 145 b in
+      let l₃ = set l₂ 146 c in
+      let L₁ = listed-count l (total-of k) 144 a h (omega arith) L in
+      let L₂ = listed-count l₁ (total-of k) 145 b h (omega arith) L₁ in
+      let L₃ = listed-count l₂ (total-of k) 146 c h (omega arith) L₂ in
+      let L₄ = listed-count l₃ (total-of k) 147 d h (omega arith) L₃ in
+      let ha = getD-set-other l₃ 147 144 d 0 (λ z. omega arith) ∙ (getD-set-other l₂ 146 144 c 0 (λ z. omega arith) ∙ (getD-set-other l₁ 145 144 b 0 (λ z. omega arith) ∙ (getD-set-same l 144 a 0 (let z = L .many in omega arith) ∙ ea))) in
+      let hb = getD-set-other l₃ 147 145 d 0 (λ z. omega arith) ∙ (getD-set-other l₂ 146 145 c 0 (λ z. omega arith) ∙ (getD-set-same l₁ 145 b 0 (let z = L₁ .many in omega arith) ∙ eb)) in
+      let hc = getD-set-other l₃ 147 146 d 0 (λ z. omega arith) ∙ (getD-set-same l₂ 146 c 0 (let z = L₂ .many in omega arith) ∙ ec) in
+      let hd = getD-set-same l₃ 147 d 0 (let z = L₃ .many in omega arith) ∙ ed in
+      listed-all (set l₃ 147 d) k h m (rw (ha, hb, hc, hd) refl) L₄

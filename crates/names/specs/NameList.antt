@@ -1,0 +1,34 @@
+-- The declared names in one array of 148 cells: the cells of the names, their keys, and how many there are of each kind.
+use mathlib.Core.List.{List}
+use Prim.Native.Nat.{ℕ, _+_}
+use lib.ListN.{take, drop, getD}
+use Rattle.names.specs.declared.Kinds.{Kinds}
+use Rattle.names.specs.NameKeys.{Keyed}
+use Rattle.names.specs.NameKinds.{total-of}
+
+abbrev pub max-names : ℕ
+max-names = 72
+
+abbrev pub first-count : ℕ
+first-count = 144
+
+abbrev pub list-cells : ℕ
+list-cells = 148
+
+abbrev pub names-in : List ℕ → List ℕ
+names-in l = take max-names l
+
+abbrev pub keys-in : List ℕ → List ℕ
+keys-in l = drop max-names l
+
+abbrev pub kinds-in : List ℕ → Kinds
+kinds-in l = record {
+  sorts = getD l first-count 0;
+  funcs = getD l (first-count + 1) 0;
+  acts = getD l (first-count + 2) 0;
+  procs = getD l (first-count + 3) 0;
+}
+
+-- each of the names that are counted has its key
+abbrev pub KeyedNames : List ℕ → List ℕ → Type 0
+KeyedNames s l = Keyed s (names-in l) (keys-in l) (total-of (kinds-in l))
