@@ -1,4 +1,4 @@
-// Questions 12 to 14 of any bytes whatever. A short file takes a short array: to clear the long one would take longer than to read it.
+// Questions 12 to 14 of any bytes whatever.
 ghost use mathlib.Core.Path.{_≡_};
 ghost use Prim.Native.Nat.{_*_, _/_, _≤_, min};
 ghost use lib.ListN.{length};
@@ -6,12 +6,14 @@ ghost use Rattle.pcrl.specs.Limits.{max-stream};
 ghost use Rattle.pcrl.specs.Result.{refusal};
 ghost use Rattle.pcrl.specs.Blocks.{block-bytes, block-stream};
 ghost use Rattle.pcrl.specs.Answers.{table-checked};
-use blocks::MAX_STREAM;
-use blocks::SHORT_FILE;
-use blocks::SHORT_STREAM;
+use blocks::BLOCK_STREAM;
+use stepping::ONE_FILE;
 
 // Question 14: "the stream of the layout .. within all limits, rightly sorted, fewest blocks, zeros after it?"
 const NO_TABLE: u8 = 14;
+
+// Question 15: "exactly 64 frames lent"
+const WRONG_STACK: u8 = 15;
 
 // Where there is room for the file's stream.
 fn check_table(file: &[u8], stream: &mut [u8]) -> u8
@@ -27,27 +29,27 @@ fn check_table(file: &[u8], stream: &mut [u8]) -> u8
     if table.ok { 0 } else { NO_TABLE }
 }
 
-fn check_short(file: &[u8]) -> u8
-    requires { ⌜ length (now file) ≤ 4096 ⌝ }
+fn check_one(file: &[u8]) -> u8
+    requires { ⌜ length (now file) ≤ 512 ⌝ }
     ensures { λ r. ⌜ r ≡ refusal (table-checked (now (file .entry))) ⌝ }
 {
-    let mut stream = [0u8; SHORT_STREAM];
+    let mut stream = [0u8; BLOCK_STREAM];
     check_table(file, &mut stream)
 }
 
-fn check_long(file: &[u8]) -> u8
-    ensures { λ r. ⌜ r ≡ refusal (table-checked (now (file .entry))) ⌝ }
-{
-    let mut stream = [0u8; MAX_STREAM];
-    check_table(file, &mut stream)
-}
-
-// The number of the first question that fails, or 0.
+// The number of the first question that fails, or 0. A file of several blocks is right where a start lacks nothing but frames: so both
+// share the long arrays.
 pub fn check_file(file: &[u8]) -> u8
     ensures { λ r. ⌜ r ≡ refusal (table-checked (now (file .entry))) ⌝ }
 {
-    if file.len() <= SHORT_FILE {
-        return check_short(file);
+    if file.len() <= ONE_FILE {
+        return check_one(file);
     }
-    check_long(file)
+    let mut none = [0u8; 1];
+    let a = stepping::start_many(file, &mut none, 0);
+    if a.refused == WRONG_STACK {
+        0
+    } else {
+        a.refused
+    }
 }

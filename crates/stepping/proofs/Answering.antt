@@ -1,73 +1,38 @@
 -- The replies of `started`, `asked` and `asked-all` from the answers of each layer.
 use mathlib.Core.Path.{_≡_, refl, sym, ap, _∙_}
 use mathlib.Core.List.{List}
-use Prim.Native.Nat.{ℕ, zero, suc, _/_, _<_}
-use native.Mathlib.Omega.{arith}
+use Prim.Native.Nat.{ℕ, _/_}
 use native.Mathlib.Decide.{ℕ-discrete}
 use lib.ListN.{length}
 use Rattle.pcrl.specs.Limits.{frame-width, stack-limit}
 use Rattle.pcrl.specs.Result.{Result, refused, accepted, question, after, refusal}
-use Rattle.pcrl.specs.Sheet.{Sig}
-use Rattle.pcrl.specs.Label.{Label}
 use Rattle.pcrl.specs.Table.{Table}
-use Rattle.pcrl.specs.Stack.{Frame, Stack, RightFrames, right-frames?, frames-of, stack-of}
+use Rattle.pcrl.specs.Stack.{Frame, Stack, RightFrames, right-frames?, frames-of}
 use Rattle.pcrl.specs.Ask.{Answer}
 use Rattle.pcrl.specs.Answers.{table-checked, Reply, reply, stack-read, start-stack, started-in, started, asked-in, asked, asked-all-in, asked-all}
 use Rattle.laws.specs.Questions.{question-passes, question-fails}
-use Rattle.theory.specs.Lending.{Holds, passes-15}
-use Rattle.theory.specs.InTurn.{alone, asked-is, asked-all-is}
+use Rattle.theory.specs.Lending.{passes-15}
+use Rattle.theory.specs.InTurn.{asked-all-is}
 use Rattle.stacks.specs.Lent.{frame-bytes, frames-in}
 use Rattle.stacks.proofs.Views.{length-frames-in}
-use Rattle.asking.specs.declared.Told.{Told}
-use Rattle.asking.specs.Encoding.{encode-answer, answer-after, answers-after}
-use Rattle.asking.specs.Replies.{answer-kind, answer-by, answer-told, label-told, AskIs, AllIs}
+use Rattle.asking.specs.Encoding.{answers-after}
+use Rattle.asking.specs.Replies.{AllIs}
 use Rattle.stepping.specs.declared.Answered.{Answered}
 use Rattle.stepping.specs.Promises.{Replied}
 
 -- a reply that is known
-replied-by : {A : Type 0} (R R′ : Reply A) → R ≡ R′ → (r : ℕ) (fs : List Frame) (d : ℕ) → r ≡ refusal (R′ .answer) → fs ≡ R′ .frames → d ≡ R′ .depth → Replied R r fs d
+pub replied-by : {A : Type 0} (R R′ : Reply A) → R ≡ R′ → (r : ℕ) (fs : List Frame) (d : ℕ) → r ≡ refusal (R′ .answer) → fs ≡ R′ .frames → d ≡ R′ .depth → Replied R r fs d
 replied-by {A} R R′ q r fs d a f e =
     record { answer = a ∙ sym (ap (λ (x : Reply A). refusal (x .answer)) q); frames = f ∙ sym (ap (λ (x : Reply A). x .frames) q); depth = e ∙ sym (ap (λ (x : Reply A). x .depth) q) }
 
--- "A refusal returns its number alone", in numbers too
-told-refusal : (S : Sig) (r : Told) → r .refused ≡ refusal (alone (answer-told S r))
-unfolding answer-told answer-by answer-kind alone refusal
-told-refusal S r = go (r .refused) (r .kind) (label-told S r) (r .depth)
-  where
-    go : (n k : ℕ) (l : Label) (d : ℕ) → n ≡ refusal (alone (answer-by n k l d))
-    go zero zero l d = refl
-    go zero (suc zero) l d = refl
-    go zero (suc (suc k)) l d = refl
-    go (suc n) k l d = refl
-
-told-refused : (S : Sig) (r : Told) (out : List ℕ) → 0 < r .refused → out ≡ answer-after (alone (answer-told S r)) out
-unfolding answer-told answer-by alone answer-after
-told-refused S r out h = go (r .refused) h
-  where
-    go : (n : ℕ) → 0 < n → out ≡ answer-after (alone (answer-by n (r .kind) (label-told S r) (r .depth))) out
-    go zero h = absurd (omega arith)
-    go (suc n) h = refl
-
-told-written : (S : Sig) (r : Told) (out : List ℕ) → r .refused ≡ 0 → encode-answer (answer-told S r) ≡ answer-after (alone (answer-told S r)) out
-unfolding answer-told answer-by answer-kind alone answer-after
-told-written S r out e = rw e (go (r .kind) (label-told S r) (r .depth))
-  where
-    go : (k : ℕ) (l : Label) (d : ℕ) → encode-answer (answer-kind k l d) ≡ answer-after (alone (answer-kind k l d)) out
-    go zero l d = refl
-    go (suc zero) l d = refl
-    go (suc (suc k)) l d = refl
-
-module _ (file bytes : List ℕ) (d : ℕ) where
-  abbrev fs : List Frame
-  fs = frames-in frame-width bytes
-
+module _ (file : List ℕ) (fs : List Frame) (d : ℕ) where
   -- REFUSED BEFORE ANY STEP
 
-  asked-refused : (k n : ℕ) → stack-read frame-width stack-limit file fs d ≡ refused n → asked file fs d k ≡ record { answer = refused n; frames = fs; depth = d }
+  pub asked-refused : (k n : ℕ) → stack-read frame-width stack-limit file fs d ≡ refused n → asked file fs d k ≡ record { answer = refused n; frames = fs; depth = d }
   unfolding asked-in after reply
   asked-refused k n e = rw e
 
-  all-refused : (ks : List ℕ) (n : ℕ) → stack-read frame-width stack-limit file fs d ≡ refused n → asked-all file fs d ks ≡ record { answer = refused n; frames = fs; depth = d }
+  pub all-refused : (ks : List ℕ) (n : ℕ) → stack-read frame-width stack-limit file fs d ≡ refused n → asked-all file fs d ks ≡ record { answer = refused n; frames = fs; depth = d }
   unfolding asked-all-in after reply
   all-refused ks n e = rw e
 
@@ -79,40 +44,24 @@ module _ (file bytes : List ℕ) (d : ℕ) where
   unfolding stack-read after
   read-no-stack T e h = rw e (question-fails 15 (right-frames? frame-width stack-limit T fs d) _ h)
 
-  module _ (n : ℕ) (r : Answered) (e : stack-read frame-width stack-limit file fs d ≡ refused n) (h : r .refused ≡ n) (g : r .depth ≡ d) where
-    pub ask-refused : (k : ℕ) (out : List ℕ) → Replied (asked file fs d k) (r .refused) fs (r .depth) × (out ≡ answer-after (asked file fs d k .answer) out)
-    unfolding refusal answer-after
-    ask-refused k out = let q = asked-refused k n e in (replied-by (asked file fs d k) _ q (r .refused) fs (r .depth) h refl g, sym (ap (λ (x : Reply Answer). answer-after (x .answer) out) q))
-
-    pub ask-all-refused : (ks out : List ℕ) → Replied (asked-all file fs d ks) (r .refused) fs (r .depth) × (out ≡ answers-after (asked-all file fs d ks .answer) out)
-    unfolding refusal answers-after
-    ask-all-refused ks out = let q = all-refused ks n e in (replied-by (asked-all file fs d ks) _ q (r .refused) fs (r .depth) h refl g, sym (ap (λ (x : Reply (List Answer)). answers-after (x .answer) out) q))
+  pub ask-all-refused : (n : ℕ) (r : Answered) → stack-read frame-width stack-limit file fs d ≡ refused n → r .refused ≡ n → r .depth ≡ d
+      → (ks out : List ℕ) → Replied (asked-all file fs d ks) (r .refused) fs (r .depth) × (out ≡ answers-after (asked-all file fs d ks .answer) out)
+  unfolding refusal answers-after
+  ask-all-refused n r e h g ks out = let q = all-refused ks n e in (replied-by (asked-all file fs d ks) _ q (r .refused) fs (r .depth) h refl g, sym (ap (λ (x : Reply (List Answer)). answers-after (x .answer) out) q))
 
   -- ANSWERED
 
-  module _ (T : Table) (checked : table-checked file ≡ accepted T) (right : RightFrames frame-width stack-limit T fs d) (new : List Frame) where
-    holds : Holds frame-width stack-limit T fs d (stack-of fs d)
-    holds = passes-15 frame-width stack-limit T fs d .0 right
+  pub all-answered : (T : Table) → table-checked file ≡ accepted T → RightFrames frame-width stack-limit T fs d
+      → (new : List Frame) (ks out out′ : List ℕ) (r : Answered) → r .refused ≡ 0 → AllIs T fs d ks out out′ new (r .depth)
+      → Replied (asked-all file fs d ks) (r .refused) new (r .depth) × (out′ ≡ answers-after (asked-all file fs d ks .answer) out)
+  unfolding refusal
+  all-answered T checked right new ks out out′ r z a =
+      let q = asked-all-is frame-width stack-limit file T checked (passes-15 frame-width stack-limit T fs d .0 right) ks in
+      (replied-by (asked-all file fs d ks) _ q (r .refused) new (r .depth) z (a .frames) (a .depth), a .answers ∙ sym (ap (λ (x : Reply (List Answer)). answers-after (x .answer) out) q))
 
-    module _ (k : ℕ) (t : Told) (r : Answered) (a : AskIs T fs d k t new) (h : r .refused ≡ t .refused) (g : r .depth ≡ t .depth) where
-      ask-replied : Replied (asked file fs d k) (r .refused) new (r .depth)
-      ask-replied = replied-by (asked file fs d k) _ (asked-is frame-width stack-limit file T checked holds k) (r .refused) new (r .depth) (h ∙ told-refusal (T .sig) t ∙ ap (λ (x : Answer). refusal (alone x)) (a .answer)) (a .frames) (g ∙ a .depth)
-
-      told : (out : List ℕ) → answer-after (alone (answer-told (T .sig) t)) out ≡ answer-after (asked file fs d k .answer) out
-      told out = ap (λ (x : Answer). answer-after (alone x) out) (a .answer) ∙ sym (ap (λ (x : Reply Answer). answer-after (x .answer) out) (asked-is frame-width stack-limit file T checked holds k))
-
-      -- by 16
-      pub ask-deep : (out : List ℕ) → 0 < t .refused → Replied (asked file fs d k) (r .refused) new (r .depth) × (out ≡ answer-after (asked file fs d k .answer) out)
-      ask-deep out z = (ask-replied, told-refused (T .sig) t out z ∙ told out)
-
-      pub ask-answered : (out out′ : List ℕ) → t .refused ≡ 0 → out′ ≡ encode-answer (answer-told (T .sig) t) → Replied (asked file fs d k) (r .refused) new (r .depth) × (out′ ≡ answer-after (asked file fs d k .answer) out)
-      ask-answered out out′ z e = (ask-replied, e ∙ told-written (T .sig) t out z ∙ told out)
-
-    pub all-answered : (ks out out′ : List ℕ) (r : Answered) → r .refused ≡ 0 → AllIs T fs d ks out out′ new (r .depth) → Replied (asked-all file fs d ks) (r .refused) new (r .depth) × (out′ ≡ answers-after (asked-all file fs d ks .answer) out)
-    unfolding refusal
-    all-answered ks out out′ r z a =
-        let q = asked-all-is frame-width stack-limit file T checked holds ks in
-        (replied-by (asked-all file fs d ks) _ q (r .refused) new (r .depth) z (a .frames) (a .depth), a .answers ∙ sym (ap (λ (x : Reply (List Answer)). answers-after (x .answer) out) q))
+module _ (file bytes : List ℕ) (d : ℕ) where
+  abbrev fs : List Frame
+  fs = frames-in frame-width bytes
 
   -- START A STACK
 

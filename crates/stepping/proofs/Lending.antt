@@ -13,9 +13,8 @@ use Rattle.pcrl.specs.Stack.{Frame, RightFrames, frames-of}
 use Rattle.pcrl.specs.Answers.{table-checked, start-stack, started, asked-all}
 use Rattle.tables.specs.declared.Index.{Index}
 use Rattle.stacks.specs.Lent.{frame-bytes, frames-in, stack-bytes}
-use Rattle.asking.specs.declared.Told.{Told}
 use Rattle.asking.specs.Encoding.{answer-bytes, answers-after}
-use Rattle.asking.specs.Replies.{AskIs, AllIs}
+use Rattle.asking.specs.Replies.{AllIs}
 use Rattle.stepping.specs.declared.Answered.{Answered}
 use Rattle.stepping.specs.Promises.{Replied, put-questions}
 use Rattle.stepping.proofs.Fronts.{front-frames, front-back}
@@ -50,10 +49,6 @@ module _ (file bytes : List ℕ) (d : ℕ) (stream : List ℕ) (index : Index) (
     pub new-frames : frames-in frame-width (new ++ drop stack-bytes bytes) ≡ frames-in frame-width new
     new-frames = front-back bytes count new new-length
 
-    module _ (k : ℕ) (t : Told) (a : AskIs (y .table) (frames-in frame-width front) d k t (frames-in frame-width new)) where
-      pub asked-here : AskIs (y .table) (frames-in frame-width bytes) d k t (frames-in frame-width (new ++ drop stack-bytes bytes))
-      asked-here = subst₂ (λ (fs gs : List Frame). AskIs (y .table) fs d k t gs) (front-frames bytes count) (sym new-frames) a
-
     -- as many questions as there is room for
     pub all-done : (ks out out′ asked : List ℕ) (n : ℕ) (r : Answered) → r .refused ≡ 0 → n ≡ min (length ks) (length out / answer-bytes) → asked ≡ take n ks
         → AllIs (y .table) (frames-in frame-width front) d asked out out′ (frames-in frame-width new) (r .depth)
@@ -61,7 +56,7 @@ module _ (file bytes : List ℕ) (d : ℕ) (stream : List ℕ) (index : Index) (
         × (out′ ≡ answers-after (asked-all file (frames-in frame-width bytes) d (put-questions ks out) .answer) out)
     all-done ks out out′ asked n r z c e a =
         let put : asked ≡ put-questions ks out = e ∙ ap (λ (m : ℕ). take m ks) c ∙ min-take (length out / answer-bytes) ks in
-        all-answered file bytes d (y .table) (y .checked) (y .right-frames) (frames-in frame-width (new ++ drop stack-bytes bytes)) (put-questions ks out) out out′ r z
+        all-answered file (frames-in frame-width bytes) d (y .table) (y .checked) (y .right-frames) (frames-in frame-width (new ++ drop stack-bytes bytes)) (put-questions ks out) out out′ r z
         (subst (λ (qs : List ℕ). AllIs (y .table) (frames-in frame-width bytes) d qs out out′ (frames-in frame-width (new ++ drop stack-bytes bytes)) (r .depth)) put
         (subst₂ (λ (fs gs : List Frame). AllIs (y .table) fs d asked out out′ gs (r .depth)) (front-frames bytes count) (sym new-frames) a))
 

@@ -3,3 +3,4 @@ pub mod Loading
 pub mod Answering
 pub mod Readiness
 pub mod Lending
+pub mod OneQuestion

@@ -6,10 +6,10 @@ use mathlib.Core.Option.{Option, none, some}
 use Prim.Native.Nat.{ℕ, _<_, _≤_}
 use native.Mathlib.Omega.{arith}
 use lib.ListN.{length, take}
-use Rattle.pcrl.specs.Result.{Result, refused, accepted, question-of, after}
+use Rattle.pcrl.specs.Result.{Result, refused, accepted, question, question-of, after}
 use Rattle.pcrl.specs.Table.{Table}
 use Rattle.pcrl.specs.Right.{RightTable}
-use Rattle.pcrl.specs.Blocks.{table-read}
+use Rattle.pcrl.specs.Blocks.{right-length?, right-blocks?, stream-of, table-read}
 use Rattle.pcrl.specs.Answers.{stream-read, table-checked}
 use Rattle.tables.specs.declared.Tabled.{Tabled}
 use Rattle.tables.specs.declared.Index.{Index}
@@ -17,6 +17,28 @@ use Rattle.tables.specs.Indexed.{Indexed, TableRead}
 use Rattle.tables.proofs.Known.{read-right}
 use Rattle.stepping.specs.declared.Loaded.{Loaded}
 use Rattle.stepping.specs.Promises.{Loads}
+
+-- questions 12 and 13, and 12 to 14, by their numbers
+stream-number : (f : List ℕ) (n : ℕ) → stream-read f ≡ refused n → (12 ≤ n) × (n ≤ 13)
+unfolding stream-read question
+stream-number f n e = go (right-length? f) (right-blocks? f) e
+  where
+    go : {P Q : Type 0} (a : Dec P) (b : Dec Q) → question 12 a (λ _. question 13 b (λ _. accepted (stream-of f))) ≡ refused n → (12 ≤ n) × (n ≤ 13)
+    go (no h) b e = let z : 12 ≡ n = cc in omega arith
+    go (yes h) (no g) e = let z : 13 ≡ n = cc in omega arith
+    go (yes h) (yes g) e = absurd (let z : _≡_ {A = ℕ} 0 1 = cc in omega arith)
+
+pub table-number : (f : List ℕ) (n : ℕ) → table-checked f ≡ refused n → (12 ≤ n) × (n ≤ 14)
+unfolding table-checked after question-of
+table-number f n e = go (stream-read f) refl e
+  where
+    go-table : (o : Option Table) → question-of 14 o (λ T. accepted T) ≡ refused n → (12 ≤ n) × (n ≤ 14)
+    go-table none e = let z : 14 ≡ n = cc in omega arith
+    go-table (some T) e = absurd (let z : _≡_ {A = ℕ} 0 1 = cc in omega arith)
+
+    go : (x : Result (List ℕ)) → stream-read f ≡ x → after x (λ s. question-of 14 (table-read s) (λ T. accepted T)) ≡ refused n → (12 ≤ n) × (n ≤ 14)
+    go (refused m) q e = let z : m ≡ n = cc in let h = stream-number f m q in omega arith
+    go (accepted s) q e = go-table (table-read s) e
 
 clash : true ≡ false → ⊥
 clash e = let z : _≡_ {A = ℕ} 0 1 = cc in omega arith

@@ -1,5 +1,5 @@
 -- A table that was loaded, and question 15 put to the lent frames.
-use mathlib.Core.Path.{_≡_, refl, sym, ap, _∙_, subst}
+use mathlib.Core.Path.{_≡_, sym, _∙_, subst}
 use mathlib.Core.List.{List}
 use mathlib.Core.Bool.{Bool, true, false}
 use Prim.Native.Nat.{ℕ, _/_, _-_, _<_, _≤_}
@@ -55,4 +55,4 @@ module _ (file stream bytes : List ℕ) (d : ℕ) (r : Loaded) (load : Loads (ta
     pub not-ready : b ≡ false → stack-read frame-width stack-limit file (frames-in frame-width bytes) d ≡ refused 15
     not-ready e =
         let (T, checked, (right, x)) = load-accepted (table-checked file) stream r load none-refused in
-        read-no-stack file bytes d T checked (said-no b (own-says T x) e)
+        read-no-stack file (frames-in frame-width bytes) d T checked (said-no b (own-says T x) e)

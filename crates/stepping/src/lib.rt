@@ -1,14 +1,17 @@
 // Stepping from a table file, on lent bytes that hold frames: start a stack, ask for a step, ask a list. Any bytes whatever are taken.
 ghost use mathlib.Core.Path.{_≡_};
-ghost use Prim.Native.Nat.{_*_, _/_, _≤_, min};
-ghost use lib.ListN.{length};
+ghost use mathlib.Core.List.{List, [], _∷_};
+ghost use Prim.Native.Nat.{ℕ, _*_, _/_, _≤_, min};
+ghost use lib.ListN.{length, replicate};
 ghost use Rattle.pcrl.specs.Limits.{frame-width, max-stream};
 ghost use Rattle.pcrl.specs.Blocks.{block-bytes, block-stream};
+ghost use Rattle.pcrl.specs.Stack.{Frame};
 ghost use Rattle.pcrl.specs.Answers.{table-checked, started, asked, asked-all};
 ghost use Rattle.stacks.specs.Lent.{frames-in};
-ghost use Rattle.asking.specs.Encoding.{answer-after, answers-after};
+ghost use Rattle.asking.specs.Encoding.{answer-bytes, answer-after, answers-after};
 ghost use Rattle.stepping.specs.Promises.{Loads, Replied, put-questions};
 use asking::ANSWER;
+use blocks::BLOCK_STREAM;
 use blocks::MAX_STREAM;
 use blocks::SHORT_FILE;
 use blocks::SHORT_STREAM;
@@ -20,6 +23,21 @@ use stacks::LIMIT;
 const NO_TABLE: u8 = 14;
 
 const WRONG_STACK: u8 = 15;
+
+const TOO_DEEP: u8 = 16;
+
+// A file's stream stands in an array of the stack, of 1, 8, 32, 64 or 128 blocks as the file needs. That of one block stands in the frame of
+// the operation. The longer ones stand in `start_many` and `ask_all_many`, which have two callers and are large, so that the compiler lays
+// them into neither: a file of one block does not take the stack of a long one. Among themselves they save the time to clear the longest.
+pub const ONE_FILE: usize = 512;
+
+const FILE_32: usize = 16384;
+
+const STREAM_32: usize = 16192;
+
+const FILE_64: usize = 32768;
+
+const STREAM_64: usize = 32384;
 
 // The number of the question that failed; or 0, how long the stream is, and where its parts stand.
 pub struct Loaded {
@@ -85,77 +103,6 @@ fn refusal(refused: u8, depth: usize) -> Answered
     }
 }
 
-fn ask_in(
-    file: &[u8],
-    stream: &mut [u8],
-    frames: &mut [u8],
-    depth: usize,
-    k: u64,
-    out: &mut [u8; 24],
-) -> Answered
-    requires { ⌜ (min (length (now file) / block-bytes * block-stream) max-stream ≤ length (now stream)) × (length (now stream) ≤ max-stream) ⌝ }
-    ensures { λ r. ⌜ (Replied (asked (now (file .entry)) (frames-in frame-width (now (frames .entry))) depth k) (r .refused) (frames-in frame-width (now (frames .exit))) (r .depth)) × (now (out .exit) ≡ answer-after (asked (now (file .entry)) (frames-in frame-width (now (frames .entry))) depth k .answer) (now (out .entry))) ⌝ }
-{
-    let f = load(file, stream);
-    if f.refused != 0 {
-        return refusal(f.refused, depth);
-    }
-    let n = f.count;
-    let index = f.index;
-    if !stacks::right_frames(&stream[0..n], index, &frames[0..], depth) {
-        return refusal(WRONG_STACK, depth);
-    }
-    let funcs = index.funcs;
-    let acts = index.acts;
-    let params = index.params;
-    let rows = index.rows;
-    let r = asking::ask(
-        &stream[0..n],
-        &funcs,
-        &acts,
-        &params,
-        &rows,
-        &mut frames[0..BYTES],
-        depth,
-        k,
-    );
-    if r.refused != 0 {
-        return refusal(r.refused, r.depth);
-    }
-    let e = asking::encode(&stream[0..n], &acts, index.actions, r);
-    let bytes = e.bytes;
-    *out = bytes;
-    Answered {
-        refused: 0,
-        depth: r.depth,
-    }
-}
-
-fn ask_short(file: &[u8], frames: &mut [u8], depth: usize, k: u64, out: &mut [u8; 24]) -> Answered
-    requires { ⌜ length (now file) ≤ 4096 ⌝ }
-    ensures { λ r. ⌜ (Replied (asked (now (file .entry)) (frames-in frame-width (now (frames .entry))) depth k) (r .refused) (frames-in frame-width (now (frames .exit))) (r .depth)) × (now (out .exit) ≡ answer-after (asked (now (file .entry)) (frames-in frame-width (now (frames .entry))) depth k .answer) (now (out .entry))) ⌝ }
-{
-    let mut stream = [0u8; SHORT_STREAM];
-    ask_in(file, &mut stream, frames, depth, k, out)
-}
-
-fn ask_long(file: &[u8], frames: &mut [u8], depth: usize, k: u64, out: &mut [u8; 24]) -> Answered
-    ensures { λ r. ⌜ (Replied (asked (now (file .entry)) (frames-in frame-width (now (frames .entry))) depth k) (r .refused) (frames-in frame-width (now (frames .exit))) (r .depth)) × (now (out .exit) ≡ answer-after (asked (now (file .entry)) (frames-in frame-width (now (frames .entry))) depth k .answer) (now (out .entry))) ⌝ }
-{
-    let mut stream = [0u8; MAX_STREAM];
-    ask_in(file, &mut stream, frames, depth, k, out)
-}
-
-// Ask for step k: questions 12 to 16.
-pub fn ask(file: &[u8], frames: &mut [u8], depth: usize, k: u64, out: &mut [u8; 24]) -> Answered
-    ensures { λ r. ⌜ (Replied (asked (now (file .entry)) (frames-in frame-width (now (frames .entry))) depth k) (r .refused) (frames-in frame-width (now (frames .exit))) (r .depth)) × (now (out .exit) ≡ answer-after (asked (now (file .entry)) (frames-in frame-width (now (frames .entry))) depth k .answer) (now (out .entry))) ⌝ }
-{
-    if file.len() <= SHORT_FILE {
-        return ask_short(file, frames, depth, k, out);
-    }
-    ask_long(file, frames, depth, k, out)
-}
-
 fn start_in(file: &[u8], stream: &mut [u8], frames: &mut [u8], depth: usize) -> Answered
     requires { ⌜ (min (length (now file) / block-bytes * block-stream) max-stream ≤ length (now stream)) × (length (now stream) ≤ max-stream) ⌝ }
     ensures { λ r. ⌜ Replied (started (now (file .entry)) (frames-in frame-width (now (frames .entry))) depth) (r .refused) (frames-in frame-width (now (frames .exit))) (r .depth) ⌝ }
@@ -176,7 +123,15 @@ fn start_in(file: &[u8], stream: &mut [u8], frames: &mut [u8], depth: usize) -> 
     }
 }
 
-fn start_short(file: &[u8], frames: &mut [u8], depth: usize) -> Answered
+fn start_one(file: &[u8], frames: &mut [u8], depth: usize) -> Answered
+    requires { ⌜ length (now file) ≤ 512 ⌝ }
+    ensures { λ r. ⌜ Replied (started (now (file .entry)) (frames-in frame-width (now (frames .entry))) depth) (r .refused) (frames-in frame-width (now (frames .exit))) (r .depth) ⌝ }
+{
+    let mut stream = [0u8; BLOCK_STREAM];
+    start_in(file, &mut stream, frames, depth)
+}
+
+fn start_8(file: &[u8], frames: &mut [u8], depth: usize) -> Answered
     requires { ⌜ length (now file) ≤ 4096 ⌝ }
     ensures { λ r. ⌜ Replied (started (now (file .entry)) (frames-in frame-width (now (frames .entry))) depth) (r .refused) (frames-in frame-width (now (frames .exit))) (r .depth) ⌝ }
 {
@@ -184,21 +139,53 @@ fn start_short(file: &[u8], frames: &mut [u8], depth: usize) -> Answered
     start_in(file, &mut stream, frames, depth)
 }
 
-fn start_long(file: &[u8], frames: &mut [u8], depth: usize) -> Answered
+fn start_32(file: &[u8], frames: &mut [u8], depth: usize) -> Answered
+    requires { ⌜ length (now file) ≤ 16384 ⌝ }
+    ensures { λ r. ⌜ Replied (started (now (file .entry)) (frames-in frame-width (now (frames .entry))) depth) (r .refused) (frames-in frame-width (now (frames .exit))) (r .depth) ⌝ }
+{
+    let mut stream = [0u8; STREAM_32];
+    start_in(file, &mut stream, frames, depth)
+}
+
+fn start_64(file: &[u8], frames: &mut [u8], depth: usize) -> Answered
+    requires { ⌜ length (now file) ≤ 32768 ⌝ }
+    ensures { λ r. ⌜ Replied (started (now (file .entry)) (frames-in frame-width (now (frames .entry))) depth) (r .refused) (frames-in frame-width (now (frames .exit))) (r .depth) ⌝ }
+{
+    let mut stream = [0u8; STREAM_64];
+    start_in(file, &mut stream, frames, depth)
+}
+
+fn start_128(file: &[u8], frames: &mut [u8], depth: usize) -> Answered
     ensures { λ r. ⌜ Replied (started (now (file .entry)) (frames-in frame-width (now (frames .entry))) depth) (r .refused) (frames-in frame-width (now (frames .exit))) (r .depth) ⌝ }
 {
     let mut stream = [0u8; MAX_STREAM];
     start_in(file, &mut stream, frames, depth)
 }
 
+// For a file of more than one block; the check of a file is the other caller.
+pub fn start_many(file: &[u8], frames: &mut [u8], depth: usize) -> Answered
+    ensures { λ r. ⌜ Replied (started (now (file .entry)) (frames-in frame-width (now (frames .entry))) depth) (r .refused) (frames-in frame-width (now (frames .exit))) (r .depth) ⌝ }
+{
+    if file.len() <= SHORT_FILE {
+        return start_8(file, frames, depth);
+    }
+    if file.len() <= FILE_32 {
+        return start_32(file, frames, depth);
+    }
+    if file.len() <= FILE_64 {
+        return start_64(file, frames, depth);
+    }
+    start_128(file, frames, depth)
+}
+
 // Start a stack: questions 12 to 14, and of 15 that 64 frames are lent.
 pub fn start(file: &[u8], frames: &mut [u8], depth: usize) -> Answered
     ensures { λ r. ⌜ Replied (started (now (file .entry)) (frames-in frame-width (now (frames .entry))) depth) (r .refused) (frames-in frame-width (now (frames .exit))) (r .depth) ⌝ }
 {
-    if file.len() <= SHORT_FILE {
-        return start_short(file, frames, depth);
+    if file.len() <= ONE_FILE {
+        return start_one(file, frames, depth);
     }
-    start_long(file, frames, depth)
+    start_many(file, frames, depth)
 }
 
 fn lesser(a: usize, b: usize) -> usize
@@ -242,13 +229,15 @@ fn ask_all_in(
     }
 }
 
-fn ask_all_short(
-    file: &[u8],
-    frames: &mut [u8],
-    depth: usize,
-    ks: &[u64],
-    out: &mut [u8],
-) -> Answered
+fn ask_all_one(file: &[u8], frames: &mut [u8], depth: usize, ks: &[u64], out: &mut [u8]) -> Answered
+    requires { ⌜ length (now file) ≤ 512 ⌝ }
+    ensures { λ r. ⌜ (Replied (asked-all (now (file .entry)) (frames-in frame-width (now (frames .entry))) depth (put-questions (now (ks .entry)) (now (out .entry)))) (r .refused) (frames-in frame-width (now (frames .exit))) (r .depth)) × (now (out .exit) ≡ answers-after (asked-all (now (file .entry)) (frames-in frame-width (now (frames .entry))) depth (put-questions (now (ks .entry)) (now (out .entry))) .answer) (now (out .entry))) ⌝ }
+{
+    let mut stream = [0u8; BLOCK_STREAM];
+    ask_all_in(file, &mut stream, frames, depth, ks, out)
+}
+
+fn ask_all_8(file: &[u8], frames: &mut [u8], depth: usize, ks: &[u64], out: &mut [u8]) -> Answered
     requires { ⌜ length (now file) ≤ 4096 ⌝ }
     ensures { λ r. ⌜ (Replied (asked-all (now (file .entry)) (frames-in frame-width (now (frames .entry))) depth (put-questions (now (ks .entry)) (now (out .entry)))) (r .refused) (frames-in frame-width (now (frames .exit))) (r .depth)) × (now (out .exit) ≡ answers-after (asked-all (now (file .entry)) (frames-in frame-width (now (frames .entry))) depth (put-questions (now (ks .entry)) (now (out .entry))) .answer) (now (out .entry))) ⌝ }
 {
@@ -256,7 +245,31 @@ fn ask_all_short(
     ask_all_in(file, &mut stream, frames, depth, ks, out)
 }
 
-fn ask_all_long(
+fn ask_all_32(file: &[u8], frames: &mut [u8], depth: usize, ks: &[u64], out: &mut [u8]) -> Answered
+    requires { ⌜ length (now file) ≤ 16384 ⌝ }
+    ensures { λ r. ⌜ (Replied (asked-all (now (file .entry)) (frames-in frame-width (now (frames .entry))) depth (put-questions (now (ks .entry)) (now (out .entry)))) (r .refused) (frames-in frame-width (now (frames .exit))) (r .depth)) × (now (out .exit) ≡ answers-after (asked-all (now (file .entry)) (frames-in frame-width (now (frames .entry))) depth (put-questions (now (ks .entry)) (now (out .entry))) .answer) (now (out .entry))) ⌝ }
+{
+    let mut stream = [0u8; STREAM_32];
+    ask_all_in(file, &mut stream, frames, depth, ks, out)
+}
+
+fn ask_all_64(file: &[u8], frames: &mut [u8], depth: usize, ks: &[u64], out: &mut [u8]) -> Answered
+    requires { ⌜ length (now file) ≤ 32768 ⌝ }
+    ensures { λ r. ⌜ (Replied (asked-all (now (file .entry)) (frames-in frame-width (now (frames .entry))) depth (put-questions (now (ks .entry)) (now (out .entry)))) (r .refused) (frames-in frame-width (now (frames .exit))) (r .depth)) × (now (out .exit) ≡ answers-after (asked-all (now (file .entry)) (frames-in frame-width (now (frames .entry))) depth (put-questions (now (ks .entry)) (now (out .entry))) .answer) (now (out .entry))) ⌝ }
+{
+    let mut stream = [0u8; STREAM_64];
+    ask_all_in(file, &mut stream, frames, depth, ks, out)
+}
+
+fn ask_all_128(file: &[u8], frames: &mut [u8], depth: usize, ks: &[u64], out: &mut [u8]) -> Answered
+    ensures { λ r. ⌜ (Replied (asked-all (now (file .entry)) (frames-in frame-width (now (frames .entry))) depth (put-questions (now (ks .entry)) (now (out .entry)))) (r .refused) (frames-in frame-width (now (frames .exit))) (r .depth)) × (now (out .exit) ≡ answers-after (asked-all (now (file .entry)) (frames-in frame-width (now (frames .entry))) depth (put-questions (now (ks .entry)) (now (out .entry))) .answer) (now (out .entry))) ⌝ }
+{
+    let mut stream = [0u8; MAX_STREAM];
+    ask_all_in(file, &mut stream, frames, depth, ks, out)
+}
+
+// For a file of more than one block.
+fn ask_all_many(
     file: &[u8],
     frames: &mut [u8],
     depth: usize,
@@ -265,16 +278,52 @@ fn ask_all_long(
 ) -> Answered
     ensures { λ r. ⌜ (Replied (asked-all (now (file .entry)) (frames-in frame-width (now (frames .entry))) depth (put-questions (now (ks .entry)) (now (out .entry)))) (r .refused) (frames-in frame-width (now (frames .exit))) (r .depth)) × (now (out .exit) ≡ answers-after (asked-all (now (file .entry)) (frames-in frame-width (now (frames .entry))) depth (put-questions (now (ks .entry)) (now (out .entry))) .answer) (now (out .entry))) ⌝ }
 {
-    let mut stream = [0u8; MAX_STREAM];
-    ask_all_in(file, &mut stream, frames, depth, ks, out)
+    if file.len() <= SHORT_FILE {
+        return ask_all_8(file, frames, depth, ks, out);
+    }
+    if file.len() <= FILE_32 {
+        return ask_all_32(file, frames, depth, ks, out);
+    }
+    if file.len() <= FILE_64 {
+        return ask_all_64(file, frames, depth, ks, out);
+    }
+    ask_all_128(file, frames, depth, ks, out)
 }
 
 // Ask a list: questions 12 to 15 once, then each question in turn, as many as there is room for answers.
 pub fn ask_all(file: &[u8], frames: &mut [u8], depth: usize, ks: &[u64], out: &mut [u8]) -> Answered
     ensures { λ r. ⌜ (Replied (asked-all (now (file .entry)) (frames-in frame-width (now (frames .entry))) depth (put-questions (now (ks .entry)) (now (out .entry)))) (r .refused) (frames-in frame-width (now (frames .exit))) (r .depth)) × (now (out .exit) ≡ answers-after (asked-all (now (file .entry)) (frames-in frame-width (now (frames .entry))) depth (put-questions (now (ks .entry)) (now (out .entry))) .answer) (now (out .entry))) ⌝ }
 {
-    if file.len() <= SHORT_FILE {
-        return ask_all_short(file, frames, depth, ks, out);
+    if file.len() <= ONE_FILE {
+        return ask_all_one(file, frames, depth, ks, out);
     }
-    ask_all_long(file, frames, depth, ks, out)
+    ask_all_many(file, frames, depth, ks, out)
+}
+
+// The answer to a list of one question as that question's: a refusal by 16 is returned alone.
+fn told(a: Answered, bytes: [u8; 24], out: &mut [u8; 24]) -> Answered
+    ensures { λ r. ⌜ ((file : List ℕ) (fs new : List Frame) (d k : ℕ) → Replied (asked-all file fs d (k ∷ [])) (a .refused) new (a .depth) → bytes ≡ answers-after (asked-all file fs d (k ∷ []) .answer) (replicate answer-bytes 0) → (Replied (asked file fs d k) (r .refused) new (r .depth)) × (now (out .exit) ≡ answer-after (asked file fs d k .answer) (now (out .entry)))) ⌝ }
+{
+    if a.refused != 0 {
+        return a;
+    }
+    if bytes[0] == TOO_DEEP {
+        return refusal(TOO_DEEP, a.depth);
+    }
+    *out = bytes;
+    a
+}
+
+// Ask for step k, a list of one question: questions 12 to 16.
+pub fn ask(file: &[u8], frames: &mut [u8], depth: usize, k: u64, out: &mut [u8; 24]) -> Answered
+    ensures { λ r. ⌜ (Replied (asked (now (file .entry)) (frames-in frame-width (now (frames .entry))) depth k) (r .refused) (frames-in frame-width (now (frames .exit))) (r .depth)) × (now (out .exit) ≡ answer-after (asked (now (file .entry)) (frames-in frame-width (now (frames .entry))) depth k .answer) (now (out .entry))) ⌝ }
+{
+    let ks = [k];
+    let mut bytes = [0u8; ANSWER];
+    let a = if file.len() <= ONE_FILE {
+        ask_all_one(file, frames, depth, &ks, &mut bytes)
+    } else {
+        ask_all_many(file, frames, depth, &ks, &mut bytes)
+    };
+    told(a, bytes, out)
 }

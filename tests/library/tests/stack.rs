@@ -16,6 +16,12 @@ const MOST: usize = 128 << 10;
 /// Bytes of stack that the check of a table file and the stepping functions may use, for any input.
 const MOST_STEPPING: usize = 72 << 10;
 
+/// The same for a file of one block.
+const MOST_ONE_BLOCK: usize = 24 << 10;
+
+/// Bytes of a block.
+const BLOCK: usize = 512;
+
 /// Bytes of stack that the walk of a sheet may use, for any input.
 const MOST_WALKING: usize = 264 << 10;
 
@@ -135,37 +141,54 @@ fn printing() {
     }
 }
 
+/// Stack for a question, a list of ten, a start and a check of its file.
+fn stepping(question: &Question) -> [usize; 4] {
+    let Question {
+        file, frames, k, ..
+    } = question;
+    let (mut lent, mut depth) = (frames.clone(), 1);
+    let mut answer = Answer::plain(0);
+    let one = used(|| {
+        black_box(ask(file, &mut lent, &mut depth, *k, &mut answer));
+    });
+    let (mut lent, mut depth) = (frames.clone(), 1);
+    let mut answers = [0; 10 * ANSWER];
+    let list = used(|| {
+        black_box(ask_all(
+            file,
+            &mut lent,
+            &mut depth,
+            &[*k; 10],
+            &mut answers,
+        ));
+    });
+    let begin = used(|| {
+        black_box(start(file, &mut lent, &mut depth));
+    });
+    let check = used(|| {
+        black_box(check_table(file));
+    });
+    [one, list, begin, check]
+}
+
 #[test]
 fn step_questions() {
-    for Question {
-        what,
-        file,
-        frames,
-        k,
-    } in usual()
-    {
-        let (mut lent, mut depth) = (frames.clone(), 1);
-        let mut answer = Answer::plain(0);
-        let one = used(|| {
-            black_box(ask(&file, &mut lent, &mut depth, k, &mut answer));
-        });
-        let (mut lent, mut depth) = (frames.clone(), 1);
-        let mut answers = [0; 10 * ANSWER];
-        let list = used(|| {
-            black_box(ask_all(
-                &file,
-                &mut lent,
-                &mut depth,
-                &[k; 10],
-                &mut answers,
-            ));
-        });
-        let begin = used(|| {
-            black_box(start(&file, &mut lent, &mut depth));
-        });
-        println!("{what}: {one}, in a list {list}, a start {begin} of stack");
-        assert!(one.max(list).max(begin) <= MOST_STEPPING, "{what}");
+    let mut single = 0;
+    for question in usual() {
+        let blocks = question.file.len() / BLOCK;
+        let most = if blocks == 1 {
+            MOST_ONE_BLOCK
+        } else {
+            MOST_STEPPING
+        };
+        single += usize::from(blocks == 1);
+        let needs = stepping(&question);
+        let [one, list, begin, check] = needs;
+        let what = question.what;
+        println!("{what}, {blocks} blocks: {one}, in a list {list}, a start {begin}, a check {check} of stack");
+        assert!(needs.iter().all(|need| *need <= most), "{what}");
     }
+    assert!(single > 0, "no file of one block");
 }
 
 #[test]

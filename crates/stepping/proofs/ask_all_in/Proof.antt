@@ -5,6 +5,8 @@ use mathlib.Core.Path.{_≡_, refl, ap}
 use Prim.Native.Nat.{ℕ, _-_}
 use borrow.Author.Tests.{not-true, not-false}
 use lib.ListN.{take, length-take}
+use Rattle.pcrl.specs.Limits.{frame-width}
+use Rattle.stacks.specs.Lent.{frames-in}
 use Rattle.stepping.specs.Promises.{put-questions}
 use Rattle.stepping.proofs.Loading.{load-refused, load-count}
 use Rattle.stepping.proofs.Readiness.{ready, not-ready, ready-count}
@@ -26,8 +28,8 @@ returns : tie.Need-returns
 returns c =
     let l = c .before .before .before .before .before .load in
     let a = c .before .before .before .before .before .before .before .before .before .before .before .before .args in
-    ask-all-refused (a .file .now) (a .frames .now) (a .depth) (l .result .refused) (c .refusal .result)
-    (read-no-table (a .file .now) (a .frames .now) (a .depth) (l .result .refused) (load-refused _ (l .last .1 .0) (l .result) (l .ensures) (λ e. omega (arith, c .before .if1))))
+    ask-all-refused (a .file .now) (frames-in frame-width (a .frames .now)) (a .depth) (l .result .refused) (c .refusal .result)
+    (read-no-table (a .file .now) (frames-in frame-width (a .frames .now)) (a .depth) (l .result .refused) (load-refused _ (l .last .1 .0) (l .result) (l .ensures) (λ e. omega (arith, c .before .if1))))
     (c .refusal .ensures .0) (c .refusal .ensures .1) (put-questions (a .ks .now) (a .out .now)) (a .out .now)
 
 sub-right-frames : tie.Need-sub-right-frames
@@ -64,7 +66,7 @@ returns-2 : tie.Need-returns-2
 returns-2 c =
     let l = c .before .before .before .before .before .before .before .before .before .before .before .before .load in
     let a = c .before .before .before .before .before .before .before .before .before .before .before .before .before .before .before .before .before .before .before .args in
-    ask-all-refused (a .file .now) (a .frames .now) (a .depth) 15 (c .refusal2 .result)
+    ask-all-refused (a .file .now) (frames-in frame-width (a .frames .now)) (a .depth) 15 (c .refusal2 .result)
     (not-ready (a .file .now) (l .last .1 .0) (a .frames .now) (a .depth) (l .result) (l .ensures) (omega (arith, c .before .before .before .before .before .before .before .before .if1)) (c .before .before .right-frames .result) (c .before .before .right-frames .ensures) (not-true _ (c .before .if2 .taken)))
     (c .refusal2 .ensures .0) (c .refusal2 .ensures .1) (put-questions (a .ks .now) (a .out .now)) (a .out .now)
 

@@ -3,7 +3,7 @@ use borrow.Author.Needs.{needs}
 use Rattle.stepping.proofs.load.Statement.{statement}
 use Rattle.stepping.proofs.load.Tie as tie
 use native.Mathlib.Omega.{arith}
-use mathlib.Core.Path.{_≡_, refl, sym, ap, _∙_}
+use mathlib.Core.Path.{_≡_, refl}
 use Prim.Native.Nat.{ℕ, _-_}
 use lib.ListN.{take, length-take}
 use borrow.Author.Tests.{not-true, not-false}
