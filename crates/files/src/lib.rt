@@ -7,13 +7,9 @@ ghost use Rattle.pcrl.specs.Result.{refusal};
 ghost use Rattle.pcrl.specs.Blocks.{block-bytes, block-stream};
 ghost use Rattle.pcrl.specs.Answers.{table-checked};
 use blocks::BLOCK_STREAM;
+use limits::NO_TABLE;
+use limits::WRONG_STACK;
 use stepping::ONE_FILE;
-
-// Question 14: "the stream of the layout .. within all limits, rightly sorted, fewest blocks, zeros after it?"
-const NO_TABLE: u8 = 14;
-
-// Question 15: "exactly 64 frames lent"
-const WRONG_STACK: u8 = 15;
 
 // Where there is room for the file's stream.
 fn check_table(file: &[u8], stream: &mut [u8]) -> u8

@@ -15,29 +15,26 @@ use blocks::BLOCK_STREAM;
 use blocks::MAX_STREAM;
 use blocks::SHORT_FILE;
 use blocks::SHORT_STREAM;
+use elements::smaller;
+use limits::NO_TABLE;
+use limits::TOO_DEEP;
+use limits::WRONG_STACK;
 use stacks::BYTES;
 use stacks::FRAME;
 use stacks::LIMIT;
-
-// The questions that refuse here.
-const NO_TABLE: u8 = 14;
-
-const WRONG_STACK: u8 = 15;
-
-const TOO_DEEP: u8 = 16;
 
 // A file's stream stands in an array of the stack, of 1, 8, 32, 64 or 128 blocks as the file needs. That of one block stands in the frame of
 // the operation. The longer ones stand in `start_many` and `ask_all_many`, which have two callers and are large, so that the compiler lays
 // them into neither: a file of one block does not take the stack of a long one. Among themselves they save the time to clear the longest.
 pub const ONE_FILE: usize = 512;
 
-const FILE_32: usize = 16384;
+const FILE_32: usize = 32 * ONE_FILE;
 
-const STREAM_32: usize = 16192;
+const STREAM_32: usize = 32 * BLOCK_STREAM;
 
-const FILE_64: usize = 32768;
+const FILE_64: usize = 64 * ONE_FILE;
 
-const STREAM_64: usize = 32384;
+const STREAM_64: usize = 64 * BLOCK_STREAM;
 
 // The number of the question that failed; or 0, how long the stream is, and where its parts stand.
 pub struct Loaded {
@@ -188,12 +185,6 @@ pub fn start(file: &[u8], frames: &mut [u8], depth: usize) -> Answered
     start_many(file, frames, depth)
 }
 
-fn lesser(a: usize, b: usize) -> usize
-    ensures { λ r. ⌜ r ≡ min a b ⌝ }
-{
-    if a < b { a } else { b }
-}
-
 fn ask_all_in(
     file: &[u8],
     stream: &mut [u8],
@@ -214,7 +205,7 @@ fn ask_all_in(
     if !stacks::right_frames(&stream[0..n], index, &frames[0..], depth) {
         return refusal(WRONG_STACK, depth);
     }
-    let count = lesser(ks.len(), out.len() / ANSWER);
+    let count = smaller(ks.len(), out.len() / ANSWER);
     let last = asking::ask_each(
         &stream[0..n],
         index,

@@ -70,8 +70,8 @@ returns-2 c =
     (not-ready (a .file .now) (l .last .1 .0) (a .frames .now) (a .depth) (l .result) (l .ensures) (omega (arith, c .before .before .before .before .before .before .before .before .if1)) (c .before .before .right-frames .result) (c .before .before .right-frames .ensures) (not-true _ (c .before .if2 .taken)))
     (c .refusal2 .ensures .0) (c .refusal2 .ensures .1) (put-questions (a .ks .now) (a .out .now)) (a .out .now)
 
-lesser-requires : tie.Need-lesser-requires
-lesser-requires c κs = search needs
+smaller-requires : tie.Need-smaller-requires
+smaller-requires c κs = search needs
 
 sub-ask-each : tie.Need-sub-ask-each
 sub-ask-each c = search needs
@@ -110,7 +110,7 @@ ask-each-requires c κs =
     let a = c .before .before .before .before .before .before .before .before .before .before .before .before .before .before .before .before .before .before .before .before .before .before .before .before .args in
     let y = ready (a .file .now) (l .last .1 .0) (a .frames .now) (a .depth) (l .result) (l .ensures) (omega (arith, c .before .before .before .before .before .before .before .before .before .before .before .before .before .if1)) (c .before .before .before .before .before .before .before .right-frames .result) (c .before .before .before .before .before .before .before .right-frames .ensures) (not-false _ (c .before .before .before .before .before .before .if2 .left)) in
     let f = front-fits (a .file .now) (a .frames .now) (a .depth) _ _ y in
-    (rw (length-take (l .result .count - 0) (l .last .1 .0)) (omega (arith, l .kept .1 .0, c .before .before .before .before .before .before .before .before .before .before .before .before .before .before .before .before .before .before .before .before .before .before .before .before .pre .1)), (f .0, (f .1, rw (length-take (c .before .before .before .before .before .lesser .result - 0) (a .ks .now)) (omega (arith, c .before .before .before .before .before .lesser .ensures)))))
+    (rw (length-take (l .result .count - 0) (l .last .1 .0)) (omega (arith, l .kept .1 .0, c .before .before .before .before .before .before .before .before .before .before .before .before .before .before .before .before .before .before .before .before .before .before .before .before .pre .1)), (f .0, (f .1, rw (length-take (c .before .before .before .before .before .smaller .result - 0) (a .ks .now)) (omega (arith, c .before .before .before .before .before .smaller .ensures)))))
 
 same-length-4 : tie.Need-same-length-4
 same-length-4 c = search needs
@@ -126,9 +126,9 @@ returns-3 c =
     let l = c .before .before .before .before .before .before .before .before .before .before .before .before .before .before .before .before .before .before .before .before .before .before .load in
     let a = c .before .before .before .before .before .before .before .before .before .before .before .before .before .before .before .before .before .before .before .before .before .before .before .before .before .before .before .before .before .args in
     let y = ready (a .file .now) (l .last .1 .0) (a .frames .now) (a .depth) (l .result) (l .ensures) (omega (arith, c .before .before .before .before .before .before .before .before .before .before .before .before .before .before .before .before .before .before .if1)) (c .before .before .before .before .before .before .before .before .before .before .before .before .right-frames .result) (c .before .before .before .before .before .before .before .before .before .before .before .before .right-frames .ensures) (not-false _ (c .before .before .before .before .before .before .before .before .before .before .before .if2 .left)) in
-    let n : c .before .before .before .before .before .before .before .before .before .before .lesser .result - 0 ≡ c .before .before .before .before .before .before .before .before .before .before .lesser .result = omega arith in
+    let n : c .before .before .before .before .before .before .before .before .before .before .smaller .result - 0 ≡ c .before .before .before .before .before .before .before .before .before .before .smaller .result = omega arith in
     let e = c .before .before .before .before .ask-each in
-    all-done (a .file .now) (a .frames .now) (a .depth) _ _ y (e .last .1 .1 .0) (e .kept .1 .1 .0) (a .ks .now) (a .out .now) (e .last .1 .1 .1 .1 .1 .0) (take (c .before .before .before .before .before .before .before .before .before .before .lesser .result - 0) (a .ks .now)) (c .before .before .before .before .before .before .before .before .before .before .lesser .result) (record { refused = 0; depth = e .result }) refl (c .before .before .before .before .before .before .before .before .before .before .lesser .ensures)
+    all-done (a .file .now) (a .frames .now) (a .depth) _ _ y (e .last .1 .1 .0) (e .kept .1 .1 .0) (a .ks .now) (a .out .now) (e .last .1 .1 .1 .1 .1 .0) (take (c .before .before .before .before .before .before .before .before .before .before .smaller .result - 0) (a .ks .now)) (c .before .before .before .before .before .before .before .before .before .before .smaller .result) (record { refused = 0; depth = e .result }) refl (c .before .before .before .before .before .before .before .before .before .before .smaller .ensures)
     (ap (λ (m : ℕ). take m (a .ks .now)) n) (e .ensures (y .table) (y .right-table) (y .indexed) (front-right (a .file .now) (a .frames .now) (a .depth) _ _ y))
 
 pub ask-all-in-spec : {M : Type 1} → statement M
@@ -150,7 +150,7 @@ ask-all-in-spec =
     same-length-2
     same-length-3
     returns-2
-    lesser-requires
+    smaller-requires
     sub-ask-each
     part-ask-each-start
     part-ask-each-end
