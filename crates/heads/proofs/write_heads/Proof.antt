@@ -1,38 +1,43 @@
 -- `heads::write_heads` meets its contract.
 use borrow.Author.Needs.{needs}
 use native.Mathlib.Omega.{arith}
-use Prim.Native.Nat.{ℕ}
+use Prim.Native.Nat.{ℕ, _+_, _*_, _≤_}
 use mathlib.Core.Path.{refl}
 use lib.ListN.{length, replicate}
 use Rattle.following.specs.Follows.{calls-room}
-use Rattle.contexts.specs.Spots.{conds-room}
+use Rattle.contexts.specs.Spots.{arrays, conds-room}
+use Rattle.nodes.specs.Layout.{byte-limit}
+use Rattle.heads.specs.Stack.{later-cells}
 use Rattle.heads.proofs.Walking.{heads-out}
 use Rattle.heads.proofs.write_heads.Statement.{statement}
 use Rattle.heads.proofs.write_heads.Tie as tie
 
+roomy : later-cells * byte-limit ≤ length {A = ℕ} (replicate 1785 0) + later-cells
+roomy = omega arith
+
 slice-aggregate-walk : tie.Need-slice-aggregate-walk
-slice-aggregate-walk c = search needs
+slice-aggregate-walk c = refl
 
 slice-aggregate-walk-2 : tie.Need-slice-aggregate-walk-2
-slice-aggregate-walk-2 c = search needs
+slice-aggregate-walk-2 c = refl
 
 slice-aggregate-walk-3 : tie.Need-slice-aggregate-walk-3
-slice-aggregate-walk-3 c = search needs
+slice-aggregate-walk-3 c = refl
 
 slice-aggregate-walk-4 : tie.Need-slice-aggregate-walk-4
-slice-aggregate-walk-4 c = search needs
+slice-aggregate-walk-4 c = refl
 
 slice-aggregate-walk-5 : tie.Need-slice-aggregate-walk-5
-slice-aggregate-walk-5 c = search needs
+slice-aggregate-walk-5 c = refl
 
 walk-requires : tie.Need-walk-requires
 walk-requires c κs = search needs
 
 same-length : tie.Need-same-length
-same-length c = search needs
+same-length c = c .before .before .before .before .before .before .before .before .before .walk .kept .1 .1 .1 .1 .1 .1 .0
 
 same-length-2 : tie.Need-same-length-2
-same-length-2 c = search needs
+same-length-2 c = c .before .before .before .before .before .before .before .before .before .walk .kept .1 .1 .1 .1 .1 .1 .1 .1 .1 .1 .1 .1 .1 .0
 
 returns : tie.Need-returns
 returns c =
@@ -41,7 +46,7 @@ returns c =
     let bounds = the-walk .ensures .0 in (
       (bounds .0, bounds .1),
       heads-out (a .cells .now) (a .starts .now) (a .counts .now) (a .firsts .now) (a .fuel) (a .at) (a .c) (a .slots .now) (a .n) (a .m) (a .heads) (a .w) (a .out .now) (a .slots .now) (replicate 4 0) (replicate conds-room 0) (replicate calls-room 0) calls-room (length {A = ℕ} (replicate 1785 0)) refl
-          refl (the-walk .result) _ (the-walk .last .1 .1 .1 .1 .1 .1 .1 .1 .1 .1 .1 .1 .1 .0) (the-walk .ensures .1 refl) (omega arith),
+          refl (the-walk .result) (arrays (the-walk .last .1 .1 .1 .1 .1 .1 .0) (the-walk .last .1 .1 .1 .1 .1 .1 .1 .0) (the-walk .last .1 .1 .1 .1 .1 .1 .1 .1 .0) (the-walk .last .1 .1 .1 .1 .1 .1 .1 .1 .1 .1 .0)) (the-walk .last .1 .1 .1 .1 .1 .1 .1 .1 .1 .1 .1 .1 .1 .0) (the-walk .ensures .1 refl) roomy,
     )
 
 pub write-heads-spec : {M : Type 1} → statement M

@@ -2,7 +2,7 @@
 use borrow.Author.Needs.{needs}
 use native.Mathlib.Omega.{arith}
 use Prim.Native.Nat.{_-_, _%_}
-use mathlib.Core.Path.{_∙_}
+use mathlib.Core.Path.{_∙_, refl}
 use lib.ListN.{length-set}
 use Rattle.heads.proofs.Numbers.{list-full, list-right, list-none}
 use Rattle.heads.proofs.write_summands.Statement.{statement}
@@ -43,7 +43,7 @@ write-heads-requires c κs =
     let q = c .before .before .before .before .before .before .before .before .before .before .before .pre in omega (arith, length-set (args .out .now) (args .w) (c .before .before .before .before .count-heads .result % 256), c .before .before .before .if1 .left)
 
 same-length-2 : tie.Need-same-length-2
-same-length-2 c = search needs
+same-length-2 c = c .before .before .before .before .write-heads .kept .1 .1 .1 .1 .1 .1 .1 .0
 
 same-length-3 : tie.Need-same-length-3
 same-length-3 c =

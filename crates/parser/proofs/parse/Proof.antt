@@ -4,6 +4,7 @@ use mathlib.Core.Path.{_∙_}
 use mathlib.Core.List.{map}
 use native.Mathlib.Omega.{arith}
 use borrow.Author.Needs.{needs}
+use lib.Dec.{lit<}
 use lib.ListN.{length, length-map}
 use Rattle.lexer.specs.Cells.{cell-token}
 use Rattle.parser.specs.Kinds.{kind-of}
@@ -38,16 +39,16 @@ lines-of-requires-4 : tie.Need-lines-of-requires-4
 lines-of-requires-4 c κs = search needs
 
 some-lines-requires : tie.Need-some-lines-requires
-some-lines-requires c κs = search needs
+some-lines-requires c κs = tt
 
 expect-requires : tie.Need-expect-requires
-expect-requires c κs = omega arith
+expect-requires c κs = lit< tt
 
 init-line-requires : tie.Need-init-line-requires
-init-line-requires c κs = search needs
+init-line-requires c κs = tt
 
 expect-requires-2 : tie.Need-expect-requires-2
-expect-requires-2 c κs = omega arith
+expect-requires-2 c κs = lit< tt
 
 short-requires : tie.Need-short-requires
 short-requires c κs = tt

@@ -14,7 +14,7 @@ node-at-requires : tie.Need-node-at-requires
 node-at-requires c κs = search needs
 
 choice-requires : tie.Need-choice-requires
-choice-requires c κs = search needs
+choice-requires c κs = tt
 
 mul-count : tie.Need-mul-count
 mul-count c = search needs

@@ -1,5 +1,4 @@
 -- The walk meets its contract: each round carries on, and what is left falls; each call may follow one call less.
-use borrow.Author.Needs.{needs}
 use native.Mathlib.Omega.{arith}
 use Prim.Native.Nat.{_+_, _-_, _*_, _≤_, ℕ, _<_}
 use mathlib.Core.Path.{_≡_, refl, sym, _∙_, subst}
@@ -7,10 +6,13 @@ use mathlib.Core.Bool.{true, false}
 use mathlib.Core.Logic.{inr}
 use borrow.Author.Tests.{not-true, not-false}
 use lib.ListN.{length, take}
+use Rattle.pcrl.specs.Limits.{max-variables}
+use Rattle.putting.specs.Slots.{slot-width}
+use Rattle.following.specs.Follows.{calls-room}
 use Rattle.putting.proofs.PutLaws.{never}
 use Rattle.putting.proofs.Bytes.{kept-front}
 use Rattle.contexts.specs.Spots.{arrays, Bound}
-use Rattle.contexts.specs.Steps.{call-room}
+use Rattle.contexts.specs.Steps.{call-room, terms-room}
 use Rattle.heads.specs.Stack.{later-cells, Steady}
 use Rattle.heads.specs.Progress.{start, WrittenBy}
 use Rattle.heads.proofs.Stacking.{steady-start, steady-to, steady-own, steady-lengths, steady-later, steady-back}
@@ -77,6 +79,44 @@ next-turn-calls t = (choice-reads.Asked, choice-reads.Learnt, chosen-reads.Asked
 abbrev walk-calls : ℕ → walk-lts.Claims
 walk-calls t = (pass-headless-reads.Asked, pass-headless-reads.Learnt, inner-reads.Asked, inner-reads.Learnt, step-reads.Asked, step-reads.Learnt, next-turn-below t, next-turn.Post, down-side-reads.Asked, down-side-reads.Learnt)
 
+-- Orders among plain numbers: where they are cited, `omega` would read every record of the places.
+
+up-to : {a b c : ℕ} → a ≤ b → c ≡ b → a ≤ c
+up-to {a} {b} {c} h e = omega arith
+
+over : {a b c : ℕ} → a ≤ b → b ≡ c → a ≤ c
+over {a} {b} {c} h e = omega arith
+
+under : {a b c : ℕ} → a ≤ b → c ≡ a → c ≤ b
+under {a} {b} {c} h e = omega arith
+
+then : {a b c : ℕ} → a ≤ b → b ≤ c → a ≤ c
+then {a} {b} {c} h g = omega arith
+
+on-from : {a b c : ℕ} → a ≤ b → b < c → a < c
+on-from {a} {b} {c} h g = omega arith
+
+itself : {a : ℕ} → a ≤ a
+itself {a} = omega arith
+
+terms : {n : ℕ} → calls-room ≤ n → terms-room ≤ n
+terms {n} h = omega arith
+
+slots-in : (n nv l : ℕ) → slot-width * (n + max-variables) ≤ l + slot-width * nv → nv ≤ max-variables → slot-width * n ≤ l
+slots-in n nv l h g = omega arith
+
+front : {a b : ℕ} → a ≤ b → later-cells * a ≤ later-cells * b
+front {a} {b} h = omega arith
+
+call-falls : (f g : ℕ) {t : ℕ} → 3 * f ≡ t → f ≡ g + 1 → 3 * g + 2 < t
+call-falls f g {t} h e = omega arith
+
+leaf-falls : (f : ℕ) {t : ℕ} → 3 * f + 1 ≡ t → 3 * f < t
+leaf-falls f {t} h = omega arith
+
+turn-falls : {f g t : ℕ} → 3 * f + 2 ≡ t → g ≡ f → 3 * g + 1 < t
+turn-falls {f} {g} {t} h e = omega arith
+
 leaf-emit-requires : (t : ℕ) → leaf-lts.Need-emit-requires (leaf-calls t) (leaf-at t) leaf.Post
 leaf-emit-requires t c κs =
     let begin = c .before .before .before .before .before .before .before .before .before .before .before .before .before .before .before .before .before .before in
@@ -84,22 +124,22 @@ leaf-emit-requires t c κs =
     let rooms = begin .pre .1 .0 .1 in
     let fits = begin .pre .1 .0 .2 in
     let lo = begin .pre .1 .1 .0 in
-    ((bound, c .before .before .before .before .before .if1 .taken, lo .views), (rooms .vars-room, rooms .conds-fit, omega (arith, rooms .after-fit), rooms .calls-fit, fits))
+    ((bound, c .before .before .before .before .before .if1 .taken, lo .views), (rooms .vars-room, rooms .conds-fit, terms (rooms .after-fit), rooms .calls-fit, fits))
 
 leaf-same-length : (t : ℕ) → leaf-lts.Need-same-length (leaf-calls t) (leaf-at t) leaf.Post
-leaf-same-length t c = search needs
+leaf-same-length t c = refl
 
 leaf-same-length-2 : (t : ℕ) → leaf-lts.Need-same-length-2 (leaf-calls t) (leaf-at t) leaf.Post
-leaf-same-length-2 t c = search needs
+leaf-same-length-2 t c = refl
 
 leaf-same-length-3 : (t : ℕ) → leaf-lts.Need-same-length-3 (leaf-calls t) (leaf-at t) leaf.Post
-leaf-same-length-3 t c = search needs
+leaf-same-length-3 t c = c .before .before .before .before .emit .kept .1 .1 .1 .1 .1 .1 .0
 
 leaf-same-length-4 : (t : ℕ) → leaf-lts.Need-same-length-4 (leaf-calls t) (leaf-at t) leaf.Post
-leaf-same-length-4 t c = search needs
+leaf-same-length-4 t c = refl
 
 leaf-same-length-5 : (t : ℕ) → leaf-lts.Need-same-length-5 (leaf-calls t) (leaf-at t) leaf.Post
-leaf-same-length-5 t c = search needs
+leaf-same-length-5 t c = c .before .before .before .before .emit .kept .1 .1 .1 .1 .1 .1 .1 .1 .0
 
 leaf-returns : (t : ℕ) → leaf-lts.Need-returns (leaf-calls t) (leaf-at t) leaf.Post
 leaf-returns t c =
@@ -108,12 +148,12 @@ leaf-returns t c =
     ((em .0 .0, em .0 .1, refl), λ H F hs rd sp ro. em .1 (a .starts .now) (a .counts .now) (a .firsts .now) H F hs rd sp)
 
 leaf-slice-aggregate-down-call : (t : ℕ) → leaf-lts.Need-slice-aggregate-down-call (leaf-calls t) (leaf-at t) leaf.Post
-leaf-slice-aggregate-down-call t c = search needs
+leaf-slice-aggregate-down-call t c = refl
 
 leaf-down-call-requires : (t : ℕ) → leaf-lts.Need-down-call-requires (leaf-calls t) (leaf-at t) leaf.Post
 leaf-down-call-requires t c κs =
     let bound = c .before .before .before .before .before .before .before .before .before .before .before .before .before .before .pre .1 .0 .0 in
-    omega (arith, bound .n-room, bound .nv-few)
+    let a = c .before .before .before .before .before .before .before .before .before .before .before .before .before .before .args in (slots-in (a .g .s .n) (a .g .s .nv) (length (a .slots .now)) (bound .n-room) (bound .nv-few), itself)
 
 leaf-returns-2 : (t : ℕ) → leaf-lts.Need-returns-2 (leaf-calls t) (leaf-at t) leaf.Post
 leaf-returns-2 t c =
@@ -122,10 +162,10 @@ leaf-returns-2 t c =
     let fits = begin .pre .1 .0 .2 in
     let lo = begin .pre .1 .1 .0 in
     let is = is-call (a .g .d .kind) (begin .pre .1 .1 .1) (c .before .before .before .before .before .if1 .left) in
-    ((omega arith, fits, refl), call-fails (a .cells .now) (a .starts .now) (a .counts .now) (a .firsts .now) (a .g .s) (a .g .d) (lo .views) is (a .slots .now) (a .vars .now) (a .conds .now) (a .calls .now) (c .before .before .before .down-call .result) (c .before .before .before .down-call .last .1 .1 .1 .1 .1 .1 .0) (c .before .before .before .down-call .ensures .1) (a .w) (a .out .now) (a .heads) (a .q) (length (a .later .now)) (not-true _ (c .if2 .taken)))
+    ((itself, fits, refl), call-fails (a .cells .now) (a .starts .now) (a .counts .now) (a .firsts .now) (a .g .s) (a .g .d) (lo .views) is (a .slots .now) (a .vars .now) (a .conds .now) (a .calls .now) (c .before .before .before .down-call .result) (c .before .before .before .down-call .last .1 .1 .1 .1 .1 .1 .0) (c .before .before .before .down-call .ensures .1) (a .w) (a .out .now) (a .heads) (a .q) (length (a .later .now)) (not-true _ (c .if2 .taken)))
 
 leaf-slice-aggregate-walk : (t : ℕ) → leaf-lts.Need-slice-aggregate-walk (leaf-calls t) (leaf-at t) leaf.Post
-leaf-slice-aggregate-walk t c = search needs
+leaf-slice-aggregate-walk t c = sym (c .before .before .before .before .down-call .kept .1 .1 .1 .1 .1 .1 .0)
 
 leaf-walk-requires : (t : ℕ) → leaf-lts.Need-walk-requires (leaf-calls t) (leaf-at t) leaf.Post
 leaf-walk-requires t c κs =
@@ -137,25 +177,25 @@ leaf-walk-requires t c κs =
     let high = begin .pre .1 .0 .3 in
     let y = c .before .before .before .before .before .before .before .before .before .before .down-call .ensures .0 (not-false _ (c .before .before .before .before .before .before .before .if2 .left)) in
     let em : length (c .before .before .before .before .before .before .before .before .before .before .down-call .last .1 .1 .1 .1 .1 .1 .0) ≡ call-room = c .before .before .before .before .before .before .before .before .before .before .down-call .kept .1 .1 .1 .1 .1 .1 .0 in
-    (omega (arith, begin .pre .0, y .0), (subst (λ (x : ℕ). Bound (length (a .calls .now)) x (c .before .before .before .before .before .before .before .before .before .before .down-call .result)) (sym em) (y .1 (length (a .calls .now)) (length (a .slots .now)) bound), rooms, fits, high))
+    (call-falls (a .g .s .fuel) (c .before .before .before .before .before .before .before .before .before .before .down-call .result .fuel) (begin .pre .0) (y .0), (subst (λ (x : ℕ). Bound (length (a .calls .now)) x (c .before .before .before .before .before .before .before .before .before .before .down-call .result)) (sym em) (y .1 (length (a .calls .now)) (length (a .slots .now)) bound), rooms, fits, high))
 
 leaf-same-length-6 : (t : ℕ) → leaf-lts.Need-same-length-6 (leaf-calls t) (leaf-at t) leaf.Post
-leaf-same-length-6 t c = search needs
+leaf-same-length-6 t c = c .before .before .before .before .before .before .before .before .before .before .before .before .before .walk .kept .1 .1 .1 .1 .1 .1 .1 .0
 
 leaf-same-length-7 : (t : ℕ) → leaf-lts.Need-same-length-7 (leaf-calls t) (leaf-at t) leaf.Post
-leaf-same-length-7 t c = search needs
+leaf-same-length-7 t c = c .before .before .before .before .before .before .before .before .before .before .before .before .before .walk .kept .1 .1 .1 .1 .1 .1 .1 .1 .0
 
 leaf-same-length-8 : (t : ℕ) → leaf-lts.Need-same-length-8 (leaf-calls t) (leaf-at t) leaf.Post
-leaf-same-length-8 t c = search needs
+leaf-same-length-8 t c = c .before .before .before .before .before .before .before .before .before .before .before .before .before .walk .kept .1 .1 .1 .1 .1 .1 .1 .1 .1 .0
 
 leaf-same-length-9 : (t : ℕ) → leaf-lts.Need-same-length-9 (leaf-calls t) (leaf-at t) leaf.Post
-leaf-same-length-9 t c = search needs
+leaf-same-length-9 t c = c .before .before .before .before .before .before .before .before .before .before .before .before .before .walk .kept .1 .1 .1 .1 .1 .1 .1 .1 .1 .1 .0
 
 leaf-same-length-10 : (t : ℕ) → leaf-lts.Need-same-length-10 (leaf-calls t) (leaf-at t) leaf.Post
-leaf-same-length-10 t c = search needs
+leaf-same-length-10 t c = c .before .before .before .before .before .before .before .before .before .before .before .before .before .walk .kept .1 .1 .1 .1 .1 .1 .1 .1 .1 .1 .1 .0
 
 leaf-same-length-11 : (t : ℕ) → leaf-lts.Need-same-length-11 (leaf-calls t) (leaf-at t) leaf.Post
-leaf-same-length-11 t c = search needs
+leaf-same-length-11 t c = c .before .before .before .before .before .before .before .before .before .before .before .before .before .walk .kept .1 .1 .1 .1 .1 .1 .1 .1 .1 .1 .1 .1 .1 .0
 
 leaf-returns-3 : (t : ℕ) → leaf-lts.Need-returns-3 (leaf-calls t) (leaf-at t) leaf.Post
 leaf-returns-3 t c =
@@ -168,7 +208,7 @@ leaf-returns-3 t c =
     (wk .0, call-out (a .cells .now) (a .starts .now) (a .counts .now) (a .firsts .now) (a .g .s) (a .g .d) (lo .views) is (a .slots .now) (a .vars .now) (a .conds .now) (a .calls .now) (c .before .before .before .before .before .before .before .before .before .before .before .before .before .before .before .before .before .before .before .before .before .before .before .before .down-call .result) (c .before .before .before .before .before .before .before .before .before .before .before .before .before .before .before .before .before .before .before .before .before .before .before .before .down-call .last .1 .1 .1 .1 .1 .1 .0) (c .before .before .before .before .before .before .before .before .before .before .before .before .before .before .before .before .before .before .before .before .before .before .before .before .down-call .ensures .1) (a .w) (a .out .now) (a .heads) (a .q) (length (a .later .now)) ok (c .before .before .before .before .before .before .before .before .before .before .before .before .before .walk .result) (c .before .before .before .before .before .before .before .before .before .before .before .before .before .walk .last .1 .1 .1 .1 .1 .1 .0) (c .before .before .before .before .before .before .before .before .before .before .before .before .before .walk .last .1 .1 .1 .1 .1 .1 .1 .0) (c .before .before .before .before .before .before .before .before .before .before .before .before .before .walk .last .1 .1 .1 .1 .1 .1 .1 .1 .0) (c .before .before .before .before .before .before .before .before .before .before .before .before .before .walk .last .1 .1 .1 .1 .1 .1 .1 .1 .1 .1 .0) (c .before .before .before .before .before .before .before .before .before .before .before .before .before .walk .last .1 .1 .1 .1 .1 .1 .1 .1 .1 .1 .1 .1 .1 .0) (wk .1 ok))
 
 next-turn-choice-requires : (t : ℕ) → next-turn-lts.Need-choice-requires (next-turn-calls t) (next-turn-at t) next-turn.Post
-next-turn-choice-requires t c κs = search needs
+next-turn-choice-requires t c κs = tt
 
 next-turn-chosen-requires : (t : ℕ) → next-turn-lts.Need-chosen-requires (next-turn-calls t) (next-turn-at t) next-turn.Post
 next-turn-chosen-requires t c κs =
@@ -181,7 +221,7 @@ next-turn-chosen-requires t c κs =
     ((lk, ls, rooms .calls-fit, y .bound), y .high)
 
 next-turn-same-length : (t : ℕ) → next-turn-lts.Need-same-length (next-turn-calls t) (next-turn-at t) next-turn.Post
-next-turn-same-length t c = search needs
+next-turn-same-length t c = c .before .before .chosen .kept .1 .1 .1 .0
 
 next-turn-returns : (t : ℕ) → next-turn-lts.Need-returns (next-turn-calls t) (next-turn-at t) next-turn.Post
 next-turn-returns t c =
@@ -198,7 +238,7 @@ next-turn-returns t c =
     let B = arrays (a .slots .now) (a .vars .now) (a .conds .now) (a .calls .now) in
     let ch = c .before .before .chosen .ensures in
     let z = ch .1 (a .cells .now) (a .counts .now) lo (c .before .before .before .before .before .choice .ensures .0 (c .before .before .before .before .if1 .taken)) in (
-      (omega (arith, ch .0 .0), omega (arith, ch .0 .0, fits), kept-front (later-cells * a .q0) (later-cells * a .q) l (c .before .before .chosen .last .1 .1 .1 .0) (omega (arith, y .low)) (ch .0 .1)),
+      (up-to {a = a .w} itself (ch .0 .0), under fits (ch .0 .0), kept-front (later-cells * a .q0) (later-cells * a .q) l (c .before .before .chosen .last .1 .1 .1 .0) (front (y .low)) (ch .0 .1)),
       (λ still. (z .1 lk ls (a .g .s .fuel) (a .q0) (rooms .calls-fit) y still, z .0 still), λ S eq on. z .2 (a .starts .now) (a .firsts .now) B o S on),
     )
 
@@ -210,31 +250,31 @@ next-turn-leaf-requires t c κs =
     let rooms = begin .pre .1 .0 .1 in
     let fits = begin .pre .1 .0 .2 in
     let lo = begin .pre .1 .1 .0 in
-    (omega (arith, begin .pre .0), ((y .bound, rooms, fits, y .high), (lo, leaf-kind (a .g .d .kind) (begin .pre .1 .1 .1) (c .before .before .before .before .before .before .before .choice .ensures .1 (c .before .before .before .before .before .before .if1 .left)))))
+    (leaf-falls (a .g .s .fuel) (begin .pre .0), ((y .bound, rooms, fits, y .high), (lo, leaf-kind (a .g .d .kind) (begin .pre .1 .1 .1) (c .before .before .before .before .before .before .before .choice .ensures .1 (c .before .before .before .before .before .before .if1 .left)))))
 
 next-turn-resumed-requires : (t : ℕ) → next-turn-lts.Need-resumed-requires (next-turn-calls t) (next-turn-at t) next-turn.Post
 next-turn-resumed-requires t c κs =
     let begin = c .before .before .before .before .before .before .before .before .before .before .before .before .before .before .before .before .before .before .before .before .before .before .before .before .before .before .before .before .before .before .before .before .before in
     let y = begin .pre .1 .0 .0 in
-    omega (arith, y .high, c .before .before .before .before .before .before .before .before .before .before .before .before .before .leaf .kept .1 .1 .1 .1 .1 .1 .1 .1 .1 .1 .1 .0)
+    up-to (y .high) (c .before .before .before .before .before .before .before .before .before .before .before .before .before .leaf .kept .1 .1 .1 .1 .1 .1 .1 .1 .1 .1 .1 .0)
 
 next-turn-same-length-2 : (t : ℕ) → next-turn-lts.Need-same-length-2 (next-turn-calls t) (next-turn-at t) next-turn.Post
-next-turn-same-length-2 t c = search needs
+next-turn-same-length-2 t c = c .before .before .before .before .before .before .before .before .before .before .before .before .before .before .leaf .kept .1 .1 .1 .1 .1 .1 .1 .0
 
 next-turn-same-length-3 : (t : ℕ) → next-turn-lts.Need-same-length-3 (next-turn-calls t) (next-turn-at t) next-turn.Post
-next-turn-same-length-3 t c = search needs
+next-turn-same-length-3 t c = c .before .before .before .before .before .before .before .before .before .before .before .before .before .before .leaf .kept .1 .1 .1 .1 .1 .1 .1 .1 .0
 
 next-turn-same-length-4 : (t : ℕ) → next-turn-lts.Need-same-length-4 (next-turn-calls t) (next-turn-at t) next-turn.Post
-next-turn-same-length-4 t c = search needs
+next-turn-same-length-4 t c = c .before .before .before .before .before .before .before .before .before .before .before .before .before .before .leaf .kept .1 .1 .1 .1 .1 .1 .1 .1 .1 .0
 
 next-turn-same-length-5 : (t : ℕ) → next-turn-lts.Need-same-length-5 (next-turn-calls t) (next-turn-at t) next-turn.Post
-next-turn-same-length-5 t c = search needs
+next-turn-same-length-5 t c = c .before .before .before .before .before .before .before .before .before .before .before .before .before .before .leaf .kept .1 .1 .1 .1 .1 .1 .1 .1 .1 .1 .0
 
 next-turn-same-length-6 : (t : ℕ) → next-turn-lts.Need-same-length-6 (next-turn-calls t) (next-turn-at t) next-turn.Post
-next-turn-same-length-6 t c = search needs
+next-turn-same-length-6 t c = c .before .before .before .before .before .before .before .before .before .before .before .before .before .before .leaf .kept .1 .1 .1 .1 .1 .1 .1 .1 .1 .1 .1 .0
 
 next-turn-same-length-7 : (t : ℕ) → next-turn-lts.Need-same-length-7 (next-turn-calls t) (next-turn-at t) next-turn.Post
-next-turn-same-length-7 t c = search needs
+next-turn-same-length-7 t c = c .before .before .before .before .before .before .before .before .before .before .before .before .before .before .leaf .kept .1 .1 .1 .1 .1 .1 .1 .1 .1 .1 .1 .1 .1 .0
 
 next-turn-returns-2 : (t : ℕ) → next-turn-lts.Need-returns-2 (next-turn-calls t) (next-turn-at t) next-turn.Post
 next-turn-returns-2 t c =
@@ -254,7 +294,7 @@ next-turn-returns-2 t c =
     let el : length l′ ≡ length l = c .before .before .before .before .before .before .before .before .before .before .before .before .before .before .leaf .kept .1 .1 .1 .1 .1 .1 .1 .1 .1 .1 .1 .0 in
     let eo : length o′ ≡ length o = c .before .before .before .before .before .before .before .before .before .before .before .before .before .before .leaf .kept .1 .1 .1 .1 .1 .1 .1 .1 .1 .1 .1 .1 .1 .0 in
     let C = arrays (a .slots .now) (c .before .before .before .before .before .before .before .before .before .before .before .before .before .before .leaf .last .1 .1 .1 .1 .1 .1 .1 .0) (c .before .before .before .before .before .before .before .before .before .before .before .before .before .before .leaf .last .1 .1 .1 .1 .1 .1 .1 .1 .0) (c .before .before .before .before .before .before .before .before .before .before .before .before .before .before .leaf .last .1 .1 .1 .1 .1 .1 .1 .1 .1 .1 .0) in (
-      (omega (arith, rs .0, lf .0 .0), omega (arith, rs .0, lf .0 .1), kept-front (later-cells * a .q0) (later-cells * a .q) l l′ (omega (arith, y .low)) (lf .0 .2)),
+      (up-to (lf .0 .0) (rs .0), under (lf .0 .1) (rs .0), kept-front (later-cells * a .q0) (later-cells * a .q) l l′ (front (y .low)) (lf .0 .2)),
       (
         λ still. rs .1 .0 lk ls (a .g .s .fuel) (steady-later lk ls (a .g .s .fuel) (a .q0) (a .g .s) (a .q) l y l′ el (lf .0 .2)) still,
         λ S eq on. rs .1 .1 (a .starts .now) (a .counts .now) (a .firsts .now) C o′ S eq (record {
@@ -263,7 +303,7 @@ next-turn-returns-2 t c =
           o = o;
           onward = goes-later (a .cells .now) (a .starts .now) (a .counts .now) (a .firsts .now) S (a .g .s) (a .heads) (a .left) (a .q) (a .w) B l o on l′ (y .high) el (lf .0 .2);
           written = subst (λ (n : ℕ). WrittenBy (a .cells .now) (a .starts .now) (a .counts .now) (a .firsts .now) (start (a .g .s) B (a .w) o (a .heads) (a .q) n) x C o′) (sym el) (lf .1);
-          inside = omega (arith, lf .0 .1, eo);
+          inside = up-to (lf .0 .1) eo;
           same = eo;
         }),
       ),
@@ -286,7 +326,7 @@ walk-loop-holds t c =
     let B₀ = arrays (a .slots .now) (a .vars .now) (a .conds .now) (a .calls .now) in
     let pre = begin .pre .1 in (
       (refl, refl, refl, refl, refl, refl, refl),
-      (omega arith, pre .2, refl),
+      (itself, pre .2, refl),
       λ ok. steady-start (length (a .calls .now)) (length (a .slots .now)) (a .s0 .fuel) (a .q0) (a .s0) (a .q0) (a .later .now) (pre .0) refl (pre .3),
       λ ok₀. (λ ok. goes-start (a .cells .now) (a .starts .now) (a .counts .now) (a .firsts .now) (a .s0) B₀ (a .w) (a .out .now) (a .heads0) (a .q0) (a .later .now) (pre .2), λ bad. never (sym bad ∙ ok₀)),
     )
@@ -322,7 +362,7 @@ walk-returns t c =
     let i = here .inv in
     let B = arrays (here .slots) (here .vars) (here .conds) (here .calls) in
     let ok = c .before .before .loop-test .taken in
-    ((i .1 .0, i .1 .1, i .1 .2), λ ok₀. goes-stuck (a .cells .now) (a .starts .now) (a .counts .now) (a .firsts .now) S (here .s) (here .heads) (here .left) (here .q) (here .v) B (here .later) (here .out) (i .3 ok₀ .0 ok) (omega (arith, c .if1 .taken)) (record { ok = false; w = here .v }) B (here .out))
+    ((i .1 .0, i .1 .1, i .1 .2), λ ok₀. goes-stuck (a .cells .now) (a .starts .now) (a .counts .now) (a .firsts .now) S (here .s) (here .heads) (here .left) (here .q) (here .v) B (here .later) (here .out) (i .3 ok₀ .0 ok) (c .if1 .taken) (record { ok = false; w = here .v }) B (here .out))
 
 walk-pass-headless-requires : (t : ℕ) → walk-lts.Need-pass-headless-requires (walk-calls t) (walk-at t) walk.Post walk-Inv-loop walk-μ-loop
 walk-pass-headless-requires t c κs =
@@ -330,10 +370,10 @@ walk-pass-headless-requires t c κs =
     let i = here .inv in
     let ok = c .before .before .loop-test .taken in
     let y = i .2 ok in
-    (omega (arith, c .if1 .left), y .bound .fuel-small, y .bound .c-small)
+    (c .if1 .left, y .bound .fuel-small, y .bound .c-small)
 
 walk-inner-requires : (t : ℕ) → walk-lts.Need-inner-requires (walk-calls t) (walk-at t) walk.Post walk-Inv-loop walk-μ-loop
-walk-inner-requires t c κs = search needs
+walk-inner-requires t c κs = tt
 
 walk-step-requires : (t : ℕ) → walk-lts.Need-step-requires (walk-calls t) (walk-at t) walk.Post walk-Inv-loop walk-μ-loop
 walk-step-requires t c κs =
@@ -350,7 +390,7 @@ walk-step-requires t c κs =
     let lk = length (here .calls) in
     let ls = length (here .slots) in
     let ys = steady-to lk ls (a .s0 .fuel) (a .q0) (here .s) (here .q) (here .later) y (g .s) (past .stays lk ls (y .bound)) (past .fuel-same) in
-    ((lo .inside, lo .on, lo .views, ys .bound), (omega (arith, rooms .vars-room, i .0 .1), omega (arith, rooms .after-fit, i .0 .3)))
+    ((lo .inside, lo .on, lo .views, ys .bound), (up-to (rooms .vars-room) (i .0 .1), up-to (rooms .after-fit) (i .0 .3)))
 
 walk-loop-less : (t : ℕ) → walk-lts.Need-loop-less (walk-calls t) (walk-at t) walk.Post walk-Inv-loop walk-μ-loop
 walk-loop-less t c =
@@ -361,7 +401,7 @@ walk-loop-less t c =
     let past = c .before .before .before .before .before .before .before .before .before .before .before .before .before .before .before .pass-headless .ensures .1 in
     let t = c .before .before .before .before .before .before .before .before .step .result in
     let sp = c .before .before .before .before .before .before .before .before .step .ensures in
-    weigh-less (length (a .cells .now)) (here .s .ok) (t .ok) (here .left) (here .left) (here .s .at) (t .at) ok (omega (arith, c .before .before .before .before .before .before .before .before .before .before .before .before .before .before .before .before .if1 .left)) (λ on. inr (refl, omega (arith, sp .1 .0 on .1, past .further)))
+    weigh-less (length (a .cells .now)) (here .s .ok) (t .ok) (here .left) (here .left) (here .s .at) (t .at) ok (c .before .before .before .before .before .before .before .before .before .before .before .before .before .before .before .before .if1 .left) (λ on. inr (refl, on-from (past .further) (sp .1 .0 on .1)))
 
 walk-loop-again : (t : ℕ) → walk-lts.Need-loop-again (walk-calls t) (walk-at t) walk.Post walk-Inv-loop walk-μ-loop
 walk-loop-again t c =
@@ -405,7 +445,7 @@ walk-next-turn-requires t c κs =
     let lk = length (here .calls) in
     let ls = length (here .slots) in
     let ys = steady-to lk ls (a .s0 .fuel) (a .q0) (here .s) (here .q) (here .later) y (g .s) (past .stays lk ls (y .bound)) (past .fuel-same) in
-    (omega (arith, begin .pre .0, ys .fuel-is), ((steady-own lk ls (a .s0 .fuel) (a .q0) (g .s) (here .q) (here .later) ys, record { vars-room = omega (arith, rooms .vars-room, i .0 .1); conds-fit = omega (arith, rooms .conds-fit, i .0 .2); after-fit = omega (arith, rooms .after-fit, i .0 .3); calls-fit = omega (arith, rooms .calls-fit, i .0 .4) }, omega (arith, i .1 .1, i .0 .6)), (lo, c .before .before .before .before .before .before .before .before .inner .ensures .1 (c .before .before .before .before .before .before .before .if2 .left))))
+    (turn-falls {f = a .s0 .fuel} (begin .pre .0) (ys .fuel-is), ((steady-own lk ls (a .s0 .fuel) (a .q0) (g .s) (here .q) (here .later) ys, record { vars-room = up-to (rooms .vars-room) (i .0 .1); conds-fit = up-to (rooms .conds-fit) (i .0 .2); after-fit = up-to (rooms .after-fit) (i .0 .3); calls-fit = under (rooms .calls-fit) (i .0 .4) }, up-to (i .1 .1) (i .0 .6)), (lo, c .before .before .before .before .before .before .before .before .inner .ensures .1 (c .before .before .before .before .before .before .before .if2 .left))))
 
 walk-same-length-8 : (t : ℕ) → walk-lts.Need-same-length-8 (walk-calls t) (walk-at t) walk.Post walk-Inv-loop walk-μ-loop
 walk-same-length-8 t c = c .before .before .before .before .before .before .before .before .before .before .before .before .before .before .before .before .before .before .before .before .before .before .before .before .before .before .before .before .loop .inv .0 .0
@@ -441,7 +481,7 @@ walk-returns-2 t c =
     let g = c .before .before .before .before .before .before .before .before .before .before .before .before .before .before .before .before .before .before .before .before .before .before .before .before .pass-headless .result in
     let past = c .before .before .before .before .before .before .before .before .before .before .before .before .before .before .before .before .before .before .before .before .before .before .before .before .pass-headless .ensures .1 in
     let nt = c .before .before .before .before .before .before .before .before .before .before .before .before .before .before .next-turn .ensures in
-    ((omega (arith, nt .0 .0, i .1 .0), omega (arith, nt .0 .1, i .0 .6), nt .0 .2 ∙ i .1 .2), λ ok₀. nt .1 .1 S refl (goes-past (a .cells .now) (a .starts .now) (a .counts .now) (a .firsts .now) S (here .s) (here .heads) (here .left) (here .q) (here .v) B (here .later) (here .out) (i .3 ok₀ .0 ok) (g .s) past) .1 (c .if3 .taken))
+    ((then (i .1 .0) (nt .0 .0), over (nt .0 .1) (i .0 .6), nt .0 .2 ∙ i .1 .2), λ ok₀. nt .1 .1 S refl (goes-past (a .cells .now) (a .starts .now) (a .counts .now) (a .firsts .now) S (here .s) (here .heads) (here .left) (here .q) (here .v) B (here .later) (here .out) (i .3 ok₀ .0 ok) (g .s) past) .1 (c .if3 .taken))
 
 walk-down-side-requires : (t : ℕ) → walk-lts.Need-down-side-requires (walk-calls t) (walk-at t) walk.Post walk-Inv-loop walk-μ-loop
 walk-down-side-requires t c κs =
@@ -450,8 +490,9 @@ walk-down-side-requires t c κs =
     let here = c .before .before .before .before .before .before .before .before .before .before .before .before .before .before .before .before .before .before .before .before .before .before .before .before .before .before .before .before .before .before .loop in
     let i = here .inv in
     let nt = c .before .before .before .before .before .before .before .before .before .before .before .before .before .before .before .before .next-turn .ensures in
+    let nt-res = c .before .before .before .before .before .before .before .before .before .before .before .before .before .before .before .before .next-turn .result in
     let b = nt .1 .0 (c .before .before .if3 .left) .0 .bound in
-    (b .lc-few, omega (arith, rooms .conds-fit, i .0 .2, c .before .before .before .before .before .before .before .before .before .before .before .before .before .before .before .before .next-turn .kept .1 .1 .1 .1 .1 .1 .1 .1 .1 .0), omega (arith, b .n-room, b .nv-few))
+    (b .lc-few, up-to (up-to (rooms .conds-fit) (i .0 .2)) (c .before .before .before .before .before .before .before .before .before .before .before .before .before .before .before .before .next-turn .kept .1 .1 .1 .1 .1 .1 .1 .1 .1 .0), slots-in (nt-res .t .n) (nt-res .t .nv) (length (here .slots)) (b .n-room) (b .nv-few))
 
 walk-loop-less-2 : (t : ℕ) → walk-lts.Need-loop-less-2 (walk-calls t) (walk-at t) walk.Post walk-Inv-loop walk-μ-loop
 walk-loop-less-2 t c =
@@ -466,7 +507,7 @@ walk-loop-less-2 t c =
     let t = c .before .before .down-side .result in
     let sd = c .before .before .down-side .ensures in
     let near = nt .1 .0 (c .before .before .before .before .before .if3 .left) .1 in
-    weigh-less (length (a .cells .now)) (here .s .ok) (t .ok) (here .left) (k .left) (here .s .at) (t .at) ok (omega (arith, c .before .before .before .before .before .before .before .before .before .before .before .before .before .before .before .before .before .before .before .before .before .before .before .before .before .before .before .before .before .before .if1 .left)) (λ on. nearer (here .left) (k .left) (here .s .at) (g .s .at) (k .e .at) (t .at) (past .further) (sd .1 .0 on .1) (near .1))
+    weigh-less (length (a .cells .now)) (here .s .ok) (t .ok) (here .left) (k .left) (here .s .at) (t .at) ok (c .before .before .before .before .before .before .before .before .before .before .before .before .before .before .before .before .before .before .before .before .before .before .before .before .before .before .before .before .before .before .if1 .left) (λ on. nearer (here .left) (k .left) (here .s .at) (g .s .at) (k .e .at) (t .at) (past .further) (sd .1 .0 on .1) (near .1))
 
 walk-loop-again-2 : (t : ℕ) → walk-lts.Need-loop-again-2 (walk-calls t) (walk-at t) walk.Post walk-Inv-loop walk-μ-loop
 walk-loop-again-2 t c =
@@ -494,7 +535,7 @@ walk-loop-again-2 t c =
     let later′ = (c .before .before .before .before .before .before .before .before .before .before .before .before .before .before .before .before .before .before .before .next-turn .last .1 .1 .1 .1 .1 .1 .1 .1 .1 .1 .1 .1 .0) in
     let ec : length calls′ ≡ lk = c .before .before .before .before .before .before .before .before .before .before .before .before .before .before .before .before .before .before .before .next-turn .kept .1 .1 .1 .1 .1 .1 .1 .1 .1 .1 .1 .0 in (
       (i .0 .0, c .before .before .before .before .before .before .before .before .before .before .before .before .before .before .before .before .before .before .before .next-turn .kept .1 .1 .1 .1 .1 .1 .1 .1 .0 ∙ i .0 .1, c .before .before .down-side .kept .1 .1 .1 .1 .1 .0 ∙ c .before .before .before .before .before .before .before .before .before .before .before .before .before .before .before .before .before .before .before .next-turn .kept .1 .1 .1 .1 .1 .1 .1 .1 .1 .0 ∙ i .0 .2, c .before .before .before .before .before .before .before .before .before .before .before .before .before .before .before .before .before .before .before .next-turn .kept .1 .1 .1 .1 .1 .1 .1 .1 .1 .1 .0 ∙ i .0 .3, ec ∙ i .0 .4, c .before .before .before .before .before .before .before .before .before .before .before .before .before .before .before .before .before .before .before .next-turn .kept .1 .1 .1 .1 .1 .1 .1 .1 .1 .1 .1 .1 .0 ∙ i .0 .5, c .before .before .before .before .before .before .before .before .before .before .before .before .before .before .before .before .before .before .before .next-turn .kept .1 .1 .1 .1 .1 .1 .1 .1 .1 .1 .1 .1 .1 .1 .1 .0 ∙ i .0 .6),
-      (omega (arith, nt .0 .0, i .1 .0), omega (arith, nt .0 .1, i .0 .6), nt .0 .2 ∙ i .1 .2),
+      (then (i .1 .0) (nt .0 .0), over (nt .0 .1) (i .0 .6), nt .0 .2 ∙ i .1 .2),
       λ on. steady-back (length calls′) ls (a .s0 .fuel) (g .s .fuel) (a .q0) t (k .q) later′ (ys .fuel-is) (steady-lengths lk (length calls′) ls ls (g .s .fuel) (a .q0) t (k .q) later′ (sym ec) refl (steady-to lk ls (g .s .fuel) (a .q0) (k .t) (k .q) later′ (z .0) t (sd .0 (z .1 .0) lk ls (z .0 .bound)) (sd .1 .0 on .0))),
       λ ok₀. toward-down (a .cells .now) (a .starts .now) (a .counts .now) (a .firsts .now) S k (here .slots) (c .before .before .before .before .before .before .before .before .before .before .before .before .before .before .before .before .before .before .before .next-turn .last .1 .1 .1 .1 .1 .1 .1 .1 .0) (c .before .before .before .before .before .before .before .before .before .before .before .before .before .before .before .before .before .before .before .next-turn .last .1 .1 .1 .1 .1 .1 .1 .1 .1 .0) calls′ later′ (c .before .before .before .before .before .before .before .before .before .before .before .before .before .before .before .before .before .before .before .next-turn .last .1 .1 .1 .1 .1 .1 .1 .1 .1 .1 .1 .1 .1 .1 .1 .0) (nt .1 .1 S refl (goes-past (a .cells .now) (a .starts .now) (a .counts .now) (a .firsts .now) S (here .s) (here .heads) (here .left) (here .q) (here .v) B (here .later) (here .out) (i .3 ok₀ .0 ok) (g .s) past)) still t (c .before .before .down-side .last .1 .1 .1 .1 .1 .0) (sd .1 .1) (λ u. sd .1 .0 u .0),
     )

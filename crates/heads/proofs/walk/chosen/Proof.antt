@@ -20,7 +20,7 @@ second-side-requires : tie.Need-second-side-requires
 second-side-requires c κs = c .before .pre .0 .3 .c-small
 
 aside-requires : tie.Need-aside-requires
-aside-requires c κs = search needs
+aside-requires c κs = tt
 
 returns : tie.Need-returns
 returns c =
@@ -38,7 +38,7 @@ returns c =
     ))
 
 aside-requires-2 : tie.Need-aside-requires-2
-aside-requires-2 c κs = search needs
+aside-requires-2 c κs = tt
 
 returns-2 : tie.Need-returns-2
 returns-2 c =
@@ -60,7 +60,7 @@ sub-if3 : tie.Need-sub-if3
 sub-if3 c = omega (arith, c .before .before .before .before .pre .1)
 
 over-requires : tie.Need-over-requires
-over-requires c κs = search needs
+over-requires c κs = tt
 
 returns-3 : tie.Need-returns-3
 returns-3 c =
@@ -90,10 +90,10 @@ add-aside : tie.Need-add-aside
 add-aside c = omega (arith, c .before .before .before .before .before .before .before .before .before .pre .1, c .before .before .before .before .before .before .before .before .before .good .1 .1 .1 .0 .0)
 
 aside-requires-3 : tie.Need-aside-requires-3
-aside-requires-3 c κs = search needs
+aside-requires-3 c κs = tt
 
 same-length : tie.Need-same-length
-same-length c = search needs
+same-length c = c .before .before .before .put-later .kept .0
 
 returns-4 : tie.Need-returns-4
 returns-4 c =

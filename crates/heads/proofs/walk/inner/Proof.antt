@@ -1,5 +1,4 @@
 -- `heads::walk::inner` meets its contract.
-use borrow.Author.Needs.{needs}
 use mathlib.Core.Path.{sym}
 use mathlib.Core.Logic.{inl, inr}
 use Rattle.putting.proofs.PutLaws.{never}
@@ -13,7 +12,7 @@ returns-2 : tie.Need-returns-2
 returns-2 c = (λ t. never t, λ t. inl (inr (c .if2 .taken)))
 
 choice-requires : tie.Need-choice-requires
-choice-requires c κs = search needs
+choice-requires c κs = tt
 
 returns-3 : tie.Need-returns-3
 returns-3 c = (λ t. never t, λ t. inr (c .before .choice .ensures .0 (c .if3 .taken)))

@@ -17,7 +17,7 @@ use Rattle.heads.proofs.walk.resumed.Statement.{statement}
 use Rattle.heads.proofs.walk.resumed.Tie as tie
 
 over-requires : tie.Need-over-requires
-over-requires c κs = search needs
+over-requires c κs = tt
 
 returns : tie.Need-returns
 returns c =
@@ -36,7 +36,7 @@ returns c =
     )
 
 over-requires-2 : tie.Need-over-requires-2
-over-requires-2 c κs = search needs
+over-requires-2 c κs = tt
 
 returns-2 : tie.Need-returns-2
 returns-2 c =
@@ -55,7 +55,7 @@ returns-2 c =
     )
 
 over-requires-3 : tie.Need-over-requires-3
-over-requires-3 c κs = search needs
+over-requires-3 c κs = tt
 
 returns-3 : tie.Need-returns-3
 returns-3 c =
@@ -74,7 +74,7 @@ returns-3 c =
     )
 
 over-requires-4 : tie.Need-over-requires-4
-over-requires-4 c κs = search needs
+over-requires-4 c κs = tt
 
 returns-4 : tie.Need-returns-4
 returns-4 c =
@@ -99,7 +99,7 @@ later-at-requires : tie.Need-later-at-requires
 later-at-requires c κs = omega (arith, c .before .before .before .before .before .before .before .pre, c .before .if3 .left)
 
 over-requires-5 : tie.Need-over-requires-5
-over-requires-5 c κs = search needs
+over-requires-5 c κs = tt
 
 returns-5 : tie.Need-returns-5
 returns-5 c =

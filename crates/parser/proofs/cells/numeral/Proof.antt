@@ -2,15 +2,14 @@
 use native.Mathlib.Omega.{arith}
 use Rattle.parser.proofs.Reading.{live}
 use Rattle.parser.proofs.Words.{numeral-missing-low, numeral-missing-high, reads-missing, reads-numeral}
-use borrow.Author.Needs.{needs}
 use Rattle.parser.proofs.cells.numeral.Statement.{statement}
 use Rattle.parser.proofs.cells.numeral.Tie as tie
 
 peek-cell-requires : tie.Need-peek-cell-requires
-peek-cell-requires c κs = search needs
+peek-cell-requires c κs = tt
 
 lost-requires : tie.Need-lost-requires
-lost-requires c κs = search needs
+lost-requires c κs = tt
 
 returns : tie.Need-returns
 returns c =
@@ -20,7 +19,7 @@ returns c =
     )
 
 lost-requires-2 : tie.Need-lost-requires-2
-lost-requires-2 c κs = search needs
+lost-requires-2 c κs = tt
 
 returns-2 : tie.Need-returns-2
 returns-2 c =
@@ -36,10 +35,10 @@ add-t7 c =
     omega arith
 
 put-requires : tie.Need-put-requires
-put-requires c κs = search needs
+put-requires c κs = tt
 
 same-length : tie.Need-same-length
-same-length c = search needs
+same-length c = c .before .before .put .kept .0
 
 returns-3 : tie.Need-returns-3
 returns-3 c =

@@ -1,10 +1,10 @@
 -- The readers of data meet their contracts, each way through by a law of `DataLaws` or `Operands`; recursion goes through brackets, and the tokens left fall.
 -- The loops' invariants: the reader goes on from a later place; behind n operands.
+use lib.Dec.{lit<}
 use Prim.Native.Nat.{_+_, _-_, _*_, _≤_}
 use mathlib.Core.Path.{_≡_, sym, _∙_, refl}
 use mathlib.Core.List.{List}
 use native.Mathlib.Omega.{arith}
-use borrow.Author.Needs.{needs}
 use lib.ListN.{length}
 use Rattle.pcrl.specs.Grammar as G
 use Rattle.parser.specs.Cells.{enc-ors, enc-ands, enc-negation, enc-datas, more-ors, more-ands}
@@ -134,7 +134,7 @@ atom-data-term-requires t c κs =
     (omega arith, tt)
 
 atom-expect-requires : (t : ℕ) → atom-lts.Need-expect-requires (atom-calls t) (atom-at t) atom.Post
-atom-expect-requires t c κs = omega arith
+atom-expect-requires t c κs = lit< tt
 
 atom-returns : (t : ℕ) → atom-lts.Need-returns (atom-calls t) (atom-at t) atom.Post
 atom-returns t c =
@@ -350,7 +350,7 @@ data-list-data-term-requires : (t : ℕ) → data-list-lts.Need-data-term-requir
 data-list-data-term-requires t c κs = (omega arith, tt)
 
 data-list-expect-requires : (t : ℕ) → data-list-lts.Need-expect-requires (data-list-calls t) (data-list-at t) data-list.Post data-list-Inv-loop data-list-μ-loop
-data-list-expect-requires t c κs = omega arith
+data-list-expect-requires t c κs = lit< tt
 
 data-list-same-length : (t : ℕ) → data-list-lts.Need-same-length (data-list-calls t) (data-list-at t) data-list.Post data-list-Inv-loop data-list-μ-loop
 data-list-same-length t c =
@@ -534,25 +534,25 @@ pub +atom+comparison+conjunction+data-list+data-term+negation-spec : {M : Type 1
     (atom-add-data-term t)
     (atom-data-term-requires t)
     (atom-expect-requires t)
-    (λ c. search needs)
+    (λ c. c .before .before .before .data-term .kept .1 .1 .0 ∙ c .before .before .before .before .before .before .before .put .kept .0)
     (atom-returns t)
     (λ c κs. tt)
     (atom-returns-2 t)
     (λ c κs. tt)
     (atom-add-t20 t)
     (λ c κs. tt)
-    (λ c. search needs)
+    (λ c. c .before .before .put3 .kept .0 ∙ c .before .before .before .before .before .before .put2 .kept .0)
     (atom-returns-3 t)
     (λ c κs. tt)
     (λ c κs. tt)
     (atom-add-p t)
     (λ c κs. tt)
-    (λ c. search needs)
+    (λ c. c .before .before .before .before .put5 .kept .0 ∙ c .before .before .before .before .before .before .before .before .put4 .kept .0)
     (atom-returns-4 t)
     (λ c κs. tt)
     (atom-add-data-list t)
     (atom-data-list-requires t)
-    (λ c. search needs)
+    (λ c. c .before .before .data-list .kept .1 .1 .0 ∙ c .before .before .before .before .before .before .put6 .kept .0 ∙ c .before .before .before .before .before .before .before .before .before .before .before .before .put5 .kept .0 ∙ c .before .before .before .before .before .before .before .before .before .before .before .before .before .before .before .before .put4 .kept .0)
     (atom-returns-5 t))
     (λ t. comparison-lts.spec (comparison-calls t)
     (comparison-at t)
@@ -560,12 +560,12 @@ pub +atom+comparison+conjunction+data-list+data-term+negation-spec : {M : Type 1
     (λ c κs. tt)
     (comparison-negation-requires t)
     (λ c κs. tt)
-    (λ c. search needs)
+    (λ c. c .before .before .before .before .negation .kept .1 .1 .0 ∙ c .before .before .before .before .before .before .before .before .put .kept .0)
     (comparison-returns t)
     (λ c κs. tt)
     (comparison-add-negation t)
     (comparison-negation-requires-2 t)
-    (λ c. search needs)
+    (λ c. c .before .before .negation2 .kept .1 .1 .0 ∙ c .before .before .before .before .before .before .before .put2 .kept .0 ∙ c .before .before .before .before .before .before .before .before .before .before .before .before .before .negation .kept .1 .1 .0 ∙ c .before .before .before .before .before .before .before .before .before .before .before .before .before .before .before .before .before .put .kept .0)
     (comparison-returns-2 t))
     (λ t. conjunction-lts.spec (conjunction-calls t)
     (conjunction-at t)

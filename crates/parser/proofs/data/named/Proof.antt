@@ -3,7 +3,6 @@ use mathlib.Core.Path.{sym, _∙_}
 use native.Mathlib.Omega.{arith}
 use Rattle.parser.proofs.Reading.{live}
 use Rattle.parser.proofs.DataLaws.{call-bare, call-given}
-use borrow.Author.Needs.{needs}
 use Rattle.parser.proofs.data.named.Statement.{statement}
 use Rattle.parser.proofs.data.named.Tie as tie
 
@@ -17,7 +16,7 @@ peek-cell-requires : tie.Need-peek-cell-requires
 peek-cell-requires c κs = tt
 
 same-length : tie.Need-same-length
-same-length c = search needs
+same-length c = c .before .before .before .before .name .kept .1 .1 .0 ∙ c .before .before .before .before .before .before .before .before .put .kept .0
 
 returns : tie.Need-returns
 returns c =
@@ -41,10 +40,10 @@ add-data-list c =
     omega arith
 
 data-list-requires : tie.Need-data-list-requires
-data-list-requires c κs = search needs
+data-list-requires c κs = tt
 
 same-length-2 : tie.Need-same-length-2
-same-length-2 c = search needs
+same-length-2 c = c .before .before .data-list .kept .1 .1 .0 ∙ c .before .before .before .before .before .before .before .put2 .kept .0 ∙ c .before .before .before .before .before .before .before .before .before .before .before .before .before .name .kept .1 .1 .0 ∙ c .before .before .before .before .before .before .before .before .before .before .before .before .before .before .before .before .before .put .kept .0
 
 returns-2 : tie.Need-returns-2
 returns-2 c =

@@ -1,10 +1,10 @@
 -- `process::choice`, `conditional`, `sequence` and `part` meet their contracts, each way through by a law of `ProcessLaws`.
 -- The measure is four times the tokens left, and which of the four it is; the loops' invariant: the reader goes on from a later place.
+use lib.Dec.{lit<}
 use Prim.Native.Nat.{_+_, _-_, _*_, _≤_}
 use mathlib.Core.Path.{_≡_, sym, _∙_, refl}
 use mathlib.Core.List.{List}
 use native.Mathlib.Omega.{arith}
-use borrow.Author.Needs.{needs}
 use lib.ListN.{length}
 use Rattle.pcrl.specs.Grammar as G
 use Rattle.parser.specs.Cells.{enc-choice, enc-sequence}
@@ -165,7 +165,7 @@ conditional-peek-requires : (t : ℕ) → conditional-lts.Need-peek-cell-require
 conditional-peek-requires t c κs = tt
 
 conditional-same-length : (t : ℕ) → conditional-lts.Need-same-length (conditional-calls t) (conditional-at t) conditional.Post
-conditional-same-length t c = search needs
+conditional-same-length t c = c .before .before .before .before .sequence .kept .1 .1 .0 ∙ c .before .before .before .before .before .before .before .before .put .kept .0
 
 conditional-returns : (t : ℕ) → conditional-lts.Need-returns (conditional-calls t) (conditional-at t) conditional.Post
 conditional-returns t c =
@@ -192,7 +192,7 @@ conditional-data-term-requires : (t : ℕ) → conditional-lts.Need-data-term-re
 conditional-data-term-requires t c κs = tt
 
 conditional-expect-requires : (t : ℕ) → conditional-lts.Need-expect-requires (conditional-calls t) (conditional-at t) conditional.Post
-conditional-expect-requires t c κs = omega arith
+conditional-expect-requires t c κs = lit< tt
 
 conditional-sequence-requires-2 : (t : ℕ) → conditional-lts.Need-sequence-requires-2 (conditional-calls t) (conditional-at t) conditional.Post
 conditional-sequence-requires-2 t c κs =
@@ -208,7 +208,7 @@ conditional-sequence-requires-2 t c κs =
     (omega (arith, at-sequence .ensures .0, at-data-term .ensures .0, at-expect .ensures .0), tt)
 
 conditional-same-length-2 : (t : ℕ) → conditional-lts.Need-same-length-2 (conditional-calls t) (conditional-at t) conditional.Post
-conditional-same-length-2 t c = search needs
+conditional-same-length-2 t c = c .before .before .sequence2 .kept .1 .1 .0 ∙ c .before .before .before .before .before .before .before .data-term .kept .1 .1 .0 ∙ c .before .before .before .before .before .before .before .before .before .before .before .before .put2 .kept .0 ∙ c .before .before .before .before .before .before .before .before .before .before .before .before .before .before .before .before .before .before .sequence .kept .1 .1 .0 ∙ c .before .before .before .before .before .before .before .before .before .before .before .before .before .before .before .before .before .before .before .before .before .before .put .kept .0
 
 conditional-returns-2 : (t : ℕ) → conditional-lts.Need-returns-2 (conditional-calls t) (conditional-at t) conditional.Post
 conditional-returns-2 t c =
@@ -239,7 +239,7 @@ part-put-requires : (t : ℕ) → part-lts.Need-put-requires (part-calls t) (par
 part-put-requires t c κs = tt
 
 part-same-length : (t : ℕ) → part-lts.Need-same-length (part-calls t) (part-at t) part.Post
-part-same-length t c = search needs
+part-same-length t c = c .before .before .put .kept .0
 
 part-returns : (t : ℕ) → part-lts.Need-returns (part-calls t) (part-at t) part.Post
 part-returns t c =
@@ -262,7 +262,7 @@ part-put-requires-2 : (t : ℕ) → part-lts.Need-put-requires-2 (part-calls t) 
 part-put-requires-2 t c κs = tt
 
 part-same-length-2 : (t : ℕ) → part-lts.Need-same-length-2 (part-calls t) (part-at t) part.Post
-part-same-length-2 t c = search needs
+part-same-length-2 t c = c .before .before .put2 .kept .0
 
 part-returns-2 : (t : ℕ) → part-lts.Need-returns-2 (part-calls t) (part-at t) part.Post
 part-returns-2 t c =
@@ -296,10 +296,10 @@ part-choice-requires t c κs =
     (omega (arith, at-sum-head .ensures .0), tt)
 
 part-expect-requires : (t : ℕ) → part-lts.Need-expect-requires (part-calls t) (part-at t) part.Post
-part-expect-requires t c κs = omega arith
+part-expect-requires t c κs = lit< tt
 
 part-same-length-3 : (t : ℕ) → part-lts.Need-same-length-3 (part-calls t) (part-at t) part.Post
-part-same-length-3 t c = search needs
+part-same-length-3 t c = c .before .before .before .choice .kept .1 .1 .0 ∙ c .before .before .before .before .before .before .before .sum-head .kept .1 .1 .0 ∙ c .before .before .before .before .before .before .before .before .before .before .before .put3 .kept .0
 
 part-returns-3 : (t : ℕ) → part-lts.Need-returns-3 (part-calls t) (part-at t) part.Post
 part-returns-3 t c =
@@ -333,10 +333,10 @@ part-choice-requires-2 t c κs =
     (omega arith, tt)
 
 part-expect-requires-2 : (t : ℕ) → part-lts.Need-expect-requires-2 (part-calls t) (part-at t) part.Post
-part-expect-requires-2 t c κs = omega arith
+part-expect-requires-2 t c κs = lit< tt
 
 part-same-length-4 : (t : ℕ) → part-lts.Need-same-length-4 (part-calls t) (part-at t) part.Post
-part-same-length-4 t c = search needs
+part-same-length-4 t c = c .before .before .before .choice2 .kept .1 .1 .0 ∙ c .before .before .before .before .before .before .before .put4 .kept .0
 
 part-returns-4 : (t : ℕ) → part-lts.Need-returns-4 (part-calls t) (part-at t) part.Post
 part-returns-4 t c =
@@ -358,7 +358,7 @@ part-named-requires : (t : ℕ) → part-lts.Need-named-requires (part-calls t) 
 part-named-requires t c κs = tt
 
 part-same-length-5 : (t : ℕ) → part-lts.Need-same-length-5 (part-calls t) (part-at t) part.Post
-part-same-length-5 t c = search needs
+part-same-length-5 t c = c .before .before .named .kept .1 .1 .0
 
 part-returns-5 : (t : ℕ) → part-lts.Need-returns-5 (part-calls t) (part-at t) part.Post
 part-returns-5 t c =

@@ -1,27 +1,28 @@
 -- `process::sum_head` meets its contract: a straight run of readers.
+use lib.Dec.{lit<}
+use mathlib.Core.Path.{_∙_}
 use native.Mathlib.Omega.{arith}
 use Rattle.parser.proofs.ProcessLaws.{head-read}
-use borrow.Author.Needs.{needs}
 use Rattle.parser.proofs.process.sum_head.Statement.{statement}
 use Rattle.parser.proofs.process.sum_head.Tie as tie
 
 expect-requires : tie.Need-expect-requires
-expect-requires c κs = omega arith
+expect-requires c κs = lit< tt
 
 name-requires : tie.Need-name-requires
 name-requires c κs = tt
 
 expect-requires-2 : tie.Need-expect-requires-2
-expect-requires-2 c κs = omega arith
+expect-requires-2 c κs = lit< tt
 
 name-requires-2 : tie.Need-name-requires-2
 name-requires-2 c κs = tt
 
 expect-requires-3 : tie.Need-expect-requires-3
-expect-requires-3 c κs = omega arith
+expect-requires-3 c κs = lit< tt
 
 same-length : tie.Need-same-length
-same-length c = search needs
+same-length c = c .before .before .before .name2 .kept .1 .1 .0 ∙ c .before .before .before .before .before .before .before .before .name .kept .1 .1 .0
 
 returns : tie.Need-returns
 returns c =

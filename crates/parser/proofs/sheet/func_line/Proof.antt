@@ -1,7 +1,7 @@
 -- `sheet::func_line` meets its contract: a straight run of readers.
+use lib.Dec.{lit<}
 use mathlib.Core.Path.{_∙_}
 use native.Mathlib.Omega.{arith}
-use borrow.Author.Needs.{needs}
 use Rattle.parser.proofs.Reading.{ahead-then}
 use Rattle.parser.proofs.LineLaws.{func-read}
 use lib.ListN.{length}
@@ -15,22 +15,22 @@ name-requires : tie.Need-name-requires
 name-requires c κs = tt
 
 expect-requires : tie.Need-expect-requires
-expect-requires c κs = omega arith
+expect-requires c κs = lit< tt
 
 one-or-two-requires : tie.Need-one-or-two-requires
-one-or-two-requires c κs = search needs
+one-or-two-requires c κs = tt
 
 expect-requires-2 : tie.Need-expect-requires-2
-expect-requires-2 c κs = omega arith
+expect-requires-2 c κs = lit< tt
 
 name-requires-2 : tie.Need-name-requires-2
 name-requires-2 c κs = tt
 
 expect-requires-3 : tie.Need-expect-requires-3
-expect-requires-3 c κs = omega arith
+expect-requires-3 c κs = lit< tt
 
 numerals-requires : tie.Need-numerals-requires
-numerals-requires c κs = search needs
+numerals-requires c κs = tt
 
 same-length : tie.Need-same-length
 same-length c =

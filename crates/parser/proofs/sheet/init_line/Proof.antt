@@ -1,4 +1,5 @@
 -- `sheet::init_line` meets its contract: a call whose names all have brackets is the definition's init line.
+use mathlib.Core.Path.{_∙_}
 use native.Mathlib.Omega.{arith}
 use borrow.Author.Needs.{needs}
 use Rattle.parser.proofs.InitRead.{init-lost, init-read, init-refused}
@@ -9,10 +10,10 @@ put-requires : tie.Need-put-requires
 put-requires c κs = tt
 
 named-requires : tie.Need-named-requires
-named-requires c κs = search needs
+named-requires c κs = tt
 
 same-length : tie.Need-same-length
-same-length c = search needs
+same-length c = c .before .before .before .before .named .kept .1 .1 .0 ∙ c .before .before .before .before .before .before .before .before .put .kept .0
 
 returns : tie.Need-returns
 returns c =
@@ -30,7 +31,7 @@ all-called-requires : tie.Need-all-called-requires
 all-called-requires c κs = search needs
 
 same-length-2 : tie.Need-same-length-2
-same-length-2 c = search needs
+same-length-2 c = c .before .before .before .before .before .before .named .kept .1 .1 .0 ∙ c .before .before .before .before .before .before .before .before .before .before .put .kept .0
 
 returns-2 : tie.Need-returns-2
 returns-2 c =
@@ -47,7 +48,7 @@ lost-requires : tie.Need-lost-requires
 lost-requires c κs = tt
 
 same-length-3 : tie.Need-same-length-3
-same-length-3 c = search needs
+same-length-3 c = c .before .before .before .before .before .before .before .named .kept .1 .1 .0 ∙ c .before .before .before .before .before .before .before .before .before .before .before .put .kept .0
 
 returns-3 : tie.Need-returns-3
 returns-3 c =

@@ -2,7 +2,6 @@
 use mathlib.Core.Path.{sym, subst}
 use Prim.Native.Nat.{_+_, _*_}
 use native.Mathlib.Omega.{arith}
-use borrow.Author.Needs.{needs}
 use Rattle.parser.proofs.RunLaws.{sort-kind-is, func-kind-is, act-kind-is, proc-kind-is}
 use Rattle.parser.specs.Reading.{Read}
 use lib.ListN.{length}
@@ -10,10 +9,10 @@ use Rattle.parser.proofs.sheet.line.Statement.{statement}
 use Rattle.parser.proofs.sheet.line.Tie as tie
 
 sort-line-requires : tie.Need-sort-line-requires
-sort-line-requires c κs = search needs
+sort-line-requires c κs = tt
 
 same-length : tie.Need-same-length
-same-length c = search needs
+same-length c = c .before .before .sort-line .kept .1 .1 .0
 
 returns : tie.Need-returns
 returns c =
@@ -23,10 +22,10 @@ returns c =
     (at-sort-line .ensures .0, subst (λ K. Read (5 * length (at-start .args .toks .now) + 4) (K .enc) (K .reader) (at-start .args .toks .now) (at-start .args .at) (at-start .args .w) (at-start .args .out .now) (at-sort-line .result) (at-sort-line .last .1 .1 .0)) (sym (sort-kind-is (at-start .args .word) (at-if1 .taken))) (λ s f l. at-sort-line .ensures .1 s f (omega arith)))
 
 func-line-requires : tie.Need-func-line-requires
-func-line-requires c κs = search needs
+func-line-requires c κs = tt
 
 same-length-2 : tie.Need-same-length-2
-same-length-2 c = search needs
+same-length-2 c = c .before .before .func-line .kept .1 .1 .0
 
 returns-2 : tie.Need-returns-2
 returns-2 c =
@@ -36,10 +35,10 @@ returns-2 c =
     (at-func-line .ensures .0, subst (λ K. Read (5 * length (at-start .args .toks .now) + 4) (K .enc) (K .reader) (at-start .args .toks .now) (at-start .args .at) (at-start .args .w) (at-start .args .out .now) (at-func-line .result) (at-func-line .last .1 .1 .0)) (sym (func-kind-is (at-start .args .word) (at-if2 .taken))) (λ s f l. at-func-line .ensures .1 s f (omega arith)))
 
 act-line-requires : tie.Need-act-line-requires
-act-line-requires c κs = search needs
+act-line-requires c κs = tt
 
 same-length-3 : tie.Need-same-length-3
-same-length-3 c = search needs
+same-length-3 c = c .before .before .act-line .kept .1 .1 .0
 
 returns-3 : tie.Need-returns-3
 returns-3 c =
@@ -49,10 +48,10 @@ returns-3 c =
     (at-act-line .ensures .0, subst (λ K. Read (5 * length (at-start .args .toks .now) + 4) (K .enc) (K .reader) (at-start .args .toks .now) (at-start .args .at) (at-start .args .w) (at-start .args .out .now) (at-act-line .result) (at-act-line .last .1 .1 .0)) (sym (act-kind-is (at-start .args .word) (at-if3 .taken))) (λ s f l. at-act-line .ensures .1 s f (omega arith)))
 
 proc-line-requires : tie.Need-proc-line-requires
-proc-line-requires c κs = search needs
+proc-line-requires c κs = tt
 
 same-length-4 : tie.Need-same-length-4
-same-length-4 c = search needs
+same-length-4 c = c .before .before .proc-line .kept .1 .1 .0
 
 returns-4 : tie.Need-returns-4
 returns-4 c =

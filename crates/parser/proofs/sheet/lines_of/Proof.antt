@@ -1,5 +1,6 @@
 -- `sheet::lines_of` meets its contract. The invariant: the reader goes on from a later place; there are no more lines than tokens before.
 use borrow.Author.Needs.{needs}
+use lib.Dec.{lit<}
 use Prim.Native.Nat.{ℕ, _+_, _-_, _*_, _≤_, _<_}
 use mathlib.Core.Path.{_≡_, sym, _∙_, refl}
 use mathlib.Core.List.{List}
@@ -43,7 +44,7 @@ line-requires : tie.Need-line-requires Inv-loop μ-loop
 line-requires c κs = tt
 
 expect-requires : tie.Need-expect-requires Inv-loop μ-loop
-expect-requires c κs = omega arith
+expect-requires c κs = lit< tt
 
 add-i : tie.Need-add-i Inv-loop μ-loop
 add-i c =

@@ -1,7 +1,6 @@
 -- `sheet::one_or_two` meets its contract.
 use mathlib.Core.Path.{sym, _∙_}
 use native.Mathlib.Omega.{arith}
-use borrow.Author.Needs.{needs}
 use Rattle.parser.proofs.Reading.{live}
 use Rattle.parser.proofs.LineLaws.{sorts-one, sorts-two}
 use Rattle.parser.proofs.sheet.one_or_two.Statement.{statement}
@@ -20,7 +19,7 @@ put-requires-2 : tie.Need-put-requires-2
 put-requires-2 c κs = tt
 
 same-length : tie.Need-same-length
-same-length c = search needs
+same-length c = c .before .before .put2 .kept .0 ∙ c .before .before .before .before .before .before .before .before .name .kept .1 .1 .0 ∙ c .before .before .before .before .before .before .before .before .before .before .before .before .put .kept .0
 
 returns : tie.Need-returns
 returns c =
@@ -51,7 +50,7 @@ put-requires-4 : tie.Need-put-requires-4
 put-requires-4 c κs = tt
 
 same-length-2 : tie.Need-same-length-2
-same-length-2 c = search needs
+same-length-2 c = c .before .before .put4 .kept .0 ∙ c .before .before .before .before .before .before .name2 .kept .1 .1 .0 ∙ c .before .before .before .before .before .before .before .before .before .before .before .put3 .kept .0 ∙ c .before .before .before .before .before .before .before .before .before .before .before .before .before .before .before .before .before .name .kept .1 .1 .0 ∙ c .before .before .before .before .before .before .before .before .before .before .before .before .before .before .before .before .before .before .before .before .before .put .kept .0
 
 returns-2 : tie.Need-returns-2
 returns-2 c =

@@ -1,4 +1,5 @@
 -- `sheet::parameters` meets its contract. The invariant: the reader goes on from a later place.
+use lib.Dec.{lit<}
 use Prim.Native.Nat.{ℕ, _-_, _≤_}
 use mathlib.Core.Path.{_≡_, sym, _∙_, refl}
 use mathlib.Core.List.{List}
@@ -29,7 +30,7 @@ name-requires : tie.Need-name-requires Inv-loop μ-loop
 name-requires c κs = tt
 
 expect-requires : tie.Need-expect-requires Inv-loop μ-loop
-expect-requires c κs = omega arith
+expect-requires c κs = lit< tt
 
 name-requires-2 : tie.Need-name-requires-2 Inv-loop μ-loop
 name-requires-2 c κs = tt
@@ -38,7 +39,7 @@ peek-cell-requires : tie.Need-peek-cell-requires Inv-loop μ-loop
 peek-cell-requires c κs = tt
 
 expect-requires-2 : tie.Need-expect-requires-2 Inv-loop μ-loop
-expect-requires-2 c κs = omega arith
+expect-requires-2 c κs = lit< tt
 
 put-requires-2 : tie.Need-put-requires-2 Inv-loop μ-loop
 put-requires-2 c κs = tt

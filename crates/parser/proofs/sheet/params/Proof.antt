@@ -1,7 +1,6 @@
 -- `sheet::params` meets its contract.
 use mathlib.Core.Path.{sym, _∙_}
 use native.Mathlib.Omega.{arith}
-use borrow.Author.Needs.{needs}
 use Rattle.parser.proofs.Reading.{live}
 use Rattle.parser.proofs.LineLaws.{params-none, params-some}
 use Rattle.parser.proofs.sheet.params.Statement.{statement}
@@ -14,7 +13,7 @@ put-requires : tie.Need-put-requires
 put-requires c κs = tt
 
 same-length : tie.Need-same-length
-same-length c = search needs
+same-length c = c .before .before .put .kept .0
 
 returns : tie.Need-returns
 returns c =
@@ -33,10 +32,10 @@ add-parameters c =
     omega arith
 
 parameters-requires : tie.Need-parameters-requires
-parameters-requires c κs = search needs
+parameters-requires c κs = tt
 
 same-length-2 : tie.Need-same-length-2
-same-length-2 c = search needs
+same-length-2 c = c .before .before .parameters .kept .1 .1 .0
 
 returns-2 : tie.Need-returns-2
 returns-2 c =

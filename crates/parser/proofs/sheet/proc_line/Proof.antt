@@ -1,6 +1,7 @@
 -- `sheet::proc_line` meets its contract: a straight run of readers.
+use lib.Dec.{lit<}
+use mathlib.Core.Path.{_∙_}
 use native.Mathlib.Omega.{arith}
-use borrow.Author.Needs.{needs}
 use Rattle.parser.proofs.Reading.{ahead-then, ahead-on}
 use Rattle.parser.proofs.LineLaws.{proc-read}
 use lib.ListN.{length}
@@ -14,16 +15,16 @@ name-requires : tie.Need-name-requires
 name-requires c κs = tt
 
 params-requires : tie.Need-params-requires
-params-requires c κs = search needs
+params-requires c κs = tt
 
 expect-requires : tie.Need-expect-requires
-expect-requires c κs = omega arith
+expect-requires c κs = lit< tt
 
 choice-requires : tie.Need-choice-requires
-choice-requires c κs = search needs
+choice-requires c κs = tt
 
 same-length : tie.Need-same-length
-same-length c = search needs
+same-length c = c .before .before .choice .kept .1 .1 .0 ∙ c .before .before .before .before .before .before .before .params .kept .1 .1 .0 ∙ c .before .before .before .before .before .before .before .before .before .before .before .name .kept .1 .1 .0 ∙ c .before .before .before .before .before .before .before .before .before .before .before .before .before .before .before .put .kept .0
 
 returns : tie.Need-returns
 returns c =

@@ -1,6 +1,6 @@
 -- `sheet::sort_line` meets its contract.
+use mathlib.Core.Path.{_∙_}
 use native.Mathlib.Omega.{arith}
-use borrow.Author.Needs.{needs}
 use Rattle.parser.proofs.LineLaws.{sort-read}
 use Rattle.parser.proofs.sheet.sort_line.Statement.{statement}
 use Rattle.parser.proofs.sheet.sort_line.Tie as tie
@@ -15,7 +15,7 @@ numeral-requires : tie.Need-numeral-requires
 numeral-requires c κs = tt
 
 same-length : tie.Need-same-length
-same-length c = search needs
+same-length c = c .before .before .numeral .kept .1 .1 .0 ∙ c .before .before .before .before .before .before .name .kept .1 .1 .0 ∙ c .before .before .before .before .before .before .before .before .before .before .put .kept .0
 
 returns : tie.Need-returns
 returns c =
