@@ -125,7 +125,7 @@ size_t wizbratel_walk(const uint8_t *sheet, size_t length, uint8_t *out, size_t 
  * Answers  0 if it is exactly a file that could have been made of a right table, else 12 to 14. No bytes: 12.
  * Leaves   Nothing is written.
  * Time     0.5 us for 512 bytes, 0.17 ms for 65,536.
- * Stack    At most 72 KB. */
+ * Stack    6 KB for a file of 512 bytes; at most 72 KB. */
 uint8_t wizbratel_check_table(const uint8_t *file, size_t length);
 
 /* Print a table file as a sheet: sorts, functions, processes and variables are named by the letters s, f, p and v and
@@ -145,7 +145,7 @@ uint8_t wizbratel_print_table(const uint8_t *table, size_t length, uint8_t *out,
  *          not matter.
  * Leaves   After 0 the table's start in the first frame, zeros in the others, and 1 in `*depth`.
  * Time     As check_table, and half a microsecond.
- * Stack    At most 72 KB. */
+ * Stack    7 KB for a file of 512 bytes; at most 72 KB. */
 uint8_t wizbratel_start(const uint8_t *file, size_t length, wizbratel_frame *frames, size_t count, size_t *depth);
 
 /* Ask for step k, from 0, and take it.
@@ -158,7 +158,7 @@ uint8_t wizbratel_start(const uint8_t *file, size_t length, wizbratel_frame *fra
  *          k are counted: 0.04 to 0.2 us for usual tables. The dearest table found, 230 summands with four
  *          sums of 16 values and eight long conditions, each on all of them, takes 1.4 s if k is too large. So
  *          look at a table of unknown origin in a thread that may wait.
- * Stack    At most 72 KB. */
+ * Stack    7 KB for a file of 512 bytes; at most 72 KB. */
 uint8_t wizbratel_ask(const uint8_t *file, size_t length, wizbratel_frame *frames, size_t count, size_t *depth, uint64_t k,
                       wizbratel_answer *answer);
 
@@ -172,7 +172,7 @@ uint8_t wizbratel_ask(const uint8_t *file, size_t length, wizbratel_frame *frame
  *          answers, and what is behind the last answer is untouched. With no questions, or no room, the
  *          stack is only checked.
  * Time     As check_table once, then 0.04 to 0.2 us a question for usual tables; at the worst as ask.
- * Stack    At most 72 KB. */
+ * Stack    7 KB for a file of 512 bytes; at most 72 KB. */
 uint8_t wizbratel_ask_all(const uint8_t *file, size_t length, wizbratel_frame *frames, size_t count, size_t *depth,
                           const uint64_t *questions, size_t question_count, wizbratel_answer *answers, size_t bytes);
 
