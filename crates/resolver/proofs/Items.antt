@@ -3,13 +3,12 @@ use mathlib.Core.Path.{_≡_, refl, sym, ap, _∙_}
 use mathlib.Core.Bool.{Bool, true, false}
 use mathlib.Core.List.{List, [], _∷_, _++_, append-assoc, append-nil, map}
 use mathlib.Core.Option.{none, some}
-use Prim.Native.Nat.{ℕ, zero, suc, _+_, _-_, _≤_, _<_}
+use Prim.Native.Nat.{ℕ, suc, _+_, _-_, _≤_, _<_}
 use native.Mathlib.Omega.{arith}
-use borrow.Author.Tests.{ltb-true, lt-ltb, le-ltb}
+use borrow.Author.Tests.{lt-ltb, le-ltb}
 use lib.Dec.{ltb}
 use lib.ListN.{length, drop, getD, length-append, length-map, List·getD-eq-default}
 use lib.Seq.{drop-drop, drop-append-seam}
-use Rattle.pcrl.specs.Tests.{and}
 use Rattle.pcrl.specs.Tokens.{name, numeral}
 use Rattle.pcrl.specs.Reader.{all}
 use Rattle.pcrl.specs.Tree.{RawData, Conjunction, Comparison, Negation, Atom, RawDatas, Choice, Conditional, Sequence, Part}
@@ -20,27 +19,8 @@ use Rattle.resolver.specs.Raw.{Term, choice, conditional, sequence, part
 use Rattle.resolver.proofs.Symbols.{next, ors-is, ands-is}
 use Rattle.resolver.proofs.Operands.{disjuncts-are, disjuncts-many, conjuncts-are, conjuncts-many}
 
--- ---- the table's numbers are small
-all-below : ℕ → List ℕ → Bool
-all-below m [] = true
-all-below m (x ∷ l) = and (ltb x m) (all-below m l)
-
-and-true : (a b : Bool) → and a b ≡ true → (a ≡ true) × (b ≡ true)
-and-true true b e = (refl, e)
-and-true false b e = let z : _≡_ {A = ℕ} 0 1 = cc in absurd (omega arith)
-
-getD-below : (m : ℕ) (l : List ℕ) → 0 < m → all-below m l ≡ true → (k : ℕ) → getD l k 0 < m
-unfolding all-below
-getD-below m [] h e k = h
-getD-below m (x ∷ l) h e zero = ltb-true x m (and-true (ltb x m) (all-below m l) e .0)
-getD-below m (x ∷ l) h e (suc k) = getD-below m l h (and-true (ltb x m) (all-below m l) e .1) k
-
 abbrev pub kids-table : List ℕ
 kids-table = 0 ∷ 0 ∷ 0 ∷ 1 ∷ 1 ∷ 2 ∷ 1 ∷ 2 ∷ 1 ∷ 3 ∷ 1 ∷ 2 ∷ 0 ∷ 0 ∷ 0 ∷ 1 ∷ 1 ∷ 1 ∷ 0 ∷ 0 ∷ 0 ∷ 0 ∷ 0 ∷ 0 ∷ 0 ∷ 1 ∷ 2 ∷ 1 ∷ 1 ∷ []
-
-pub kids-few : (k : ℕ) → getD kids-table k 0 < 4
-unfolding all-below
-kids-few k = getD-below 4 kids-table (omega arith) refl k
 
 abbrev kids-by : ℕ → Bool → Bool → ℕ
 kids-by k o a = elim o [ true ↦ getD kids-table k 0 | false ↦ elim a [ true ↦ suc (k - first-ors) | false ↦ suc (k - first-ands) ] ]
@@ -48,10 +28,6 @@ kids-by k o a = elim o [ true ↦ getD kids-table k 0 | false ↦ elim a [ true 
 pub kids-tag : (k : ℕ) → k < first-ors → kids-of k ≡ getD kids-table k 0
 unfolding kids-of
 kids-tag k h = ap (λ b. kids-by k b (ltb k first-ands)) (lt-ltb k first-ors h)
-
-pub tokens-few : (k : ℕ) → tokens-of k < 3
-unfolding tokens-of all-below
-tokens-few k = getD-below 3 (0 ∷ 1 ∷ 1 ∷ 1 ∷ 0 ∷ 0 ∷ 0 ∷ 0 ∷ 0 ∷ 0 ∷ 0 ∷ 0 ∷ 0 ∷ 0 ∷ 1 ∷ 1 ∷ 2 ∷ 0 ∷ []) (omega arith) refl k
 
 pub kids-past : (k : ℕ) → 29 ≤ k → k < first-ors → kids-of k ≡ 0
 kids-past k h l = kids-tag k l ∙ List·getD-eq-default kids-table 0 {n = k} h
@@ -64,9 +40,9 @@ pub kids-ands : (k : ℕ) → first-ands ≤ k → kids-of k ≡ suc (k - first-
 unfolding kids-of
 kids-ands k h = ap (λ b. kids-by k b (ltb k first-ands)) (le-ltb k first-ors (omega arith)) ∙ ap (kids-by k false) (le-ltb k first-ands h)
 
-pub tokens-past : (k : ℕ) → 18 ≤ k → tokens-of k ≡ 0
+pub tokens-past : (k : ℕ) → 17 ≤ k → tokens-of k ≡ 0
 unfolding tokens-of
-tokens-past k h = List·getD-eq-default (0 ∷ 1 ∷ 1 ∷ 1 ∷ 0 ∷ 0 ∷ 0 ∷ 0 ∷ 0 ∷ 0 ∷ 0 ∷ 0 ∷ 0 ∷ 0 ∷ 1 ∷ 1 ∷ 2 ∷ 0 ∷ []) 0 {n = k} h
+tokens-past k h = List·getD-eq-default (0 ∷ 1 ∷ 1 ∷ 1 ∷ 0 ∷ 0 ∷ 0 ∷ 0 ∷ 0 ∷ 0 ∷ 0 ∷ 0 ∷ 0 ∷ 0 ∷ 1 ∷ 1 ∷ 2 ∷ []) 0 {n = k} h
 
 -- ---- terms of all kinds; an atom is a negation
 data Item : Type 0 where

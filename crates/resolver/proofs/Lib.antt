@@ -1,3 +1,4 @@
+mod Arms
 pub mod Writing
 pub mod Symbols
 pub mod Lookup

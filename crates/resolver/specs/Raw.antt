@@ -60,7 +60,7 @@ term-depth (part p) = part-depth p
 
 -- behind a tag: how many tokens, then how many subterms
 unfoldable pub tokens-of : ℕ → ℕ
-tokens-of k = getD (0 ∷ 1 ∷ 1 ∷ 1 ∷ 0 ∷ 0 ∷ 0 ∷ 0 ∷ 0 ∷ 0 ∷ 0 ∷ 0 ∷ 0 ∷ 0 ∷ 1 ∷ 1 ∷ 2 ∷ 0 ∷ []) k 0
+tokens-of k = getD (0 ∷ 1 ∷ 1 ∷ 1 ∷ 0 ∷ 0 ∷ 0 ∷ 0 ∷ 0 ∷ 0 ∷ 0 ∷ 0 ∷ 0 ∷ 0 ∷ 1 ∷ 1 ∷ 2 ∷ []) k 0
 
 -- a cell of `\/` or `/\` has one subterm more than it says
 unfoldable pub kids-of : ℕ → ℕ

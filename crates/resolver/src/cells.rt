@@ -17,47 +17,6 @@ use parser::codes::FIRST_ORS;
 
 const AFTER: u16 = nodes::AFTER as u16;
 
-// The tags with tokens behind them are below this.
-const TAGS: u16 = 18;
-
-// The tags with subterms behind them are below this.
-const KID_TAGS: u16 = 29;
-
-// How many tokens and how many subterms stand behind each tag (crate parser, Cells).
-const TOKENS: [u8; 18] = [0, 1, 1, 1, 0, 0, 0, 0, 0, 0, 0, 0, 0, 0, 1, 1, 2, 0];
-
-const KIDS: [u16; 29] = [
-    0,
-    0,
-    0,
-    1,
-    1,
-    2,
-    1,
-    2,
-    1,
-    3,
-    1,
-    2,
-    0,
-    0,
-    0,
-    1,
-    1,
-    1,
-    0,
-    0,
-    0,
-    0,
-    0,
-    0,
-    0,
-    1,
-    2,
-    1,
-    1,
-];
-
 // The first three cells of a node.
 pub fn node(out: &mut [u16], w: usize, first: u16, number: u16, count: u16) -> usize
     ensures { λ r. ⌜ Writes (first ∷ number ∷ count ∷ []) w (now (out .entry)) r (now (out .exit)) ⌝ }
@@ -89,27 +48,33 @@ pub fn marked(after: bool, kind: u16) -> u16
     if after { AFTER + kind } else { kind }
 }
 
-// How many tokens stand behind a tag.
+// How many tokens stand behind a tag (crate parser, Cells).
 pub fn tokens(k: u16) -> u8
     ensures { λ r. ⌜ (r ≡ tokens-of k) × (r < 3) ⌝ }
 {
-    if k < TAGS { TOKENS[k as usize] } else { 0 }
+    match k {
+        1 | 2 | 3 | 14 | 15 => 1,
+        16 => 2,
+        _ => 0,
+    }
 }
 
 // How many subterms stand behind a tag and its tokens; a cell of `\/` or `/\` has one operand more than it says.
 pub fn kids(k: u16) -> u16
     ensures { λ r. ⌜ (r ≡ kids-of k) × (r < cell-limit) ⌝ }
 {
-    if k < KID_TAGS {
-        return KIDS[k as usize];
+    if k >= FIRST_ANDS {
+        return k - FIRST_ANDS + 1;
     }
-    if k < FIRST_ORS {
-        return 0;
-    }
-    if k < FIRST_ANDS {
+    if k >= FIRST_ORS {
         return k - FIRST_ORS + 1;
     }
-    k - FIRST_ANDS + 1
+    match k {
+        3 | 4 | 6 | 8 | 10 | 15 | 16 | 17 | 25 | 27 | 28 => 1,
+        5 | 7 | 11 | 26 => 2,
+        9 => 3,
+        _ => 0,
+    }
 }
 
 // The place behind the raw term at `at`.
