@@ -4,7 +4,7 @@ use mathlib.Core.List.{List, [], _∷_, _++_, map, map-append, append-assoc}
 use Prim.Native.Nat.{ℕ, zero, suc, _+_, _-_, _≤_}
 use native.Mathlib.Omega.{arith}
 use lib.ListN.{length, take, drop}
-use lib.Seq.{drop-at, take-at}
+use lib.Seq.{drop-at, take-at, drop-drop}
 use Rattle.pcrl.specs.Text.{bytes}
 use Rattle.pcrl.specs.Tree.{Name}
 use Rattle.names.specs.declared.Kinds.{Kinds}
@@ -45,3 +45,10 @@ module _ (s names : List ℕ) where
   pub part-is : (n lo count : ℕ) (a b c : List Name) → scope-at s names n ≡ a ++ (b ++ c) → length a ≡ lo → length b ≡ count → lo + count ≤ n → names-from s names lo count ≡ b
   part-is n lo count a b c e la lb h =
       sym (first-of (n - lo) count (drop lo names) (omega arith)) ∙ (ap (take count) (sym (names-left s names lo n (n - lo) refl) ∙ (ap (drop lo) e ∙ drop-at a (b ++ c) lo la)) ∙ take-at b c count lb)
+
+-- actions and processes stand together
+pub parts-joined : (s names : List ℕ) (k : Kinds) → names-from s names (k .sorts + k .funcs) (k .acts + k .procs) ≡ acts-in s names k ++ procs-in s names k
+unfolding acts-in procs-in
+parts-joined s names k =
+    behind s (drop (k .sorts + k .funcs) names) (k .acts) (k .procs)
+    ∙ ap (λ (l : List ℕ). scope-at s (drop (k .sorts + k .funcs) names) (k .acts) ++ scope-at s l (k .procs)) (drop-drop (k .acts) (k .sorts + k .funcs) names)

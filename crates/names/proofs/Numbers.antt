@@ -1,7 +1,8 @@
 -- The place of a name in a list, found by going through the list: the first i elements are others.
 use mathlib.Core.Path.{_≡_, refl, sym, _∙_, ap}
-use mathlib.Core.List.{List, [], _∷_, map}
+use mathlib.Core.List.{List, [], _∷_, _++_, map}
 use mathlib.Core.Option.{Option, none, some}
+use mathlib.Core.Logic.{_⊎_, inl, inr, ⊎-elim}
 use Prim.Native.Nat.{ℕ, suc, _+_, _-_, _≤_, _<_}
 use native.Mathlib.Numerals.{add-one}
 use native.Mathlib.Omega.{arith}
@@ -99,3 +100,30 @@ found-none n x l i h e k = go (number-of x l) refl
     go : (o : Option ℕ) → number-of x l ≡ o → number-of x l ≡ none
     go none z = z
     go (some j) z = let b = number-below x l j z in let w : number-in n x l ≡ j = rw z in absurd (omega arith)
+
+-- A name among some and those behind them: it is one of the first, or its number there is counted on.
+abbrev Joined : ℕ → Name → List Name → List Name → Type 0
+Joined p x ys ps =
+    ((number-in (length ys + p) x (ys ++ ps) ≡ number-in (length ys) x ys) × (number-in (length ys) x ys < length ys))
+    ⊎ ((number-in (length ys) x ys ≡ length ys) × (number-in (length ys + p) x (ys ++ ps) ≡ length ys + number-in p x ps))
+
+joined : (p : ℕ) (x : Name) (ys ps : List Name) → Joined p x ys ps
+unfolding number-of
+joined p x [] ps = let z : 0 + p ≡ p = omega arith in inr (refl, rw z (omega arith))
+joined p x (y ∷ ys) ps = go (same? x y) (joined p x ys ps)
+  where
+    go : Dec (x ≡ y) → Joined p x ys ps → Joined p x (y ∷ ys) ps
+    go (yes e) j = inl (here (suc (length ys) + p) x y (ys ++ ps) e ∙ sym (here (suc (length ys)) x y ys e), let h = here (suc (length ys)) x y ys e in omega arith)
+    go (no d) j =
+        let f = elsewhere (length ys) x y ys d in
+        let z : suc (length ys) + p ≡ suc (length ys + p) = omega arith in
+        let g : number-in (suc (length ys) + p) x (y ∷ (ys ++ ps)) ≡ suc (number-in (length ys + p) x (ys ++ ps)) = rw z (elsewhere (length ys + p) x y (ys ++ ps) d) in
+        ⊎-elim (λ q. inl (let a = q .0 in let b = q .1 in omega arith, let b = q .1 in omega arith)) (λ q. inr (let a = q .0 in omega arith, let b = q .1 in omega arith)) j
+
+-- where a number in both is below the number of the first, it is the number there; else the rest of it is the number behind them
+pub number-parts : (a p : ℕ) (x : Name) (ys ps : List Name) (r : ℕ) → length ys ≡ a → r ≡ number-in (a + p) x (ys ++ ps)
+    → (r < a → r ≡ number-in a x ys) × (a ≤ r → (a ≡ number-in a x ys) × (r - a ≡ number-in p x ps))
+number-parts a p x ys ps r e f = let k : r ≡ number-in (length ys + p) x (ys ++ ps) = rw e f in rw (← e) (⊎-elim
+    (λ q. let g = q .0 in let h = q .1 in (λ l. omega arith, λ l. absurd (omega arith)))
+    (λ q. let g = q .0 in let h = q .1 in (λ l. absurd (omega arith), λ l. (omega arith, omega arith)))
+    (joined p x ys ps))

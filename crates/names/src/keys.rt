@@ -1,5 +1,6 @@
 // Names with their keys: a name is looked up by its key, and compared byte by byte only where the keys agree.
 ghost use mathlib.Core.Path.{_≡_};
+ghost use mathlib.Core.List.{_++_};
 ghost use Prim.Native.Nat.{suc, _+_, _≤_};
 ghost use lib.ListN.{length, take, getD};
 ghost use Rattle.pcrl.specs.Names.{number-of};
@@ -128,17 +129,18 @@ pub fn func_in(s: &[u8], declared: &[u16], c: u16) -> usize
     number_in(s, declared, lo, cell(declared, FUNC_COUNT), c)
 }
 
-// The same of an action,
-pub fn act_in(s: &[u8], declared: &[u16], c: u16) -> usize
+// The number of the action, or of the process behind all actions; or how many there are of both.
+pub fn part_in(s: &[u8], declared: &[u16], c: u16) -> usize
     requires { ⌜ KeyedNames (now s) (now declared) ⌝ }
-    ensures most { λ r. ⌜ r ≤ kinds-in (now (declared .entry)) .acts ⌝ }
-    ensures number { λ r. ⌜ r ≡ or-count (kinds-in (now (declared .entry)) .acts) (number-of (name-at (now (s .entry)) c) (acts-in (now (s .entry)) (names-in (now (declared .entry))) (kinds-in (now (declared .entry))))) ⌝ }
+    ensures most { λ r. ⌜ r ≤ kinds-in (now (declared .entry)) .acts + kinds-in (now (declared .entry)) .procs ⌝ }
+    ensures number { λ r. ⌜ r ≡ or-count (kinds-in (now (declared .entry)) .acts + kinds-in (now (declared .entry)) .procs) (number-of (name-at (now (s .entry)) c) (acts-in (now (s .entry)) (names-in (now (declared .entry))) (kinds-in (now (declared .entry))) ++ procs-in (now (s .entry)) (names-in (now (declared .entry))) (kinds-in (now (declared .entry))))) ⌝ }
 {
     let lo = cell(declared, SORT_COUNT) + cell(declared, FUNC_COUNT);
-    number_in(s, declared, lo, cell(declared, ACT_COUNT), c)
+    let many = cell(declared, ACT_COUNT) + cell(declared, PROC_COUNT);
+    number_in(s, declared, lo, many, c)
 }
 
-// and of a process.
+// The number of the process, or how many there are.
 pub fn proc_in(s: &[u8], declared: &[u16], c: u16) -> usize
     requires { ⌜ KeyedNames (now s) (now declared) ⌝ }
     ensures most { λ r. ⌜ r ≤ kinds-in (now (declared .entry)) .procs ⌝ }

@@ -26,8 +26,7 @@ use names::ACT_COUNT;
 use names::PROC_COUNT;
 use names::SORT_COUNT;
 use names::fresh::new_variable;
-use names::keys::act_in;
-use names::keys::proc_in;
+use names::keys::part_in;
 use names::keys::sort_in;
 use nodes::MAX_SCOPE;
 use parser::Step;
@@ -58,15 +57,16 @@ fn named(s: &[u8], declared: &[u16], x: u16, after: bool) -> Known
     requires { ⌜ (kinds-in (now declared) .acts ≤ max-actions) × (kinds-in (now declared) .procs ≤ max-processes) × KeyedNames (now s) (now declared) ⌝ }
     ensures { λ r. ⌜ Naming after (number-of (name-at (now (s .entry)) x) (acts-in (now (s .entry)) (names-in (now (declared .entry))) (kinds-in (now (declared .entry))))) (number-of (name-at (now (s .entry)) x) (procs-in (now (s .entry)) (names-in (now (declared .entry))) (kinds-in (now (declared .entry))))) r ⌝ }
 {
-    let a = act_in(s, declared, x);
-    if a < cell(declared, ACT_COUNT) {
+    let acts = cell(declared, ACT_COUNT);
+    let i = part_in(s, declared, x);
+    if i < acts {
         return Known {
             known: true,
             first: marked(after, ATOM),
-            number: short(a + 1),
+            number: short(i + 1),
         };
     }
-    let k = proc_in(s, declared, x);
+    let k = i - acts;
     if k < cell(declared, PROC_COUNT) {
         return Known {
             known: true,
