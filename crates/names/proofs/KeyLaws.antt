@@ -1,5 +1,5 @@
 -- A name's key, byte by byte of its run; names that are looked up by their keys; what is left of a list of names.
-use mathlib.Core.Path.{_≡_, refl, sym, _∙_, ap}
+use mathlib.Core.Path.{_≡_, refl, sym, _∙_, ap, subst}
 use mathlib.Core.List.{List, [], _∷_, map}
 use Prim.Native.Nat.{ℕ, zero, suc, _+_, _-_, _≤_, _<_}
 use native.Mathlib.Omega.{arith}
@@ -32,15 +32,15 @@ key-goes s c k p b k′ p′ h e n m q =
     h ∙ (ap (key-on k) g ∙ ap (λ (j : ℕ). key-on j (run-at s p′)) (sym m))
 
 module _ (s names : List ℕ) where
-  module _ (keys : List ℕ) where
-    pub keyed-fewer : (m n : ℕ) → m ≤ n → Keyed s names keys n → Keyed s names keys m
-    keyed-fewer m n h K = record { names-few = omega arith; keys-few = omega arith; key-at = λ i l. K .key-at i (omega arith) }
+  module _ (keys firsts : List ℕ) where
+    pub keyed-fewer : (m n : ℕ) → m ≤ n → Keyed s names keys firsts n → Keyed s names keys firsts m
+    keyed-fewer m n h K = record { names-few = omega arith; keys-few = omega arith; key-at = λ i l. K .key-at i (omega arith); first-at = λ i l. K .first-at i (omega arith) }
 
     -- another key, another name
-    pub other-key : (i c k : ℕ) → Keyed s names keys (i + 1) → k ≡ key-of (name-at s c) → (getD keys i 0 ≡ k → ⊥) → name-at s c ≡ name-at s (getD names i 0) → ⊥
+    pub other-key : (i c k : ℕ) → Keyed s names keys firsts (i + 1) → k ≡ key-of (name-at s c) → (getD keys i 0 ≡ k → ⊥) → name-at s c ≡ name-at s (getD names i 0) → ⊥
     other-key i c k K e n same = n (K .key-at i (omega arith) ∙ (ap key-of (sym same) ∙ sym e))
 
-    module _ (lo count : ℕ) (K : Keyed s names keys (lo + count)) (x : Name) where
+    module _ (lo count : ℕ) (K : Keyed s names keys firsts (lo + count)) (x : Name) where
       pub room-from : count ≤ length (drop lo names)
       room-from = omega (arith, length-drop lo names, K .names-few)
 
@@ -57,6 +57,20 @@ module _ (s names : List ℕ) where
 
       pub seek-goes : (i : ℕ) → i < count → Sought i → (x ≡ name-at s (getD names (lo + i) 0) → ⊥) → Sought (i + 1)
       seek-goes i h p n = search-goes (name-at s) (drop lo names) count room-from x i h p (λ e. n (e ∙ ap (name-at s) (getD-drop lo names i 0)))
+
+      others-passed : (i : ℕ) → i ≤ count → ((j : ℕ) → j < i → x ≡ name-at s (getD names (lo + j) 0) → ⊥) → Sought i
+      others-passed zero h o = seek-starts
+      others-passed (suc i) h o =
+          let z : suc i ≡ i + 1 = omega arith in
+          rw z (seek-goes i (omega arith) (others-passed i (omega arith) (λ j k. o j (omega arith))) (o i (omega arith)))
+
+      -- names that stand before the first of its key are others
+      pub seek-passes : (k i : ℕ) → k ≡ key-of x → i ≤ count → (0 < i → lo + i ≤ getD firsts k 0) → Sought i
+      seek-passes k i e h f = others-passed i h λ j l q.
+          let z : key-of (name-at s (getD names (lo + j) 0)) ≡ k = ap key-of (sym q) ∙ sym e in
+          let a : getD firsts k 0 ≤ lo + j = subst (λ (m : ℕ). getD firsts m 0 ≤ lo + j) z (K .first-at (lo + j) (omega arith)) in
+          let b = f (omega arith) in
+          omega arith
 
       pub seek-ends : (i : ℕ) → count ≤ i → i ≤ count → Sought i → count ≡ or-count count (number-of x (names-from s names lo count))
       unfolding scope-at

@@ -5,25 +5,26 @@ use mathlib.Core.Logic.{⊎-elim}
 use Prim.Native.Nat.{ℕ, zero, suc, _+_, _-_, _≤_, _<_}
 use native.Mathlib.Omega.{arith}
 use native.Mathlib.Nat.{eq-or-lt-of-le}
+use native.Mathlib.Decide.{ℕ-discrete}
 use lib.ListN.{length, take, drop, getD, set, length-set, length-take, length-drop}
 use lib.Seq.{getD-set-same, getD-set-other, getD-take, getD-drop, take-take}
 use Rattle.names.specs.declared.Kinds.{Kinds}
 use Rattle.names.specs.NameCells.{name-at, scope-at}
 use Rattle.names.specs.NameKeys.{key-of, Keyed}
 use Rattle.names.specs.NameKinds.{total-of, sorts-in}
-use Rattle.names.specs.NameList.{max-names, list-cells, names-in, keys-in, kinds-in, KeyedNames}
+use Rattle.names.specs.NameList.{max-names, first-count, first-place, list-cells, names-in, keys-in, firsts-in, kinds-in, KeyedNames}
 use Rattle.names.proofs.Lists.{mapped-next}
 use Rattle.names.proofs.KeyLaws.{scope-most}
 
 -- n names with their keys: there are so few, and their keys stand in the array
-pub names-few : (s l : List ℕ) (n : ℕ) → Keyed s (names-in l) (keys-in l) n → (n ≤ max-names) × (n ≤ length l)
+pub names-few : (s l : List ℕ) (n : ℕ) → Keyed s (names-in l) (keys-in l) (firsts-in l) n → (n ≤ max-names) × (n ≤ length l)
 names-few s l n K = let a = length-take max-names l in let b = K .names-few in (omega arith, omega arith)
 
-pub keys-few : (s l : List ℕ) (n : ℕ) → Keyed s (names-in l) (keys-in l) n → n < 1 + (length l - max-names)
+pub keys-few : (s l : List ℕ) (n : ℕ) → Keyed s (names-in l) (keys-in l) (firsts-in l) n → n < 1 + (length l - max-names)
 keys-few s l n K = let a = length-drop max-names l in let b = K .keys-few in omega arith
 
 -- the next of n names
-pub next-listed : (s l : List ℕ) (n i : ℕ) → Keyed s (names-in l) (keys-in l) n → i < n → drop i (scope-at s (names-in l) n) ≡ name-at s (getD l i 0) ∷ drop (i + 1) (scope-at s (names-in l) n)
+pub next-listed : (s l : List ℕ) (n i : ℕ) → Keyed s (names-in l) (keys-in l) (firsts-in l) n → i < n → drop i (scope-at s (names-in l) n) ≡ name-at s (getD l i 0) ∷ drop (i + 1) (scope-at s (names-in l) n)
 unfolding scope-at
 next-listed s l n i K h =
     let few = names-few s l n K in
@@ -43,42 +44,90 @@ take-same (suc n) (x ∷ a) (y ∷ b) h k e =
     rw z (ap (_∷_ y) (take-same n a b (omega arith) (omega arith) (λ j l. e (suc j) (omega arith))))
 
 module _ (s names : List ℕ) where
-  -- the first i names, and their keys
-  pub record ListedUpTo (l : List ℕ) (i : ℕ) : Type 0 where
+  -- the names from i on, their keys and the first of each key
+  pub record ListedFrom (l : List ℕ) (n i : ℕ) : Type 0 where
     pub many : length l ≡ list-cells
-    pub name-there : (j : ℕ) → j < i → getD l j 0 ≡ getD names j 0
-    pub key-there : (j : ℕ) → j < i → getD l (max-names + j) 0 ≡ key-of (name-at s (getD names j 0))
+    pub name-there : (j : ℕ) → i ≤ j → j < n → getD l j 0 ≡ getD names j 0
+    pub key-there : (j : ℕ) → i ≤ j → j < n → getD l (max-names + j) 0 ≡ key-of (name-at s (getD names j 0))
+    pub first-there : (j : ℕ) → i ≤ j → j < n → getD l (first-place + key-of (name-at s (getD names j 0))) 0 ≤ j
 
-  pub listed-start : (l : List ℕ) → length l ≡ list-cells → ListedUpTo l 0
-  listed-start l h = record { many = h; name-there = λ j k. absurd (omega arith); key-there = λ j k. absurd (omega arith) }
+  pub listed-start : (l : List ℕ) (n : ℕ) → length l ≡ list-cells → ListedFrom l n n
+  listed-start l n h = record {
+    many = h;
+    name-there = λ j k m. absurd (omega arith);
+    key-there = λ j k m. absurd (omega arith);
+    first-there = λ j k m. absurd (omega arith);
+  }
 
-  pub listed-more : (l : List ℕ) (i v k q : ℕ) → i < max-names → v ≡ getD names i 0 → k ≡ key-of (name-at s v) → q ≡ max-names + i → ListedUpTo l i → ListedUpTo (set (set l i v) q k) (i + 1)
-  listed-more l i v k q h e f g L =
-      let n = L .many in
-      let m = length-set l i v in
-      record {
-        many = length-set (set l i v) q k ∙ (m ∙ n);
-        name-there = λ j o. getD-set-other (set l i v) q j k 0 (λ z. omega arith) ∙ ⊎-elim
-            (λ z. rw z (getD-set-same l i v 0 (omega arith) ∙ e))
-            (λ z. getD-set-other l i j v 0 (λ y. omega arith) ∙ L .name-there j z)
-            (eq-or-lt-of-le {n = j} {m = i} (omega arith));
-        key-there = λ j o. ⊎-elim
-            (λ z. let y : max-names + j ≡ q = omega arith in
-            ap (λ (x : ℕ). getD (set (set l i v) q k) x 0) y ∙ (getD-set-same (set l i v) q k 0 (omega arith) ∙ (f ∙ ap (λ (c : ℕ). key-of (name-at s c)) (e ∙ ap (λ (x : ℕ). getD names x 0) (sym z)))))
-            (λ z. getD-set-other (set l i v) q (max-names + j) k 0 (λ y. omega arith) ∙ (getD-set-other l i (max-names + j) v 0 (λ y. omega arith) ∙ L .key-there j z))
-            (eq-or-lt-of-le {n = j} {m = i} (omega arith));
-      }
+  module _ (l : List ℕ) (n i v k q p w : ℕ) (few : n ≤ max-names) (less : i < n) (e : v ≡ getD names i 0) (f : k ≡ key-of (name-at s v)) (small : k < 256) (g : q ≡ max-names + i) (at : p ≡ first-place + k) (is : w ≡ i) (L : ListedFrom l n (i + 1)) where
+    abbrev l₁ : List ℕ
+    l₁ = set l i v
+
+    abbrev l₂ : List ℕ
+    l₂ = set l₁ q k
+
+    many₁ : length l₁ ≡ list-cells
+    many₁ = length-set l i v ∙ L .many
+
+    many₂ : length l₂ ≡ list-cells
+    many₂ = length-set l₁ q k ∙ many₁
+
+    -- what stands elsewhere stays
+    kept : (j : ℕ) → (j ≡ i → ⊥) → (j ≡ q → ⊥) → (j ≡ p → ⊥) → getD (set l₂ p w) j 0 ≡ getD l j 0
+    kept j a b c = getD-set-other l₂ p j w 0 (λ z. c z) ∙ (getD-set-other l₁ q j k 0 (λ z. b z) ∙ getD-set-other l i j v 0 (λ z. a z))
+
+    own-key : key-of (name-at s (getD names i 0)) ≡ k
+    own-key = sym (f ∙ ap (λ (c : ℕ). key-of (name-at s c)) e)
+
+    name-of : (j : ℕ) → i ≤ j → j < n → getD (set l₂ p w) j 0 ≡ getD names j 0
+    name-of j a b = ⊎-elim
+        (λ z. getD-set-other l₂ p j w 0 (λ y. omega arith) ∙ (getD-set-other l₁ q j k 0 (λ y. omega arith) ∙ (rw (← z) (let y = L .many in getD-set-same l i v 0 (omega arith)) ∙ (e ∙ ap (λ (m : ℕ). getD names m 0) z))))
+        (λ z. kept j (λ y. omega arith) (λ y. omega arith) (λ y. omega arith) ∙ L .name-there j (omega arith) b)
+        (eq-or-lt-of-le {n = i} {m = j} a)
+
+    key-there′ : (j : ℕ) → i ≤ j → j < n → getD (set l₂ p w) (max-names + j) 0 ≡ key-of (name-at s (getD names j 0))
+    key-there′ j a b = ⊎-elim
+        (λ z. let y : max-names + j ≡ q = omega arith in
+        getD-set-other l₂ p (max-names + j) w 0 (λ y. omega arith) ∙ (ap (λ (x : ℕ). getD l₂ x 0) y ∙ ((let m = many₁ in getD-set-same l₁ q k 0 (omega arith)) ∙ (sym own-key ∙ ap (λ (m : ℕ). key-of (name-at s (getD names m 0))) z))))
+        (λ z. kept (max-names + j) (λ y. omega arith) (λ y. omega arith) (λ y. omega arith) ∙ L .key-there j (omega arith) b)
+        (eq-or-lt-of-le {n = i} {m = j} a)
+
+    first-of : (j : ℕ) → i ≤ j → j < n → Dec (key-of (name-at s (getD names j 0)) ≡ k) → getD (set l₂ p w) (first-place + key-of (name-at s (getD names j 0))) 0 ≤ j
+    first-of j a b (yes z) =
+        let y : first-place + key-of (name-at s (getD names j 0)) ≡ p = omega arith in
+        let m = many₂ in
+        let x : getD (set l₂ p w) (first-place + key-of (name-at s (getD names j 0))) 0 ≡ w = ap (λ (x : ℕ). getD (set l₂ p w) x 0) y ∙ getD-set-same l₂ p w 0 (omega arith) in
+        omega arith
+    first-of j a b (no d) = ⊎-elim
+        (λ z. absurd (d (ap (λ (m : ℕ). key-of (name-at s (getD names m 0))) (sym z) ∙ own-key)))
+        (λ z.
+        let x = kept (first-place + key-of (name-at s (getD names j 0))) (λ y. omega arith) (λ y. omega arith) (λ y. d (omega arith)) in
+        let y = L .first-there j (omega arith) b in
+        omega arith)
+        (eq-or-lt-of-le {n = i} {m = j} a)
+
+    pub listed-more : ListedFrom (set l₂ p w) n i
+    listed-more = record {
+      many = length-set l₂ p w ∙ many₂;
+      name-there = name-of;
+      key-there = key-there′;
+      first-there = λ j a b. first-of j a b (ℕ-discrete (key-of (name-at s (getD names j 0))) k);
+    }
 
   -- a number behind the keys
-  pub listed-count : (l : List ℕ) (n q v : ℕ) → n ≤ max-names → 144 ≤ q → ListedUpTo l n → ListedUpTo (set l q v) n
-  listed-count l n q v h r L = record {
+  pub listed-count : (l : List ℕ) (n q v : ℕ) → n ≤ max-names → first-count ≤ q → q < first-place → ListedFrom l n 0 → ListedFrom (set l q v) n 0
+  listed-count l n q v h r t L = record {
     many = length-set l q v ∙ L .many;
-    name-there = λ j o. getD-set-other l q j v 0 (λ z. omega arith) ∙ L .name-there j o;
-    key-there = λ j o. getD-set-other l q (max-names + j) v 0 (λ z. omega arith) ∙ L .key-there j o;
+    name-there = λ j a o. getD-set-other l q j v 0 (λ z. omega arith) ∙ L .name-there j a o;
+    key-there = λ j a o. getD-set-other l q (max-names + j) v 0 (λ z. omega arith) ∙ L .key-there j a o;
+    first-there = λ j a o.
+        let x = getD-set-other l q (first-place + key-of (name-at s (getD names j 0))) v 0 (λ z. omega arith) in
+        let y = L .first-there j a o in
+        omega arith;
   }
 
   -- all of them
-  pub listed-all : (l : List ℕ) (k : Kinds) → total-of k ≤ max-names → total-of k ≤ length names → kinds-in l ≡ k → ListedUpTo l (total-of k)
+  pub listed-all : (l : List ℕ) (k : Kinds) → total-of k ≤ max-names → total-of k ≤ length names → kinds-in l ≡ k → ListedFrom l (total-of k) 0
       → KeyedNames s l × (kinds-in l ≡ k) × (take (total-of k) (names-in l) ≡ take (total-of k) names)
   listed-all l k h m e L =
       let z : total-of (kinds-in l) ≡ total-of k = ap total-of e in
@@ -87,23 +136,28 @@ module _ (s names : List ℕ) where
           names-few = let a = length-take max-names l in omega arith;
           keys-few = let a = length-drop max-names l in omega arith;
           key-at = λ i o. getD-drop max-names l i 0
-              ∙ (L .key-there i (omega arith) ∙ ap (λ (c : ℕ). key-of (name-at s c)) (sym (getD-take max-names l i 0 (omega arith) ∙ L .name-there i (omega arith))));
+              ∙ (L .key-there i (omega arith) (omega arith) ∙ ap (λ (c : ℕ). key-of (name-at s c)) (sym (getD-take max-names l i 0 (omega arith) ∙ L .name-there i (omega arith) (omega arith))));
+          first-at = λ i o.
+              let c : getD (names-in l) i 0 ≡ getD names i 0 = getD-take max-names l i 0 (omega arith) ∙ L .name-there i (omega arith) (omega arith) in
+              let d = getD-drop first-place l (key-of (name-at s (getD names i 0))) 0 in
+              let b = L .first-there i (omega arith) (omega arith) in
+              rw c (omega arith);
         },
         e,
-        take-take (total-of k) max-names l h ∙ take-same (total-of k) l names (omega arith) m (λ j o. L .name-there j o),
+        take-take (total-of k) max-names l h ∙ take-same (total-of k) l names (omega arith) m (λ j o. L .name-there j (omega arith) o),
       )
 
   -- the four numbers are put behind the keys of all names
-  pub listed-kinds : (l : List ℕ) (k : Kinds) (a b c d : ℕ) → total-of k ≤ max-names → total-of k ≤ length names → a ≡ k .sorts → b ≡ k .funcs → c ≡ k .acts → d ≡ k .procs → ListedUpTo l (total-of k)
+  pub listed-kinds : (l : List ℕ) (k : Kinds) (a b c d : ℕ) → total-of k ≤ max-names → total-of k ≤ length names → a ≡ k .sorts → b ≡ k .funcs → c ≡ k .acts → d ≡ k .procs → ListedFrom l (total-of k) 0
       → let l′ = set (set (set (set l 144 a) 145 b) 146 c) 147 d in KeyedNames s l′ × (kinds-in l′ ≡ k) × (take (total-of k) (names-in l′) ≡ take (total-of k) names)
   listed-kinds l k a b c d h m ea eb ec ed L =
       let l₁ = set l 144 a in
       let l₂ = set l₁ 145 b in
       let l₃ = set l₂ 146 c in
-      let L₁ = listed-count l (total-of k) 144 a h (omega arith) L in
-      let L₂ = listed-count l₁ (total-of k) 145 b h (omega arith) L₁ in
-      let L₃ = listed-count l₂ (total-of k) 146 c h (omega arith) L₂ in
-      let L₄ = listed-count l₃ (total-of k) 147 d h (omega arith) L₃ in
+      let L₁ = listed-count l (total-of k) 144 a h (omega arith) (omega arith) L in
+      let L₂ = listed-count l₁ (total-of k) 145 b h (omega arith) (omega arith) L₁ in
+      let L₃ = listed-count l₂ (total-of k) 146 c h (omega arith) (omega arith) L₂ in
+      let L₄ = listed-count l₃ (total-of k) 147 d h (omega arith) (omega arith) L₃ in
       let ha = getD-set-other l₃ 147 144 d 0 (λ z. omega arith) ∙ (getD-set-other l₂ 146 144 c 0 (λ z. omega arith) ∙ (getD-set-other l₁ 145 144 b 0 (λ z. omega arith) ∙ (getD-set-same l 144 a 0 (let z = L .many in omega arith) ∙ ea))) in
       let hb = getD-set-other l₃ 147 145 d 0 (λ z. omega arith) ∙ (getD-set-other l₂ 146 145 c 0 (λ z. omega arith) ∙ (getD-set-same l₁ 145 b 0 (let z = L₁ .many in omega arith) ∙ eb)) in
       let hc = getD-set-other l₃ 147 146 d 0 (λ z. omega arith) ∙ (getD-set-same l₂ 146 c 0 (let z = L₂ .many in omega arith) ∙ ec) in

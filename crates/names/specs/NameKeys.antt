@@ -17,11 +17,12 @@ key-on k (b ∷ x) = key-on (mix k b) x
 unfoldable pub key-of : Name → ℕ
 key-of x = key-on 0 x
 
--- each of the first n names has its key
-pub record Keyed (s names keys : List ℕ) (n : ℕ) : Type 0 where
+-- each of the first n names has its key, and stands at no place before the first of that key
+pub record Keyed (s names keys firsts : List ℕ) (n : ℕ) : Type 0 where
   pub names-few : n ≤ length names
   pub keys-few : n ≤ length keys
   pub key-at : (i : ℕ) → i < n → getD keys i 0 ≡ key-of (name-at s (getD names i 0))
+  pub first-at : (i : ℕ) → i < n → getD firsts (key-of (name-at s (getD names i 0))) 0 ≤ i
 
 -- the names of so many cells, from lo on
 abbrev pub names-from : List ℕ → List ℕ → ℕ → ℕ → List Name

@@ -1,4 +1,5 @@
--- The declared names in one array of 148 cells: the cells of the names, their keys, and how many there are of each kind.
+-- The declared names in one array of 404 cells: the cells of the names, their keys, how many there are of each kind, and the place of the first
+-- name of each key.
 use mathlib.Core.List.{List}
 use Prim.Native.Nat.{ℕ, _+_}
 use lib.ListN.{take, drop, getD}
@@ -12,14 +13,20 @@ max-names = 72
 abbrev pub first-count : ℕ
 first-count = 144
 
+abbrev pub first-place : ℕ
+first-place = 148
+
 abbrev pub list-cells : ℕ
-list-cells = 148
+list-cells = 404
 
 abbrev pub names-in : List ℕ → List ℕ
 names-in l = take max-names l
 
 abbrev pub keys-in : List ℕ → List ℕ
 keys-in l = drop max-names l
+
+abbrev pub firsts-in : List ℕ → List ℕ
+firsts-in l = drop first-place l
 
 abbrev pub kinds-in : List ℕ → Kinds
 kinds-in l = record {
@@ -29,6 +36,6 @@ kinds-in l = record {
   procs = getD l (first-count + 3) 0;
 }
 
--- each of the names that are counted has its key
+-- each of the names that are counted has its key, and stands at no place before the first of that key
 abbrev pub KeyedNames : List ℕ → List ℕ → Type 0
-KeyedNames s l = Keyed s (names-in l) (keys-in l) (total-of (kinds-in l))
+KeyedNames s l = Keyed s (names-in l) (keys-in l) (firsts-in l) (total-of (kinds-in l))

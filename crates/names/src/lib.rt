@@ -11,7 +11,7 @@ use limits::MAX_PROCESSES;
 use limits::MAX_SORTS;
 
 // The declared names in one array, Bool not among them: the cells of the names, kind after kind, then their keys, then how
-// many there are of each kind.
+// many there are of each kind, then for each key the place of the first name that has it.
 pub const MAX_NAMES: usize = MAX_SORTS + MAX_FUNCTIONS + MAX_ACTIONS + MAX_PROCESSES;
 
 pub const FIRST_KEY: usize = MAX_NAMES;
@@ -24,7 +24,12 @@ pub const ACT_COUNT: usize = SORT_COUNT + 2;
 
 pub const PROC_COUNT: usize = SORT_COUNT + 3;
 
-pub const DECLARED_CELLS: usize = SORT_COUNT + 4;
+pub const FIRST_PLACE: usize = SORT_COUNT + 4;
+
+// How many keys there are.
+pub const KEYS: usize = 256;
+
+pub const DECLARED_CELLS: usize = FIRST_PLACE + KEYS;
 
 // How many names of each kind are declared, in this order.
 pub struct Kinds {

@@ -1,121 +1,192 @@
--- Name by name with its key, then the numbers.
+-- The firsts are cleared, then name by name from the last, with its key and as the first of its key; then the numbers.
 use borrow.Author.Needs.{needs}
 use Prim.Native.Nat.{_-_, _+_, _≤_}
-use mathlib.Core.Path.{refl, sym, _∙_, subst}
+use mathlib.Core.Path.{_≡_, refl, sym, _∙_, subst}
 use native.Mathlib.Omega.{arith}
-use lib.ListN.{getD, set, length-set}
-use Rattle.names.specs.NameList.{max-names}
-use Rattle.names.proofs.ListLaws.{ListedUpTo, listed-start, listed-more, listed-kinds}
+use lib.ListN.{length, getD, set, length-set}
+use Rattle.names.specs.NameKinds.{total-of}
+use Rattle.names.specs.NameList.{max-names, first-place, list-cells}
+use Rattle.names.proofs.ListLaws.{ListedFrom, listed-start, listed-more, listed-kinds}
 use Rattle.names.proofs.keys.put_names.Statement.{statement}
 use Rattle.names.proofs.keys.put_names.Tie as tie
 
 abbrev Inv-loop : tie.InvT-loop
-Inv-loop s names kinds declared₀ n i₀ declared i = (i ≤ n) × ListedUpTo s names declared i
+Inv-loop s names kinds declared₀ n j₀ declared j = (length declared ≡ list-cells) × (j ≤ 256)
 
 abbrev μ-loop : tie.MeasureT-loop
-μ-loop s names kinds declared₀ n i₀ declared i = n - i
+μ-loop s names kinds declared₀ n j₀ declared j = 256 - j
 
-add-n : tie.Need-add-n Inv-loop μ-loop
+abbrev Inv-loop2 : tie.InvT-loop2
+Inv-loop2 s names kinds declared₀ n j i₀ declared i = (i ≤ n) × ListedFrom s names declared n i
+
+abbrev μ-loop2 : tie.MeasureT-loop2
+μ-loop2 s names kinds declared₀ n j i₀ declared i = i
+
+add-n : tie.Need-add-n Inv-loop μ-loop Inv-loop2 μ-loop2
 add-n c = omega (arith, c .before .before .before .before .pre)
 
-add-n-2 : tie.Need-add-n-2 Inv-loop μ-loop
+add-n-2 : tie.Need-add-n-2 Inv-loop μ-loop Inv-loop2 μ-loop2
 add-n-2 c = omega (arith, c .before .before .before .before .before .pre)
 
-add-n-3 : tie.Need-add-n-3 Inv-loop μ-loop
+add-n-3 : tie.Need-add-n-3 Inv-loop μ-loop Inv-loop2 μ-loop2
 add-n-3 c = omega (arith, c .before .before .before .before .before .before .pre)
 
-loop-holds : tie.Need-loop-holds Inv-loop μ-loop
-loop-holds c = (omega arith, listed-start (c .before .before .before .before .before .before .args .s .now) (c .before .before .before .before .before .before .args .names .now) (c .before .before .before .before .before .before .args .declared .now) (c .before .before .before .before .before .before .pre .2))
+loop-holds : tie.Need-loop-holds Inv-loop μ-loop Inv-loop2 μ-loop2
+loop-holds c = (c .before .before .before .before .before .before .pre .2, omega arith)
 
-mul-declared : tie.Need-mul-declared Inv-loop μ-loop
-mul-declared c = omega (arith, c .before .before .before .before .before .before .before .before .pre, c .before .loop .inv .0, c .before .loop .inv .1 .many)
-
-shared-slice-read-declared : tie.Need-shared-slice-read-declared Inv-loop μ-loop
-shared-slice-read-declared c = omega (arith, c .before .before .before .before .before .before .before .before .before .pre, c .before .before .loop .inv .0, c .before .before .loop .inv .1 .many)
-
-mul-declared-2 : tie.Need-mul-declared-2 Inv-loop μ-loop
-mul-declared-2 c = omega (arith, c .before .before .before .before .before .before .before .before .before .pre, c .before .before .loop .inv .0, c .before .before .loop .inv .1 .many)
-
-slice-write-declared : tie.Need-slice-write-declared Inv-loop μ-loop
-slice-write-declared c = omega (arith, c .before .before .before .before .before .before .before .before .before .pre, c .before .before .loop .inv .0, c .before .before .loop .inv .1 .many)
-
-mul-key : tie.Need-mul-key Inv-loop μ-loop
-mul-key c = omega (arith, c .before .before .before .before .before .before .before .before .before .pre, c .before .before .loop .inv .0, c .before .before .loop .inv .1 .many)
-
-shared-slice-read-key : tie.Need-shared-slice-read-key Inv-loop μ-loop
-shared-slice-read-key c = omega (arith, c .before .before .before .before .before .before .before .before .before .before .pre, c .before .before .before .loop .inv .0, c .before .before .before .loop .inv .1 .many)
-
-key-requires : tie.Need-key-requires Inv-loop μ-loop
-key-requires c κs = tt
-
-cell-of-requires : tie.Need-cell-of-requires Inv-loop μ-loop
-cell-of-requires c κs = tt
-
-add-declared : tie.Need-add-declared Inv-loop μ-loop
-add-declared c = omega (arith, c .before .before .before .before .before .before .before .before .before .before .before .before .pre, c .before .before .before .before .before .loop .inv .0, c .before .before .before .before .before .loop .inv .1 .many)
-
-mul-declared-3 : tie.Need-mul-declared-3 Inv-loop μ-loop
-mul-declared-3 c = omega (arith, c .before .before .before .before .before .before .before .before .before .before .before .before .pre, c .before .before .before .before .before .loop .inv .0, c .before .before .before .before .before .loop .inv .1 .many)
-
-slice-write-declared-2 : tie.Need-slice-write-declared-2 Inv-loop μ-loop
-slice-write-declared-2 c =
-    let start = c .before .before .before .before .before .before .before .before .before .before .before .before in
-    let loop = c .before .before .before .before .before .loop in
-    let n = length-set (loop .declared) (loop .i) (getD (start .args .names .now) (loop .i) 0) in
-    omega (arith, start .pre, loop .inv .0, loop .inv .1 .many)
-
-add-i : tie.Need-add-i Inv-loop μ-loop
-add-i c = omega arith
-
-loop-less : tie.Need-loop-less Inv-loop μ-loop
-loop-less c = omega arith
-
-loop-again : tie.Need-loop-again Inv-loop μ-loop
-loop-again c =
-    let start = c .before .before .before .before .before .before .before .before .before .before .before .before in
-    let loop = c .before .before .before .before .before .loop in
-    let key = c .before .key in
-    (omega arith, listed-more (start .args .s .now) (start .args .names .now) (loop .declared) (loop .i) _ (c .cell-of .result) (max-names + loop .i) (omega (arith, start .pre)) refl (c .cell-of .ensures ∙ key .ensures) refl (loop .inv .1))
-
-short-requires : tie.Need-short-requires Inv-loop μ-loop
+short-requires : tie.Need-short-requires Inv-loop μ-loop Inv-loop2 μ-loop2
 short-requires c κs = tt
 
-slice-write-declared-3 : tie.Need-slice-write-declared-3 Inv-loop μ-loop
-slice-write-declared-3 c = search needs
+add-declared : tie.Need-add-declared Inv-loop μ-loop Inv-loop2 μ-loop2
+add-declared c = omega (arith, c .before .before .loop .inv .0, c .before .before .loop .inv .1, c .before .loop-test .taken)
 
-short-requires-2 : tie.Need-short-requires-2 Inv-loop μ-loop
+mul-declared : tie.Need-mul-declared Inv-loop μ-loop Inv-loop2 μ-loop2
+mul-declared c = omega (arith, c .before .before .loop .inv .0, c .before .before .loop .inv .1, c .before .loop-test .taken)
+
+slice-write-declared : tie.Need-slice-write-declared Inv-loop μ-loop Inv-loop2 μ-loop2
+slice-write-declared c = omega (arith, c .before .before .loop .inv .0, c .before .before .loop .inv .1, c .before .loop-test .taken)
+
+add-j : tie.Need-add-j Inv-loop μ-loop Inv-loop2 μ-loop2
+add-j c = omega (arith, c .before .before .loop .inv .0, c .before .before .loop .inv .1, c .before .loop-test .taken)
+
+loop-less : tie.Need-loop-less Inv-loop μ-loop Inv-loop2 μ-loop2
+loop-less c = omega (arith, c .before .before .loop .inv .0, c .before .before .loop .inv .1, c .before .loop-test .taken)
+
+loop-again : tie.Need-loop-again Inv-loop μ-loop Inv-loop2 μ-loop2
+loop-again c = (length-set (c .before .before .loop .declared) _ _ ∙ c .before .before .loop .inv .0, omega (arith, c .before .loop-test .taken))
+
+loop2-holds : tie.Need-loop2-holds Inv-loop μ-loop Inv-loop2 μ-loop2
+loop2-holds c =
+    let start = c .before .before .before .before .before .before .before .before in
+    let loop = c .before .loop in
+    (omega arith, listed-start (start .args .s .now) (start .args .names .now) (loop .declared) _ (loop .inv .0))
+
+sub-i : tie.Need-sub-i Inv-loop μ-loop Inv-loop2 μ-loop2
+sub-i c = omega (arith, c .before .before .before .before .before .before .before .before .before .before .pre, c .before .loop2 .inv .0, c .before .loop2 .inv .1 .many, c .loop2-test .taken)
+
+mul-key : tie.Need-mul-key Inv-loop μ-loop Inv-loop2 μ-loop2
+mul-key c = omega (arith, c .before .before .before .before .before .before .before .before .before .before .pre, c .before .loop2 .inv .0, c .before .loop2 .inv .1 .many, c .loop2-test .taken)
+
+shared-slice-read-key : tie.Need-shared-slice-read-key Inv-loop μ-loop Inv-loop2 μ-loop2
+shared-slice-read-key c = omega (arith, c .before .before .before .before .before .before .before .before .before .before .before .pre, c .before .before .loop2 .inv .0, c .before .before .loop2 .inv .1 .many, c .before .loop2-test .taken)
+
+key-requires : tie.Need-key-requires Inv-loop μ-loop Inv-loop2 μ-loop2
+key-requires c κs = tt
+
+mul-declared-2 : tie.Need-mul-declared-2 Inv-loop μ-loop Inv-loop2 μ-loop2
+mul-declared-2 c = omega (arith, c .before .before .before .before .before .before .before .before .before .before .before .before .pre, c .before .before .before .loop2 .inv .0, c .before .before .before .loop2 .inv .1 .many, c .before .before .loop2-test .taken)
+
+shared-slice-read-declared : tie.Need-shared-slice-read-declared Inv-loop μ-loop Inv-loop2 μ-loop2
+shared-slice-read-declared c = omega (arith, c .before .before .before .before .before .before .before .before .before .before .before .before .before .pre, c .before .before .before .before .loop2 .inv .0, c .before .before .before .before .loop2 .inv .1 .many, c .before .before .before .loop2-test .taken)
+
+mul-declared-3 : tie.Need-mul-declared-3 Inv-loop μ-loop Inv-loop2 μ-loop2
+mul-declared-3 c = omega (arith, c .before .before .before .before .before .before .before .before .before .before .before .before .before .pre, c .before .before .before .before .loop2 .inv .0, c .before .before .before .before .loop2 .inv .1 .many, c .before .before .before .loop2-test .taken)
+
+slice-write-declared-2 : tie.Need-slice-write-declared-2 Inv-loop μ-loop Inv-loop2 μ-loop2
+slice-write-declared-2 c = omega (arith, c .before .before .before .before .before .before .before .before .before .before .before .before .before .pre, c .before .before .before .before .loop2 .inv .0, c .before .before .before .before .loop2 .inv .1 .many, c .before .before .before .loop2-test .taken)
+
+cell-of-requires : tie.Need-cell-of-requires Inv-loop μ-loop Inv-loop2 μ-loop2
+cell-of-requires c κs = tt
+
+add-declared-2 : tie.Need-add-declared-2 Inv-loop μ-loop Inv-loop2 μ-loop2
+add-declared-2 c = omega (arith, c .before .before .before .before .before .before .before .before .before .before .before .before .before .before .pre, c .before .before .before .before .before .loop2 .inv .0, c .before .before .before .before .before .loop2 .inv .1 .many, c .before .before .before .before .loop2-test .taken)
+
+mul-declared-4 : tie.Need-mul-declared-4 Inv-loop μ-loop Inv-loop2 μ-loop2
+mul-declared-4 c = omega (arith, c .before .before .before .before .before .before .before .before .before .before .before .before .before .before .pre, c .before .before .before .before .before .loop2 .inv .0, c .before .before .before .before .before .loop2 .inv .1 .many, c .before .before .before .before .loop2-test .taken)
+
+slice-write-declared-3 : tie.Need-slice-write-declared-3 Inv-loop μ-loop Inv-loop2 μ-loop2
+slice-write-declared-3 c =
+    let start = c .before .before .before .before .before .before .before .before .before .before .before .before .before .before in
+    let loop = c .before .before .before .before .before .loop2 in
+    let few = length-set (loop .declared) (loop .i - 1) (getD (start .args .names .now) (loop .i - 1) 0) in
+    omega (arith, start .pre, loop .inv .0, loop .inv .1 .many)
+
+short-requires-2 : tie.Need-short-requires-2 Inv-loop μ-loop Inv-loop2 μ-loop2
 short-requires-2 c κs = tt
 
-slice-write-declared-4 : tie.Need-slice-write-declared-4 Inv-loop μ-loop
-slice-write-declared-4 c = search needs
+wide-requires : tie.Need-wide-requires Inv-loop μ-loop Inv-loop2 μ-loop2
+wide-requires c κs = tt
 
-short-requires-3 : tie.Need-short-requires-3 Inv-loop μ-loop
+add-declared-3 : tie.Need-add-declared-3 Inv-loop μ-loop Inv-loop2 μ-loop2
+add-declared-3 c = omega (arith, c .before .before .before .before .before .before .before .before .before .before .before .before .before .before .before .before .pre, c .before .before .before .before .before .before .before .loop2 .inv .0, c .before .before .before .before .before .before .before .loop2 .inv .1 .many, c .before .before .before .before .before .before .loop2-test .taken)
+
+mul-declared-5 : tie.Need-mul-declared-5 Inv-loop μ-loop Inv-loop2 μ-loop2
+mul-declared-5 c = omega (arith, c .before .before .before .before .before .before .before .before .before .before .before .before .before .before .before .before .pre, c .before .before .before .before .before .before .before .loop2 .inv .0, c .before .before .before .before .before .before .before .loop2 .inv .1 .many, c .before .before .before .before .before .before .loop2-test .taken)
+
+slice-write-declared-4 : tie.Need-slice-write-declared-4 Inv-loop μ-loop Inv-loop2 μ-loop2
+slice-write-declared-4 c =
+    let start = c .before .before .before .before .before .before .before .before .before .before .before .before .before .before .before .before in
+    let loop = c .before .before .before .before .before .before .before .loop2 in
+    let cell = c .before .before .cell-of in
+    let wide = c .wide in
+    let l = set (loop .declared) (loop .i - 1) (getD (start .args .names .now) (loop .i - 1) 0) in
+    let few = length-set (loop .declared) (loop .i - 1) (getD (start .args .names .now) (loop .i - 1) 0) in
+    let few′ = length-set l (max-names + (loop .i - 1)) (cell .result) in
+    omega (arith, wide .ensures .1, loop .inv .1 .many)
+
+loop2-less : tie.Need-loop2-less Inv-loop μ-loop Inv-loop2 μ-loop2
+loop2-less c = omega (arith, c .before .before .before .before .before .before .before .before .before .before .before .before .before .before .before .before .pre, c .before .before .before .before .before .before .before .loop2 .inv .0, c .before .before .before .before .before .before .before .loop2 .inv .1 .many, c .before .before .before .before .before .before .loop2-test .taken)
+
+loop2-again : tie.Need-loop2-again Inv-loop μ-loop Inv-loop2 μ-loop2
+loop2-again c =
+    let start = c .before .before .before .before .before .before .before .before .before .before .before .before .before .before .before .before in
+    let loop = c .before .before .before .before .before .before .before .loop2 in
+    let key = c .before .before .before .before .key in
+    let cell = c .before .before .cell-of in
+    let place = c .before .short2 in
+    let wide = c .wide in
+    let listed = subst (ListedFrom (start .args .s .now) (start .args .names .now) (loop .declared) (total-of (start .args .kinds))) (let t = c .before .before .before .before .before .before .loop2-test .taken in let z : loop .i ≡ loop .i - 1 + 1 = omega arith in z) (loop .inv .1) in
+    (omega (arith, loop .inv .0), listed-more (start .args .s .now) (start .args .names .now) (loop .declared) (total-of (start .args .kinds)) (loop .i - 1) _ (cell .result) (max-names + (loop .i - 1)) (first-place + wide .result) (place .result) (omega (arith, start .pre)) (omega (arith, loop .inv .0, c .before .before .before .before .before .before .loop2-test .taken)) refl (cell .ensures ∙ key .ensures) (omega (arith, wide .ensures, cell .ensures)) refl (omega (arith, wide .ensures .0, cell .ensures)) (place .ensures (omega (arith, start .pre, loop .inv .0))) listed)
+
+short-requires-3 : tie.Need-short-requires-3 Inv-loop μ-loop Inv-loop2 μ-loop2
 short-requires-3 c κs = tt
 
-slice-write-declared-5 : tie.Need-slice-write-declared-5 Inv-loop μ-loop
+slice-write-declared-5 : tie.Need-slice-write-declared-5 Inv-loop μ-loop Inv-loop2 μ-loop2
 slice-write-declared-5 c = search needs
 
-short-requires-4 : tie.Need-short-requires-4 Inv-loop μ-loop
+short-requires-4 : tie.Need-short-requires-4 Inv-loop μ-loop Inv-loop2 μ-loop2
 short-requires-4 c κs = tt
 
-slice-write-declared-6 : tie.Need-slice-write-declared-6 Inv-loop μ-loop
+slice-write-declared-6 : tie.Need-slice-write-declared-6 Inv-loop μ-loop Inv-loop2 μ-loop2
 slice-write-declared-6 c = search needs
 
-same-length : tie.Need-same-length Inv-loop μ-loop
-same-length c =
-    let loop = c .before .before .before .before .before .loop in
-    let l₁ = set (loop .declared) 144 (c .before .before .before .short .result) in
-    let l₂ = set l₁ 145 (c .before .before .short2 .result) in
-    let l₃ = set l₂ 146 (c .before .short3 .result) in
-    length-set l₃ 147 (c .short4 .result) ∙ (length-set l₂ 146 _ ∙ (length-set l₁ 145 _ ∙ (length-set (loop .declared) 144 _ ∙ (loop .inv .1 .many ∙ sym (c .before .before .before .before .before .before .before .before .before .before .before .before .pre .2)))))
+short-requires-5 : tie.Need-short-requires-5 Inv-loop μ-loop Inv-loop2 μ-loop2
+short-requires-5 c κs = tt
 
-returns : tie.Need-returns Inv-loop μ-loop
+slice-write-declared-7 : tie.Need-slice-write-declared-7 Inv-loop μ-loop Inv-loop2 μ-loop2
+slice-write-declared-7 c = search needs
+
+short-requires-6 : tie.Need-short-requires-6 Inv-loop μ-loop Inv-loop2 μ-loop2
+short-requires-6 c κs = tt
+
+slice-write-declared-8 : tie.Need-slice-write-declared-8 Inv-loop μ-loop Inv-loop2 μ-loop2
+slice-write-declared-8 c = search needs
+
+same-length : tie.Need-same-length Inv-loop μ-loop Inv-loop2 μ-loop2
+same-length c =
+    let start = c .before .before .before .before .before .before .before .before .before .before .before .before .before .before in
+    let loop = c .before .before .before .before .before .loop2 in
+    let a = c .before .before .before .short3 in
+    let b = c .before .before .short4 in
+    let d = c .before .short5 in
+    let e = c .short6 in
+    let l₁ = set (loop .declared) 144 (a .result) in
+    let l₂ = set l₁ 145 (b .result) in
+    let l₃ = set l₂ 146 (d .result) in
+    length-set l₃ 147 (e .result) ∙ (length-set l₂ 146 _ ∙ (length-set l₁ 145 _ ∙ (length-set (loop .declared) 144 _ ∙ (loop .inv .1 .many ∙ sym (start .pre .2)))))
+
+returns : tie.Need-returns Inv-loop μ-loop Inv-loop2 μ-loop2
 returns c =
-    let start = c .before .before .before .before .before .before .before .before .before .before .before .before in
-    let loop = c .before .before .before .before .before .loop in
+    let start = c .before .before .before .before .before .before .before .before .before .before .before .before .before .before in
+    let loop = c .before .before .before .before .before .loop2 in
+    let a = c .before .before .before .short3 in
+    let b = c .before .before .short4 in
+    let d = c .before .short5 in
+    let e = c .short6 in
     let k = start .args .kinds in
-    let r = listed-kinds (start .args .s .now) (start .args .names .now) (loop .declared) k (c .before .before .before .short .result) (c .before .before .short2 .result) (c .before .short3 .result) (c .short4 .result) (omega (arith, start .pre)) (omega (arith, start .pre)) (c .before .before .before .short .ensures (omega (arith, start .pre))) (c .before .before .short2 .ensures (omega (arith, start .pre))) (c .before .short3 .ensures (omega (arith, start .pre))) (c .short4 .ensures (omega (arith, start .pre))) (subst (ListedUpTo (start .args .s .now) (start .args .names .now) (loop .declared)) (let z = loop .inv .0 in let y = c .before .before .before .before .loop-test .left in omega arith) (loop .inv .1)) in
+    let listed = subst (ListedFrom (start .args .s .now) (start .args .names .now) (loop .declared) (total-of k)) (let y = c .before .before .before .before .loop2-test .left in let z : loop .i ≡ 0 = omega arith in z) (loop .inv .1) in
+    let r = listed-kinds (start .args .s .now) (start .args .names .now) (loop .declared) k (a .result) (b .result) (d .result) (e .result) (omega (arith, start .pre)) (omega (arith, start .pre)) (a .ensures (omega (arith, start .pre))) (b .ensures (omega (arith, start .pre))) (d .ensures (omega (arith, start .pre))) (e .ensures (omega (arith, start .pre))) listed in
     (r .0, (r .1, r .2))
 
 pub put-names-spec : {M : Type 1} → statement M
-put-names-spec = tie.close (tie.spec Inv-loop μ-loop add-n add-n-2 add-n-3 loop-holds mul-declared shared-slice-read-declared mul-declared-2 slice-write-declared mul-key shared-slice-read-key key-requires cell-of-requires add-declared mul-declared-3 slice-write-declared-2 add-i loop-less loop-again short-requires slice-write-declared-3 short-requires-2 slice-write-declared-4 short-requires-3 slice-write-declared-5 short-requires-4 slice-write-declared-6 same-length returns)
+put-names-spec = tie.close (tie.spec Inv-loop μ-loop Inv-loop2 μ-loop2 add-n add-n-2 add-n-3 loop-holds short-requires add-declared mul-declared slice-write-declared add-j loop-less loop-again loop2-holds sub-i mul-key shared-slice-read-key key-requires mul-declared-2 shared-slice-read-declared mul-declared-3 slice-write-declared-2 cell-of-requires add-declared-2 mul-declared-4 slice-write-declared-3 short-requires-2 wide-requires add-declared-3 mul-declared-5 slice-write-declared-4 loop2-less loop2-again short-requires-3 slice-write-declared-5 short-requires-4 slice-write-declared-6 short-requires-5 slice-write-declared-7 short-requires-6 slice-write-declared-8 same-length returns)

@@ -3,7 +3,7 @@ use mathlib.Core.Path.{sym, _∙_}
 use Prim.Native.Nat.{_+_}
 use native.Mathlib.Omega.{arith}
 use lib.Seq.{getD-take, getD-drop}
-use Rattle.names.specs.NameList.{max-names, names-in, keys-in}
+use Rattle.names.specs.NameList.{max-names, names-in, keys-in, firsts-in}
 use Rattle.names.proofs.KeyLaws.{other-key}
 use Rattle.names.proofs.ListLaws.{names-few, keys-few}
 use Rattle.names.proofs.keys.same_keyed.Statement.{statement}
@@ -34,7 +34,7 @@ returns : tie.Need-returns
 returns c =
     let start = c .before .before .before .before .before in
     let l = start .args .declared .now in
-    other-key (start .args .s .now) (names-in l) (keys-in l) (start .args .i) (start .args .c) (start .args .k) (start .pre .0) (start .pre .1) (λ e. c .if1 .taken (sym (getD-drop max-names l (start .args .i) 0) ∙ (e ∙ sym (c .before .cell-of .ensures))))
+    other-key (start .args .s .now) (names-in l) (keys-in l) (firsts-in l) (start .args .i) (start .args .c) (start .args .k) (start .pre .0) (start .pre .1) (λ e. c .if1 .taken (sym (getD-drop max-names l (start .args .i) 0) ∙ (e ∙ sym (c .before .cell-of .ensures))))
 
 mul-same-name : tie.Need-mul-same-name
 mul-same-name c =
