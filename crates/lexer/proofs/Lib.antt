@@ -1,4 +1,4 @@
-mod Match
+pub mod Match
 pub mod Runs
 mod ClassTable
 mod EachByte

@@ -1,4 +1,3 @@
-mod Arms
 pub mod Writing
 pub mod Symbols
 pub mod Lookup

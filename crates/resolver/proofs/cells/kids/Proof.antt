@@ -4,7 +4,7 @@ use mathlib.Core.List.{List, [], _∷_}
 use Prim.Native.Nat.{ℕ}
 use native.Mathlib.Omega.{arith}
 use borrow.Author.Needs.{needs}
-use Rattle.resolver.proofs.Arms.{keyed, ranged}
+use Rattle.lexer.proofs.Match.{keyed, ranged}
 use Rattle.resolver.specs.Raw.{kids-of}
 use Rattle.resolver.proofs.Items.{kids-past, kids-ors, kids-ands}
 use Rattle.resolver.proofs.cells.kids.Statement.{statement}

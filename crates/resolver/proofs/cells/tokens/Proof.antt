@@ -3,7 +3,7 @@ use mathlib.Core.Path.{sym}
 use mathlib.Core.List.{List, [], _∷_}
 use Prim.Native.Nat.{ℕ}
 use native.Mathlib.Omega.{arith}
-use Rattle.resolver.proofs.Arms.{keyed, ranged}
+use Rattle.lexer.proofs.Match.{keyed, ranged}
 use Rattle.resolver.specs.Raw.{tokens-of}
 use Rattle.resolver.proofs.Items.{tokens-past}
 use Rattle.resolver.proofs.cells.tokens.Statement.{statement}
