@@ -28,6 +28,9 @@ const MIDDLE: usize = 513;
 // Three cells a byte are room enough for the tokens, the raw tree and the resolved terms.
 const CELLS: usize = 3 * MAX_BYTES;
 
+// A function's value takes two tokens, itself and a comma or `=`.
+const VALUES: usize = MAX_BYTES / 2;
+
 // The number of the first question that fails, or 0 and how many bytes were written.
 pub struct Made {
     pub refused: u8,
@@ -127,7 +130,7 @@ fn make_short(sheet: &[u8], out: &mut [u8]) -> Tried
     ensures { λ r. ⌜ Tries (file-made (now (sheet .entry)) (length (now (out .entry)))) 1024 (now (out .entry)) r (now (out .exit)) ⌝ }
 {
     let mut raw = [0u16; 192];
-    let mut values = [0u8; 64];
+    let mut values = [0u8; 32];
     let mut cells = [0u16; 192];
     let mut stream = [0u8; 1024];
     make(sheet, &mut raw, &mut values, &mut cells, &mut stream, out)
@@ -138,14 +141,14 @@ fn make_middle(sheet: &[u8], out: &mut [u8]) -> Tried
     ensures { λ r. ⌜ Tries (file-made (now (sheet .entry)) (length (now (out .entry)))) 8192 (now (out .entry)) r (now (out .exit)) ⌝ }
 {
     let mut raw = [0u16; 1536];
-    let mut values = [0u8; 512];
+    let mut values = [0u8; 256];
     let mut cells = [0u16; 1536];
     let mut stream = [0u8; 8192];
     make(sheet, &mut raw, &mut values, &mut cells, &mut stream, out)
 }
 
 // A long sheet read: the raw tree's array is left before that of the stream is needed.
-fn read_long(sheet: &[u8], values: &mut [u8; MAX_BYTES], cells: &mut [u16; CELLS]) -> Answer
+fn read_long(sheet: &[u8], values: &mut [u8; VALUES], cells: &mut [u16; CELLS]) -> Answer
     ensures { λ r. ⌜ Reads (sheet-read (now (sheet .entry))) (now (sheet .entry)) r (now (values .exit)) (now (cells .exit)) ⌝ }
 {
     let mut raw = [0u16; CELLS];
@@ -155,7 +158,7 @@ fn read_long(sheet: &[u8], values: &mut [u8; MAX_BYTES], cells: &mut [u16; CELLS
 fn write_long(
     sheet: &[u8],
     a: Answer,
-    values: &[u8; MAX_BYTES],
+    values: &[u8; VALUES],
     cells: &mut [u16; CELLS],
     out: &mut [u8],
 ) -> Made
@@ -175,7 +178,7 @@ fn make_long(sheet: &[u8], out: &mut [u8]) -> Made
     ensures answer { λ r. ⌜ r ≡ made-answer (file-made (now (sheet .entry)) (length (now (out .entry)))) ⌝ }
     ensures written { λ r. ⌜ now (out .exit) ≡ output-after (file-made (now (sheet .entry)) (length (now (out .entry)))) (now (out .entry)) ⌝ }
 {
-    let mut values = [0u8; MAX_BYTES];
+    let mut values = [0u8; VALUES];
     let mut cells = [0u16; CELLS];
     let a = read_long(sheet, &mut values, &mut cells);
     if a.refused != 0 {

@@ -2,7 +2,7 @@
 use mathlib.Core.Path.{_≡_, ap, subst, subst⁻¹}
 use mathlib.Core.List.{List}
 use mathlib.Core.Option.{some}
-use Prim.Native.Nat.{ℕ, _+_, _≤_}
+use Prim.Native.Nat.{ℕ, _+_, _*_, _≤_}
 use native.Mathlib.Omega.{arith}
 use lib.ListN.{length}
 use Rattle.pcrl.specs.Limits.{max-open}
@@ -31,7 +31,7 @@ pub record Bounded (R : RawSheet) (n : ℕ) : Type 0 where
   pub acts-formed : Every FormedAct (R .acts)
   pub values-small : Every SmallValues (R .funcs)
   pub sums-shallow : Every (λ (l : ProcLine). sum-depth (l .right) ≤ max-open) (R .procs)
-  pub values-few : length (all (λ (l : FuncLine). l .values) (R .funcs)) ≤ n
+  pub values-few : 2 * length (all (λ (l : FuncLine). l .values) (R .funcs)) ≤ n
   pub processes-few : length (print-lines "proc" print-proc (R .procs)) + length (print-init (R .start)) ≤ n
 
 -- the tokens of a sheet's bytes are valid, and never too many brackets are open

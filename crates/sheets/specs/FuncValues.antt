@@ -1,6 +1,6 @@
--- The values of a sheet's functions: each is a numeral of the sheet, and each takes a token.
+-- The values of a sheet's functions: each is a numeral of the sheet, and each takes two tokens, itself and a comma or `=`.
 use mathlib.Core.List.{List, [], _∷_, _++_}
-use Prim.Native.Nat.{ℕ, _≤_}
+use Prim.Native.Nat.{ℕ, _+_, _*_, _≤_}
 use native.Mathlib.Omega.{arith}
 use lib.ListN.{length, length-append}
 use Rattle.pcrl.specs.Tests.{Every}
@@ -9,7 +9,7 @@ use Rattle.pcrl.specs.Reader.{all}
 use Rattle.pcrl.specs.Tree.{FuncLine, RawSheet}
 use Rattle.laws.specs.Every.{every-left, every-right}
 use Rattle.pcrl.specs.Print.{joined, line, print-lines, print-sorts, print-values, print-sort, print-func, print-sheet}
-use Rattle.grammar.specs.PrintLaws.{joined-length, sheet-length}
+use Rattle.grammar.specs.PrintLaws.{sheet-length}
 
 module _ (P : Token → Type 0) where
   -- what holds of every printed token holds of every value
@@ -40,17 +40,21 @@ module _ (P : Token → Type 0) where
       let past-sorts = every-right P (print-lines "sort" print-sort (R .sorts)) _ h in
       funcs-values (R .funcs) (every-left P (print-lines "func" print-func (R .funcs)) _ past-sorts)
 
--- ---- as many tokens as values
-func-few : (l : FuncLine) → length (l .values) ≤ length (line "func" (print-func l))
-unfolding line print-func print-values
-func-few l =
-    let values = joined-length "," (λ v. numeral v ∷ []) (λ v. omega arith) (l .values) in
-    simp length-append (omega arith)
+-- ---- two tokens for each value
+values-length : (vs : List ℕ) → 2 * length vs ≤ length (print-values vs) + 1
+unfolding print-values joined
+values-length [] = omega arith
+values-length (v ∷ []) = omega arith
+values-length (v ∷ u ∷ vs) = omega (arith, values-length (u ∷ vs))
 
-funcs-few : (ls : List FuncLine) → length (all (λ (l : FuncLine). l .values) ls) ≤ length (print-lines "func" print-func ls)
+func-few : (l : FuncLine) → 2 * length (l .values) ≤ length (line "func" (print-func l))
+unfolding line print-func
+func-few l = simp length-append (omega (arith, values-length (l .values)))
+
+funcs-few : (ls : List FuncLine) → 2 * length (all (λ (l : FuncLine). l .values) ls) ≤ length (print-lines "func" print-func ls)
 unfolding all
 funcs-few [] = omega arith
 funcs-few (l ∷ ls) = simp length-append (omega (arith, func-few l, funcs-few ls))
 
-pub values-below : (R : RawSheet) → length (all (λ (l : FuncLine). l .values) (R .funcs)) ≤ length (print-sheet R)
+pub values-below : (R : RawSheet) → 2 * length (all (λ (l : FuncLine). l .values) (R .funcs)) ≤ length (print-sheet R)
 values-below R = omega (arith, funcs-few (R .funcs), sheet-length R)

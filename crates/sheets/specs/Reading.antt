@@ -15,11 +15,12 @@ use Rattle.sheets.specs.declared.SheetRows.{SheetRows}
 use Rattle.sheets.specs.declared.Answer.{Answer}
 use Rattle.sheets.specs.Resolving.{arrays, Named}
 
--- room for the tree of a sheet, and for its tokens and then what it resolves to; a sheet has no more tokens than bytes
+-- room for the tree of a sheet, for its functions' values, and for its tokens and then what it resolves to; a sheet has no more tokens than
+-- bytes, and a value takes two tokens
 pub record Room (sheet raw values cells : List ℕ) : Type 0 where
   pub tree-room : 3 * min (length sheet) max-bytes ≤ length raw
   pub tree-few : length raw < cell-limit
-  pub values-room : min (length sheet) max-bytes ≤ length values
+  pub values-room : min (length sheet) max-bytes ≤ 2 * length values
   pub values-few : length values < cell-limit
   pub cells-room : 3 * min (length sheet) max-bytes ≤ length cells
   pub cells-few : length cells < cell-limit

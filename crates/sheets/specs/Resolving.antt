@@ -72,7 +72,7 @@ HoldsSignature sorts funcs acts values r S =
 abbrev pub SignatureRead : (s raw sorts funcs acts values : List ℕ) → SigRows → Type 0
 SignatureRead s raw sorts funcs acts values r =
     (R : RawSheet) (n : ℕ) → LinesAt enc-sort s raw sorts (R .sorts) → LinesAt enc-func s raw funcs (R .funcs) → LinesAt enc-act s raw acts (R .acts)
-    → Counted R → Bounded R n → n ≤ length values → Answers (HoldsSignature sorts funcs acts values r) (resolve-signature R) (r .ok)
+    → Counted R → Bounded R n → n ≤ 2 * length values → Answers (HoldsSignature sorts funcs acts values r) (resolve-signature R) (r .ok)
 
 -- ---- processes
 -- a process of a sheet with m of them: its row, and the cells of its right side behind w, at most so many
@@ -126,7 +126,7 @@ Named s r H = (i : ℕ) → i < length (H .sig .acts) → name-at s (getD (r .na
 -- n tokens: room for their values and for the cells of their terms
 abbrev pub Resolves : (s : List ℕ) → RawSheet → (values o : List ℕ) → ResolvedRows → Type 0
 Resolves s R values o r =
-    (n : ℕ) → Counted R → Bounded R n → n ≤ length values → 3 * n ≤ length o → Answers (λ H. Held H (arrays (r .rows) values o) (r .rows .outline) × Named s (r .rows) H) (resolve R) (r .ok)
+    (n : ℕ) → Counted R → Bounded R n → n ≤ 2 * length values → 3 * n ≤ length o → Answers (λ H. Held H (arrays (r .rows) values o) (r .rows .outline) × Named s (r .rows) H) (resolve R) (r .ok)
 
 abbrev pub LinesResolve : (s raw sorts funcs acts procs : List ℕ) (at : ℕ) (values o : List ℕ) → ResolvedRows → Type 0
 LinesResolve s raw sorts funcs acts procs at values o r =
