@@ -222,6 +222,24 @@ module _ (cells : List ℕ) (at c₀ : ℕ) (slots : List ℕ) (n most : ℕ) (o
                     small-left = λ w. subst (λ (w : ℕ). Every CallSmall (calls-all σ w ps)) (sym z) (every-right CallSmall C M (j w));
                   }
 
+          -- the last part written
+          pub parts-last : need ≡ 1 → r .ok ≡ true → CallsPut cells at c₀ slots n most 0 o (record { ok = true; w = r .w; n = k + 1 }) out′
+          unfolding parts-cells Every calls-all all
+          parts-last one ok H q rest σ few e s f l = (λ t. go (left H q rest σ few e s f l .parts) (left H q rest σ few e s f l .many) (left H q rest σ few e s f l .place) (left H q rest σ few e s f l .fine) (left H q rest σ few e s f l .bytes) (left H q rest σ few e s f l .number) (left H q rest σ few e s f l .small), λ t. never (sym t))
+            where
+              go : (ps : List Proc) → length ps ≡ need → drop p cells ≡ parts-cells ps ++ rest → Every (Fine H n) ps
+                  → take v out ++ all encode-call (calls-all σ c ps) ≡ take 0 o ++ all encode-call (calls-of σ c₀ q) → k + length (calls-all σ c ps) ≡ length (calls-of σ c₀ q)
+                  → (Every CallSmall (calls-all σ c ps) → Every CallSmall (calls-of σ c₀ q))
+                  → (length (calls-of σ c₀ q) ≡ k + 1) × Every CallSmall (calls-of σ c₀ q) × Adds (all encode-call (calls-of σ c₀ q)) 0 o (r .w) out′
+              go [] a b g t m i = absurd (omega arith)
+              go (x ∷ y ∷ ps) a b g t m i = absurd (omega arith)
+              go (x ∷ []) a b g t m i =
+                  let nq : kind-of x ≡ seq-kind → ⊥ = λ z. other (opened x [] rest b .kind-is ∙ z) in
+                  let u = put H true x rest σ few (b ∙ append-assoc (enc true x) [] rest) nq s (g .0) .0 ok in
+                  let C = calls-of σ c x in
+                  let y : C ++ [] ≡ C = append-nil C in
+                  (omega (arith, ap length y, one-part σ c x nq), i (every-append CallSmall C [] (u .0) tt), u .1 ∙ ap (λ (w : List (ℕ × List Data)). take v out ++ all encode-call w) (sym y) ∙ t)
+
           -- a part with a term that is too long
           pub parts-long : r .ok ≡ false → (w m : ℕ) (o′ : List ℕ) → CallsPut cells at c₀ slots n most 0 o (record { ok = false; w = w; n = m }) o′
           unfolding parts-cells news Every calls-all

@@ -170,6 +170,14 @@ fn put_calls(
         if !r.ok {
             return none();
         }
+        // the last part: where it ends does not matter
+        if need == 1 {
+            return Calls {
+                ok: true,
+                w: r.w,
+                n: k + 1,
+            };
+        }
         let s = nodes::skip(cells, p);
         v = r.w;
         e = later(e, s.own);

@@ -147,6 +147,12 @@ abbrev pub MarkLeft : List ℕ → ℕ → ℕ → ℕ → ℕ → ℕ → Type 
 MarkLeft s at n p need x = (b : Bool) (q : Proc) (rest : List ℕ) → drop at s ≡ enc b q ++ rest → Above n q
     → (xs : List Item) × (length xs ≡ need) × (drop p s ≡ encs xs ++ rest) × AboveAll n xs × ((i : ℕ) → i < n → or (bit i x) (in-all i xs) ≡ in-proc i q)
 
+-- where no variable is in scope none is marked
+pub mark-none : (s : List ℕ) (at n : ℕ) → n ≡ 0 → Marked s at n 0
+unfolding bits marks tabulate
+mark-none s at zero z b p rest e a = refl
+mark-none s at (suc n) z b p rest e a = absurd (omega arith)
+
 pub mark-start : (s : List ℕ) (at n : ℕ) → MarkLeft s at n at 1 0
 unfolding in-all AboveAll
 mark-start s at n b q rest e a = ((b, q) ∷ [], refl, e ∙ one-item b q rest, (a, tt), λ i h. ap (λ (c : Bool). or c (or (in-proc i q) false)) (zero-bit i) ∙ or-false (in-proc i q))

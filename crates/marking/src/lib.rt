@@ -51,6 +51,9 @@ pub fn marks(cells: &[u16], at: usize, n: usize) -> u32
     ensures { λ r. ⌜ Marked (now (cells .entry)) at n r ⌝ }
     ensures { λ r. ⌜ HighBits n 0 r ⌝ }
 {
+    if n == 0 {
+        return 0;
+    }
     let mut p = at;
     let mut need: usize = 1;
     let mut x: u32 = 0;

@@ -8,7 +8,7 @@ use lib.ListN.{length, take}
 use Rattle.nodes.specs.Layout.{byte-limit}
 use Rattle.following.specs.declared.Calls.{Calls}
 use Rattle.following.specs.Follows.{call-bytes, CallsPut}
-use Rattle.following.proofs.Parts.{Left, parts-start, parts-stuck, parts-done, parts-seq, parts-many, parts-on, parts-long}
+use Rattle.following.proofs.Parts.{Left, parts-start, parts-stuck, parts-done, parts-seq, parts-many, parts-on, parts-last, parts-long}
 use Rattle.following.proofs.put_calls.Statement.{statement}
 use Rattle.following.proofs.put_calls.Tie as tie
 use Rattle.following.proofs.put_calls.Lts as lts
@@ -84,36 +84,55 @@ returns-3 c =
       subst (λ (x : Calls). CallsPut (a .cells .now) (a .at) (a .c) (a .slots .now) (a .n) (a .most) 0 (a .out .now) x (c .before .before .before .before .before .put-call .last .1 .1 .1 .1 .1 .0)) (sym e) (parts-long (c .before .before .before .before .before .before .before .before .before .before .before .before .before .before .before .before .before .args .cells .now) (c .before .before .before .before .before .before .before .before .before .before .before .before .before .before .before .before .before .args .at) (c .before .before .before .before .before .before .before .before .before .before .before .before .before .before .before .before .before .args .c) (c .before .before .before .before .before .before .before .before .before .before .before .before .before .before .before .before .before .args .slots .now) (c .before .before .before .before .before .before .before .before .before .before .before .before .before .before .before .before .before .args .n) (c .before .before .before .before .before .before .before .before .before .before .before .before .before .before .before .before .before .args .most) (c .before .before .before .before .before .before .before .before .before .before .before .before .before .before .before .before .before .args .out .now) (c .before .before .before .before .before .before .before .before .before .before .before .before .before .loop .p) (c .before .before .before .before .before .before .before .before .before .before .before .before .before .loop .need) (c .before .before .before .before .before .before .before .before .before .before .before .before .before .loop .k) (c .before .before .before .before .before .before .before .before .before .before .before .before .before .loop .e) (c .before .before .before .before .before .before .before .before .before .before .before .before .before .loop .v) (c .before .before .before .before .before .before .before .before .before .before .before .before .before .loop .out) (c .before .before .before .before .before .before .before .before .before .before .before .before .before .loop .inv .1) (omega arith) (c .before .before .before .before .before .before .before .before .before .before .node-at .result) (c .before .before .before .before .before .before .before .before .before .before .node-at .ensures .1) (λ z. omega arith) (c .before .before .before .before .before .put-call .result) (c .before .before .before .before .before .put-call .last .1 .1 .1 .1 .1 .0) (c .before .before .before .before .before .put-call .ensures .1 .1) (not-true _ (c .before .if4 .taken)) 0 0 (c .before .before .before .before .before .put-call .last .1 .1 .1 .1 .1 .0)),
     )
 
+add-t20 : tie.Need-add-t20 Inv-loop μ-loop
+add-t20 c =
+    let i = c .before .before .before .before .before .before .before .before .before .before .before .before .before .loop .inv .0 in let q = c .before .before .before .before .before .before .before .before .before .before .before .before .before .before .before .before .before .pre in omega arith
+
+same-length-4 : tie.Need-same-length-4 Inv-loop μ-loop
+same-length-4 c =
+    c .before .before .before .before .before .put-call .kept .1 .1 .1 .1 .1 .0 ∙ c .before .before .before .before .before .before .before .before .before .before .before .before .before .loop .inv .0 .5
+
+returns-4 : tie.Need-returns-4 Inv-loop μ-loop
+returns-4 c =
+    let i = c .before .before .before .before .before .before .before .before .before .before .before .before .before .loop .inv .0 in
+    let u = c .before .before .before .before .before .put-call .ensures .0 in
+    let a = c .before .before .before .before .before .before .before .before .before .before .before .before .before .before .before .before .before .args in
+    let here = c .before .before .before .before .before .before .before .before .before .before .before .before .before .loop in
+    let put = c .before .before .before .before .before .put-call in (
+      (omega arith, omega arith),
+      parts-last (a .cells .now) (a .at) (a .c) (a .slots .now) (a .n) (a .most) (a .out .now) (here .p) (here .need) (here .k) (here .e) (here .v) (here .out) (here .inv .1) (omega arith) (c .before .before .before .before .before .before .before .before .before .before .node-at .result) (c .before .before .before .before .before .before .before .before .before .before .node-at .ensures .1) (λ z. omega arith) (put .result) (put .last .1 .1 .1 .1 .1 .0) (put .ensures .1 .1) (omega arith) (not-false _ (c .before .if4 .left)),
+    )
+
 skip-requires : tie.Need-skip-requires Inv-loop μ-loop
 skip-requires c κs = omega arith
 
 later-requires : tie.Need-later-requires Inv-loop μ-loop
 later-requires c κs =
-    c .before .before .before .before .before .before .before .before .before .before .before .before .before .loop .inv .0 .4
+    c .before .before .before .before .before .before .before .before .before .before .before .before .before .before .loop .inv .0 .4
 
 sub-need : tie.Need-sub-need Inv-loop μ-loop
 sub-need c = omega arith
 
 add-k : tie.Need-add-k Inv-loop μ-loop
 add-k c =
-    let i = c .before .before .before .before .before .before .before .before .before .before .before .before .before .before .loop .inv .0 in let q = c .before .before .before .before .before .before .before .before .before .before .before .before .before .before .before .before .before .before .pre in omega arith
+    let i = c .before .before .before .before .before .before .before .before .before .before .before .before .before .before .before .loop .inv .0 in let q = c .before .before .before .before .before .before .before .before .before .before .before .before .before .before .before .before .before .before .before .pre in omega arith
 
 loop-less-2 : tie.Need-loop-less-2 Inv-loop μ-loop
 loop-less-2 c =
-    let sk = c .before .skip .ensures .0 in let i = c .before .before .before .before .before .before .before .before .before .before .before .before .before .before .loop .inv .0 in omega arith
+    let sk = c .before .skip .ensures .0 in let i = c .before .before .before .before .before .before .before .before .before .before .before .before .before .before .before .loop .inv .0 in omega arith
 
 loop-again-2 : tie.Need-loop-again-2 Inv-loop μ-loop
 loop-again-2 c =
-    let q = c .before .before .before .before .before .before .before .before .before .before .before .before .before .before .before .before .before .before .pre in let i = c .before .before .before .before .before .before .before .before .before .before .before .before .before .before .loop .inv .0 in let u = c .before .before .before .before .before .before .put-call .ensures .0 in let sk = c .before .skip .ensures .0 in (
-      (omega arith, omega arith, omega arith, omega arith, c .later .ensures .0, c .before .before .before .before .before .before .put-call .kept .1 .1 .1 .1 .1 .0 ∙ i .5),
-      parts-on (c .before .before .before .before .before .before .before .before .before .before .before .before .before .before .before .before .before .before .args .cells .now) (c .before .before .before .before .before .before .before .before .before .before .before .before .before .before .before .before .before .before .args .at) (c .before .before .before .before .before .before .before .before .before .before .before .before .before .before .before .before .before .before .args .c) (c .before .before .before .before .before .before .before .before .before .before .before .before .before .before .before .before .before .before .args .slots .now) (c .before .before .before .before .before .before .before .before .before .before .before .before .before .before .before .before .before .before .args .n) (c .before .before .before .before .before .before .before .before .before .before .before .before .before .before .before .before .before .before .args .most) (c .before .before .before .before .before .before .before .before .before .before .before .before .before .before .before .before .before .before .args .out .now) (c .before .before .before .before .before .before .before .before .before .before .before .before .before .before .loop .p) (c .before .before .before .before .before .before .before .before .before .before .before .before .before .before .loop .need) (c .before .before .before .before .before .before .before .before .before .before .before .before .before .before .loop .k) (c .before .before .before .before .before .before .before .before .before .before .before .before .before .before .loop .e) (c .before .before .before .before .before .before .before .before .before .before .before .before .before .before .loop .v) (c .before .before .before .before .before .before .before .before .before .before .before .before .before .before .loop .out) (c .before .before .before .before .before .before .before .before .before .before .before .before .before .before .loop .inv .1) (omega arith) (c .before .before .before .before .before .before .before .before .before .before .before .node-at .result) (c .before .before .before .before .before .before .before .before .before .before .before .node-at .ensures .1) (λ z. omega arith) (c .before .before .before .before .before .before .put-call .result) (c .before .before .before .before .before .before .put-call .last .1 .1 .1 .1 .1 .0) (c .before .before .before .before .before .before .put-call .ensures .1 .1) (not-false _ (c .before .before .if4 .left)) (c .before .skip .result) (c .before .skip .ensures .1) (c .later .result) (c .later .ensures .1),
+    let q = c .before .before .before .before .before .before .before .before .before .before .before .before .before .before .before .before .before .before .before .pre in let i = c .before .before .before .before .before .before .before .before .before .before .before .before .before .before .before .loop .inv .0 in let u = c .before .before .before .before .before .before .before .put-call .ensures .0 in let sk = c .before .skip .ensures .0 in (
+      (omega arith, omega arith, omega arith, omega arith, c .later .ensures .0, c .before .before .before .before .before .before .before .put-call .kept .1 .1 .1 .1 .1 .0 ∙ i .5),
+      parts-on (c .before .before .before .before .before .before .before .before .before .before .before .before .before .before .before .before .before .before .before .args .cells .now) (c .before .before .before .before .before .before .before .before .before .before .before .before .before .before .before .before .before .before .before .args .at) (c .before .before .before .before .before .before .before .before .before .before .before .before .before .before .before .before .before .before .before .args .c) (c .before .before .before .before .before .before .before .before .before .before .before .before .before .before .before .before .before .before .before .args .slots .now) (c .before .before .before .before .before .before .before .before .before .before .before .before .before .before .before .before .before .before .before .args .n) (c .before .before .before .before .before .before .before .before .before .before .before .before .before .before .before .before .before .before .before .args .most) (c .before .before .before .before .before .before .before .before .before .before .before .before .before .before .before .before .before .before .before .args .out .now) (c .before .before .before .before .before .before .before .before .before .before .before .before .before .before .before .loop .p) (c .before .before .before .before .before .before .before .before .before .before .before .before .before .before .before .loop .need) (c .before .before .before .before .before .before .before .before .before .before .before .before .before .before .before .loop .k) (c .before .before .before .before .before .before .before .before .before .before .before .before .before .before .before .loop .e) (c .before .before .before .before .before .before .before .before .before .before .before .before .before .before .before .loop .v) (c .before .before .before .before .before .before .before .before .before .before .before .before .before .before .before .loop .out) (c .before .before .before .before .before .before .before .before .before .before .before .before .before .before .before .loop .inv .1) (omega arith) (c .before .before .before .before .before .before .before .before .before .before .before .before .node-at .result) (c .before .before .before .before .before .before .before .before .before .before .before .before .node-at .ensures .1) (λ z. omega arith) (c .before .before .before .before .before .before .before .put-call .result) (c .before .before .before .before .before .before .before .put-call .last .1 .1 .1 .1 .1 .0) (c .before .before .before .before .before .before .before .put-call .ensures .1 .1) (not-false _ (c .before .before .before .if4 .left)) (c .before .skip .result) (c .before .skip .ensures .1) (c .later .result) (c .later .ensures .1),
     )
 
-same-length-4 : tie.Need-same-length-4 Inv-loop μ-loop
-same-length-4 c = c .before .loop .inv .0 .5
+same-length-5 : tie.Need-same-length-5 Inv-loop μ-loop
+same-length-5 c = c .before .loop .inv .0 .5
 
-returns-4 : tie.Need-returns-4 Inv-loop μ-loop
-returns-4 c =
+returns-5 : tie.Need-returns-5 Inv-loop μ-loop
+returns-5 c =
     (omega arith, parts-done (c .before .before .before .before .before .args .cells .now) (c .before .before .before .before .before .args .at) (c .before .before .before .before .before .args .c) (c .before .before .before .before .before .args .slots .now) (c .before .before .before .before .before .args .n) (c .before .before .before .before .before .args .most) (c .before .before .before .before .before .args .out .now) (c .before .loop .p) (c .before .loop .need) (c .before .loop .k) (c .before .loop .e) (c .before .loop .v) (c .before .loop .out) (c .before .loop .inv .1) (omega arith))
 
 pub put-calls-spec : {M : Type 1} → statement M
@@ -137,11 +156,14 @@ put-calls-spec =
     none-requires-3
     same-length-3
     returns-3
+    add-t20
+    same-length-4
+    returns-4
     skip-requires
     later-requires
     sub-need
     add-k
     loop-less-2
     loop-again-2
-    same-length-4
-    returns-4)
+    same-length-5
+    returns-5)

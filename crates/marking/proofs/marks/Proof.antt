@@ -4,7 +4,7 @@ use Rattle.marking.specs.Marks.{HighBits}
 use native.Mathlib.Omega.{arith}
 use Prim.Native.Nat.{ℕ, _+_, _-_, _≤_, _<_}
 use lib.ListN.{length}
-use Rattle.marking.proofs.MarkLaws.{MarkLeft, mark-start, mark-stuck, mark-done, mark-step}
+use Rattle.marking.proofs.MarkLaws.{MarkLeft, mark-none, mark-start, mark-stuck, mark-done, mark-step}
 use Rattle.marking.proofs.marks.Statement.{statement}
 use Rattle.marking.proofs.marks.Tie as tie
 use Rattle.marking.proofs.marks.Lts as lts
@@ -16,12 +16,15 @@ Inv-loop cells at n p₀ need₀ x₀ p need x = ((at ≤ p) × (need + at ≤ 1
 abbrev μ-loop : tie.MeasureT-loop
 μ-loop cells at n p₀ need₀ x₀ p need x = length cells - p
 
-loop-holds : tie.Need-loop-holds Inv-loop μ-loop
-loop-holds c = (omega arith, mark-start (c .before .args .cells .now) (c .before .args .at) (c .before .args .n), λ i h. refl)
-
 returns : tie.Need-returns Inv-loop μ-loop
-returns c =
-    (mark-stuck (c .before .before .before .before .args .cells .now) (c .before .before .before .before .args .at) (c .before .before .before .before .args .n) (c .before .before .loop .p) (c .before .before .loop .need) (c .before .before .loop .x) (c .before .before .loop .inv .1) (omega arith) (omega arith) _, c .before .before .loop .inv .2)
+returns c = (mark-none (c .before .before .args .cells .now) (c .before .before .args .at) (c .before .before .args .n) (omega arith), λ i h. refl)
+
+loop-holds : tie.Need-loop-holds Inv-loop μ-loop
+loop-holds c = (omega arith, mark-start (c .before .before .args .cells .now) (c .before .before .args .at) (c .before .before .args .n), λ i h. refl)
+
+returns-2 : tie.Need-returns-2 Inv-loop μ-loop
+returns-2 c =
+    (mark-stuck (c .before .before .before .before .before .args .cells .now) (c .before .before .before .before .before .args .at) (c .before .before .before .before .before .args .n) (c .before .before .loop .p) (c .before .before .loop .need) (c .before .before .loop .x) (c .before .before .loop .inv .1) (omega arith) (omega arith) _, c .before .before .loop .inv .2)
 
 node-at-requires : tie.Need-node-at-requires Inv-loop μ-loop
 node-at-requires c κs = omega arith
@@ -40,11 +43,11 @@ loop-less c = omega arith
 
 loop-again : tie.Need-loop-again Inv-loop μ-loop
 loop-again c =
-    (omega arith, mark-step (c .before .before .before .before .before .before .before .args .cells .now) (c .before .before .before .before .before .before .before .args .at) (c .before .before .before .before .before .before .before .args .n) (c .before .before .before .before .before .loop .p) (c .before .before .before .before .before .loop .need) (c .before .before .before .before .before .loop .x) (c .before .before .before .before .before .loop .inv .1) (omega arith) (c .before .before .node-at .result) (c .before .before .node-at .ensures .1) (c .before .data-marks .result) (c .before .data-marks .ensures .0), λ i h. c .before .data-marks .ensures .1 i h ∙ c .before .before .before .before .before .loop .inv .2 i h)
+    (omega arith, mark-step (c .before .before .before .before .before .before .before .before .args .cells .now) (c .before .before .before .before .before .before .before .before .args .at) (c .before .before .before .before .before .before .before .before .args .n) (c .before .before .before .before .before .loop .p) (c .before .before .before .before .before .loop .need) (c .before .before .before .before .before .loop .x) (c .before .before .before .before .before .loop .inv .1) (omega arith) (c .before .before .node-at .result) (c .before .before .node-at .ensures .1) (c .before .data-marks .result) (c .before .data-marks .ensures .0), λ i h. c .before .data-marks .ensures .1 i h ∙ c .before .before .before .before .before .loop .inv .2 i h)
 
-returns-2 : tie.Need-returns-2 Inv-loop μ-loop
-returns-2 c =
-    (mark-done (c .before .before .before .args .cells .now) (c .before .before .before .args .at) (c .before .before .before .args .n) (c .before .loop .p) (c .before .loop .need) (c .before .loop .x) (c .before .loop .inv .1) (omega arith), c .before .loop .inv .2)
+returns-3 : tie.Need-returns-3 Inv-loop μ-loop
+returns-3 c =
+    (mark-done (c .before .before .before .before .args .cells .now) (c .before .before .before .before .args .at) (c .before .before .before .before .args .n) (c .before .loop .p) (c .before .loop .need) (c .before .loop .x) (c .before .loop .inv .1) (omega arith), c .before .loop .inv .2)
 
 pub marks-spec : {M : Type 1} → statement M
 marks-spec =
@@ -52,12 +55,13 @@ marks-spec =
     (tie.spec
     Inv-loop
     μ-loop
-    loop-holds
     returns
+    loop-holds
+    returns-2
     node-at-requires
     data-marks-requires
     sub-need
     add-need
     loop-less
     loop-again
-    returns-2)
+    returns-3)

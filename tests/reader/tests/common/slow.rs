@@ -23,7 +23,9 @@ pub fn sheets() -> Vec<Case> {
         long_summands(),
         doubling_to_255(),
         one_new_equation_each(),
+        bracketed_lines(),
     ]);
+    cases.extend(entered_again());
     cases
 }
 
@@ -75,6 +77,71 @@ fn behind_deltas(brackets: usize) -> Case {
     let sheet = format!("act a;proc X={calls};proc Y={open}{idle}{close}+a;proc D=delta;init X;");
     let what = format!("a head behind 1,600 calls in {brackets} brackets, called 254 times");
     Case::new(&what, sheet, 0)
+}
+
+/// A process with few heads among much that has none, called again and again.
+fn entered(what: &str, right: &str, times: usize) -> Case {
+    let calls = repeated("P", times, "+");
+    let sheet = format!("act a;proc V=delta;proc P={right};proc G={calls};init G;");
+    Case::new(&format!("{what}, called {times} times"), sheet, 0)
+}
+
+/// What has no heads stands before, behind and around the heads, in brackets and in sequences.
+fn entered_again() -> Vec<Case> {
+    let idle = repeated("V", 1700, "+");
+    let open = "(".repeat(15);
+    let (sides, parts) = (")+V".repeat(15), ").V".repeat(8));
+    let ends = ")".repeat(7);
+    vec![
+        entered(
+            "a head before 1,700 calls in 15 brackets",
+            &format!("{open}a+{idle}{sides}"),
+            250,
+        ),
+        entered(
+            "a head behind 1,700 calls in 15 brackets",
+            &format!("{open}{idle}+a{sides}"),
+            250,
+        ),
+        entered("1,700 calls between two heads", &format!("a+{idle}+a"), 125),
+        entered(
+            "1,700 calls and a head as a first part",
+            &format!("({idle}+a).V"),
+            250,
+        ),
+        entered(
+            "1,700 calls and a head in 8 first parts",
+            &format!("{open}{idle}+a{parts}{ends}"),
+            250,
+        ),
+        entered(
+            "a head before a part of 1,700 calls",
+            &format!("a.({idle})+a"),
+            125,
+        ),
+        entered(
+            "850 sequences between two heads",
+            &format!("a+{}+a", repeated("V.V", 850, "+")),
+            125,
+        ),
+        entered(
+            "600 brackets between two heads",
+            &format!("a+{}+a", repeated("(V+V)", 600, "+")),
+            125,
+        ),
+    ]
+}
+
+/// A line of processes, each in brackets with a side without heads in each, called again and again.
+fn bracketed_lines() -> Case {
+    let (open, sides) = ("(".repeat(15), ")+V".repeat(15));
+    let link = |i: usize| format!("proc X{i}={open}X{}{sides};", i + 1);
+    let calls = repeated("X0", 230, "+");
+    let sheet = format!(
+        "act a;proc V=delta;{}proc X13=a;proc G={calls};init G;",
+        numbered(13, link)
+    );
+    Case::new("13 processes of 15 brackets in a line, called 230 times", sheet, 0)
 }
 
 /// A line of processes, each with much that has no heads.
