@@ -11,9 +11,11 @@ use native.Mathlib.Nat.{eq-or-lt-of-le}
 use lib.Dec.{T}
 use lib.ListN.{length, take, drop, getD, List·getD-eq-default}
 use Rattle.pcrl.specs.Text.{bytes}
-use Rattle.pcrl.specs.Tests.{and, negated}
+use Rattle.pcrl.specs.Tests.{and, negated, T?}
 use Rattle.pcrl.specs.Bytes.{name-byte}
 use Rattle.pcrl.specs.Tokens.{run, front}
+use Rattle.laws.specs.Tests.{is-true}
+use Rattle.grammar.specs.Spelled.{decided-below, holds-below}
 use Rattle.lexer.specs.Cells.{first-name}
 use Rattle.names.specs.NameCells.{name-at, shown}
 
@@ -154,6 +156,25 @@ shown-no b = go (name-byte b)
     go : (v : Bool) → v ≡ false → _≡_ {A = ℕ} 0 (elim v [ true ↦ b | false ↦ 0 ])
     go true e = absurd (let y : _≡_ {A = ℕ} 0 1 = cc in omega arith)
     go false e = refl
+
+-- small letters are shown, and nothing behind them in ASCII is
+pub shown-small : (b : ℕ) → 97 ≤ b → b ≤ 122 → b ≡ shown b
+unfolding decided-below T?
+shown-small b l h =
+    let z : 97 + (b - 97) ≡ b = omega arith in
+    let t = holds-below {P = λ (i : ℕ). T (name-byte (97 + i))} (λ i. T? (name-byte (97 + i))) 26 tt (b - 97) (omega arith) in
+    shown-yes b (is-true (name-byte b) (rw z at t))
+
+pub shown-behind : (b : ℕ) → 122 < b → b < 256 → 0 ≡ shown b
+unfolding decided-below T?
+shown-behind b l h =
+    let z : 123 + (b - 123) ≡ b = omega arith in
+    let t = holds-below {P = λ (i : ℕ). T (negated (name-byte (123 + i)))} (λ i. T? (negated (name-byte (123 + i)))) 133 tt (b - 123) (omega arith) in
+    shown-no b (go (name-byte b) (rw z at t))
+  where
+    go : (v : Bool) → T (negated v) → v ≡ false
+    go true n = absurd n
+    go false n = refl
 
 -- "Bool": its four bytes, and then none
 pub spells-bool : (s : List ℕ) (a p : ℕ) → p ≡ a - first-name → shown (getD s p 0) ≡ 66 → shown (getD s (p + 1) 0) ≡ 111 → shown (getD s (p + 2) 0) ≡ 111

@@ -6,8 +6,12 @@ use lib.ListN.{length, drop, getD}
 use Rattle.pcrl.specs.Tree.{Name}
 use Rattle.names.specs.NameCells.{name-at, scope-at}
 
+-- how many keys there are
+abbrev pub key-count : ℕ
+key-count = 256
+
 unfoldable pub mix : ℕ → ℕ → ℕ
-mix k b = (k * 31 + b) % 256
+mix k b = (k * 31 + b) % key-count
 
 -- the key of bytes that stand behind those of key k
 unfoldable pub key-on : ℕ → Name → ℕ
@@ -17,12 +21,18 @@ key-on k (b ∷ x) = key-on (mix k b) x
 unfoldable pub key-of : Name → ℕ
 key-of x = key-on 0 x
 
--- each of the first n names has its key, and stands at no place before the first of that key
-pub record Keyed (s names keys firsts : List ℕ) (n : ℕ) : Type 0 where
+-- from the place p on, the first of n names that has the key k stands at q; where there is none, q is not below n
+pub record FirstFrom (s names : List ℕ) (n k p q : ℕ) : Type 0 where
+  pub from : p ≤ q
+  pub has : q < n → key-of (name-at s (getD names q 0)) ≡ k
+  pub least : (j : ℕ) → p ≤ j → j < n → key-of (name-at s (getD names j 0)) ≡ k → q ≤ j
+
+-- for each key the first of n names that has it, and for each name the next one that has its key
+pub record Keyed (s names nexts firsts : List ℕ) (n : ℕ) : Type 0 where
   pub names-few : n ≤ length names
-  pub keys-few : n ≤ length keys
-  pub key-at : (i : ℕ) → i < n → getD keys i 0 ≡ key-of (name-at s (getD names i 0))
-  pub first-at : (i : ℕ) → i < n → getD firsts (key-of (name-at s (getD names i 0))) 0 ≤ i
+  pub nexts-few : n ≤ length nexts
+  pub first-of : (k : ℕ) → k < key-count → FirstFrom s names n k 0 (getD firsts k 0)
+  pub next-of : (i : ℕ) → i < n → FirstFrom s names n (key-of (name-at s (getD names i 0))) (i + 1) (getD nexts i 0)
 
 -- the names of so many cells, from lo on
 abbrev pub names-from : List ℕ → List ℕ → ℕ → ℕ → List Name

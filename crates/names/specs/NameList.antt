@@ -1,5 +1,5 @@
--- The declared names in one array of 404 cells: the cells of the names, their keys, how many there are of each kind, and the place of the first
--- name of each key.
+-- The declared names in one array of 404 cells: the cells of the names, for each the place of the next name with its key, how many there are of
+-- each kind, and the place of the first name of each key.
 use mathlib.Core.List.{List}
 use Prim.Native.Nat.{ℕ, _+_}
 use lib.ListN.{take, drop, getD}
@@ -22,8 +22,8 @@ list-cells = 404
 abbrev pub names-in : List ℕ → List ℕ
 names-in l = take max-names l
 
-abbrev pub keys-in : List ℕ → List ℕ
-keys-in l = drop max-names l
+abbrev pub nexts-in : List ℕ → List ℕ
+nexts-in l = drop max-names l
 
 abbrev pub firsts-in : List ℕ → List ℕ
 firsts-in l = drop first-place l
@@ -36,6 +36,6 @@ kinds-in l = record {
   procs = getD l (first-count + 3) 0;
 }
 
--- each of the names that are counted has its key, and stands at no place before the first of that key
+-- the names that are counted, with the first of each key and the next after each name
 abbrev pub KeyedNames : List ℕ → List ℕ → Type 0
-KeyedNames s l = Keyed s (names-in l) (keys-in l) (firsts-in l) (total-of (kinds-in l))
+KeyedNames s l = Keyed s (names-in l) (nexts-in l) (firsts-in l) (total-of (kinds-in l))

@@ -30,6 +30,13 @@ pub fn first_byte(c: u16) -> usize
 pub fn letter(b: u8) -> u8
     ensures { λ r. ⌜ r ≡ shown b ⌝ }
 {
+    // most bytes of long names are small letters
+    if b >= b'a' {
+        if b <= b'z' {
+            return b;
+        }
+        return 0;
+    }
     if name_byte(b) { b } else { 0 }
 }
 
@@ -136,7 +143,7 @@ fn name_length(s: &[u8], c: u16) -> usize
 }
 
 // Is the name of cell c, of l bytes, that of cell d? From the back: numbered names differ at their ends.
-fn same_run(s: &[u8], c: u16, l: usize, d: u16) -> bool
+pub fn same_run(s: &[u8], c: u16, l: usize, d: u16) -> bool
     requires { ⌜ l ≡ length (name-at (now s) c) ⌝ }
     ensures { λ r. ⌜ Says r (name-at (now (s .entry)) c ≡ name-at (now (s .entry)) d) ⌝ }
 {

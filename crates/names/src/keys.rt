@@ -1,4 +1,4 @@
-// Names with their keys: a name is looked up by its key, and compared byte by byte only where the keys agree.
+// Names with their keys: a name is looked up by its key, and compared byte by byte only with those that have it.
 ghost use mathlib.Core.Path.{_≡_};
 ghost use mathlib.Core.List.{_++_};
 ghost use Prim.Native.Nat.{suc, _+_, _≤_, _<_};
@@ -8,9 +8,10 @@ ghost use Rattle.laws.specs.Says.{Says};
 ghost use Rattle.names.specs.NameCells.{name-at, or-count};
 ghost use Rattle.names.specs.NameKeys.{mix, key-of, Keyed, names-from};
 ghost use Rattle.names.specs.NameKinds.{total-of, sorts-in, funcs-in, acts-in, procs-in};
-ghost use Rattle.names.specs.NameList.{max-names, list-cells, names-in, keys-in, firsts-in, kinds-in, KeyedNames};
+ghost use Rattle.names.specs.NameList.{max-names, list-cells, names-in, nexts-in, firsts-in, kinds-in, KeyedNames};
 use crate::ACT_COUNT;
-use crate::FIRST_KEY;
+use crate::Digest;
+use crate::FIRST_NEXT;
 use crate::FIRST_PLACE;
 use crate::FUNC_COUNT;
 use crate::KEYS;
@@ -20,13 +21,12 @@ use crate::SORT_COUNT;
 use crate::find::first_byte;
 use crate::find::is_bool;
 use crate::find::letter;
-use crate::find::same_name;
+use crate::find::same_run;
 use elements::cell;
-use elements::cell_of;
 use elements::low;
 use elements::short;
-use elements::smaller;
 use elements::wide;
+use elements::wide_cell;
 
 // The key of a name that goes on with the byte b.
 fn mixed(k: u8, b: u8) -> u8
@@ -35,24 +35,27 @@ fn mixed(k: u8, b: u8) -> u8
     low(wide(k) * 31 + wide(b))
 }
 
-// A digest of the name of cell c.
-fn key(s: &[u8], c: u16) -> u8
-    ensures { λ r. ⌜ r ≡ key-of (name-at (now (s .entry)) c) ⌝ }
+// The key of the name of cell c, and how many bytes it has.
+fn key(s: &[u8], c: u16) -> Digest
+    ensures { λ r. ⌜ (r .key ≡ key-of (name-at (now (s .entry)) c)) × (r .length ≡ length (name-at (now (s .entry)) c)) ⌝ }
 {
-    let mut p = first_byte(c);
+    let p = first_byte(c);
+    let mut e = p;
     let mut k: u8 = 0;
-    while p < s.len() {
-        let b = letter(s[p]);
+    while e < s.len() {
+        let b = letter(s[e]);
         if b == 0 {
-            return k;
+            let n = e - p;
+            return Digest { key: k, length: n };
         }
         k = mixed(k, b);
-        p += 1;
+        e += 1;
     }
-    k
+    let n = e - p;
+    Digest { key: k, length: n }
 }
 
-// The names that lines declare, so many of each kind, their keys, these numbers and the first name of each key.
+// The names that lines declare, so many of each kind, for each the next one with its key, these numbers and the first name of each key.
 pub fn put_names(s: &[u8], names: &[u16], kinds: Kinds, declared: &mut [u16])
     requires { ⌜ (total-of kinds ≤ length (now names)) × (total-of kinds ≤ max-names) × (length (now declared) ≡ list-cells) ⌝ }
     ensures keyed { λ r. ⌜ KeyedNames (now (s .entry)) (now (declared .exit)) ⌝ }
@@ -66,14 +69,15 @@ pub fn put_names(s: &[u8], names: &[u16], kinds: Kinds, declared: &mut [u16])
         declared[FIRST_PLACE + j] = short(n);
         j += 1;
     }
-    // the last name first: of those with one key the first is written last
+    // the last name first: the first of its key so far is the next one after it
     let mut i = n;
     while i > 0 {
         i -= 1;
-        let k = key(s, names[i]);
+        let d = key(s, names[i]);
+        let p = FIRST_PLACE + wide(d.key);
         declared[i] = names[i];
-        declared[FIRST_KEY + i] = cell_of(k);
-        declared[FIRST_PLACE + wide(k)] = short(i);
+        declared[FIRST_NEXT + i] = declared[p];
+        declared[p] = short(i);
     }
     declared[SORT_COUNT] = short(kinds.sorts);
     declared[FUNC_COUNT] = short(kinds.funcs);
@@ -91,41 +95,32 @@ pub fn total(declared: &[u16]) -> usize
     sorts + funcs + acts + cell(declared, PROC_COUNT)
 }
 
-// Is the name at place i that of cell c, whose key is k?
-fn same_keyed(s: &[u8], declared: &[u16], i: usize, c: u16, k: u8) -> bool
-    requires { ⌜ Keyed (now s) (names-in (now declared)) (keys-in (now declared)) (firsts-in (now declared)) (i + 1) × (k ≡ key-of (name-at (now s) c)) ⌝ }
-    ensures { λ r. ⌜ Says r (name-at (now (s .entry)) c ≡ name-at (now (s .entry)) (getD (names-in (now (declared .entry))) i 0)) ⌝ }
+// Is the name at place i that of cell c, of l bytes, and not before lo?
+fn found_at(s: &[u8], declared: &[u16], lo: usize, i: usize, c: u16, l: usize) -> bool
+    requires { ⌜ (i < max-names) × (i < length (now declared)) × (l ≡ length (name-at (now s) c)) ⌝ }
+    ensures { λ r. ⌜ Says r ((lo ≤ i) × (name-at (now (s .entry)) c ≡ name-at (now (s .entry)) (getD (names-in (now (declared .entry))) i 0))) ⌝ }
 {
-    if declared[FIRST_KEY + i] != cell_of(k) {
+    if i < lo {
         return false;
     }
-    same_name(s, c, declared[i])
+    same_run(s, c, l, declared[i])
 }
 
-// How many of the names from lo on may be passed, since the first with the key k stands behind them.
-fn passed(declared: &[u16], lo: usize, count: usize, k: u8) -> usize
-    ensures { λ r. ⌜ (r ≤ count) × (0 < r → lo + r ≤ getD (firsts-in (now (declared .entry))) k 0) ⌝ }
-{
-    let first = cell(declared, FIRST_PLACE + wide(k));
-    if first <= lo {
-        return 0;
-    }
-    smaller(first - lo, count)
-}
-
-// Which of the names from lo on is that of cell c, counted from 0; or how many there are.
+// Which of the names from lo on is that of cell c, counted from 0; or how many there are. Those with its key are gone through.
 pub fn number_in(s: &[u8], declared: &[u16], lo: usize, count: usize, c: u16) -> usize
-    requires { ⌜ Keyed (now s) (names-in (now declared)) (keys-in (now declared)) (firsts-in (now declared)) (lo + count) ⌝ }
+    requires { ⌜ Keyed (now s) (names-in (now declared)) (nexts-in (now declared)) (firsts-in (now declared)) (lo + count) ⌝ }
     ensures most { λ r. ⌜ r ≤ count ⌝ }
     ensures number { λ r. ⌜ r ≡ or-count count (number-of (name-at (now (s .entry)) c) (names-from (now (s .entry)) (names-in (now (declared .entry))) lo count)) ⌝ }
 {
-    let k = key(s, c);
-    let mut i = passed(declared, lo, count, k);
-    while i < count {
-        if same_keyed(s, declared, lo + i, c, k) {
-            return i;
+    let end = lo + count;
+    let d = key(s, c);
+    let l = d.length;
+    let mut i = cell(declared, FIRST_PLACE + wide(d.key));
+    while i < end {
+        if found_at(s, declared, lo, i, c, l) {
+            return i - lo;
         }
-        i += 1;
+        i = wide_cell(declared[FIRST_NEXT + i]);
     }
     count
 }

@@ -10,13 +10,13 @@ use limits::MAX_FUNCTIONS;
 use limits::MAX_PROCESSES;
 use limits::MAX_SORTS;
 
-// The declared names in one array, Bool not among them: the cells of the names, kind after kind, then their keys, then how
-// many there are of each kind, then for each key the place of the first name that has it.
+// The declared names in one array, Bool not among them: the cells of the names, kind after kind, then for each the place of
+// the next name with its key, then how many there are of each kind, then for each key the place of the first name that has it.
 pub const MAX_NAMES: usize = MAX_SORTS + MAX_FUNCTIONS + MAX_ACTIONS + MAX_PROCESSES;
 
-pub const FIRST_KEY: usize = MAX_NAMES;
+pub const FIRST_NEXT: usize = MAX_NAMES;
 
-pub const SORT_COUNT: usize = FIRST_KEY + MAX_NAMES;
+pub const SORT_COUNT: usize = FIRST_NEXT + MAX_NAMES;
 
 pub const FUNC_COUNT: usize = SORT_COUNT + 1;
 
@@ -30,6 +30,12 @@ pub const FIRST_PLACE: usize = SORT_COUNT + 4;
 pub const KEYS: usize = 256;
 
 pub const DECLARED_CELLS: usize = FIRST_PLACE + KEYS;
+
+// The key of a name, and how many bytes it has.
+pub struct Digest {
+    pub key: u8,
+    pub length: usize,
+}
 
 // How many names of each kind are declared, in this order.
 pub struct Kinds {

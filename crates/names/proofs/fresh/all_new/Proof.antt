@@ -8,7 +8,7 @@ use Rattle.pcrl.specs.Text.{bytes}
 use Rattle.pcrl.specs.Tests.{among, distinct}
 use Rattle.laws.specs.Says.{said-yes, said-no}
 use Rattle.names.specs.NameCells.{name-at, scope-at}
-use Rattle.names.specs.NameList.{names-in, keys-in, firsts-in}
+use Rattle.names.specs.NameList.{names-in, nexts-in, firsts-in}
 use Rattle.names.proofs.Lists.{mapped-length}
 use Rattle.names.proofs.Among.{taken-twice, there-twice, new-passed, number-among, number-not}
 use Rattle.names.proofs.KeyLaws.{keyed-fewer, scope-most, names-left}
@@ -45,7 +45,7 @@ is-bool-requires c κs = tt
 
 returns : tie.Need-returns Inv-loop μ-loop
 unfolding scope-at
-returns c = rw (← c .before .before .before .before .before .total .ensures) (taken-twice (distinct (bytes "Bool" ∷ scope-at (c .before .before .before .before .before .before .before .before .args .s .now) (names-in (c .before .before .before .before .before .before .before .before .args .declared .now)) (c .before .before .before .before .before .total .result))) (bytes "Bool") (name-at (c .before .before .before .before .before .before .before .before .args .s .now) (getD (c .before .before .before .before .before .before .before .before .args .declared .now) (c .before .before .before .before .loop .i) 0)) (drop (c .before .before .before .before .loop .i) (scope-at (c .before .before .before .before .before .before .before .before .args .s .now) (names-in (c .before .before .before .before .before .before .before .before .args .declared .now)) (c .before .before .before .before .before .total .result))) (drop (c .before .before .before .before .loop .i + 1) (scope-at (c .before .before .before .before .before .before .before .before .args .s .now) (names-in (c .before .before .before .before .before .before .before .before .args .declared .now)) (c .before .before .before .before .before .total .result))) (c .before .before .before .before .loop .inv) (next-listed (c .before .before .before .before .before .before .before .before .args .s .now) (c .before .before .before .before .before .before .before .before .args .declared .now) (c .before .before .before .before .before .total .result) (c .before .before .before .before .loop .i) (keyed-fewer (c .before .before .before .before .before .before .before .before .args .s .now) (names-in (c .before .before .before .before .before .before .before .before .args .declared .now)) (keys-in (c .before .before .before .before .before .before .before .before .args .declared .now)) (firsts-in (c .before .before .before .before .before .before .before .before .args .declared .now)) (c .before .before .before .before .before .total .result) _ (omega (arith, c .before .before .before .before .before .total .ensures)) (c .before .before .before .before .before .before .before .before .pre)) (c .before .before .before .loop-test .taken)) (said-yes _ (c .before .is-bool .ensures) (c .if1 .taken)))
+returns c = rw (← c .before .before .before .before .before .total .ensures) (taken-twice (distinct (bytes "Bool" ∷ scope-at (c .before .before .before .before .before .before .before .before .args .s .now) (names-in (c .before .before .before .before .before .before .before .before .args .declared .now)) (c .before .before .before .before .before .total .result))) (bytes "Bool") (name-at (c .before .before .before .before .before .before .before .before .args .s .now) (getD (c .before .before .before .before .before .before .before .before .args .declared .now) (c .before .before .before .before .loop .i) 0)) (drop (c .before .before .before .before .loop .i) (scope-at (c .before .before .before .before .before .before .before .before .args .s .now) (names-in (c .before .before .before .before .before .before .before .before .args .declared .now)) (c .before .before .before .before .before .total .result))) (drop (c .before .before .before .before .loop .i + 1) (scope-at (c .before .before .before .before .before .before .before .before .args .s .now) (names-in (c .before .before .before .before .before .before .before .before .args .declared .now)) (c .before .before .before .before .before .total .result))) (c .before .before .before .before .loop .inv) (next-listed (c .before .before .before .before .before .before .before .before .args .s .now) (c .before .before .before .before .before .before .before .before .args .declared .now) (c .before .before .before .before .before .total .result) (c .before .before .before .before .loop .i) (keyed-fewer (c .before .before .before .before .before .before .before .before .args .s .now) (names-in (c .before .before .before .before .before .before .before .before .args .declared .now)) (nexts-in (c .before .before .before .before .before .before .before .before .args .declared .now)) (firsts-in (c .before .before .before .before .before .before .before .before .args .declared .now)) (c .before .before .before .before .before .total .result) _ (omega (arith, c .before .before .before .before .before .total .ensures)) (c .before .before .before .before .before .before .before .before .pre)) (c .before .before .before .loop-test .taken)) (said-yes _ (c .before .is-bool .ensures) (c .if1 .taken)))
 
 sub-left : tie.Need-sub-left Inv-loop μ-loop
 sub-left c = omega arith
@@ -57,11 +57,11 @@ add-number-in : tie.Need-add-number-in Inv-loop μ-loop
 add-number-in c = omega arith
 
 number-in-requires : tie.Need-number-in-requires Inv-loop μ-loop
-number-in-requires c κs = keyed-fewer (c .before .before .before .before .before .before .before .before .args .s .now) (names-in (c .before .before .before .before .before .before .before .before .args .declared .now)) (keys-in (c .before .before .before .before .before .before .before .before .args .declared .now)) (firsts-in (c .before .before .before .before .before .before .before .before .args .declared .now)) _ _ (omega (arith, c .before .before .before .before .before .total .ensures)) (c .before .before .before .before .before .before .before .before .pre)
+number-in-requires c κs = keyed-fewer (c .before .before .before .before .before .before .before .before .args .s .now) (names-in (c .before .before .before .before .before .before .before .before .args .declared .now)) (nexts-in (c .before .before .before .before .before .before .before .before .args .declared .now)) (firsts-in (c .before .before .before .before .before .before .before .before .args .declared .now)) _ _ (omega (arith, c .before .before .before .before .before .total .ensures)) (c .before .before .before .before .before .before .before .before .pre)
 
 returns-2 : tie.Need-returns-2 Inv-loop μ-loop
 unfolding scope-at
-returns-2 c = rw (← c .before .before .before .before .before .before .before .total .ensures) (there-twice (distinct (bytes "Bool" ∷ scope-at (c .before .before .before .before .before .before .before .before .before .before .args .s .now) (names-in (c .before .before .before .before .before .before .before .before .before .before .args .declared .now)) (c .before .before .before .before .before .before .before .total .result))) (bytes "Bool") (name-at (c .before .before .before .before .before .before .before .before .before .before .args .s .now) (getD (c .before .before .before .before .before .before .before .before .before .before .args .declared .now) (c .before .before .before .before .before .before .loop .i) 0)) (drop (c .before .before .before .before .before .before .loop .i) (scope-at (c .before .before .before .before .before .before .before .before .before .before .args .s .now) (names-in (c .before .before .before .before .before .before .before .before .before .before .args .declared .now)) (c .before .before .before .before .before .before .before .total .result))) (drop (c .before .before .before .before .before .before .loop .i + 1) (scope-at (c .before .before .before .before .before .before .before .before .before .before .args .s .now) (names-in (c .before .before .before .before .before .before .before .before .before .before .args .declared .now)) (c .before .before .before .before .before .before .before .total .result))) (c .before .before .before .before .before .before .loop .inv) (next-listed (c .before .before .before .before .before .before .before .before .before .before .args .s .now) (c .before .before .before .before .before .before .before .before .before .before .args .declared .now) (c .before .before .before .before .before .before .before .total .result) (c .before .before .before .before .before .before .loop .i) (keyed-fewer (c .before .before .before .before .before .before .before .before .before .before .args .s .now) (names-in (c .before .before .before .before .before .before .before .before .before .before .args .declared .now)) (keys-in (c .before .before .before .before .before .before .before .before .before .before .args .declared .now)) (firsts-in (c .before .before .before .before .before .before .before .before .before .before .args .declared .now)) (c .before .before .before .before .before .before .before .total .result) _ (omega (arith, c .before .before .before .before .before .before .before .total .ensures)) (c .before .before .before .before .before .before .before .before .before .before .pre)) (c .before .before .before .before .before .loop-test .taken)) (ap (among (name-at (c .before .before .before .before .before .before .before .before .before .before .args .s .now) (getD (c .before .before .before .before .before .before .before .before .before .before .args .declared .now) (c .before .before .before .before .before .before .loop .i) 0))) (names-left (c .before .before .before .before .before .before .before .before .before .before .args .s .now) (names-in (c .before .before .before .before .before .before .before .before .before .before .args .declared .now)) (c .before .before .before .before .before .before .loop .i + 1) (c .before .before .before .before .before .before .before .total .result) (c .before .before .before .before .before .before .before .total .result - c .before .before .before .before .before .before .loop .i - 1) (omega arith)) ∙ number-among _ _ (c .before .number-in .result) (c .before .before .before .before .before .before .before .total .result - c .before .before .before .before .before .before .loop .i - 1) (c .before .number-in .ensures .1) (omega arith)))
+returns-2 c = rw (← c .before .before .before .before .before .before .before .total .ensures) (there-twice (distinct (bytes "Bool" ∷ scope-at (c .before .before .before .before .before .before .before .before .before .before .args .s .now) (names-in (c .before .before .before .before .before .before .before .before .before .before .args .declared .now)) (c .before .before .before .before .before .before .before .total .result))) (bytes "Bool") (name-at (c .before .before .before .before .before .before .before .before .before .before .args .s .now) (getD (c .before .before .before .before .before .before .before .before .before .before .args .declared .now) (c .before .before .before .before .before .before .loop .i) 0)) (drop (c .before .before .before .before .before .before .loop .i) (scope-at (c .before .before .before .before .before .before .before .before .before .before .args .s .now) (names-in (c .before .before .before .before .before .before .before .before .before .before .args .declared .now)) (c .before .before .before .before .before .before .before .total .result))) (drop (c .before .before .before .before .before .before .loop .i + 1) (scope-at (c .before .before .before .before .before .before .before .before .before .before .args .s .now) (names-in (c .before .before .before .before .before .before .before .before .before .before .args .declared .now)) (c .before .before .before .before .before .before .before .total .result))) (c .before .before .before .before .before .before .loop .inv) (next-listed (c .before .before .before .before .before .before .before .before .before .before .args .s .now) (c .before .before .before .before .before .before .before .before .before .before .args .declared .now) (c .before .before .before .before .before .before .before .total .result) (c .before .before .before .before .before .before .loop .i) (keyed-fewer (c .before .before .before .before .before .before .before .before .before .before .args .s .now) (names-in (c .before .before .before .before .before .before .before .before .before .before .args .declared .now)) (nexts-in (c .before .before .before .before .before .before .before .before .before .before .args .declared .now)) (firsts-in (c .before .before .before .before .before .before .before .before .before .before .args .declared .now)) (c .before .before .before .before .before .before .before .total .result) _ (omega (arith, c .before .before .before .before .before .before .before .total .ensures)) (c .before .before .before .before .before .before .before .before .before .before .pre)) (c .before .before .before .before .before .loop-test .taken)) (ap (among (name-at (c .before .before .before .before .before .before .before .before .before .before .args .s .now) (getD (c .before .before .before .before .before .before .before .before .before .before .args .declared .now) (c .before .before .before .before .before .before .loop .i) 0))) (names-left (c .before .before .before .before .before .before .before .before .before .before .args .s .now) (names-in (c .before .before .before .before .before .before .before .before .before .before .args .declared .now)) (c .before .before .before .before .before .before .loop .i + 1) (c .before .before .before .before .before .before .before .total .result) (c .before .before .before .before .before .before .before .total .result - c .before .before .before .before .before .before .loop .i - 1) (omega arith)) ∙ number-among _ _ (c .before .number-in .result) (c .before .before .before .before .before .before .before .total .result - c .before .before .before .before .before .before .loop .i - 1) (c .before .number-in .ensures .1) (omega arith)))
 
 add-i : tie.Need-add-i Inv-loop μ-loop
 add-i c = omega arith
@@ -71,11 +71,11 @@ loop-less c = omega arith
 
 loop-again : tie.Need-loop-again Inv-loop μ-loop
 unfolding scope-at
-loop-again c = new-passed (distinct (bytes "Bool" ∷ scope-at (c .before .before .before .before .before .before .before .before .before .before .args .s .now) (names-in (c .before .before .before .before .before .before .before .before .before .before .args .declared .now)) (c .before .before .before .before .before .before .before .total .result))) (bytes "Bool") (name-at (c .before .before .before .before .before .before .before .before .before .before .args .s .now) (getD (c .before .before .before .before .before .before .before .before .before .before .args .declared .now) (c .before .before .before .before .before .before .loop .i) 0)) (drop (c .before .before .before .before .before .before .loop .i) (scope-at (c .before .before .before .before .before .before .before .before .before .before .args .s .now) (names-in (c .before .before .before .before .before .before .before .before .before .before .args .declared .now)) (c .before .before .before .before .before .before .before .total .result))) (drop (c .before .before .before .before .before .before .loop .i + 1) (scope-at (c .before .before .before .before .before .before .before .before .before .before .args .s .now) (names-in (c .before .before .before .before .before .before .before .before .before .before .args .declared .now)) (c .before .before .before .before .before .before .before .total .result))) (c .before .before .before .before .before .before .loop .inv) (next-listed (c .before .before .before .before .before .before .before .before .before .before .args .s .now) (c .before .before .before .before .before .before .before .before .before .before .args .declared .now) (c .before .before .before .before .before .before .before .total .result) (c .before .before .before .before .before .before .loop .i) (keyed-fewer (c .before .before .before .before .before .before .before .before .before .before .args .s .now) (names-in (c .before .before .before .before .before .before .before .before .before .before .args .declared .now)) (keys-in (c .before .before .before .before .before .before .before .before .before .before .args .declared .now)) (firsts-in (c .before .before .before .before .before .before .before .before .before .before .args .declared .now)) (c .before .before .before .before .before .before .before .total .result) _ (omega (arith, c .before .before .before .before .before .before .before .total .ensures)) (c .before .before .before .before .before .before .before .before .before .before .pre)) (c .before .before .before .before .before .loop-test .taken)) (said-no _ (c .before .before .before .is-bool .ensures) (c .before .before .if1 .left)) (ap (among (name-at (c .before .before .before .before .before .before .before .before .before .before .args .s .now) (getD (c .before .before .before .before .before .before .before .before .before .before .args .declared .now) (c .before .before .before .before .before .before .loop .i) 0))) (names-left (c .before .before .before .before .before .before .before .before .before .before .args .s .now) (names-in (c .before .before .before .before .before .before .before .before .before .before .args .declared .now)) (c .before .before .before .before .before .before .loop .i + 1) (c .before .before .before .before .before .before .before .total .result) (c .before .before .before .before .before .before .before .total .result - c .before .before .before .before .before .before .loop .i - 1) (omega arith)) ∙ number-not _ _ (c .before .number-in .result) (c .before .before .before .before .before .before .before .total .result - c .before .before .before .before .before .before .loop .i - 1) (scope-most (c .before .before .before .before .before .before .before .before .before .before .args .s .now) (drop (c .before .before .before .before .before .before .loop .i + 1) (names-in (c .before .before .before .before .before .before .before .before .before .before .args .declared .now))) (c .before .before .before .before .before .before .before .total .result - c .before .before .before .before .before .before .loop .i - 1)) (c .before .number-in .ensures .1) (omega arith))
+loop-again c = new-passed (distinct (bytes "Bool" ∷ scope-at (c .before .before .before .before .before .before .before .before .before .before .args .s .now) (names-in (c .before .before .before .before .before .before .before .before .before .before .args .declared .now)) (c .before .before .before .before .before .before .before .total .result))) (bytes "Bool") (name-at (c .before .before .before .before .before .before .before .before .before .before .args .s .now) (getD (c .before .before .before .before .before .before .before .before .before .before .args .declared .now) (c .before .before .before .before .before .before .loop .i) 0)) (drop (c .before .before .before .before .before .before .loop .i) (scope-at (c .before .before .before .before .before .before .before .before .before .before .args .s .now) (names-in (c .before .before .before .before .before .before .before .before .before .before .args .declared .now)) (c .before .before .before .before .before .before .before .total .result))) (drop (c .before .before .before .before .before .before .loop .i + 1) (scope-at (c .before .before .before .before .before .before .before .before .before .before .args .s .now) (names-in (c .before .before .before .before .before .before .before .before .before .before .args .declared .now)) (c .before .before .before .before .before .before .before .total .result))) (c .before .before .before .before .before .before .loop .inv) (next-listed (c .before .before .before .before .before .before .before .before .before .before .args .s .now) (c .before .before .before .before .before .before .before .before .before .before .args .declared .now) (c .before .before .before .before .before .before .before .total .result) (c .before .before .before .before .before .before .loop .i) (keyed-fewer (c .before .before .before .before .before .before .before .before .before .before .args .s .now) (names-in (c .before .before .before .before .before .before .before .before .before .before .args .declared .now)) (nexts-in (c .before .before .before .before .before .before .before .before .before .before .args .declared .now)) (firsts-in (c .before .before .before .before .before .before .before .before .before .before .args .declared .now)) (c .before .before .before .before .before .before .before .total .result) _ (omega (arith, c .before .before .before .before .before .before .before .total .ensures)) (c .before .before .before .before .before .before .before .before .before .before .pre)) (c .before .before .before .before .before .loop-test .taken)) (said-no _ (c .before .before .before .is-bool .ensures) (c .before .before .if1 .left)) (ap (among (name-at (c .before .before .before .before .before .before .before .before .before .before .args .s .now) (getD (c .before .before .before .before .before .before .before .before .before .before .args .declared .now) (c .before .before .before .before .before .before .loop .i) 0))) (names-left (c .before .before .before .before .before .before .before .before .before .before .args .s .now) (names-in (c .before .before .before .before .before .before .before .before .before .before .args .declared .now)) (c .before .before .before .before .before .before .loop .i + 1) (c .before .before .before .before .before .before .before .total .result) (c .before .before .before .before .before .before .before .total .result - c .before .before .before .before .before .before .loop .i - 1) (omega arith)) ∙ number-not _ _ (c .before .number-in .result) (c .before .before .before .before .before .before .before .total .result - c .before .before .before .before .before .before .loop .i - 1) (scope-most (c .before .before .before .before .before .before .before .before .before .before .args .s .now) (drop (c .before .before .before .before .before .before .loop .i + 1) (names-in (c .before .before .before .before .before .before .before .before .before .before .args .declared .now))) (c .before .before .before .before .before .before .before .total .result - c .before .before .before .before .before .before .loop .i - 1)) (c .before .number-in .ensures .1) (omega arith))
 
 returns-3 : tie.Need-returns-3 Inv-loop μ-loop
 unfolding scope-at among distinct
-returns-3 c = rw (← c .before .before .total .ensures) (sym (c .before .loop .inv ∙ rw (drop-of-length-le (scope-at (c .before .before .before .before .before .args .s .now) (names-in (c .before .before .before .before .before .args .declared .now)) (c .before .before .total .result)) {i = c .before .loop .i} (omega (arith, mapped-length (name-at (c .before .before .before .before .before .args .s .now)) (names-in (c .before .before .before .before .before .args .declared .now)) (c .before .before .total .result) (keyed-fewer (c .before .before .before .before .before .args .s .now) (names-in (c .before .before .before .before .before .args .declared .now)) (keys-in (c .before .before .before .before .before .args .declared .now)) (firsts-in (c .before .before .before .before .before .args .declared .now)) (c .before .before .total .result) _ (omega (arith, c .before .before .total .ensures)) (c .before .before .before .before .before .pre) .names-few))))))
+returns-3 c = rw (← c .before .before .total .ensures) (sym (c .before .loop .inv ∙ rw (drop-of-length-le (scope-at (c .before .before .before .before .before .args .s .now) (names-in (c .before .before .before .before .before .args .declared .now)) (c .before .before .total .result)) {i = c .before .loop .i} (omega (arith, mapped-length (name-at (c .before .before .before .before .before .args .s .now)) (names-in (c .before .before .before .before .before .args .declared .now)) (c .before .before .total .result) (keyed-fewer (c .before .before .before .before .before .args .s .now) (names-in (c .before .before .before .before .before .args .declared .now)) (nexts-in (c .before .before .before .before .before .args .declared .now)) (firsts-in (c .before .before .before .before .before .args .declared .now)) (c .before .before .total .result) _ (omega (arith, c .before .before .total .ensures)) (c .before .before .before .before .before .pre) .names-few))))))
 
 pub all-new-spec : {M : Type 1} → statement M
 all-new-spec =

@@ -10,7 +10,7 @@ use Rattle.pcrl.specs.Tests.{negated, among}
 use Rattle.laws.specs.Says.{said-yes, said-no}
 use Rattle.names.specs.NameCells.{name-at, scope-at, or-count}
 use Rattle.names.specs.NameKinds.{total-of}
-use Rattle.names.specs.NameList.{names-in, keys-in, firsts-in, kinds-in}
+use Rattle.names.specs.NameList.{names-in, nexts-in, firsts-in, kinds-in}
 use Rattle.names.proofs.Among.{new-none, new-taken, new-last, number-among, number-not}
 use Rattle.names.proofs.KeyLaws.{keyed-fewer, scope-most}
 use Rattle.names.proofs.fresh.new_variable.Statement.{statement}
@@ -30,7 +30,7 @@ total-requires : tie.Need-total-requires
 total-requires c κs = tt
 
 number-in-requires : tie.Need-number-in-requires
-number-in-requires c κs = keyed-fewer (c .before .before .before .before .before .before .args .s .now) (names-in (c .before .before .before .before .before .before .args .declared .now)) (keys-in (c .before .before .before .before .before .before .args .declared .now)) (firsts-in (c .before .before .before .before .before .before .args .declared .now)) _ (total-of (kinds-in (c .before .before .before .before .before .before .args .declared .now))) (omega arith) (c .before .before .before .before .before .before .pre .0)
+number-in-requires c κs = keyed-fewer (c .before .before .before .before .before .before .args .s .now) (names-in (c .before .before .before .before .before .before .args .declared .now)) (nexts-in (c .before .before .before .before .before .before .args .declared .now)) (firsts-in (c .before .before .before .before .before .before .args .declared .now)) _ (total-of (kinds-in (c .before .before .before .before .before .before .args .declared .now))) (omega arith) (c .before .before .before .before .before .before .pre .0)
 
 returns-2 : tie.Need-returns-2
 returns-2 c = new-taken (bytes "Bool") (name-at (c .before .before .before .before .before .before .before .before .args .s .now) (c .before .before .before .before .before .before .before .before .args .c)) (scope-at (c .before .before .before .before .before .before .before .before .args .s .now) (names-in (c .before .before .before .before .before .before .before .before .args .declared .now)) (total-of (kinds-in (c .before .before .before .before .before .before .before .before .args .declared .now)))) (negated (among (name-at (c .before .before .before .before .before .before .before .before .args .s .now) (c .before .before .before .before .before .before .before .before .args .c)) (scope-at (c .before .before .before .before .before .before .before .before .args .s .now) (c .before .before .before .before .before .before .before .before .args .scope .now) (c .before .before .before .before .before .before .before .before .args .k)))) (said-no _ (c .before .before .before .before .is-bool .ensures) (c .before .before .before .if1 .left)) (number-among _ _ (c .before .number-in .result) (total-of (kinds-in (c .before .before .before .before .before .before .before .before .args .declared .now))) (over-total (name-at (c .before .before .before .before .before .before .before .before .args .s .now) (c .before .before .before .before .before .before .before .before .args .c)) (c .before .before .before .before .before .before .before .before .args .s .now) (names-in (c .before .before .before .before .before .before .before .before .args .declared .now)) (c .before .before .total .ensures) (c .before .number-in .ensures .1)) (omega arith))

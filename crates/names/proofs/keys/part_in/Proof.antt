@@ -1,7 +1,7 @@
 -- Actions and processes stand together.
 use native.Mathlib.Omega.{arith}
 use Rattle.names.specs.NameKinds.{total-of}
-use Rattle.names.specs.NameList.{names-in, keys-in, firsts-in, kinds-in}
+use Rattle.names.specs.NameList.{names-in, nexts-in, firsts-in, kinds-in}
 use Rattle.names.proofs.KeyLaws.{keyed-fewer}
 use Rattle.names.proofs.KindLaws.{parts-joined}
 use Rattle.names.proofs.keys.part_in.Statement.{statement}
@@ -29,7 +29,7 @@ number-in-requires : tie.Need-number-in-requires
 number-in-requires c κs =
     let start = c .before .before .before .before .before .before in
     let l = start .args .declared .now in
-    keyed-fewer (start .args .s .now) (names-in l) (keys-in l) (firsts-in l) _ (total-of (kinds-in l)) (omega arith) (start .pre)
+    keyed-fewer (start .args .s .now) (names-in l) (nexts-in l) (firsts-in l) _ (total-of (kinds-in l)) (omega arith) (start .pre)
 
 returns : tie.Need-returns
 returns c =

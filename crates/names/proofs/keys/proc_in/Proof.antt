@@ -2,7 +2,7 @@
 use Rattle.names.proofs.KeyLaws.{keyed-fewer}
 use native.Mathlib.Omega.{arith}
 use Rattle.names.specs.NameKinds.{total-of, procs-in}
-use Rattle.names.specs.NameList.{names-in, keys-in, firsts-in, kinds-in}
+use Rattle.names.specs.NameList.{names-in, nexts-in, firsts-in, kinds-in}
 use Rattle.names.proofs.keys.proc_in.Statement.{statement}
 use Rattle.names.proofs.keys.proc_in.Tie as tie
 
@@ -25,7 +25,7 @@ add-lo-2 : tie.Need-add-lo-2
 add-lo-2 c = omega arith
 
 number-in-requires : tie.Need-number-in-requires
-number-in-requires c κs = keyed-fewer (c .before .before .before .before .before .before .args .s .now) (names-in (c .before .before .before .before .before .before .args .declared .now)) (keys-in (c .before .before .before .before .before .before .args .declared .now)) (firsts-in (c .before .before .before .before .before .before .args .declared .now)) _ (total-of (kinds-in (c .before .before .before .before .before .before .args .declared .now))) (omega arith) (c .before .before .before .before .before .before .pre)
+number-in-requires c κs = keyed-fewer (c .before .before .before .before .before .before .args .s .now) (names-in (c .before .before .before .before .before .before .args .declared .now)) (nexts-in (c .before .before .before .before .before .before .args .declared .now)) (firsts-in (c .before .before .before .before .before .before .args .declared .now)) _ (total-of (kinds-in (c .before .before .before .before .before .before .args .declared .now))) (omega arith) (c .before .before .before .before .before .before .pre)
 
 returns : tie.Need-returns
 unfolding procs-in

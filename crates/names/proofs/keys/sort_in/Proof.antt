@@ -9,7 +9,7 @@ use Rattle.laws.specs.Says.{said-yes, said-no}
 use Rattle.names.specs.NameCells.{name-at, or-count}
 use Rattle.names.specs.NameKeys.{names-from}
 use Rattle.names.specs.NameKinds.{total-of, sorts-in}
-use Rattle.names.specs.NameList.{names-in, keys-in, firsts-in, kinds-in}
+use Rattle.names.specs.NameList.{names-in, nexts-in, firsts-in, kinds-in}
 use Rattle.names.proofs.Numbers.{found-first, elsewhere}
 use Rattle.names.proofs.KeyLaws.{keyed-fewer}
 use Rattle.names.proofs.keys.sort_in.Statement.{statement}
@@ -26,7 +26,7 @@ cell-requires : tie.Need-cell-requires
 cell-requires c κs = tt
 
 number-in-requires : tie.Need-number-in-requires
-number-in-requires c κs = keyed-fewer (c .before .before .before .before .before .args .s .now) (names-in (c .before .before .before .before .before .args .declared .now)) (keys-in (c .before .before .before .before .before .args .declared .now)) (firsts-in (c .before .before .before .before .before .args .declared .now)) _ (total-of (kinds-in (c .before .before .before .before .before .args .declared .now))) (omega arith) (c .before .before .before .before .before .pre)
+number-in-requires c κs = keyed-fewer (c .before .before .before .before .before .args .s .now) (names-in (c .before .before .before .before .before .args .declared .now)) (nexts-in (c .before .before .before .before .before .args .declared .now)) (firsts-in (c .before .before .before .before .before .args .declared .now)) _ (total-of (kinds-in (c .before .before .before .before .before .args .declared .now))) (omega arith) (c .before .before .before .before .before .pre)
 
 add-result : tie.Need-add-result
 add-result c = search needs
