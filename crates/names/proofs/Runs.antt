@@ -3,15 +3,13 @@
 use mathlib.Core.Path.{_≡_, refl, sym, _∙_, ap}
 use mathlib.Core.List.{List, [], _∷_}
 use mathlib.Core.Bool.{Bool, true, false}
-use mathlib.Core.Logic.{⊎-elim}
 use Prim.Native.Nat.{ℕ, zero, suc, _+_, _-_, _≤_, _<_}
 use native.Mathlib.Numerals.{add-one}
 use native.Mathlib.Omega.{arith}
-use native.Mathlib.Nat.{eq-or-lt-of-le}
 use lib.Dec.{T}
 use lib.ListN.{length, take, drop, getD, List·getD-eq-default}
 use Rattle.pcrl.specs.Text.{bytes}
-use Rattle.pcrl.specs.Tests.{and, negated, T?}
+use Rattle.pcrl.specs.Tests.{negated, T?}
 use Rattle.pcrl.specs.Bytes.{name-byte}
 use Rattle.pcrl.specs.Tokens.{run, front}
 use Rattle.laws.specs.Tests.{is-true}
