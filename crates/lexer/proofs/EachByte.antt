@@ -1,4 +1,4 @@
--- Question 2 by indices: every byte of a block is printable, or one is not.
+-- Tests of bytes by indices: every byte of a block passes, or one does not; and question 2, every byte is printable.
 use mathlib.Core.Path.{_≡_, refl, subst, sym, _∙_}
 use mathlib.Core.Bool.{Bool, true, false}
 use mathlib.Core.List.{List}
@@ -19,28 +19,29 @@ pub is-false : (t : Bool) → T (negated t) → false ≡ t
 is-false true h = absurd h
 is-false false h = refl
 
-abbrev Prints : List ℕ → ℕ → Type 0
-Prints s k = printable (getD s k 0) ≡ true
+abbrev Passes : (ℕ → Bool) → List ℕ → ℕ → Type 0
+Passes test s k = test (getD s k 0) ≡ true
 
--- each byte from a on and before e is printable
-abbrev pub Between : List ℕ → ℕ → ℕ → Type 0
-Between s a e = (k : ℕ) → k < e → a ≤ k → Prints s k
+-- each byte from a on and before e passes the test
+abbrev pub Between : (ℕ → Bool) → List ℕ → ℕ → ℕ → Type 0
+Between test s a e = (k : ℕ) → k < e → a ≤ k → Passes test s k
 
 -- one byte more
-pub says-more : (s : List ℕ) (a i : ℕ) (g t : Bool) → a ≤ i → t ≡ printable (getD s i 0) → Says g (Between s a i) → Says (and g t) (Between s a (i + 1))
-says-more s a i true true h e f = below-more (λ k. a ≤ k → Prints s k) i f (λ l. sym e)
-says-more s a i true false h e f = λ g. let z : false ≡ true = e ∙ g i (omega arith) h in never z
-says-more s a i false t h e n = λ g. n (λ k l m. g k (omega arith) m)
+pub says-more : (test : ℕ → Bool) (s : List ℕ) (a i : ℕ) (g t : Bool) → a ≤ i → t ≡ test (getD s i 0) → Says g (Between test s a i)
+    → Says (and g t) (Between test s a (i + 1))
+says-more test s a i true true h e f = below-more (λ k. a ≤ k → Passes test s k) i f (λ l. sym e)
+says-more test s a i true false h e f = λ g. let z : false ≡ true = e ∙ g i (omega arith) h in never z
+says-more test s a i false t h e n = λ g. n (λ k l m. g k (omega arith) m)
 
 -- the bytes before a and those from a on
-pub up-to : (s : List ℕ) (a e : ℕ) → ((k : ℕ) → k < a → Prints s k) → Between s a e → (k : ℕ) → k < e → Prints s k
+pub up-to : (s : List ℕ) (a e : ℕ) → ((k : ℕ) → k < a → Passes printable s k) → Between printable s a e → (k : ℕ) → k < e → Passes printable s k
 up-to s a e f g k h = go (ltb k a) refl
   where
-    go : (t : Bool) → ltb k a ≡ t → Prints s k
+    go : (t : Bool) → ltb k a ≡ t → Passes printable s k
     go true q = f k (ltb-true k a q)
     go false q = g k h (ltb-false k a q)
 
-pub unprintable : (s : List ℕ) (a e : ℕ) → e ≤ length s → (Between s a e → ⊥) → Printable s → ⊥
+pub unprintable : (s : List ℕ) (a e : ℕ) → e ≤ length s → (Between printable s a e → ⊥) → Printable s → ⊥
 unfolding Printable
 unprintable s a e h n p = n (λ k l m. is-true (printable (getD s k 0)) (every-at (λ b. T (printable b)) s 0 k p (omega arith)))
 

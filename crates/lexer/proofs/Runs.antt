@@ -1,9 +1,9 @@
 -- Laws of `run` at a place of a list, and the tests of bytes as classes.
-use mathlib.Core.Path.{_≡_, refl, sym, ap₂, subst}
+use mathlib.Core.Path.{_≡_, refl, sym, ap, ap₂, subst}
 use mathlib.Core.Logic.{_⊎_, inl, inr, ⊎-elim}
 use mathlib.Core.Bool.{Bool, true, false}
 use mathlib.Core.List.{List, [], _∷_}
-use Prim.Native.Nat.{ℕ, suc, _+_, _-_, _<_, _≤_}
+use Prim.Native.Nat.{ℕ, zero, suc, _+_, _-_, _<_, _≤_}
 use native.Mathlib.Numerals.{add-one}
 use native.Mathlib.Omega.{arith}
 use lib.Dec.{eqb}
@@ -32,6 +32,16 @@ module _ (test : ℕ → Bool) (s : List ℕ) (i : ℕ) where
   pub run-stop : i < length s → test (getD s i 0) ≡ false → run test (drop i s) ≡ 0
   unfolding run
   run-stop h e = rw (drop-at s i h, e, run)
+
+-- a row of bytes that pass
+pub run-row : (test : ℕ → Bool) (s : List ℕ) (i n : ℕ) → i + n ≤ length s → ((k : ℕ) → k < i + n → i ≤ k → test (getD s k 0) ≡ true)
+    → i + n + run test (drop (i + n) s) ≡ i + run test (drop i s)
+run-row test s i zero h f = let q : i + 0 ≡ i = omega arith in ap (λ (j : ℕ). j + run test (drop j s)) q
+run-row test s i (suc n) h f =
+    let m = run-more test s (i + n) (omega arith) (f (i + n) (omega arith) (omega arith)) in
+    let r = run-row test s i n (omega arith) (λ k l g. f k (omega arith) g) in
+    let q : i + n + 1 ≡ i + suc n = omega arith in
+    omega (arith, ap (λ (j : ℕ). run test (drop j s)) q)
 
 module _ (lo hi k : ℕ) where
   pub within-low : k < lo → within lo hi k ≡ false

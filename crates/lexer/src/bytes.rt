@@ -87,21 +87,69 @@ pub fn run_within(classes: &[u8], s: &[u8], at: usize, most: usize, lo: u8, hi: 
     i - at
 }
 
+// "Blanks (hex 20) and line feeds (hex 0A) separate tokens"
+fn separator(b: u8) -> bool
+    ensures { λ r. ⌜ r ≡ B.separator b ⌝ }
+{
+    match b {
+        0x20 | 0x0A => true,
+        _ => false,
+    }
+}
+
+// Is each of the n bytes from `at` on a separator? One way out, as in block_printable; where n is a constant the compiler leaves no loop.
+fn row_separates(s: &[u8], at: usize, n: usize) -> bool
+    requires { ⌜ at + n ≤ length (now s) ⌝ }
+    ensures { λ r. ⌜ Says r ((k : ℕ) → k < at + n → at ≤ k → B.separator (getD (now (s .entry)) k 0) ≡ true) ⌝ }
+{
+    let mut good = true;
+    let mut i = 0;
+    while i < n {
+        good = both(good, separator(s[at + i]));
+        i += 1;
+    }
+    good
+}
+
+// How many separators are skipped at once, and behind how many this is tried.
+const ROW: usize = 16;
+
+const FEW: usize = 4;
+
+// Past whole rows of separators.
+fn past_rows(s: &[u8], at: usize) -> usize
+    requires { ⌜ at ≤ length (now s) ⌝ }
+    ensures { λ r. ⌜ (at ≤ r) × (r + T.run B.separator (drop r (now (s .entry))) ≡ at + T.run B.separator (drop at (now (s .entry)))) ⌝ }
+{
+    let mut i = at;
+    while ROW <= s.len() - i {
+        if !row_separates(s, i, ROW) {
+            return i;
+        }
+        i += ROW;
+    }
+    i
+}
+
 // A place in the sheet.
 pub struct Cursor {
     pub at: usize,
 }
 
 impl Cursor {
-    // Past the separators.
+    // Past the separators: one by one, and by rows where more than a few stand together.
     pub fn skip(self, s: &[u8]) -> Cursor
         ensures { λ r. ⌜ r .at ≡ self .at + T.run B.separator (drop (self .at) (now (s .entry))) ⌝ }
     {
-        let mut at = self.at;
+        let start = self.at;
+        let mut at = start;
         while at < s.len() {
-            match s[at] {
-                b' ' | b'\n' => at += 1,
-                _ => return Cursor { at },
+            if !separator(s[at]) {
+                return Cursor { at };
+            }
+            at += 1;
+            if at - start == FEW {
+                at = past_rows(s, at);
             }
         }
         Cursor { at }

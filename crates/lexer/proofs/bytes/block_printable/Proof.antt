@@ -3,13 +3,14 @@ use Prim.Native.Nat.{_+_, _-_, _≤_}
 use native.Mathlib.Omega.{arith}
 use mathlib.Core.Bool.{Bool}
 use mathlib.Core.Path.{subst⁻¹}
+use Rattle.pcrl.specs.Bytes.{printable}
 use Rattle.laws.specs.Says.{Says, says-as}
 use Rattle.lexer.proofs.EachByte.{Between, says-more}
 use Rattle.lexer.proofs.bytes.block_printable.Statement.{statement}
 use Rattle.lexer.proofs.bytes.block_printable.Tie as tie
 
 abbrev Inv-loop : tie.InvT-loop
-Inv-loop s at end good₀ i₀ good i = (at ≤ i) × (i ≤ end) × Says good (Between s at i)
+Inv-loop s at end good₀ i₀ good i = (at ≤ i) × (i ≤ end) × Says good (Between printable s at i)
 
 abbrev μ-loop : tie.MeasureT-loop
 μ-loop s at end good₀ i₀ good i = end - i
@@ -33,7 +34,7 @@ loop-less : tie.Need-loop-less Inv-loop μ-loop
 loop-less c = omega arith
 
 loop-again : tie.Need-loop-again Inv-loop μ-loop
-loop-again c = (omega arith, omega arith, subst⁻¹ (λ (t : Bool). Says t (Between (c .before .before .before .before .before .before .args .s .now) (c .before .before .before .before .before .before .args .at) (c .before .before .before .before .loop .i + 1))) (c .both .ensures) (says-more (c .before .before .before .before .before .before .args .s .now) (c .before .before .before .before .before .before .args .at) (c .before .before .before .before .loop .i) (c .before .before .before .before .loop .good) (c .before .printable .result) (omega arith) (c .before .printable .ensures) (c .before .before .before .before .loop .inv .2)))
+loop-again c = (omega arith, omega arith, subst⁻¹ (λ (t : Bool). Says t (Between printable (c .before .before .before .before .before .before .args .s .now) (c .before .before .before .before .before .before .args .at) (c .before .before .before .before .loop .i + 1))) (c .both .ensures) (says-more printable (c .before .before .before .before .before .before .args .s .now) (c .before .before .before .before .before .before .args .at) (c .before .before .before .before .loop .i) (c .before .before .before .before .loop .good) (c .before .printable .result) (omega arith) (c .before .printable .ensures) (c .before .before .before .before .loop .inv .2)))
 
 returns : tie.Need-returns Inv-loop μ-loop
 returns c = says-as (c .before .loop .good) (λ f k h l. f k (omega arith) l) (λ f k h l. f k (omega arith) l) (c .before .loop .inv .2)

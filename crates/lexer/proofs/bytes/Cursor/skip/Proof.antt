@@ -1,41 +1,56 @@
 -- `lexer::bytes::Cursor::skip`: the place and the separators left lead to the same place.
-use mathlib.Core.Path.{_≡_, refl}
-use mathlib.Core.Logic.{inl, inr, ⊎-elim}
-use Prim.Native.Nat.{_+_, _-_}
+use mathlib.Core.Path.{_≡_, refl, sym, _∙_}
+use Prim.Native.Nat.{_+_, _-_, _≤_}
 use native.Mathlib.Omega.{arith}
 use lib.ListN.{length, drop}
+use borrow.Author.Tests.{not-true, not-false}
 use Rattle.pcrl.specs.Bytes.{separator}
 use Rattle.pcrl.specs.Tokens.{run}
-use Rattle.lexer.proofs.Runs.{run-end, run-more, run-stop, no-separator}
+use Rattle.lexer.proofs.Runs.{run-end, run-more, run-stop}
 use Rattle.lexer.proofs.bytes.Cursor.skip.Statement.{statement}
 use Rattle.lexer.proofs.bytes.Cursor.skip.Tie as tie
 
 abbrev Inv-loop : tie.InvT-loop
-Inv-loop s at₀ at = at + run separator (drop at s) ≡ at₀ + run separator (drop at₀ s)
+Inv-loop s start at₀ at = (start ≤ at) × (at + run separator (drop at s) ≡ start + run separator (drop start s))
 
 abbrev μ-loop : tie.MeasureT-loop
-μ-loop s at₀ at = length s - at
+μ-loop s start at₀ at = length s - at
 
 loop-holds : tie.Need-loop-holds Inv-loop μ-loop
-loop-holds c = refl
+loop-holds c = (omega arith, refl)
 
-shared-slice-read-match : tie.Need-shared-slice-read-match Inv-loop μ-loop
-shared-slice-read-match c = omega arith
+shared-slice-read-separator : tie.Need-shared-slice-read-separator Inv-loop μ-loop
+shared-slice-read-separator c = omega arith
+
+separator-requires : tie.Need-separator-requires Inv-loop μ-loop
+separator-requires c κs = tt
+
+returns : tie.Need-returns Inv-loop μ-loop
+returns c = omega (arith, run-stop separator (c .before .before .before .before .before .before .args .s .now) (c .before .before .before .before .loop .at) (omega arith) (sym (c .before .separator .ensures) ∙ not-true _ (c .if1 .taken)))
 
 add-at : tie.Need-add-at Inv-loop μ-loop
 add-at c = omega arith
+
+sub-if2 : tie.Need-sub-if2 Inv-loop μ-loop
+sub-if2 c = omega arith
+
+past-rows-requires : tie.Need-past-rows-requires Inv-loop μ-loop
+past-rows-requires c κs = omega arith
 
 loop-less : tie.Need-loop-less Inv-loop μ-loop
 loop-less c = omega arith
 
 loop-again : tie.Need-loop-again Inv-loop μ-loop
-loop-again c = omega (arith, run-more separator (c .before .before .before .before .args .s .now) (c .before .before .before .loop .at) (omega arith) (⊎-elim (λ e. rw e) (λ e. rw e) (c .match .keys1)))
+loop-again c = let m = run-more separator (c .before .before .before .before .before .before .before .before .args .s .now) (c .before .before .before .before .before .before .loop .at) (omega arith) (sym (c .before .before .before .separator .ensures) ∙ not-false _ (c .before .before .if1 .left)) in (omega arith, omega arith)
 
-returns : tie.Need-returns Inv-loop μ-loop
-returns c = omega (arith, run-stop separator (c .before .before .before .before .args .s .now) (c .before .before .before .loop .at) (omega arith) (no-separator _ (λ e. c .match .rest .1 (inr e)) (λ e. c .match .rest .1 (inl e))))
+loop-less-2 : tie.Need-loop-less-2 Inv-loop μ-loop
+loop-less-2 c = omega arith
+
+loop-again-2 : tie.Need-loop-again-2 Inv-loop μ-loop
+loop-again-2 c = let m = run-more separator (c .before .before .before .before .before .before .before .args .s .now) (c .before .before .before .before .before .loop .at) (omega arith) (sym (c .before .before .separator .ensures) ∙ not-false _ (c .before .if1 .left)) in (omega arith, omega arith)
 
 returns-2 : tie.Need-returns-2 Inv-loop μ-loop
-returns-2 c = omega (arith, run-end separator (c .before .before .args .s .now) (c .before .loop .at) (omega arith))
+returns-2 c = omega (arith, run-end separator (c .before .before .before .args .s .now) (c .before .loop .at) (omega arith))
 
 pub skip-spec : {M : Type 1} → statement M
 skip-spec =
@@ -44,9 +59,14 @@ skip-spec =
     Inv-loop
     μ-loop
     loop-holds
-    shared-slice-read-match
+    shared-slice-read-separator
+    separator-requires
+    returns
     add-at
+    sub-if2
+    past-rows-requires
     loop-less
     loop-again
-    returns
+    loop-less-2
+    loop-again-2
     returns-2)
