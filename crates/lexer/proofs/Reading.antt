@@ -4,7 +4,7 @@ use mathlib.Core.Logic.{_⊎_, inl, inr, ⊎-elim, _≢_}
 use mathlib.Core.Bool.{Bool, true, false}
 use mathlib.Core.List.{List, [], _∷_}
 use mathlib.Core.Option.{Option, none, some}
-use Prim.Native.Nat.{ℕ, suc, _+_, _-_, _*_, _<_, _≤_}
+use Prim.Native.Nat.{ℕ, suc, _+_, _-_, _*_, _<_, _≤_, min}
 use native.Mathlib.Nat.{add-sub-cancel-left}
 use native.Mathlib.Omega.{arith}
 use lib.Dec.{leb, eqb, ltb}
@@ -42,6 +42,11 @@ name-word w h e = rw (le-leb _ _ h, e, name-of)
 name-new : (w : List ℕ) → length w ≤ max-name → among w words ≡ false → name-of w ≡ some (name w, length w)
 unfolding name-of
 name-new w h e = rw (le-leb _ _ h, e, name-of)
+
+-- behind a letter the run goes on
+pub letter-run : (s : List ℕ) (at n : ℕ) → at < length s → class-of (getD s at 0) ≡ 3 → n ≡ min max-name (run (in-classes 2 4) (drop (at + 1) s))
+    → 1 + n ≡ min (suc max-name) (run (in-classes 2 4) (drop at s))
+letter-run s at n h k e = omega (arith, run-more (in-classes 2 4) s at h (within-both 2 4 (class-of (getD s at 0)) (omega arith) (omega arith)))
 
 -- a run that goes past the most is none, of which only the first n bytes were looked at
 pub reads-long : (s : List ℕ) (at n : ℕ) → n ≤ run (in-classes 2 4) (drop at s) → max-name < n → Reads s (name-of (front name-byte (drop at s))) (record { cell = 0; len = n })

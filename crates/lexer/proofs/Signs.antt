@@ -86,6 +86,15 @@ module _ (w : List ℕ) where
       no-word (other-first (bytes "sort") s) (other-first (bytes "func") f) (other-first (bytes "act") a) (other-first (bytes "proc") p)
       (other-first (bytes "init") i) (other-first (bytes "sum") s) (other-first (bytes "delta") d) (other-first (bytes "tau") t)
 
+  other-length : (v : List ℕ) → length w < length v → w ≡ v → ⊥
+  other-length v h e = let q = ap length e in omega arith
+
+  -- each word has three bytes at least
+  pub short-no-word : length w < 3 → 0 ≡ sign-cell first-word words w
+  short-no-word h =
+      no-word (other-length (bytes "sort") (omega arith)) (other-length (bytes "func") (omega arith)) (other-length (bytes "act") (omega arith)) (other-length (bytes "proc") (omega arith))
+      (other-length (bytes "init") (omega arith)) (other-length (bytes "sum") (omega arith)) (other-length (bytes "delta") (omega arith)) (other-length (bytes "tau") (omega arith))
+
 -- the signs that begin with b
 abbrev pub starting : ℕ → List (List ℕ) → List (List ℕ)
 starting b [] = []

@@ -144,7 +144,11 @@ impl Cursor {
         let start = self.at;
         let mut at = start;
         while at < s.len() {
-            if !separator(s[at]) {
+            let b = s[at];
+            if b' ' < b {
+                return Cursor { at };
+            }
+            if !separator(b) {
                 return Cursor { at };
             }
             at += 1;

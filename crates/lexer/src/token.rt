@@ -42,11 +42,13 @@ use limits::MAX_NAME;
 
 const MAX_NUMERAL: u16 = limits::MAX_NUMERAL as u16;
 
+const MIN_WORD: usize = 3;
+
 // more digits have a zero first, or spell more
 const MAX_DIGITS: usize = 3;
 
 // The cell of a word, or 0: by the first byte, which only `sort` and `sum` share.
-pub fn word(t: &[u8]) -> u16
+fn long_word(t: &[u8]) -> u16
     ensures { λ r. ⌜ r ≡ sign-cell first-word T.words (now (t .entry)) ⌝ }
 {
     match peek(t, 0) {
@@ -67,13 +69,23 @@ pub fn word(t: &[u8]) -> u16
     }
 }
 
+// The same; most names are shorter than every word.
+pub fn word(t: &[u8]) -> u16
+    ensures { λ r. ⌜ r ≡ sign-cell first-word T.words (now (t .entry)) ⌝ }
+{
+    if t.len() < MIN_WORD {
+        return NO_TOKEN;
+    }
+    long_word(t)
+}
+
 // The name or word at `at`, where a letter stands.
 fn name_at(classes: &[u8], s: &[u8], at: usize) -> Taken
     requires { ⌜ Classed (now classes) × (at < length (now s)) × (length (now s) ≤ max-bytes) × (class-of (getD (now s) at 0) ≡ 3) ⌝ }
     ensures { λ r. ⌜ Fits (length (now (s .entry))) at r ⌝ }
     ensures { λ r. ⌜ Reads (now (s .entry)) (T.name-of (T.front B.name-byte (drop at (now (s .entry))))) r ⌝ }
 {
-    let n = run_within(classes, s, at, MAX_NAME + 1, DIGIT, UNDERSCORE);
+    let n = 1 + run_within(classes, s, at + 1, MAX_NAME, DIGIT, UNDERSCORE);
     if MAX_NAME < n {
         return Taken {
             cell: NO_TOKEN,
@@ -201,7 +213,8 @@ fn long_mark_at(s: &[u8], at: usize) -> Taken
     }
 }
 
-// The token at `at`, by the class of its first byte, which a table has.
+// The token at `at`, by the class of its first byte, which a table has. Names and marks of one byte come first; a match would be
+// compiled to a jump by a table, and take longer.
 pub fn token_at(classes: &[u8], s: &[u8], at: usize) -> Taken
     requires { ⌜ Classed (now classes) × (at < length (now s)) × (length (now s) ≤ max-bytes) ⌝ }
     ensures { λ r. ⌜ Fits (length (now (s .entry))) at r ⌝ }
@@ -209,17 +222,24 @@ pub fn token_at(classes: &[u8], s: &[u8], at: usize) -> Taken
 {
     let b = s[at];
     let k = classes[b as usize];
-    match k {
-        LETTER => name_at(classes, s, at),
-        DIGIT => numeral_at(classes, s, at),
-        MARK => Taken {
+    if k == LETTER {
+        return name_at(classes, s, at);
+    }
+    if k == MARK {
+        return Taken {
             cell: cell_of(b),
             len: 1,
-        },
-        LEAD => long_mark_at(s, at),
-        _ => Taken {
-            cell: NO_TOKEN,
-            len: 1,
-        },
+        };
+    }
+    if k < LETTER {
+        if k == DIGIT {
+            return numeral_at(classes, s, at);
+        }
+    } else if k == LEAD {
+        return long_mark_at(s, at);
+    }
+    Taken {
+        cell: NO_TOKEN,
+        len: 1,
     }
 }

@@ -1,7 +1,7 @@
 -- `lexer::token::token_at`: the class of the first byte decides as the definition does.
 use borrow.Author.Needs.{needs}
 use mathlib.Core.Option.{Option}
-use mathlib.Core.Path.{_∙_, sym, subst⁻¹}
+use mathlib.Core.Path.{subst⁻¹}
 use Prim.Native.Nat.{ℕ, _+_, _<_}
 use native.Mathlib.Omega.{arith}
 use lib.ListN.{getD, drop}
@@ -21,47 +21,52 @@ shared-slice-read-k : tie.Need-shared-slice-read-k
 shared-slice-read-k c = omega (arith, c .before .shared-slice-known3 .given (c .before .before .before .before .args .at), c .before .before .before .before .pre .0 .size)
 
 name-at-requires : tie.Need-name-at-requires
-name-at-requires c κs = let a = c .before .before .before .before .before .args in let e = c .before .before .before .before .before .pre .0 .entry (getD (a .s .now) (a .at) 0) (omega (arith, c .before .before .shared-slice-known3 .given (a .at))) in (c .before .before .before .before .before .pre .0, omega arith, omega arith, omega arith)
-
-numeral-at-requires : tie.Need-numeral-at-requires
-numeral-at-requires c κs = let a = c .before .before .before .before .before .args in let e = c .before .before .before .before .before .pre .0 .entry (getD (a .s .now) (a .at) 0) (omega (arith, c .before .before .shared-slice-known3 .given (a .at))) in (c .before .before .before .before .before .pre .0, omega arith, omega arith)
-
-cell-of-requires : tie.Need-cell-of-requires
-cell-of-requires c κs = search needs
-
-long-mark-at-requires : tie.Need-long-mark-at-requires
-long-mark-at-requires c κs = let a = c .before .before .before .before .before .args in let e = c .before .before .before .before .before .pre .0 .entry (getD (a .s .now) (a .at) 0) (omega (arith, c .before .before .shared-slice-known3 .given (a .at))) in (omega arith, omega arith)
+name-at-requires c κs = let a = c .before .before .before .before .before .args in let h : getD (a .s .now) (a .at) 0 < 256 = omega (arith, c .before .before .shared-slice-known3 .given (a .at)) in let e = c .before .before .before .before .before .pre .0 .entry (getD (a .s .now) (a .at) 0) h in (c .before .before .before .before .before .pre .0, omega arith, omega arith, omega arith)
 
 returns : tie.Need-returns
 returns c = let a = c .before .before .before .before .before .before .args in let h : getD (a .s .now) (a .at) 0 < 256 = omega (arith, c .before .before .before .shared-slice-known3 .given (a .at)) in let e = c .before .before .before .before .before .before .pre .0 .entry (getD (a .s .now) (a .at) 0) h in (
   c .name-at .ensures .0,
-  subst⁻¹ (λ (x : Option Lexeme). Reads (a .s .now) x (c .name-at .result)) (of-name (a .s .now) (a .at) (omega arith) h (sym e ∙ c .before .match .keys1)) (c .name-at .ensures .1),
+  subst⁻¹ (λ (x : Option Lexeme). Reads (a .s .now) x (c .name-at .result)) (of-name (a .s .now) (a .at) (omega arith) h (omega arith)) (c .name-at .ensures .1),
 )
+
+cell-of-requires : tie.Need-cell-of-requires
+cell-of-requires c κs = tt
 
 returns-2 : tie.Need-returns-2
-returns-2 c = let a = c .before .before .before .before .before .before .args in let h : getD (a .s .now) (a .at) 0 < 256 = omega (arith, c .before .before .before .shared-slice-known3 .given (a .at)) in let e = c .before .before .before .before .before .before .pre .0 .entry (getD (a .s .now) (a .at) 0) h in (
-  c .numeral-at .ensures .0,
-  subst⁻¹ (λ (x : Option Lexeme). Reads (a .s .now) x (c .numeral-at .result)) (of-numeral (a .s .now) (a .at) (omega arith) h (sym e ∙ c .before .match .keys2)) (c .numeral-at .ensures .1),
-)
-
-returns-3 : tie.Need-returns-3
-returns-3 c = let a = c .before .before .before .before .before .before .args in let h : getD (a .s .now) (a .at) 0 < 256 = omega (arith, c .before .before .before .shared-slice-known3 .given (a .at)) in let e = c .before .before .before .before .before .before .pre .0 .entry (getD (a .s .now) (a .at) 0) h in (
+returns-2 c = let a = c .before .before .before .before .before .before .before .args in let h : getD (a .s .now) (a .at) 0 < 256 = omega (arith, c .before .before .before .before .shared-slice-known3 .given (a .at)) in let e = c .before .before .before .before .before .before .before .pre .0 .entry (getD (a .s .now) (a .at) 0) h in (
   omega arith,
   subst⁻¹ (λ (x : ℕ). Reads (a .s .now) (first-token (getD (a .s .now) (a .at) 0) (drop (a .at + 1) (a .s .now))) (record { cell = x; len = 1 })) (c .cell-of .ensures)
-      (reads-mark (a .s .now) (a .at) (omega arith) h (sym e ∙ c .before .match .keys3)),
+      (reads-mark (a .s .now) (a .at) (omega arith) h (omega arith)),
 )
 
+numeral-at-requires : tie.Need-numeral-at-requires
+numeral-at-requires c κs = let a = c .before .before .before .before .before .before .before .before .args in let h : getD (a .s .now) (a .at) 0 < 256 = omega (arith, c .before .before .before .before .before .shared-slice-known3 .given (a .at)) in let e = c .before .before .before .before .before .before .before .before .pre .0 .entry (getD (a .s .now) (a .at) 0) h in (c .before .before .before .before .before .before .before .before .pre .0, omega arith, omega arith)
+
+returns-3 : tie.Need-returns-3
+returns-3 c = let a = c .before .before .before .before .before .before .before .before .before .args in let h : getD (a .s .now) (a .at) 0 < 256 = omega (arith, c .before .before .before .before .before .before .shared-slice-known3 .given (a .at)) in let e = c .before .before .before .before .before .before .before .before .before .pre .0 .entry (getD (a .s .now) (a .at) 0) h in (
+  c .numeral-at .ensures .0,
+  subst⁻¹ (λ (x : Option Lexeme). Reads (a .s .now) x (c .numeral-at .result)) (of-numeral (a .s .now) (a .at) (omega arith) h (omega arith)) (c .numeral-at .ensures .1),
+)
+
+long-mark-at-requires : tie.Need-long-mark-at-requires
+long-mark-at-requires c κs = let a = c .before .before .before .before .before .before .before .before .args in let h : getD (a .s .now) (a .at) 0 < 256 = omega (arith, c .before .before .before .before .before .shared-slice-known3 .given (a .at)) in let e = c .before .before .before .before .before .before .before .before .pre .0 .entry (getD (a .s .now) (a .at) 0) h in (omega arith, omega arith)
+
 returns-4 : tie.Need-returns-4
-returns-4 c = let a = c .before .before .before .before .before .before .args in let h : getD (a .s .now) (a .at) 0 < 256 = omega (arith, c .before .before .before .shared-slice-known3 .given (a .at)) in let e = c .before .before .before .before .before .before .pre .0 .entry (getD (a .s .now) (a .at) 0) h in (
+returns-4 c = let a = c .before .before .before .before .before .before .before .before .before .args in let h : getD (a .s .now) (a .at) 0 < 256 = omega (arith, c .before .before .before .before .before .before .shared-slice-known3 .given (a .at)) in let e = c .before .before .before .before .before .before .before .before .before .pre .0 .entry (getD (a .s .now) (a .at) 0) h in (
   c .long-mark-at .ensures .0,
-  subst⁻¹ (λ (x : Option Lexeme). Reads (a .s .now) x (c .long-mark-at .result)) (of-long-mark (a .s .now) (a .at) (omega arith) h (sym e ∙ c .before .match .keys4)) (c .long-mark-at .ensures .1),
+  subst⁻¹ (λ (x : Option Lexeme). Reads (a .s .now) x (c .long-mark-at .result)) (of-long-mark (a .s .now) (a .at) (omega arith) h (omega arith)) (c .long-mark-at .ensures .1),
 )
 
 returns-5 : tie.Need-returns-5
-returns-5 c = let a = c .before .before .before .before .before .args in let h : getD (a .s .now) (a .at) 0 < 256 = omega (arith, c .before .before .shared-slice-known3 .given (a .at)) in let e = c .before .before .before .before .before .pre .0 .entry (getD (a .s .now) (a .at) 0) h in (
+returns-5 c = let a = c .before .before .before .before .before .before .before .before .args in let h : getD (a .s .now) (a .at) 0 < 256 = omega (arith, c .before .before .before .before .before .shared-slice-known3 .given (a .at)) in let e = c .before .before .before .before .before .before .before .before .pre .0 .entry (getD (a .s .now) (a .at) 0) h in (
   omega arith,
-  reads-other (a .s .now) (a .at) (omega arith) h
-      (λ q. c .match .rest .0 .0 .0 .1 (e ∙ q)) (λ q. c .match .rest .0 .0 .1 (e ∙ q)) (λ q. c .match .rest .0 .1 (e ∙ q)) (λ q. c .match .rest .1 (e ∙ q)),
+  reads-other (a .s .now) (a .at) (omega arith) h (λ q. omega arith) (λ q. omega arith) (λ q. omega arith) (λ q. omega arith),
+)
+
+returns-6 : tie.Need-returns-6
+returns-6 c = let a = c .before .before .before .before .before .before .before .before .args in let h : getD (a .s .now) (a .at) 0 < 256 = omega (arith, c .before .before .before .before .before .shared-slice-known3 .given (a .at)) in let e = c .before .before .before .before .before .before .before .before .pre .0 .entry (getD (a .s .now) (a .at) 0) h in (
+  omega arith,
+  reads-other (a .s .now) (a .at) (omega arith) h (λ q. omega arith) (λ q. omega arith) (λ q. omega arith) (λ q. omega arith),
 )
 
 pub token-at-spec : {M : Type 1} → statement M
@@ -72,11 +77,12 @@ token-at-spec =
     cast-k
     shared-slice-read-k
     name-at-requires
-    numeral-at-requires
-    cell-of-requires
-    long-mark-at-requires
     returns
+    cell-of-requires
     returns-2
+    numeral-at-requires
     returns-3
+    long-mark-at-requires
     returns-4
-    returns-5)
+    returns-5
+    returns-6)
