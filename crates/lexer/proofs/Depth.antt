@@ -1,6 +1,6 @@
 -- Question 4 by a loop over cells: with n open and no more than the limit, the most that are ever open is as high above the limit
 -- as the most from the next cell on.
-use mathlib.Core.Path.{_≡_, refl, sym, ap, _∙_}
+use mathlib.Core.Path.{_≡_, refl, sym, ap, _∙_, subst⁻¹}
 use mathlib.Core.List.{List, [], _∷_, map}
 use Prim.Native.Nat.{ℕ, suc, pred, _+_, _<_, _≤_, max}
 use native.Mathlib.Numerals.{add-one}
@@ -26,6 +26,28 @@ no-bracket t n a b = go (is? "(" t) (is? ")" t)
     go (no h) (yes e) = absurd (b e)
     go (no h) (no k) = refl
 
+-- no more are open behind one that is no opening bracket
+no-open : (t : Token) (n : ℕ) → (t ≡ the "(" → ⊥) → open-behind t n ≤ n
+unfolding open-behind
+no-open t n a = go (is? "(" t) (is? ")" t)
+  where
+    go : (x : Dec (t ≡ the "(")) (y : Dec (t ≡ the ")")) → (elim x as (λ _. ℕ) [ yes e ↦ suc n | no h ↦ elim y as (λ _. ℕ) [ yes e ↦ pred n | no k ↦ n ] ]) ≤ n
+    go (yes e) y = absurd (a e)
+    go (no h) (yes e) = omega arith
+    go (no h) (no k) = omega arith
+
+-- where more are open, more are open behind a token
+open-behind-mono : (t : Token) (m n : ℕ) → m ≤ n → open-behind t m ≤ open-behind t n
+unfolding open-behind
+open-behind-mono t m n l = go (is? "(" t) (is? ")" t)
+  where
+    go : (x : Dec (t ≡ the "(")) (y : Dec (t ≡ the ")"))
+        → (elim x as (λ _. ℕ) [ yes e ↦ suc m | no h ↦ elim y as (λ _. ℕ) [ yes e ↦ pred m | no k ↦ m ] ])
+        ≤ (elim x as (λ _. ℕ) [ yes e ↦ suc n | no h ↦ elim y as (λ _. ℕ) [ yes e ↦ pred n | no k ↦ n ] ])
+    go (yes e) y = omega arith
+    go (no h) (yes e) = omega arith
+    go (no h) (no k) = l
+
 -- ---- a cell's brackets
 module _ (s : List ℕ) (n : ℕ) where
   opening : n + 1 ≡ open-behind (cell-token s (byte "(")) n
@@ -47,11 +69,27 @@ module _ (s : List ℕ) (n : ℕ) where
   at-other c a b =
       no-bracket (cell-token s c) n (λ e. a (sign-once s c (byte "(") tt (e ∙ sym (cell-mark s (byte "(") (omega arith))))) (λ e. b (sign-once s c (byte ")") tt (e ∙ sym (cell-mark s (byte ")") (omega arith)))))
 
+  pub opens-one : (c : ℕ) → c ≡ byte "(" → open-behind (cell-token s c) n ≤ n + 1
+  opens-one c e = omega (arith, at-open c e)
+
+  pub opens-none : (c : ℕ) → (c ≡ byte "(" → ⊥) → open-behind (cell-token s c) n ≤ n + 0
+  unfolding written
+  opens-none c a = omega (arith, no-open (cell-token s c) n (λ e. a (sign-once s c (byte "(") tt (e ∙ sym (cell-mark s (byte "(") (omega arith))))))
+
 -- ---- the most that are open
 most-open-ge : (n : ℕ) (ts : List Token) → n ≤ most-open n ts
 unfolding most-open
 most-open-ge n [] = omega arith
 most-open-ge n (t ∷ ts) = omega arith
+
+most-open-mono : (ts : List Token) (m n : ℕ) → m ≤ n → most-open m ts ≤ most-open n ts
+unfolding most-open
+most-open-mono [] m n l = l
+most-open-mono (t ∷ ts) m n l = omega (arith, most-open-mono ts (open-behind t m) (open-behind t n) (open-behind-mono t m n l))
+
+pub few-open : (ts : List Token) (k : ℕ) → most-open 0 ts ≤ k → k ≤ max-open → Shallow ts
+unfolding Shallow
+few-open ts k l h = omega arith
 
 module _ (f : ℕ → Token) (cells : List ℕ) (n : ℕ) (r : n ≤ length cells) where
   next-cell : (i : ℕ) → i < n → drop i (take n cells) ≡ getD cells i 0 ∷ drop (i + 1) (take n cells)
@@ -70,9 +108,20 @@ module _ (f : ℕ → Token) (cells : List ℕ) (n : ℕ) (r : n ≤ length cell
   unfolding Shallow
   too-deep i k e h s = omega (arith, most-open-ge k (map f (drop i (take n cells))))
 
+  pub open-end : (i k : ℕ) → n ≤ i → most-open k (map f (drop i (take n cells))) ≡ k
+  unfolding most-open
+  open-end i k h = ap (λ (x : List ℕ). most-open k (map f x)) (drop-of-length-le (take n cells) {i = i} (omega (arith, length-take-le n cells r)))
+
   pub never-deep : (i k : ℕ) → max max-open (most-open k (map f (drop i (take n cells)))) ≡ max max-open (most-open 0 (map f (take n cells))) → n ≤ i → k ≤ max-open → Shallow (map f (take n cells))
-  unfolding Shallow most-open
-  never-deep i k e h l =
-      let q : most-open k (map f (drop i (take n cells))) ≡ k
-      = ap (λ (x : List ℕ). most-open k (map f x)) (drop-of-length-le (take n cells) {i = i} (omega (arith, length-take-le n cells r))) in
-      omega arith
+  unfolding Shallow
+  never-deep i k e h l = omega (arith, open-end i k h)
+
+  -- with as many open as were opened, at a cell that opens k
+  pub opened-step : (i m k : ℕ) → i < n → open-behind (f (getD cells i 0)) m ≤ m + k
+      → most-open m (map f (drop i (take n cells))) ≤ most-open (m + k) (map f (drop (i + 1) (take n cells)))
+  unfolding most-open
+  opened-step i m k h l =
+      let rest : List Token = map f (drop (i + 1) (take n cells)) in
+      let q : max m (most-open (open-behind (f (getD cells i 0)) m) rest) ≤ most-open (m + k) rest
+      = omega (arith, most-open-ge (m + k) rest, most-open-mono rest (open-behind (f (getD cells i 0)) m) (m + k) l) in
+      subst⁻¹ (λ (x : List ℕ). most-open m (map f x) ≤ most-open (m + k) rest) (next-cell i h) q

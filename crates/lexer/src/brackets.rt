@@ -1,14 +1,15 @@
 // Question 4: round brackets that are open.
 ghost use mathlib.Core.Path.{_≡_};
 ghost use mathlib.Core.List.{List, map};
-ghost use Prim.Native.Nat.{ℕ, _≤_};
+ghost use Prim.Native.Nat.{ℕ, _+_, _≤_};
 ghost use lib.ListN.{length, take};
-ghost use Rattle.pcrl.specs.Limits.{max-open};
+ghost use Rattle.pcrl.specs.Limits.{max-bytes, max-open};
 ghost use Rattle.pcrl.specs.Tokens as T;
 ghost use Rattle.laws.specs.Says.{Says};
 ghost use Rattle.lexer.specs.Cells.{cell-token};
 use crate::CLOSE;
 use crate::OPEN;
+use elements::wide_cell;
 use limits::MAX_OPEN;
 
 // How many round brackets are open behind a cell.
@@ -23,11 +24,38 @@ fn open_behind(c: u16, n: usize) -> usize
     }
 }
 
-// Never more than 16 round brackets open behind the first n cells?
+// How many round brackets a cell opens.
+fn opens(c: u16) -> u16
+    ensures { λ r. ⌜ (r ≤ 1) × ((s : List ℕ) (n : ℕ) → T.open-behind (cell-token s c) n ≤ n + r) ⌝ }
+{
+    match c {
+        OPEN => 1,
+        _ => 0,
+    }
+}
+
+// How many the first n cells open: never are more open. The loop has one way out, so that the compiler tests many cells at once.
+fn opened(cells: &[u16], n: usize) -> u16
+    requires { ⌜ (n ≤ length (now cells)) × (n ≤ max-bytes) ⌝ }
+    ensures { λ r. ⌜ ((s : List ℕ) → T.most-open 0 (map (cell-token s) (take n (now (cells .entry)))) ≤ r) ⌝ }
+{
+    let mut count: u16 = 0;
+    let mut i = 0;
+    while i < n {
+        count += opens(cells[i]);
+        i += 1;
+    }
+    count
+}
+
+// Never more than 16 round brackets open behind the first n cells? One by one only where more are opened at all.
 pub fn shallow(cells: &[u16], n: usize) -> bool
-    requires { ⌜ n ≤ length (now cells) ⌝ }
+    requires { ⌜ (n ≤ length (now cells)) × (n ≤ max-bytes) ⌝ }
     ensures { λ r. ⌜ ((s : List ℕ) → Says r (T.Shallow (map (cell-token s) (take n (now (cells .entry)))))) ⌝ }
 {
+    if wide_cell(opened(cells, n)) <= MAX_OPEN {
+        return true;
+    }
     let mut count: usize = 0;
     let mut i = 0;
     while i < n {

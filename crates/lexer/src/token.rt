@@ -48,9 +48,12 @@ const MIN_WORD: usize = 3;
 const MAX_DIGITS: usize = 3;
 
 // The cell of a word, or 0: by the first byte, which only `sort` and `sum` share.
-fn long_word(t: &[u8]) -> u16
+pub fn word(t: &[u8]) -> u16
     ensures { λ r. ⌜ r ≡ sign-cell first-word T.words (now (t .entry)) ⌝ }
 {
+    if t.len() < MIN_WORD {
+        return NO_TOKEN;
+    }
     match peek(t, 0) {
         b's' => if same(t, b"sort") {
             SORT
@@ -67,16 +70,6 @@ fn long_word(t: &[u8]) -> u16
         b't' => if same(t, b"tau") { TAU } else { NO_TOKEN },
         _ => NO_TOKEN,
     }
-}
-
-// The same; most names are shorter than every word.
-pub fn word(t: &[u8]) -> u16
-    ensures { λ r. ⌜ r ≡ sign-cell first-word T.words (now (t .entry)) ⌝ }
-{
-    if t.len() < MIN_WORD {
-        return NO_TOKEN;
-    }
-    long_word(t)
 }
 
 // The name or word at `at`, where a letter stands.

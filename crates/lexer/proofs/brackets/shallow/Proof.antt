@@ -7,7 +7,7 @@ use lib.ListN.{take, drop}
 use Rattle.pcrl.specs.Limits.{max-open}
 use Rattle.pcrl.specs.Tokens.{most-open}
 use Rattle.lexer.specs.Cells.{cell-token}
-use Rattle.lexer.proofs.Depth.{open-step, too-deep, never-deep}
+use Rattle.lexer.proofs.Depth.{few-open, open-step, too-deep, never-deep}
 use Rattle.lexer.proofs.brackets.shallow.Statement.{statement}
 use Rattle.lexer.proofs.brackets.shallow.Tie as tie
 
@@ -16,6 +16,15 @@ Inv-loop cells n count₀ i₀ count i = (i ≤ n) × (count ≤ max-open) × ((
 
 abbrev μ-loop : tie.MeasureT-loop
 μ-loop cells n count₀ i₀ count i = n - i
+
+opened-requires : tie.Need-opened-requires Inv-loop μ-loop
+opened-requires c κs = (omega arith, omega arith)
+
+wide-cell-requires : tie.Need-wide-cell-requires Inv-loop μ-loop
+wide-cell-requires c κs = tt
+
+returns : tie.Need-returns Inv-loop μ-loop
+returns c = λ s. few-open (map (cell-token s) (take (c .before .before .before .before .args .n) (c .before .before .before .before .args .cells .now))) (c .before .before .opened .result) (c .before .before .opened .ensures s) (omega arith)
 
 loop-holds : tie.Need-loop-holds Inv-loop μ-loop
 loop-holds c = (omega arith, omega arith, λ s. refl)
@@ -29,9 +38,9 @@ shared-slice-read-open-behind c = omega arith
 open-behind-requires : tie.Need-open-behind-requires Inv-loop μ-loop
 open-behind-requires c κs = omega arith
 
-returns : tie.Need-returns Inv-loop μ-loop
-returns c = λ s. too-deep (cell-token s) (c .before .before .before .before .before .before .args .cells .now) (c .before .before .before .before .before .before .args .n) (omega arith) (c .before .before .before .before .loop .i + 1) (c .before .open-behind .result)
-    (sym (open-step (cell-token s) (c .before .before .before .before .before .before .args .cells .now) (c .before .before .before .before .before .before .args .n) (omega arith) (c .before .before .before .before .loop .i) (c .before .before .before .before .loop .count) (c .before .open-behind .result) (omega arith) (omega arith) (c .before .open-behind .ensures s)) ∙ c .before .before .before .before .loop .inv .2 s)
+returns-2 : tie.Need-returns-2 Inv-loop μ-loop
+returns-2 c = λ s. too-deep (cell-token s) (c .before .before .before .before .before .before .before .before .before .args .cells .now) (c .before .before .before .before .before .before .before .before .before .args .n) (omega arith) (c .before .before .before .before .loop .i + 1) (c .before .open-behind .result)
+    (sym (open-step (cell-token s) (c .before .before .before .before .before .before .before .before .before .args .cells .now) (c .before .before .before .before .before .before .before .before .before .args .n) (omega arith) (c .before .before .before .before .loop .i) (c .before .before .before .before .loop .count) (c .before .open-behind .result) (omega arith) (omega arith) (c .before .open-behind .ensures s)) ∙ c .before .before .before .before .loop .inv .2 s)
     (omega arith)
 
 add-i : tie.Need-add-i Inv-loop μ-loop
@@ -41,10 +50,10 @@ loop-less : tie.Need-loop-less Inv-loop μ-loop
 loop-less c = omega arith
 
 loop-again : tie.Need-loop-again Inv-loop μ-loop
-loop-again c = (omega arith, omega arith, λ s. sym (open-step (cell-token s) (c .before .before .before .before .before .before .args .cells .now) (c .before .before .before .before .before .before .args .n) (omega arith) (c .before .before .before .before .loop .i) (c .before .before .before .before .loop .count) (c .before .open-behind .result) (omega arith) (omega arith) (c .before .open-behind .ensures s)) ∙ c .before .before .before .before .loop .inv .2 s)
+loop-again c = (omega arith, omega arith, λ s. sym (open-step (cell-token s) (c .before .before .before .before .before .before .before .before .before .args .cells .now) (c .before .before .before .before .before .before .before .before .before .args .n) (omega arith) (c .before .before .before .before .loop .i) (c .before .before .before .before .loop .count) (c .before .open-behind .result) (omega arith) (omega arith) (c .before .open-behind .ensures s)) ∙ c .before .before .before .before .loop .inv .2 s)
 
-returns-2 : tie.Need-returns-2 Inv-loop μ-loop
-returns-2 c = λ s. never-deep (cell-token s) (c .before .before .before .args .cells .now) (c .before .before .before .args .n) (omega arith) (c .before .loop .i) (c .before .loop .count) (c .before .loop .inv .2 s) (omega arith) (omega arith)
+returns-3 : tie.Need-returns-3 Inv-loop μ-loop
+returns-3 c = λ s. never-deep (cell-token s) (c .before .before .before .before .before .before .args .cells .now) (c .before .before .before .before .before .before .args .n) (omega arith) (c .before .loop .i) (c .before .loop .count) (c .before .loop .inv .2 s) (omega arith) (omega arith)
 
 pub shallow-spec : {M : Type 1} → statement M
 shallow-spec =
@@ -52,12 +61,15 @@ shallow-spec =
     (tie.spec
     Inv-loop
     μ-loop
+    opened-requires
+    wide-cell-requires
+    returns
     loop-holds
     mul-open-behind
     shared-slice-read-open-behind
     open-behind-requires
-    returns
+    returns-2
     add-i
     loop-less
     loop-again
-    returns-2)
+    returns-3)
