@@ -18,20 +18,20 @@ use Rattle.pcrl.specs.Stream.{encode-call}
 use Rattle.laws.specs.Every.{every-append, every-left}
 use Rattle.laws.specs.Lists.{map-twice}
 use Rattle.nodes.specs.declared.Node.{Node}
-use Rattle.nodes.specs.declared.Skipped.{Skipped}
 use Rattle.nodes.specs.Layout.{byte-limit, atom-kind, sum-kind, alt-kind, cond-kind, call-kind, seq-kind, enc, encs}
 use Rattle.nodes.specs.Nodes.{kind-of, node-number, node-kids}
 use Rattle.nodes.specs.Scoped.{max-scope}
-use Rattle.nodes.specs.Views.{Views, Skips}
+use Rattle.nodes.specs.Views.{Views}
 use Rattle.putting.proofs.Bytes.{cell-more}
 use Rattle.putting.proofs.PutLaws.{never}
 use Rattle.following.specs.Fine.{Fine}
 use Rattle.following.specs.Follows.{CallSmall, Pushes}
 use Rattle.following.proofs.Parts.{all-append}
+use Rattle.contexts.specs.declared.Side.{Side}
 use Rattle.contexts.specs.declared.Spot.{Spot}
 use Rattle.following.specs.declared.Pushed.{Pushed}
 use Rattle.contexts.specs.Spots.{Ready, Arrays, arrays, around, SpottedAt, Spotted, Kept, Beyond, Leads}
-use Rattle.contexts.specs.Steps.{VariablePut, failed}
+use Rattle.contexts.specs.Steps.{VariablePut, failed, RestAt}
 use Rattle.contexts.proofs.Unfold.{heads-delta, heads-sum, heads-seq, new-sum, new-seq, around-var, around-calls, within-vars, within-calls, small-calls}
 use Rattle.contexts.proofs.Spotting.{case-sum, case-seq, no-head, deeper-failed, failed-ok, opened, kind}
 
@@ -114,7 +114,7 @@ module _ (cells starts counts firsts : List ℕ) (s : Spot) (slots vars conds ca
 -- A SEQUENCE
 
 module _ (cells starts counts firsts : List ℕ) (s : Spot) (slots vars conds calls : List ℕ) (d : Node) (vw : Views cells (s .at) d) (is : d .kind ≡ seq-kind)
-    (k : Skipped) (sk : Skips cells (d .next) k) (c′ : ℕ) (ec : s .c + k .own < byte-limit → c′ ≡ s .c + k .own) (r : Pushed) (calls′ : List ℕ) (push : Pushes cells (k .next) c′ slots (s .n) (s .nk) calls (s .top) r calls′) where
+    (e : Side) (ra : RestAt cells (d .next) s e) (r : Pushed) (calls′ : List ℕ) (push : Pushes cells (e .at) (e .c) slots (s .n) (s .nk) calls (s .top) r calls′) where
   module _ (H : Sheet) (F : ℕ) (hs : List Summand) (rd : Ready H F cells starts counts firsts) (x y : Proc) (sp : SpottedAt H F cells s (arrays slots vars conds calls) hs (seq x y)) where
     -- where the first part stands
     first-part : drop (d .next) cells ≡ enc false x ++ (enc true y ++ sp .rest)
@@ -125,10 +125,10 @@ module _ (cells starts counts firsts : List ℕ) (s : Spot) (slots vars conds ca
     pushed : (r .ok ≡ true → (length (calls-of (sp .ctx .σ) (s .c + new-count false x) y) + s .nk ≡ r .n) × Every CallSmall (calls-of (sp .ctx .σ) (s .c + new-count false x) y) × (drop (r .top) calls′ ≡ all encode-call (calls-of (sp .ctx .σ) (s .c + new-count false x) y) ++ drop (s .top) calls)) × (r .ok ≡ false → length (calls-of (sp .ctx .σ) (s .c + new-count false x) y) + s .nk ≤ max-calls → ¬ (Every CallSmall (calls-of (sp .ctx .σ) (s .c + new-count false x) y)))
     unfolding Fine
     pushed =
-        let g = sk false x (enc true y ++ sp .rest) first-part in
-        let e : c′ ≡ s .c + new-count false x = ec (omega (arith, g .0, sp .equations-left, new-seq x y)) ∙ ap (λ (w : ℕ). s .c + w) (g .0) in
-        subst (λ (c : ℕ). (r .ok ≡ true → (length (calls-of (sp .ctx .σ) c y) + s .nk ≡ r .n) × Every CallSmall (calls-of (sp .ctx .σ) c y) × (drop (r .top) calls′ ≡ all encode-call (calls-of (sp .ctx .σ) c y) ++ drop (s .top) calls)) × (r .ok ≡ false → length (calls-of (sp .ctx .σ) c y) + s .nk ≤ max-calls → ¬ (Every CallSmall (calls-of (sp .ctx .σ) c y)))) e
-        (push H y (sp .rest) (sp .ctx .σ) (rd .few) (g .1) (sp .ctx .held) (sp .fine .1) (omega (arith, e, sp .equations-left, new-seq x y)))
+        let g = ra x (enc true y ++ sp .rest) first-part in
+        let number : e .c ≡ s .c + new-count false x = g .0 (omega (arith, sp .equations-left, new-seq x y)) in
+        subst (λ (c : ℕ). (r .ok ≡ true → (length (calls-of (sp .ctx .σ) c y) + s .nk ≡ r .n) × Every CallSmall (calls-of (sp .ctx .σ) c y) × (drop (r .top) calls′ ≡ all encode-call (calls-of (sp .ctx .σ) c y) ++ drop (s .top) calls)) × (r .ok ≡ false → length (calls-of (sp .ctx .σ) c y) + s .nk ≤ max-calls → ¬ (Every CallSmall (calls-of (sp .ctx .σ) c y)))) number
+        (push H y (sp .rest) (sp .ctx .σ) (rd .few) (g .1) (sp .ctx .held) (sp .fine .1) (omega (arith, number, sp .equations-left, new-seq x y)))
 
     -- the heads with the calls of the rest
     seq-are : map (around (sp .ctx .vs) (sp .ctx .cs) (calls-of (sp .ctx .σ) (s .c + new-count false x) y ++ sp .ctx .ks)) (heads H (s .fuel) (sp .ctx .σ) (s .m) (s .c) x) ≡ hs

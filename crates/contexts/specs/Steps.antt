@@ -3,11 +3,12 @@ use mathlib.Core.Path.{_≡_}
 use mathlib.Core.List.{List, [], _∷_, _++_}
 use mathlib.Core.Bool.{true, false}
 use Prim.Native.Nat.{ℕ, zero, suc, _+_, _*_, _%_, _<_}
-use lib.ListN.{length, take}
+use lib.ListN.{length, take, drop}
 use Rattle.pcrl.specs.Limits.{frame-width, max-arity, max-variables}
 use Rattle.pcrl.specs.Tests.{Every}
 use Rattle.pcrl.specs.Reader.{all}
-use Rattle.pcrl.specs.Sheet.{Data, var, Sheet}
+use Rattle.pcrl.specs.Sheet.{Data, var, Proc, Sheet}
+use Rattle.pcrl.specs.Parts.{new-count}
 use Rattle.pcrl.specs.Table.{Summand}
 use Rattle.pcrl.specs.Stream.{tau-code, encode-summand}
 use Rattle.nodes.specs.Layout.{byte-limit}
@@ -15,7 +16,7 @@ use Rattle.putting.specs.declared.Done.{Done}
 use Rattle.laws.specs.TermLength.{max-term}
 use Rattle.putting.specs.Slots.{slot-width, Slots, Adds}
 use Rattle.nodes.specs.declared.Node.{Node}
-use Rattle.nodes.specs.Layout.{sum-kind, alt-kind, atom-kind, cond-kind, call-kind, seq-kind}
+use Rattle.nodes.specs.Layout.{sum-kind, alt-kind, atom-kind, cond-kind, call-kind, seq-kind, enc}
 use Rattle.nodes.specs.Views.{Views}
 use Rattle.contexts.specs.declared.Side.{Side}
 use Rattle.contexts.specs.declared.Spot.{Spot}
@@ -41,8 +42,12 @@ abbrev pub SumDown : Node → Spot → List ℕ → List ℕ → Spot → List �
 SumDown d s slots vars r slots′ vars′ = (cells starts counts firsts conds calls : List ℕ) → Views cells (s .at) d → d .kind ≡ sum-kind
     → Leads cells starts counts firsts s (arrays slots vars conds calls) r (arrays slots′ vars′ conds calls)
 
-abbrev pub SeqDown : List ℕ → Node → Spot → List ℕ → List ℕ → Spot → List ℕ → Type 0
-SeqDown cells d s slots calls r calls′ = (starts counts firsts vars conds : List ℕ) → Views cells (s .at) d → d .kind ≡ seq-kind
+-- the rest behind a first part that stands at `at`: where it stands, and the number of its first new equation
+abbrev pub RestAt : List ℕ → ℕ → Spot → Side → Type 0
+RestAt cells at s e = (p : Proc) (rest : List ℕ) → drop at cells ≡ enc false p ++ rest → (s .c + new-count false p < byte-limit → e .c ≡ s .c + new-count false p) × (drop (e .at) cells ≡ rest)
+
+abbrev pub SeqDown : List ℕ → Node → Spot → Side → List ℕ → List ℕ → Spot → List ℕ → Type 0
+SeqDown cells d s e slots calls r calls′ = (starts counts firsts vars conds : List ℕ) → Views cells (s .at) d → d .kind ≡ seq-kind → RestAt cells (d .next) s e
     → Leads cells starts counts firsts s (arrays slots vars conds calls) r (arrays slots vars conds calls′)
 
 abbrev pub StepDown : List ℕ → Node → Spot → Arrays → Spot → Arrays → Type 0

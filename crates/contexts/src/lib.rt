@@ -5,13 +5,13 @@ ghost use mathlib.Core.Bool.{true};
 ghost use Prim.Native.Nat.{ℕ, _+_, _*_, _≤_, _<_};
 ghost use lib.ListN.{length, take, drop};
 ghost use Rattle.pcrl.specs.Limits.{max-variables, max-calls};
-ghost use Rattle.nodes.specs.Layout.{byte-limit, atom-kind};
+ghost use Rattle.nodes.specs.Layout.{byte-limit, atom-kind, seq-kind};
 ghost use Rattle.nodes.specs.Scoped.{max-scope};
 ghost use Rattle.nodes.specs.Views.{On, Views};
 ghost use Rattle.putting.specs.Slots.{slot-width, Adds};
 ghost use Rattle.following.specs.Follows.{call-bytes, calls-room};
 ghost use Rattle.contexts.specs.Spots.{cond-bytes, conds-room, variable-limit, arrays, Bound, wanted-of};
-ghost use Rattle.contexts.specs.Steps.{VariablePut, call-room, terms-room, act-code, failed, SumDown, SeqDown, StepDown, SideDown, CallDown, Stays, Emits};
+ghost use Rattle.contexts.specs.Steps.{VariablePut, call-room, terms-room, act-code, failed, SumDown, RestAt, SeqDown, StepDown, SideDown, CallDown, Stays, Emits};
 use elements::BYTE_LIMIT;
 use elements::byte;
 use elements::cell;
@@ -170,26 +170,25 @@ pub fn down_side(cells: &[u16], d: Node, s: Spot, e: Side, slots: &[u8], conds: 
     }
 }
 
-// Into the first part of a sequence: the calls of the rest are added.
+// Into the first part of a sequence: the calls of the rest, that stands at e, are added.
 fn down_seq(
     cells: &[u16],
     d: Node,
     s: Spot,
+    e: Side,
     slots: &[u8],
     after: &mut [u8],
     calls: &mut [u8],
 ) -> Spot
-    requires { ⌜ (s .c < byte-limit) × (s .n ≤ max-scope) × (slot-width * s .n ≤ length (now slots)) × (s .nk ≤ max-calls) × (calls-room ≤ length (now after)) × (s .top ≤ length (now calls)) × (calls-room ≤ s .top + call-bytes * s .nk) ⌝ }
+    requires { ⌜ (e .c < byte-limit) × (s .n ≤ max-scope) × (slot-width * s .n ≤ length (now slots)) × (s .nk ≤ max-calls) × (calls-room ≤ length (now after)) × (s .top ≤ length (now calls)) × (calls-room ≤ s .top + call-bytes * s .nk) ⌝ }
     ensures { λ r. ⌜ ((ls : ℕ) → Bound (length (now (calls .entry))) ls s → Bound (length (now (calls .entry))) ls r) ⌝ }
     ensures { λ r. ⌜ (r .ok ≡ true → (r .fuel ≡ s .fuel) × (r .at ≡ d .next)) ⌝ }
-    ensures { λ r. ⌜ SeqDown (now (cells .entry)) d s (now (slots .entry)) (now (calls .entry)) r (now (calls .exit)) ⌝ }
+    ensures { λ r. ⌜ SeqDown (now (cells .entry)) d s e (now (slots .entry)) (now (calls .entry)) r (now (calls .exit)) ⌝ }
 {
-    let k = nodes::skip(cells, d.next);
-    let c = following::later(s.c, k.own);
     let r = following::push_calls(
         cells,
-        k.next,
-        c,
+        e.at,
+        e.c,
         slots,
         s.n,
         &mut *after,
@@ -254,18 +253,19 @@ pub fn down_call(
     }
 }
 
-// One step down from a node that is no action, no call and no choice.
+// One step down from a node that is no action, no call and no choice; e is where the rest of a sequence stands.
 pub fn step(
     cells: &[u16],
     d: Node,
     s: Spot,
+    e: Side,
     slots: &mut [u8],
     vars: &mut [u8],
     after: &mut [u8],
     calls: &mut [u8],
 ) -> Spot
     requires { ⌜ (s .at < length (now cells)) × On (s .at) d × Views (now cells) (s .at) d × Bound (length (now calls)) (length (now slots)) s ⌝ }
-    requires { ⌜ (max-variables ≤ length (now vars)) × (calls-room ≤ length (now after)) ⌝ }
+    requires { ⌜ (max-variables ≤ length (now vars)) × (calls-room ≤ length (now after)) × (e .c < byte-limit) × (d .kind ≡ seq-kind → RestAt (now cells) (d .next) s e) ⌝ }
     ensures { λ r. ⌜ Bound (length (now (calls .entry))) (length (now (slots .entry))) r ⌝ }
     ensures { λ r. ⌜ (r .ok ≡ true → (r .fuel ≡ s .fuel) × (s .at < r .at)) ⌝ }
     ensures { λ r. ⌜ ((conds : List ℕ) → StepDown (now (cells .entry)) d s (arrays (now (slots .entry)) (now (vars .entry)) conds (now (calls .entry))) r (arrays (now (slots .exit)) (now (vars .exit)) conds (now (calls .exit)))) ⌝ }
@@ -274,7 +274,7 @@ pub fn step(
         return down_sum(d, s, &mut *slots, &mut *vars);
     }
     if d.kind == nodes::SEQ {
-        return down_seq(cells, d, s, &*slots, &mut *after, &mut *calls);
+        return down_seq(cells, d, s, e, &*slots, &mut *after, &mut *calls);
     }
     fail(s)
 }

@@ -1,7 +1,7 @@
 -- Into a choice: one side, or the first one while the second one waits.
 use mathlib.Core.Path.{_≡_, sym, ap, _∙_, subst}
 use mathlib.Core.List.{List, [], _∷_, _++_, append-assoc, append-nil}
-use mathlib.Core.Logic.{_⊎_}
+use mathlib.Core.Logic.{_⊎_, inl}
 use mathlib.Core.Bool.{true, false}
 use Prim.Native.Nat.{ℕ, suc, _+_, _-_, _*_, _<_, _≤_}
 use native.Mathlib.Omega.{arith}
@@ -41,10 +41,10 @@ module _ (cells starts counts firsts : List ℕ) (g : Ahead) (lo : Looked cells 
     moved = on H F hs rd sp ro
 
     both : Sides H F cells (g .s) B (g .d) one other (moved .here)
-    both = sides H F cells (g .s) B (moved .here) (g .d) (lo .views) (g .a .next) (g .a .own) (passed cells (row (row-width * g .s .fuel) counts) (g .d .next) (g .a) (lo .counts-first is .1)) (e .c) (se .2) is (moved .spotted)
+    both = sides H F cells (g .s) B (moved .here) (g .d) (lo .views) (g .a .next) (g .a .own) (passed cells (row (row-width * g .s .fuel) counts) (g .d .next) (g .a) (lo .counts-first (inl is) .1)) (e .c) (se .2) is (moved .spotted)
 
     number : g .a .heads ≡ cut (length (both .hs₁))
-    number = counted-side cells counts (g .s) B (g .d) one (g .a) (lo .counts-first is .1) H F (both .hs₁) (rd .procs-few) (rd .tallied) (both .on₁)
+    number = counted-side cells counts (g .s) B (g .d) one (g .a) (lo .counts-first (inl is) .1) H F (both .hs₁) (rd .procs-few) (rd .tallied) (both .on₁)
 
     sum : length (both .hs₁) + length (both .hs₂) ≡ heads
     sum = sym (length-append (both .hs₁) (both .hs₂)) ∙ sym (ap length (both .split)) ∙ moved .many

@@ -1,12 +1,12 @@
 -- Alternatives without heads are passed: what is left has the same heads, in the same context.
 use mathlib.Core.Path.{_≡_, refl, sym, ap, ap₂, _∙_, subst}
-use mathlib.Core.List.{List, [], _∷_, _++_}
+use mathlib.Core.List.{List, [], _∷_, _++_, append-nil}
 use mathlib.Core.Bool.{true, false}
-use mathlib.Core.Logic.{_⊎_, inl, inr}
-use Prim.Native.Nat.{ℕ, _+_, _*_, _<_, _≤_}
+use mathlib.Core.Logic.{inl}
+use Prim.Native.Nat.{ℕ, _+_, _*_, _%_, _<_, _≤_}
 use native.Mathlib.Omega.{arith}
-use lib.ListN.{length}
-use Rattle.pcrl.specs.Sheet.{Proc}
+use lib.ListN.{length, length-append}
+use Rattle.pcrl.specs.Sheet.{Sheet}
 use Rattle.pcrl.specs.Parts.{new-count}
 use Rattle.pcrl.specs.Table.{Summand}
 use Rattle.nodes.specs.declared.Node.{Node}
@@ -17,15 +17,15 @@ use Rattle.nodes.proofs.Nodes.{one-item}
 use Rattle.nodes.proofs.NewParts.{new-all, new-open}
 use Rattle.counting.specs.Limits.{row-width, cut, row}
 use Rattle.counting.specs.Count.{count-by, count-all, count-own, count-open}
-use Rattle.counting.specs.Counting.{leaf-of, Counts}
+use Rattle.counting.specs.Counting.{leaf-of, Counts, Tallied}
 use Rattle.counting.proofs.Laws.{look-count, leaf-right}
 use Rattle.contexts.specs.declared.Spot.{Spot}
 use Rattle.contexts.specs.declared.Side.{Side}
-use Rattle.contexts.specs.Spots.{Arrays, Bound, Spotted}
+use Rattle.contexts.specs.Spots.{Arrays, Spotted, OnSide}
 use Rattle.contexts.proofs.Spotting.{deeper-same, deeper-then}
-use Rattle.contexts.proofs.Sides.{sides, side-plain}
+use Rattle.contexts.proofs.Sides.{Sides, sides, side-plain}
 use Rattle.heads.specs.declared.alternatives.Ahead.{Ahead}
-use Rattle.heads.specs.Progress.{Looked, SecondSide, side-spot, Idle, Behind, Past}
+use Rattle.heads.specs.Progress.{Looked, side-spot, Idle, Past}
 use Rattle.heads.proofs.Walking.{passed, counted-side, length-none}
 
 nothing : (xs : List Item) → length xs ≡ 0 → xs ≡ []
@@ -47,67 +47,73 @@ idle-counts cells K at d vw (leaf, idle, old) b p rest e =
       sym (ap cut new-none),
     )
 
-pub the-other : (A B : Type 0) → A ⊎ B → (A → ⊥) → B
-the-other A B (inl a) n = absurd (n a)
-the-other A B (inr b) n = b
+module _ (cells counts : List ℕ) (heads : ℕ) where
+  pub past-same : (s : Spot) → Past cells counts heads s s
+  past-same s = record { fuel-same = refl; further = omega arith; deeper = deeper-same s; small = λ l. l; stays = λ lk ls b. b; spotted = λ H F A hs few t many sp. sp }
 
-module _ (cells counts : List ℕ) where
-  pub past-same : (s : Spot) → Past cells counts s s
-  past-same s = record { fuel-same = refl; further = omega arith; deeper = deeper-same s; small = λ l. l; stays = λ lk ls b. b; spotted = λ H F A hs few t sp. sp }
-
-  pub past-then : (s r t : Spot) → Past cells counts s r → Past cells counts r t → Past cells counts s t
+  pub past-then : (s r t : Spot) → Past cells counts heads s r → Past cells counts heads r t → Past cells counts heads s t
   past-then s r t p q = record {
     fuel-same = q .fuel-same ∙ p .fuel-same;
     further = omega (arith, p .further, q .further);
     deeper = deeper-then s r t (p .deeper) (q .deeper);
     small = λ l. q .small (p .small l);
     stays = λ lk ls b. q .stays lk ls (p .stays lk ls b);
-    spotted = λ H F A hs few t sp. q .spotted H F A hs few t (p .spotted H F A hs few t sp);
+    spotted = λ H F A hs few t many sp. q .spotted H F A hs few t many (p .spotted H F A hs few t many sp);
   }
 
-  pub past-side : (g : Ahead) (e : Side) → Looked cells counts g → g .d .kind ≡ alt-kind → g .a .heads ≡ 0 → SecondSide g e → Past cells counts (g .s) (side-spot (g .s) e)
-  unfolding cut
-  past-side g e lk is none (ee, small, ec) =
-      let cf = lk .counts-first (inl is) in
-      let e₁ : Side = record { second = false; at = g .d .next; c = g .s .c } in
-      let e₂ : Side = record { second = true; at = g .a .next; c = e .c } in
-      record {
-        fuel-same = refl;
-        further = let z = ap (λ (x : Side). x .at) ee in omega (arith, cf .0, lk .on .on);
-        deeper = record { n-on = omega arith; nv-on = omega arith; lc-on = omega arith; top-on = omega arith };
-        small = λ l. small;
-        stays = λ lk ls b. record {
-          fuel-small = b .fuel-small;
-          n-small = b .n-small;
-          n-room = b .n-room;
-          m-small = b .m-small;
-          c-small = small;
-          nv-few = b .nv-few;
-          nc-few = b .nc-few;
-          lc-few = b .lc-few;
-          nk-few = b .nk-few;
-          top-in = b .top-in;
-          top-room = b .top-room;
-        };
-        spotted = λ H F A hs few t sp.
-            let b = sides H F cells (g .s) A hs (g .d) (lk .views) (g .a .next) (g .a .own) (passed cells (row (row-width * g .s .fuel) counts) (g .d .next) (g .a) (cf .1)) (e .c) ec (inl is) sp in
-            let q = b .on₁ in
-            let k = counted-side cells counts (g .s) A (g .d) e₁ (g .a) (cf .1) H F (b .hs₁) few t q in
-            let n : b .hs₁ ≡ [] = length-none (b .hs₁) (omega arith) in
-            let u : hs ≡ b .hs₂ = b .split ∙ ap (λ (l : List Summand). l ++ b .hs₂) n in
-            let v = side-plain cells (g .d) (g .s) e₂ (A .slots) (A .conds) (λ y. omega arith) (A .vars) (A .calls) .2 H F (b .hs₂) (b .on₂) .0 refl in
-            subst (λ (x : Side). Spotted H F cells (side-spot (g .s) x) A hs) (sym ee) (subst (λ (l : List Summand). Spotted H F cells (side-spot (g .s) e₂) A l) (sym u) v);
-      }
+  -- into a side of `+`
+  module _ (g : Ahead) (lk : Looked cells counts g) (is : g .d .kind ≡ alt-kind) where
+    abbrev part : (g .d .next ≤ g .a .next) × Counts cells (row (row-width * g .s .fuel) counts) (g .d .next) (g .a)
+    part = lk .counts-first (inl (inl is))
 
-  -- past what is idle
-  pub past-idle : (s : Spot) (r : ℕ) → s .at < length cells → s .c < byte-limit → Behind cells (row (row-width * s .fuel) counts) (s .at) r → Past cells counts s (side-spot s (record { second = true; at = r; c = s .c }))
-  past-idle s r inside small bh =
-      past-side (record { s = s; d = bh .d; a = record { next = r; heads = 0; own = 0 } }) (record { second = true; at = r; c = s .c })
-      (record { inside = inside; on = bh .on; views = bh .views; counts-first = λ t. (bh .further, bh .counted) }) (bh .is) refl (refl, small, λ t. omega arith)
+    to-side : (e : Side) → e .c < byte-limit → g .s .at ≤ e .at
+        → ((H : Sheet) (F : ℕ) (A : Arrays) (hs : List Summand) → length (H .procs) ≤ row-width → Tallied H F counts → length hs ≡ heads → Spotted H F cells (g .s) A hs → OnSide H F cells (g .s) A (g .d) e hs)
+        → Past cells counts heads (g .s) (side-spot (g .s) e)
+    to-side e small on side = record {
+      fuel-same = refl;
+      further = on;
+      deeper = record { n-on = omega arith; nv-on = omega arith; lc-on = omega arith; top-on = omega arith };
+      small = λ l. small;
+      stays = λ lk ls b. record {
+        fuel-small = b .fuel-small;
+        n-small = b .n-small;
+        n-room = b .n-room;
+        m-small = b .m-small;
+        c-small = small;
+        nv-few = b .nv-few;
+        nc-few = b .nc-few;
+        lc-few = b .lc-few;
+        nk-few = b .nk-few;
+        top-in = b .top-in;
+        top-room = b .top-room;
+      };
+      spotted = λ H F A hs few t many sp. side-plain cells (g .d) (g .s) e (A .slots) (A .conds) (λ y. omega arith) (A .vars) (A .calls) .2 H F hs (side H F A hs few t many sp) .0 refl;
+    }
 
-  abbrev pub spot-at : Spot → ℕ → Spot
-  spot-at s p = side-spot s (record { second = true; at = p; c = s .c })
+    module _ (c : ℕ) (ec : g .s .c + g .a .own < byte-limit → c ≡ g .s .c + g .a .own) (H : Sheet) (F : ℕ) (A : Arrays) (hs : List Summand) (few : length (H .procs) ≤ row-width) (t : Tallied H F counts) (sp : Spotted H F cells (g .s) A hs) where
+      abbrev one : Side
+      one = record { second = false; at = g .d .next; c = g .s .c }
 
-  pub past-more : (s : Spot) (p q : ℕ) → s .c < byte-limit → p < length cells → Behind cells (row (row-width * s .fuel) counts) p q → (p ≡ s .at) ⊎ Past cells counts s (spot-at s p) → Past cells counts s (spot-at s q)
-  past-more s p q small inside bh (inl e) = past-idle s q (omega arith) small (subst (λ (x : ℕ). Behind cells (row (row-width * s .fuel) counts) x q) e bh)
-  past-more s p q small inside bh (inr pt) = past-then s (spot-at s p) (spot-at s q) pt (past-idle (spot-at s p) q inside small bh)
+      both : Sides H F cells (g .s) A (g .d) one (record { second = true; at = g .a .next; c = c }) hs
+      both = sides H F cells (g .s) A hs (g .d) (lk .views) (g .a .next) (g .a .own) (passed cells (row (row-width * g .s .fuel) counts) (g .d .next) (g .a) (part .1)) c ec (inl is) sp
+
+      number : g .a .heads ≡ cut (length (both .hs₁))
+      number = counted-side cells counts (g .s) A (g .d) one (g .a) (part .1) H F (both .hs₁) few t (both .on₁)
+
+      only-second : g .a .heads ≡ 0 → OnSide H F cells (g .s) A (g .d) (record { second = true; at = g .a .next; c = c }) hs
+      unfolding cut
+      only-second none =
+          let n : both .hs₁ ≡ [] = length-none (both .hs₁) (omega (arith, number)) in
+          subst (λ (l : List Summand). OnSide H F cells (g .s) A (g .d) (record { second = true; at = g .a .next; c = c }) l) (sym (both .split ∙ ap (λ (l : List Summand). l ++ both .hs₂) n)) (both .on₂)
+
+      only-first : length hs ≡ heads → heads ≤ g .a .heads → OnSide H F cells (g .s) A (g .d) one hs
+      unfolding cut
+      only-first many all-first =
+          let n : both .hs₂ ≡ [] = length-none (both .hs₂) (omega (arith, number, ap length (both .split), length-append (both .hs₁) (both .hs₂))) in
+          subst (λ (l : List Summand). OnSide H F cells (g .s) A (g .d) one l) (sym (both .split ∙ ap (λ (l : List Summand). both .hs₁ ++ l) n ∙ append-nil (both .hs₁))) (both .on₁)
+
+    pub past-second : g .a .heads ≡ 0 → (c : ℕ) → c < byte-limit → (g .s .c + g .a .own < byte-limit → c ≡ g .s .c + g .a .own) → Past cells counts heads (g .s) (side-spot (g .s) (record { second = true; at = g .a .next; c = c }))
+    past-second none c small ec = to-side (record { second = true; at = g .a .next; c = c }) small (omega (arith, part .0, lk .on .on)) (λ H F A hs few t many sp. only-second c ec H F A hs few t sp none)
+
+    pub past-first : heads ≤ g .a .heads → g .s .c < byte-limit → Past cells counts heads (g .s) (side-spot (g .s) (record { second = false; at = g .d .next; c = g .s .c }))
+    past-first all-first small = to-side (record { second = false; at = g .d .next; c = g .s .c }) small (omega (arith, lk .on .on)) (λ H F A hs few t many sp. only-first ((g .s .c + g .a .own) % byte-limit) (λ l. omega arith) H F A hs few t sp many all-first)

@@ -190,10 +190,10 @@ module _ (cells starts counts firsts : List ℕ) where
   -- ON
 
   module _ (S : Start) (s : Spot) (heads left q v : ℕ) (B : Arrays) (l o : List ℕ) (on : Onward cells starts counts firsts S s heads left q v B l o) where
-    pub goes-past : (t : Spot) → Past cells counts s t → Onward cells starts counts firsts S t heads left q v B l o
+    pub goes-past : (t : Spot) → Past cells counts heads s t → Onward cells starts counts firsts S t heads left q v B l o
     goes-past t pt H F hs rd sp ro =
         let m = on H F hs rd sp ro in
-        moved-to H F S s heads left q v B l o hs m t B (pt .spotted H F B (m .here) (rd .procs-few) (rd .tallied) (m .spotted)) (pt .deeper) (kept-same s B) (pt .fuel-same)
+        moved-to H F S s heads left q v B l o hs m t B (pt .spotted H F B (m .here) (rd .procs-few) (rd .tallied) (m .many) (m .spotted)) (pt .deeper) (kept-same s B) (pt .fuel-same)
 
     -- a term that ends outside the cells: there is none
     pub goes-stuck : length cells ≤ s .at → (x : Done) (C : Arrays) (o′ : List ℕ) → WrittenBy cells starts counts firsts S x C o′

@@ -1,3 +1,4 @@
 pub mod Writing
 pub mod Stack
 pub mod Progress
+pub mod Memory

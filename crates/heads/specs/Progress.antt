@@ -12,7 +12,7 @@ use Rattle.pcrl.specs.Sheet.{Sheet}
 use Rattle.pcrl.specs.Table.{Summand}
 use Rattle.pcrl.specs.Stream.{encode-summand}
 use Rattle.nodes.specs.declared.Node.{Node}
-use Rattle.nodes.specs.Layout.{byte-limit, alt-kind, atom-kind, cond-kind, call-kind}
+use Rattle.nodes.specs.Layout.{byte-limit, alt-kind, atom-kind, cond-kind, call-kind, seq-kind}
 use Rattle.nodes.specs.Views.{On, Views}
 use Rattle.counting.specs.Limits.{row-width, row}
 use Rattle.counting.specs.Counting.{leaf-of, Counts, Tallied}
@@ -48,16 +48,20 @@ Leaf kind = (kind ≡ atom-kind) ⊎ (kind ≡ call-kind)
 abbrev pub Parting : ℕ → Type 0
 Parting kind = (kind ≡ alt-kind) ⊎ (kind ≡ cond-kind)
 
+-- a node with a first part: a choice or a sequence
+abbrev pub Parted : ℕ → Type 0
+Parted kind = Parting kind ⊎ (kind ≡ seq-kind)
+
 -- is it neither?
 abbrev pub Inner : ℕ → Bool → Type 0
 Inner kind r = (r ≡ true → (kind ≡ atom-kind → ⊥) × (kind ≡ call-kind → ⊥) × (kind ≡ alt-kind → ⊥) × (kind ≡ cond-kind → ⊥)) × (r ≡ false → Leaf kind ⊎ Parting kind)
 
--- the node at a spot, and the count of the first side of a choice
+-- the node at a spot, and the count of the first part of a choice or a sequence
 pub record Looked (cells counts : List ℕ) (g : Ahead) : Type 0 where
   pub inside : g .s .at < length cells
   pub on : On (g .s .at) (g .d)
   pub views : Views cells (g .s .at) (g .d)
-  pub counts-first : (g .d .kind ≡ alt-kind) ⊎ (g .d .kind ≡ cond-kind) → (g .d .next ≤ g .a .next) × Counts cells (row (row-width * g .s .fuel) counts) (g .d .next) (g .a)
+  pub counts-first : Parted (g .d .kind) → (g .d .next ≤ g .a .next) × Counts cells (row (row-width * g .s .fuel) counts) (g .d .next) (g .a)
 
 abbrev pub SecondSide : Ahead → Side → Type 0
 SecondSide g e = (e ≡ record { second = true; at = g .a .next; c = e .c }) × (e .c < byte-limit) × (g .s .c + g .a .own < byte-limit → e .c ≡ g .s .c + g .a .own)
@@ -65,10 +69,6 @@ SecondSide g e = (e ≡ record { second = true; at = g .a .next; c = e .c }) × 
 -- a side of `+`, in the context of s
 abbrev pub side-spot : Spot → Side → Spot
 side-spot s e = record { ok = true; at = e .at; fuel = s .fuel; n = s .n; m = s .m; c = e .c; nv = s .nv; nc = s .nc; lc = s .lc; nk = s .nk; top = s .top }
-
--- the first side of `+` has no heads, and there are cells behind it
-abbrev pub Headless : Ahead → ℕ → Type 0
-Headless g l = (g .d .kind ≡ alt-kind) × (g .a .heads ≡ 0) × (g .a .next < l)
 
 -- a node that has no subterm, no head and no new equation
 abbrev pub Idle : List ℕ → Node → Type 0
@@ -83,14 +83,14 @@ pub record Behind (cells K : List ℕ) (p r : ℕ) : Type 0 where
   pub further : d .next ≤ r
   pub counted : Counts cells K (d .next) (record { next = r; heads = 0; own = 0 })
 
--- From s on to r: what is passed has no heads.
-pub record Past (cells counts : List ℕ) (s r : Spot) : Type 0 where
+-- From s on to r, where the term at s has so many heads: what is passed has none of them.
+pub record Past (cells counts : List ℕ) (heads : ℕ) (s r : Spot) : Type 0 where
   pub fuel-same : r .fuel ≡ s .fuel
   pub further : s .at ≤ r .at
   pub deeper : Deeper s r
   pub small : s .c < byte-limit → r .c < byte-limit
   pub stays : Stays s r
-  pub spotted : (H : Sheet) (F : ℕ) (A : Arrays) (hs : List Summand) → length (H .procs) ≤ row-width → Tallied H F counts → Spotted H F cells s A hs → Spotted H F cells r A hs
+  pub spotted : (H : Sheet) (F : ℕ) (A : Arrays) (hs : List Summand) → length (H .procs) ≤ row-width → Tallied H F counts → length hs ≡ heads → Spotted H F cells s A hs → Spotted H F cells r A hs
 
 -- What a walk begins with: where, the arrays, the place and the bytes of the output, how many heads the term has, the first free place
 -- of the stack, and the stack's cells.

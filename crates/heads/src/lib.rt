@@ -12,6 +12,7 @@ ghost use Rattle.heads.specs.Writing.{HeadsWritten, HeadsCounted, Summan
 pub mod alternatives; // the first alternatives that have no heads are passed
 pub mod numbering; // the numbers of the first new equations
 pub mod params; // the slots of an equation's parameters
+pub mod remembered; // what is found from a place on
 pub mod waiting; // what is walked later
 pub mod walk; // one walk over the term and the right sides that it calls at the head
 
@@ -22,6 +23,7 @@ use following::CALLS;
 use limits::MAX_SUMMANDS;
 use limits::MAX_VARIABLES;
 use putting::Done;
+use remembered::REMEMBERED;
 use waiting::LATER;
 use walk::walk;
 
@@ -54,6 +56,7 @@ pub fn write_heads(
     let mut after = [0u8; CALLS];
     let mut calls = [0u8; CALLS];
     let mut later = [0u16; LATERS];
+    let mut remembered = [0u16; REMEMBERED];
     let s = Spot {
         ok: true,
         at: at,
@@ -83,6 +86,7 @@ pub fn write_heads(
         0,
         &mut *out,
         w,
+        &mut remembered,
     )
 }
 

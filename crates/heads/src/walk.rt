@@ -7,10 +7,11 @@ ghost use Prim.Native.Nat.{_*_, _≤_};
 ghost use lib.ListN.{length, take};
 ghost use Rattle.contexts.specs.Spots.{arrays, Bound};
 ghost use Rattle.heads.specs.Stack.{later-cells, Steady};
+ghost use Rattle.heads.specs.Memory.{Remembers};
 ghost use Rattle.heads.specs.Progress.{Rooms, Looked, Leaf, Parting, Inner, Bounded, start, WrittenBy, aside-turn, Chosen, Resumed, Nearer, Turned};
 use crate::alternatives::Ahead;
 use crate::alternatives::choice;
-use crate::alternatives::pass_headless;
+use crate::alternatives::look;
 use crate::alternatives::second_side;
 use crate::waiting::LATER;
 use crate::waiting::later_at;
@@ -177,11 +178,13 @@ fn leaf(
     q: usize,
     out: &mut [u8],
     w: usize,
+    remembered: &mut [u16],
 ) -> Done
     requires { ⌜ Bound (length (now calls)) (length (now slots)) (g .s) × Rooms (length (now vars)) (length (now conds)) (length (now after)) (length (now calls)) × (w ≤ length (now out)) × (later-cells * q ≤ length (now later)) ⌝ }
-    requires { ⌜ Looked (now cells) (now counts) g × Leaf (g .d .kind) ⌝ }
+    requires { ⌜ Looked (now cells) (now counts) g × Leaf (g .d .kind) × Remembers (now cells) (now counts) (now remembered) ⌝ }
     ensures { λ r. ⌜ (w ≤ r .w) × (r .w ≤ length (now (out .entry))) × (take (later-cells * q) (now (later .exit)) ≡ take (later-cells * q) (now (later .entry))) ⌝ }
     ensures { λ r. ⌜ WrittenBy (now (cells .entry)) (now (starts .entry)) (now (counts .entry)) (now (firsts .entry)) (start (g .s) (arrays (now (slots .entry)) (now (vars .entry)) (now (conds .entry)) (now (calls .entry))) w (now (out .entry)) heads q (length (now (later .entry)))) r (arrays (now (slots .entry)) (now (vars .exit)) (now (conds .exit)) (now (calls .exit))) (now (out .exit)) ⌝ }
+    ensures { λ r. ⌜ Remembers (now (cells .entry)) (now (counts .entry)) (now (remembered .exit)) ⌝ }
 {
     if g.d.kind == nodes::ATOM {
         return contexts::emit(
@@ -218,6 +221,7 @@ fn leaf(
         q,
         &mut *out,
         w,
+        &mut *remembered,
     )
 }
 
@@ -240,12 +244,14 @@ fn next_turn(
     q: usize,
     out: &mut [u8],
     w: usize,
+    remembered: &mut [u16],
 ) -> Turn
     requires { ⌜ Steady (length (now calls)) (length (now slots)) (g .s .fuel) q0 (g .s) q (now later) × Rooms (length (now vars)) (length (now conds)) (length (now after)) (length (now calls)) × (w ≤ length (now out)) ⌝ }
-    requires { ⌜ Looked (now cells) (now counts) g × (Leaf (g .d .kind) ⊎ Parting (g .d .kind)) ⌝ }
+    requires { ⌜ Looked (now cells) (now counts) g × (Leaf (g .d .kind) ⊎ Parting (g .d .kind)) × Remembers (now cells) (now counts) (now remembered) ⌝ }
     ensures { λ r. ⌜ (w ≤ r .done .w) × (r .done .w ≤ length (now (out .entry))) × (take (later-cells * q0) (now (later .exit)) ≡ take (later-cells * q0) (now (later .entry))) ⌝ }
     ensures { λ r. ⌜ (r .over ≡ false → Steady (length (now (calls .entry))) (length (now (slots .entry))) (g .s .fuel) q0 (r .t) (r .q) (now (later .exit)) × Nearer (g .s) left r) ⌝ }
     ensures { λ r. ⌜ Turned (now (cells .entry)) (now (starts .entry)) (now (counts .entry)) (now (firsts .entry)) q0 (g .s) heads left q w (arrays (now (slots .entry)) (now (vars .entry)) (now (conds .entry)) (now (calls .entry))) (now (later .entry)) (now (out .entry)) r (arrays (now (slots .entry)) (now (vars .exit)) (now (conds .exit)) (now (calls .exit))) (now (later .exit)) (now (out .exit)) ⌝ }
+    ensures { λ r. ⌜ Remembers (now (cells .entry)) (now (counts .entry)) (now (remembered .exit)) ⌝ }
 {
     if choice(g.d.kind) {
         return chosen(g, heads, left, &mut *later, q, w);
@@ -266,6 +272,7 @@ fn next_turn(
         q,
         &mut *out,
         w,
+        &mut *remembered,
     );
     resumed(cells, &*later, g, heads, left, q0, q, x)
 }
@@ -287,10 +294,12 @@ pub fn walk(
     q0: usize,
     out: &mut [u8],
     w: usize,
+    remembered: &mut [u16],
 ) -> Done
-    requires { ⌜ Bound (length (now calls)) (length (now slots)) s0 × Rooms (length (now vars)) (length (now conds)) (length (now after)) (length (now calls)) × (w ≤ length (now out)) × (later-cells * q0 ≤ length (now later)) ⌝ }
+    requires { ⌜ Bound (length (now calls)) (length (now slots)) s0 × Rooms (length (now vars)) (length (now conds)) (length (now after)) (length (now calls)) × (w ≤ length (now out)) × (later-cells * q0 ≤ length (now later)) × Remembers (now cells) (now counts) (now remembered) ⌝ }
     ensures { λ r. ⌜ (w ≤ r .w) × (r .w ≤ length (now (out .entry))) × (take (later-cells * q0) (now (later .exit)) ≡ take (later-cells * q0) (now (later .entry))) ⌝ }
     ensures { λ r. ⌜ (s0 .ok ≡ true → WrittenBy (now (cells .entry)) (now (starts .entry)) (now (counts .entry)) (now (firsts .entry)) (start s0 (arrays (now (slots .entry)) (now (vars .entry)) (now (conds .entry)) (now (calls .entry))) w (now (out .entry)) heads0 q0 (length (now (later .entry)))) r (arrays (now (slots .exit)) (now (vars .exit)) (now (conds .exit)) (now (calls .exit))) (now (out .exit))) ⌝ }
+    ensures { λ r. ⌜ Remembers (now (cells .entry)) (now (counts .entry)) (now (remembered .exit)) ⌝ }
 {
     let mut s = s0;
     let mut heads = heads0;
@@ -301,12 +310,13 @@ pub fn walk(
         if s.at >= cells.len() {
             return Done { ok: false, w: v };
         }
-        let g = pass_headless(cells, counts, s);
+        let g = look(cells, counts, s, heads, &mut *remembered);
         if inner(g.d.kind) {
             s = contexts::step(
                 cells,
                 g.d,
                 g.s,
+                second_side(g),
                 &mut *slots,
                 &mut *vars,
                 &mut *after,
@@ -331,6 +341,7 @@ pub fn walk(
                 q,
                 &mut *out,
                 v,
+                &mut *remembered,
             );
             let done = k.done;
             if k.over {

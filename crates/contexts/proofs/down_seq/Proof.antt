@@ -12,12 +12,6 @@ use Rattle.contexts.proofs.Down.{fails, seq-long, seq-down}
 use Rattle.contexts.proofs.down_seq.Statement.{statement}
 use Rattle.contexts.proofs.down_seq.Tie as tie
 
-skip-requires : tie.Need-skip-requires
-skip-requires c κs = search needs
-
-later-requires : tie.Need-later-requires
-later-requires c κs = search needs
-
 push-calls-requires : tie.Need-push-calls-requires
 push-calls-requires c κs = search needs
 
@@ -32,10 +26,10 @@ same-length-2 c = search needs
 
 returns : tie.Need-returns
 returns c = (
-  λ ls b. bound-failed (length (c .before .before .before .before .before .before .before .before .before .before .before .before .before .before .before .before .args .calls .now)) ls (c .before .before .before .before .before .before .before .before .before .before .before .before .before .before .before .before .args .s) b _ (c .fail .ensures),
+  λ ls b. bound-failed (length (c .before .before .before .before .before .before .before .before .before .before .before .before .before .before .args .calls .now)) ls (c .before .before .before .before .before .before .before .before .before .before .before .before .before .before .args .s) b _ (c .fail .ensures),
   (
-    λ t. never (sym (failed-ok (c .before .before .before .before .before .before .before .before .before .before .before .before .before .before .before .before .args .s) _ (c .fail .ensures)) ∙ t),
-    λ starts counts firsts vars conds vw is. fails (c .before .before .before .before .before .before .before .before .before .before .before .before .before .before .before .before .args .cells .now) starts counts firsts (c .before .before .before .before .before .before .before .before .before .before .before .before .before .before .before .before .args .s) (arrays (c .before .before .before .before .before .before .before .before .before .before .before .before .before .before .before .before .args .slots .now) vars conds (c .before .before .before .before .before .before .before .before .before .before .before .before .before .before .before .before .args .calls .now)) (seq-long (c .before .before .before .before .before .before .before .before .before .before .before .before .before .before .before .before .args .cells .now) starts counts firsts (c .before .before .before .before .before .before .before .before .before .before .before .before .before .before .before .before .args .s) (c .before .before .before .before .before .before .before .before .before .before .before .before .before .before .before .before .args .slots .now) vars conds (c .before .before .before .before .before .before .before .before .before .before .before .before .before .before .before .before .args .calls .now) (c .before .before .before .before .before .before .before .before .before .before .before .before .before .before .before .before .args .d) vw is (c .before .before .before .before .before .before .before .before .before .before .before .skip .result) (c .before .before .before .before .before .before .before .before .before .before .before .skip .ensures .1) (c .before .before .before .before .before .before .before .before .before .before .later .result) (c .before .before .before .before .before .before .before .before .before .before .later .ensures .1) (c .before .before .before .before .before .before .before .push-calls .result) (c .before .before .before .before .before .before .before .push-calls .last .1 .1 .1 .1 .1 .1 .0) (c .before .before .before .before .before .before .before .push-calls .ensures .1 .0) (not-true _ (c .before .if1 .taken))) _ (c .fail .ensures) _ (record { slots-kept = refl; vars-kept = refl; conds-kept = refl; calls-kept = c .before .before .before .before .before .before .before .push-calls .ensures .1 .1 .1 }),
+    λ t. never (sym (failed-ok (c .before .before .before .before .before .before .before .before .before .before .before .before .before .before .args .s) _ (c .fail .ensures)) ∙ t),
+    λ starts counts firsts vars conds vw is ra. fails (c .before .before .before .before .before .before .before .before .before .before .before .before .before .before .args .cells .now) starts counts firsts (c .before .before .before .before .before .before .before .before .before .before .before .before .before .before .args .s) (arrays (c .before .before .before .before .before .before .before .before .before .before .before .before .before .before .args .slots .now) vars conds (c .before .before .before .before .before .before .before .before .before .before .before .before .before .before .args .calls .now)) (seq-long (c .before .before .before .before .before .before .before .before .before .before .before .before .before .before .args .cells .now) starts counts firsts (c .before .before .before .before .before .before .before .before .before .before .before .before .before .before .args .s) (c .before .before .before .before .before .before .before .before .before .before .before .before .before .before .args .slots .now) vars conds (c .before .before .before .before .before .before .before .before .before .before .before .before .before .before .args .calls .now) (c .before .before .before .before .before .before .before .before .before .before .before .before .before .before .args .d) vw is (c .before .before .before .before .before .before .before .before .before .before .before .before .before .before .args .e) ra (c .before .before .before .before .before .before .before .push-calls .result) (c .before .before .before .before .before .before .before .push-calls .last .1 .1 .1 .1 .1 .1 .0) (c .before .before .before .before .before .before .before .push-calls .ensures .1 .0) (not-true _ (c .before .if1 .taken))) _ (c .fail .ensures) _ (record { slots-kept = refl; vars-kept = refl; conds-kept = refl; calls-kept = c .before .before .before .before .before .before .before .push-calls .ensures .1 .1 .1 }),
   ),
 )
 
@@ -46,12 +40,12 @@ same-length-4 : tie.Need-same-length-4
 same-length-4 c = search needs
 
 returns-2 : tie.Need-returns-2
-returns-2 c = let q = c .before .before .before .before .before .before .before .before .before .before .before .before .before .before .before .pre in
+returns-2 c = let q = c .before .before .before .before .before .before .before .before .before .before .before .before .before .pre in
     let u = c .before .before .before .before .before .before .push-calls .ensures .0 in (
       λ ls b. record { fuel-small = omega (arith, b .fuel-small); n-small = omega (arith, b .n-small); n-room = omega (arith, b .n-room); m-small = omega (arith, b .m-small); c-small = omega (arith, b .c-small); nv-few = omega (arith, b .nv-few); nc-few = omega (arith, b .nc-few); lc-few = omega (arith, b .lc-few); nk-few = omega (arith, b .nk-few); top-in = omega (arith, b .top-in); top-room = omega (arith, b .top-room) },
       (
         λ t. (refl, refl),
-        λ starts counts firsts vars conds vw is. seq-down (c .before .before .before .before .before .before .before .before .before .before .before .before .before .before .before .args .cells .now) starts counts firsts (c .before .before .before .before .before .before .before .before .before .before .before .before .before .before .before .args .s) (c .before .before .before .before .before .before .before .before .before .before .before .before .before .before .before .args .slots .now) vars conds (c .before .before .before .before .before .before .before .before .before .before .before .before .before .before .before .args .calls .now) (c .before .before .before .before .before .before .before .before .before .before .before .before .before .before .before .args .d) vw is (c .before .before .before .before .before .before .before .before .before .before .skip .result) (c .before .before .before .before .before .before .before .before .before .before .skip .ensures .1) (c .before .before .before .before .before .before .before .before .before .later .result) (c .before .before .before .before .before .before .before .before .before .later .ensures .1) (c .before .before .before .before .before .before .push-calls .result) (c .before .before .before .before .before .before .push-calls .last .1 .1 .1 .1 .1 .1 .0) (c .before .before .before .before .before .before .push-calls .ensures .1 .0) (not-false _ (c .if1 .left)) (c .before .before .before .before .before .before .push-calls .ensures .1 .1 .0) (c .before .before .before .before .before .before .push-calls .ensures .1 .1 .1),
+        λ starts counts firsts vars conds vw is ra. seq-down (c .before .before .before .before .before .before .before .before .before .before .before .before .before .args .cells .now) starts counts firsts (c .before .before .before .before .before .before .before .before .before .before .before .before .before .args .s) (c .before .before .before .before .before .before .before .before .before .before .before .before .before .args .slots .now) vars conds (c .before .before .before .before .before .before .before .before .before .before .before .before .before .args .calls .now) (c .before .before .before .before .before .before .before .before .before .before .before .before .before .args .d) vw is (c .before .before .before .before .before .before .before .before .before .before .before .before .before .args .e) ra (c .before .before .before .before .before .before .push-calls .result) (c .before .before .before .before .before .before .push-calls .last .1 .1 .1 .1 .1 .1 .0) (c .before .before .before .before .before .before .push-calls .ensures .1 .0) (not-false _ (c .if1 .left)) (c .before .before .before .before .before .before .push-calls .ensures .1 .1 .0) (c .before .before .before .before .before .before .push-calls .ensures .1 .1 .1),
       ),
     )
 
@@ -59,8 +53,6 @@ pub down-seq-spec : {M : Type 1} → statement M
 down-seq-spec =
     tie.close
     (tie.spec
-    skip-requires
-    later-requires
     push-calls-requires
     fail-requires
     same-length

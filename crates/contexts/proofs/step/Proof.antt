@@ -44,11 +44,12 @@ same-length-5 c = search needs
 
 returns-2 : tie.Need-returns-2
 returns-2 c = let q = c .before .before .before .before .before .before .before .before .before .before .before .before .before .before .before .before .before .pre .0 in
+    let rest-at = c .before .before .before .before .before .before .before .before .before .before .before .before .before .before .before .before .before .pre .1 .3 in
     let o = q .1 in (
       c .before .before .before .before .down-seq .ensures .0 _ (q .3),
       (
         λ t. let y = c .before .before .before .before .down-seq .ensures .1 .0 t in (y .0, omega (arith, y .1, o .on)),
-        λ conds starts counts firsts n₁ n₂ n₃ n₄. c .before .before .before .before .down-seq .ensures .1 .1 starts counts firsts (c .before .before .before .before .before .before .before .before .before .before .before .before .before .before .before .before .before .args .vars .now) conds (q .2) (omega arith),
+        λ conds starts counts firsts n₁ n₂ n₃ n₄. c .before .before .before .before .down-seq .ensures .1 .1 starts counts firsts (c .before .before .before .before .before .before .before .before .before .before .before .before .before .before .before .before .before .args .vars .now) conds (q .2) (omega arith) (rest-at (omega arith)),
       ),
     )
 

@@ -3,7 +3,7 @@ use borrow.Author.Needs.{needs}
 use native.Mathlib.Omega.{arith}
 use Prim.Native.Nat.{_+_, _-_, _*_, _≤_, _<_}
 use mathlib.Core.Path.{_≡_, refl, sym, ap, _∙_, subst}
-use mathlib.Core.Logic.{inr}
+use mathlib.Core.Logic.{inl, inr}
 use lib.ListN.{length}
 use Rattle.putting.specs.declared.Done.{Done}
 use Rattle.putting.proofs.PutLaws.{never}
@@ -31,7 +31,7 @@ returns c =
     ((
       (refl, refl),
       λ cells counts lo is. (
-        λ still. (se .1, inr (refl, omega (arith, ap (λ (x : Side). x .at) (se .0), lo .counts-first is .0, lo .on .on))),
+        λ still. (se .1, inr (refl, omega (arith, ap (λ (x : Side). x .at) (se .0), lo .counts-first (inl is) .0, lo .on .on))),
         λ lk ls f q₀ few y still. y,
         λ starts firsts B o S on. second-goes cells starts counts firsts (a .g) lo is e se S (a .heads) (a .left) (a .q) (a .w) B (a .later .now) o on (c .before .if1 .taken),
       ),
