@@ -1,6 +1,6 @@
 //! `step`, through a pipe and through a terminal.
 
-use std::io::Write;
+use std::io::{Read, Write};
 use std::process::{Command, Stdio};
 
 use crate::common::{closed, example, fed, run, Folder, LOOP, WIZBRATEL};
@@ -118,7 +118,7 @@ fn nobody_reads() {
     assert_eq!(child.wait().unwrap().code(), Some(0));
 }
 
-/// What a terminal shows for these lines typed in.
+/// What a terminal shows where each of these lines is typed in behind a prompt.
 fn terminal(name: &str, lines: &str) -> String {
     let mut child = Command::new("script")
         .args(["-qec", "\"$WIZBRATEL\" step \"$SHEET\"", "/dev/null"])
@@ -130,11 +130,19 @@ fn terminal(name: &str, lines: &str) -> String {
         .spawn()
         .expect("script, of util-linux");
     let mut typed = child.stdin.take().unwrap();
-    typed.write_all(lines.as_bytes()).unwrap();
-    let output = child.wait_with_output().unwrap();
-    drop(typed);
-    assert_eq!(output.status.code(), Some(0));
-    String::from_utf8(output.stdout).unwrap().replace('\r', "")
+    let mut screen = child.stdout.take().unwrap();
+    let mut lines = lines.split_inclusive('\n');
+    let (mut shown, mut byte) = (Vec::new(), [0]);
+    while screen.read(&mut byte).unwrap() == 1 {
+        shown.push(byte[0]);
+        // what is typed before a prompt is shown amid what is printed
+        if shown.ends_with(b"\n> ") {
+            let line = lines.next().unwrap_or_default();
+            typed.write_all(line.as_bytes()).unwrap();
+        }
+    }
+    assert_eq!(child.wait().unwrap().code(), Some(0));
+    String::from_utf8(shown).unwrap().replace('\r', "")
 }
 
 #[test]
