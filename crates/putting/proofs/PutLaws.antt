@@ -7,7 +7,7 @@ use native.Mathlib.Omega.{arith}
 use native.Mathlib.Decide.{decLe}
 use lib.Dec.{T}
 use lib.ListN.{length, drop, take, getD, set, length-append, length-drop, length-take, length-set}
-use lib.Seq.{length-take-le, paste, take-paste}
+use lib.Seq.{length-take-le, drop-cons, paste, take-paste}
 use Rattle.pcrl.specs.Limits.{max-nodes}
 use Rattle.pcrl.specs.Tests.{Every}
 use Rattle.pcrl.specs.Sheet.{Data, val, var, app, first-equal, operation}
@@ -115,6 +115,12 @@ module _ (slots : List ℕ) (n tag number l v : ℕ) (o : List ℕ) where
       (cell-more (set o v 0x61) (v + 1) (g - first-equal) (omega (arith, length-set o v 0x61))))
       q
 
+  -- the bytes of a slot
+  held : (d : Data) → Slot d slots (slot-width * number) → nodes d ≤ max-nodes → l ≡ length (encode-data d) → take l (drop (slot-width * number + 2) slots) ≡ encode-data d
+  held d z h q =
+      let y = z .whole (short (getD slots (slot-width * number) 0) (nodes d) (z .long) h) in
+      ap (λ (k : ℕ). take k (drop (slot-width * number + 2) slots)) (q ∙ sym (y .1)) ∙ y .2
+
   -- a variable
   pub node-slot : (tag ≡ value-tag → ⊥) → (tag ≡ function-tag → ⊥) → slot-width * number + 2 + l ≤ length slots → v + l ≤ length o
       → NodePut slots n tag number l v o (paste o v (drop (slot-width * number + 2) slots) l)
@@ -124,15 +130,20 @@ module _ (slots : List ℕ) (n tag number l v : ℕ) (o : List ℕ) where
       let z : Slot (look σ i) slots (slot-width * number) = subst (λ (j : ℕ). Slot (look σ i) slots (slot-width * j)) (sym f) (s .each i w) in
       take-paste o v (drop (slot-width * number + 2) slots) l (omega arith) (omega (arith, length-drop (slot-width * number + 2) slots))
       ∙ ap (λ (x : List ℕ). take v o ++ x) (held (look σ i) z h q)
-    where
-      held : (d : Data) → Slot d slots (slot-width * number) → nodes d ≤ max-nodes → l ≡ length (encode-data d) → take l (drop (slot-width * number + 2) slots) ≡ encode-data d
-      held d z h q =
-          let y = z .whole (few d z h) in
-          ap (λ (k : ℕ). take k (drop (slot-width * number + 2) slots)) (q ∙ sym (y .1)) ∙ y .2
-        where
-          few : (d : Data) → Slot d slots (slot-width * number) → nodes d ≤ max-nodes → getD slots (slot-width * number) 0 ≤ max-nodes
-          few d z h = short (getD slots (slot-width * number) 0) (nodes d) (z .long) h
   node-slot a b room fits (app g ds) σ e f s w h q = absurd (b e)
+
+  -- a variable whose term is one byte
+  pub node-byte : (tag ≡ value-tag → ⊥) → (tag ≡ function-tag → ⊥) → slot-width * number + 2 + l ≤ length slots → v + l ≤ length o → l ≡ 1
+      → NodePut slots n tag number l v o (set o v (getD slots (slot-width * number + 2) 0))
+  unfolding data-tag data-number node-bytes node-nodes Writable
+  node-byte a b room fits one (val x) σ e f s w h q = absurd (a e)
+  node-byte a b room fits one (var i) σ e f s w h q =
+      let z : Slot (look σ i) slots (slot-width * number) = subst (λ (j : ℕ). Slot (look σ i) slots (slot-width * j)) (sym f) (s .each i w) in
+      let x : ℕ = getD slots (slot-width * number + 2) 0 in
+      let g : take 1 (drop (slot-width * number + 2) slots) ≡ x ∷ [] = ap (take 1) (drop-cons slots (slot-width * number + 2) 0 (omega arith)) in
+      ap (λ (j : ℕ). take (v + j) (set o v x)) one ∙ cell-more o v x (omega arith)
+      ∙ ap (λ (y : List ℕ). take v o ++ y) (sym g ∙ ap (λ (j : ℕ). take j (drop (slot-width * number + 2) slots)) (sym one) ∙ held (look σ i) z h q)
+  node-byte a b room fits one (app g ds) σ e f s w h q = absurd (b e)
 
   -- a slot that runs past the end is none
   pub node-past : (tag ≡ value-tag → ⊥) → (tag ≡ function-tag → ⊥) → slot-width * n ≤ length slots → length slots < slot-width * number + 2 + l
@@ -174,14 +185,14 @@ module _ (cells : List ℕ) (at : ℕ) (slots : List ℕ) (n w : ℕ) (o : List 
         let u = left d rest σ e s a in
         absurd (omega (arith, u .many, datas-inside cells p (u .terms) rest (u .place)))
 
-    pub put-done : need ≡ 0 → k ≤ max-nodes → Puts cells at slots n w o (record { ok = true; nodes = k; w = v }) out
+    pub put-done : need ≡ 0 → k ≤ max-nodes → Puts cells at slots n w o (record { ok = true; nodes = k; w = v; next = p }) out
     unfolding enc-datas put-bytes put-nodes
-    put-done z few d rest σ e s a = (λ t. go (left d rest σ e s a .terms) (left d rest σ e s a .many) (left d rest σ e s a .bytes) (left d rest σ e s a .nodes-are), λ t. never (sym t))
+    put-done z few d rest σ e s a = (λ t. go (left d rest σ e s a .terms) (left d rest σ e s a .many) (left d rest σ e s a .place) (left d rest σ e s a .bytes) (left d rest σ e s a .nodes-are), λ t. never (sym t))
       where
-        go : (es : List Data) → length es ≡ need → take v out ++ put-bytes σ es ≡ take w o ++ encode-data (put-data (look σ) d) → k + put-nodes σ es ≡ nodes (put-data (look σ) d)
-            → (k ≡ nodes (put-data (look σ) d)) × (nodes (put-data (look σ) d) ≤ max-nodes) × Adds (encode-data (put-data (look σ) d)) w o v out
-        go [] a b g = (omega arith, omega arith, sym (append-nil (take v out)) ∙ b)
-        go (x ∷ es) a b g = absurd (omega arith)
+        go : (es : List Data) → length es ≡ need → drop p cells ≡ enc-datas es ++ rest → take v out ++ put-bytes σ es ≡ take w o ++ encode-data (put-data (look σ) d) → k + put-nodes σ es ≡ nodes (put-data (look σ) d)
+            → (k ≡ nodes (put-data (look σ) d)) × (nodes (put-data (look σ) d) ≤ max-nodes) × Adds (encode-data (put-data (look σ) d)) w o v out × (drop p cells ≡ rest)
+        go [] a f b g = (omega arith, omega arith, sym (append-nil (take v out)) ∙ b, f)
+        go (x ∷ es) a f b g = absurd (omega arith)
 
     module _ (pos : 0 < need) (d′ : Datum) (vw : DataViews cells p d′) (r : Share) (sh : Shares slots n (d′ .tag) (d′ .number) r) where
       -- a node is read, and its bytes written
@@ -211,7 +222,7 @@ module _ (cells : List ℕ) (at : ℕ) (slots : List ℕ) (n w : ℕ) (o : List 
               }
 
       -- too many nodes
-      pub put-long : max-nodes + 1 < k + r .nodes + need → (q : ℕ) (o′ : List ℕ) → Puts cells at slots n w o (record { ok = false; nodes = 0; w = q }) o′
+      pub put-long : max-nodes + 1 < k + r .nodes + need → (q : ℕ) (o′ : List ℕ) → Puts cells at slots n w o (record { ok = false; nodes = 0; w = q; next = at }) o′
       unfolding Every
       put-long big q o′ d rest σ e s a = (λ t. never t, λ t. go (left d rest σ e s a .terms) (left d rest σ e s a .many) (left d rest σ e s a .place) (left d rest σ e s a .writable) (left d rest σ e s a .nodes-are))
         where
@@ -228,7 +239,7 @@ module _ (cells : List ℕ) (at : ℕ) (slots : List ℕ) (n w : ℕ) (o : List 
               pick (no large) h = let z : max-nodes < node-nodes σ x = h .1 (let y : r .nodes ≤ max-nodes → ⊥ = large in omega arith) in omega (arith, nodes-open σ x es)
 
       -- too many bytes, so too many nodes
-      pub put-wide : w ≤ length o → v ≤ length out → w + max-term < v + r .bytes → r .nodes ≤ max-nodes → (q : ℕ) (o′ : List ℕ) → Puts cells at slots n w o (record { ok = false; nodes = 0; w = q }) o′
+      pub put-wide : w ≤ length o → v ≤ length out → w + max-term < v + r .bytes → r .nodes ≤ max-nodes → (q : ℕ) (o′ : List ℕ) → Puts cells at slots n w o (record { ok = false; nodes = 0; w = q; next = at }) o′
       unfolding Every
       put-wide wo vo big small q o′ d rest σ e s a = (λ t. never t, λ t. go (left d rest σ e s a .terms) (left d rest σ e s a .many) (left d rest σ e s a .place) (left d rest σ e s a .writable) (left d rest σ e s a .bytes))
         where

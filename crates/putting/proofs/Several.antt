@@ -33,13 +33,6 @@ one-data : (d : Data) (rest : List ℕ) → enc-data d ++ rest ≡ enc-datas (d 
 unfolding enc-datas
 one-data d rest = ap (λ (l : List ℕ). l ++ rest) (sym (append-nil (enc-data d)))
 
-pub skip-one : (cells : List ℕ) (p r : ℕ) → SkipsData cells p 1 r → (x : Data) (es : List Data) (rest : List ℕ) → drop p cells ≡ enc-datas (x ∷ es) ++ rest
-    → (drop p cells ≡ enc-data x ++ (enc-datas es ++ rest)) × (drop r cells ≡ enc-datas es ++ rest)
-unfolding enc-datas
-skip-one cells p r sk x es rest e =
-    let f : drop p cells ≡ enc-data x ++ (enc-datas es ++ rest) = e ∙ append-assoc (enc-data x) (enc-datas es) rest in
-    (f, sk (x ∷ []) (enc-datas es ++ rest) refl (f ∙ one-data x (enc-datas es ++ rest)))
-
 one-first : {cells : List ℕ} (x : Data) (es : List Data) (rest : List ℕ) → cells ≡ enc-datas (x ∷ es) ++ rest → cells ≡ enc-data x ++ (enc-datas es ++ rest)
 unfolding enc-datas
 one-first x es rest e = e ∙ append-assoc (enc-data x) (enc-datas es) rest
@@ -74,22 +67,21 @@ module _ (cells : List ℕ) (at count : ℕ) (slots : List ℕ) (n w : ℕ) (o :
         go (x ∷ es) a g f = absurd (omega arith)
 
     module _ (k : j < count) (r : TermPut) (out′ : List ℕ) (h : Puts cells p slots n v out r out′) where
-      pub terms-on : r .ok ≡ true → (q : ℕ) → SkipsData cells p 1 q → AllLeft q (j + 1) (r .w) out′
+      pub terms-on : r .ok ≡ true → AllLeft (r .next) (j + 1) (r .w) out′
       unfolding all Every
-      terms-on ok q sk ds rest σ l e s a = go (left ds rest σ l e s a .terms) (left ds rest σ l e s a .many) (left ds rest σ l e s a .place) (left ds rest σ l e s a .writable) (left ds rest σ l e s a .bytes) (left ds rest σ l e s a .small) (left ds rest σ l e s a .small-left)
+      terms-on ok ds rest σ l e s a = go (left ds rest σ l e s a .terms) (left ds rest σ l e s a .many) (left ds rest σ l e s a .place) (left ds rest σ l e s a .writable) (left ds rest σ l e s a .bytes) (left ds rest σ l e s a .small) (left ds rest σ l e s a .small-left)
         where
           go : (es : List Data) → length es + j ≡ count → drop p cells ≡ enc-datas es ++ rest → Every (Writable n) es
               → take v out ++ all encode-data (map (put-data (look σ)) es) ≡ take w o ++ all encode-data (map (put-data (look σ)) ds)
               → (Every Small (map (put-data (look σ)) es) → Every Small (map (put-data (look σ)) ds)) → (Every Small (map (put-data (look σ)) ds) → Every Small (map (put-data (look σ)) es))
-              → TermsLeft ds rest σ q (j + 1) (r .w) out′
+              → TermsLeft ds rest σ (r .next) (j + 1) (r .w) out′
           go [] a f wr g i m = absurd (omega arith)
           go (x ∷ es) a f wr g i m =
-              let y = skip-one cells p q sk x es rest f in
-              let u = h x (enc-datas es ++ rest) σ (y .0) s (wr .0) .0 ok in
+              let u = h x (enc-datas es ++ rest) σ (one-first x es rest f) s (wr .0) .0 ok in
               record {
                 terms = es;
                 many = omega arith;
-                place = y .1;
+                place = u .3;
                 writable = wr .1;
                 bytes = ap (λ (z : List ℕ). z ++ all encode-data (map (put-data (look σ)) es)) (u .2) ∙ append-assoc (take v out) (encode-data (put-data (look σ) x)) (all encode-data (map (put-data (look σ)) es)) ∙ g;
                 small = λ z. i (u .1, z);
@@ -136,17 +128,16 @@ module _ (w : ℕ) (o o′ : List ℕ) (e : take w o′ ≡ take w o) where
           )
 
 module _ (cells : List ℕ) (at : ℕ) (slots : List ℕ) (n b : ℕ) (o : List ℕ) (r : TermPut) (out : List ℕ) (room : b + slot-width ≤ length out) (put : Puts cells at slots n (b + 2) o r out) where
-  pub slot-long : r .ok ≡ false → SlotPut cells at slots n (set out b 255) b
-  slot-long bad d rest σ e s a = record { whole = λ k. absurd (omega (arith, getD-set-same out b 255 0 (omega arith))); long = λ k. put d rest σ e s a .1 bad; narrow = put-narrow σ slots n s d a }
-
-  pub slot-whole : r .ok ≡ true → b + 2 ≤ r .w → r .w ≤ b + slot-width → b + 2 ≤ length o → SlotPut cells at slots n (set (set out b (r .nodes)) (b + 1) (r .w - (b + 2))) b
-  slot-whole ok past most inside d rest σ e s a = record {
-    whole = λ k. (first ∙ u .0, second ∙ long, ap₂ (λ (i : ℕ) (l : List ℕ). take i l) second (drop-set-lt (b + 2) (set out b (r .nodes)) (b + 1) (r .w - (b + 2)) (omega arith) ∙ drop-set-lt (b + 2) out b (r .nodes) (omega arith)) ∙ bytes);
-    long = λ k. absurd (omega (arith, first, u .0, u .1));
-    narrow = put-narrow σ slots n s d a;
-  }
+  pub slot-long : r .ok ≡ false → (q : ℕ) → SkipsData cells at 1 q → SlotPut cells at slots n (set out b 255) b q
+  slot-long bad q sk d rest σ e s a = (marked, sk (d ∷ []) rest refl (e ∙ one-data d rest))
     where
-      u : (r .nodes ≡ nodes (put-data (look σ) d)) × (nodes (put-data (look σ) d) ≤ max-nodes) × Adds (encode-data (put-data (look σ) d)) (b + 2) o (r .w) out
+      marked : Slot (put-data (look σ) d) (set out b 255) b
+      marked = record { whole = λ k. absurd (omega (arith, getD-set-same out b 255 0 (omega arith))); long = λ k. put d rest σ e s a .1 bad; narrow = put-narrow σ slots n s d a }
+
+  pub slot-whole : r .ok ≡ true → b + 2 ≤ r .w → r .w ≤ b + slot-width → b + 2 ≤ length o → SlotPut cells at slots n (set (set out b (r .nodes)) (b + 1) (r .w - (b + 2))) b (r .next)
+  slot-whole ok past most inside d rest σ e s a = (held, u .3)
+    where
+      u : (r .nodes ≡ nodes (put-data (look σ) d)) × (nodes (put-data (look σ) d) ≤ max-nodes) × Adds (encode-data (put-data (look σ) d)) (b + 2) o (r .w) out × (drop (r .next) cells ≡ rest)
       u = put d rest σ e s a .0 ok
 
       one : getD (set out b (r .nodes)) b 0 ≡ r .nodes
@@ -170,6 +161,13 @@ module _ (cells : List ℕ) (at : ℕ) (slots : List ℕ) (n b : ℕ) (o : List 
       bytes =
           let z : b + 2 + (r .w - (b + 2)) ≡ r .w = omega arith in
           take-of-drop (r .w - (b + 2)) (b + 2) out ∙ ap (λ (i : ℕ). drop (b + 2) (take i out)) z ∙ ap (drop (b + 2)) (u .2) ∙ drop-at (take (b + 2) o) E (b + 2) (length-take-le (b + 2) o inside)
+
+      held : Slot (put-data (look σ) d) (set (set out b (r .nodes)) (b + 1) (r .w - (b + 2))) b
+      held = record {
+        whole = λ k. (first ∙ u .0, second ∙ long, ap₂ (λ (i : ℕ) (l : List ℕ). take i l) second (drop-set-lt (b + 2) (set out b (r .nodes)) (b + 1) (r .w - (b + 2)) (omega arith) ∙ drop-set-lt (b + 2) out b (r .nodes) (omega arith)) ∙ bytes);
+        long = λ k. absurd (omega (arith, first, u .0, u .1));
+        narrow = put-narrow σ slots n s d a;
+      }
 
 -- each term comes to stand in its slot
 module _ (cells : List ℕ) (at count : ℕ) (slots : List ℕ) (n : ℕ) where
@@ -195,32 +193,33 @@ module _ (cells : List ℕ) (at count : ℕ) (slots : List ℕ) (n : ℕ) where
   }
 
   module _ (p j : ℕ) (out : List ℕ) (left : SlotsLeft p j out) where
-    pub slots-on : j < count → (out′ : List ℕ) → take (slot-width * j) out′ ≡ take (slot-width * j) out → SlotPut cells p slots n out′ (slot-width * j) → (q : ℕ) → SkipsData cells p 1 q
-        → SlotsLeft q (j + 1) out′
+    pub slots-on : j < count → (out′ : List ℕ) → take (slot-width * j) out′ ≡ take (slot-width * j) out → (q : ℕ) → SlotPut cells p slots n out′ (slot-width * j) q → SlotsLeft q (j + 1) out′
     unfolding Every
-    slots-on k out′ kept h q sk ds rest σ l e s a = go (left ds rest σ l e s a .terms) (left ds rest σ l e s a .many) (left ds rest σ l e s a .place) (left ds rest σ l e s a .writable) (left ds rest σ l e s a .left) (left ds rest σ l e s a .done)
+    slots-on k out′ kept q h ds rest σ l e s a = go (left ds rest σ l e s a .terms) (left ds rest σ l e s a .many) (left ds rest σ l e s a .place) (left ds rest σ l e s a .writable) (left ds rest σ l e s a .left) (left ds rest σ l e s a .done)
       where
         go : (es : List Data) → length es + j ≡ count → drop p cells ≡ enc-datas es ++ rest → Every (Writable n) es → ((i : ℕ) → getD ds (j + i) (val 0) ≡ getD es i (val 0))
             → ((i : ℕ) → i < j → Slot (put-data (look σ) (getD ds i (val 0))) out (slot-width * i)) → Slotted ds rest σ q (j + 1) out′
         go [] a f wr g d = absurd (omega arith)
         go (x ∷ es) a f wr g d =
-            let y = skip-one cells p q sk x es rest f in
             record {
               terms = es;
               many = omega arith;
-              place = y .1;
+              place = here .1;
               writable = wr .1;
               left = λ i. (let z : j + 1 + i ≡ j + suc i = omega arith in ap (λ (k : ℕ). getD ds k (val 0)) z) ∙ g (suc i);
               done = λ i b. each i b (ℕ-discrete i j);
             }
           where
+            here : Slot (put-data (look σ) x) out′ (slot-width * j) × (drop q cells ≡ enc-datas es ++ rest)
+            here = h x (enc-datas es ++ rest) σ (one-first x es rest f) s (wr .0)
+
             first : getD ds j (val 0) ≡ x
             first = (let z : j ≡ j + 0 = omega arith in ap (λ (k : ℕ). getD ds k (val 0)) z) ∙ g 0
 
             each : (i : ℕ) → i < j + 1 → Dec (i ≡ j) → Slot (put-data (look σ) (getD ds i (val 0))) out′ (slot-width * i)
             each i b (yes z) =
                 subst (λ (k : ℕ). Slot (put-data (look σ) (getD ds k (val 0))) out′ (slot-width * k)) (sym z)
-                (subst (λ (t : Data). Slot (put-data (look σ) t) out′ (slot-width * j)) (sym first) (h x (enc-datas es ++ rest) σ (skip-one cells p q sk x es rest f .0) s (wr .0)))
+                (subst (λ (t : Data). Slot (put-data (look σ) t) out′ (slot-width * j)) (sym first) (here .0))
             each i b (no z) = let y : i < j = (let x : i ≡ j → ⊥ = z in omega arith) in slot-kept (slot-width * j) out out′ kept (put-data (look σ) (getD ds i (val 0))) (slot-width * i) (omega arith) (d i y)
 
     pub slots-done : count ≤ j → Fills cells at count slots n out

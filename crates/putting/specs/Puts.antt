@@ -44,7 +44,7 @@ NodePut slots n tag number l v o o′ = (d : Data) (σ : List Data) → tag ≡ 
 -- Written, or the term itself has too many nodes.
 abbrev pub Puts : List ℕ → ℕ → List ℕ → ℕ → ℕ → List ℕ → TermPut → List ℕ → Type 0
 Puts cells at slots n w o r o′ = (d : Data) (rest : List ℕ) (σ : List Data) → drop at cells ≡ enc-data d ++ rest → Slots σ slots n → Writable n d
-    → (r .ok ≡ true → (r .nodes ≡ nodes (put-data (look σ) d)) × (nodes (put-data (look σ) d) ≤ max-nodes) × Adds (encode-data (put-data (look σ) d)) w o (r .w) o′)
+    → (r .ok ≡ true → (r .nodes ≡ nodes (put-data (look σ) d)) × (nodes (put-data (look σ) d) ≤ max-nodes) × Adds (encode-data (put-data (look σ) d)) w o (r .w) o′ × (drop (r .next) cells ≡ rest))
     × (r .ok ≡ false → max-nodes < nodes (put-data (look σ) d))
 
 -- Some terms, one behind another: written, or one of them has too many nodes.
@@ -53,9 +53,10 @@ PutsAll cells at count slots n w o r o′ = (ds : List Data) (rest : List ℕ) (
     → (r .ok ≡ true → Every Small (map (put-data (look σ)) ds) × Adds (all encode-data (map (put-data (look σ)) ds)) w o (r .w) o′)
     × (r .ok ≡ false → ¬ (Every Small (map (put-data (look σ)) ds)))
 
--- A term in the slot at b.
-abbrev pub SlotPut : List ℕ → ℕ → List ℕ → ℕ → List ℕ → ℕ → Type 0
-SlotPut cells at slots n o′ b = (d : Data) (rest : List ℕ) (σ : List Data) → drop at cells ≡ enc-data d ++ rest → Slots σ slots n → Writable n d → Slot (put-data (look σ) d) o′ b
+-- A term in the slot at b; r is the place behind its cells.
+abbrev pub SlotPut : List ℕ → ℕ → List ℕ → ℕ → List ℕ → ℕ → ℕ → Type 0
+SlotPut cells at slots n o′ b r = (d : Data) (rest : List ℕ) (σ : List Data) → drop at cells ≡ enc-data d ++ rest → Slots σ slots n → Writable n d
+    → Slot (put-data (look σ) d) o′ b × (drop r cells ≡ rest)
 
 -- Some terms in slots of their own.
 abbrev pub Fills : List ℕ → ℕ → ℕ → List ℕ → ℕ → List ℕ → Type 0

@@ -31,11 +31,12 @@ pub struct Share {
     pub bytes: usize,
 }
 
-// A term written: its nodes, and the place behind it.
+// A term written: its nodes, the place behind its bytes, and the one behind its cells.
 pub struct TermPut {
     pub ok: bool,
     pub nodes: usize,
     pub w: usize,
+    pub next: usize,
 }
 
 pub struct Done {
@@ -96,6 +97,11 @@ fn put_node(slots: &[u8], n: usize, tag: usize, number: usize, l: usize, out: &m
     if from + l > slots.len() {
         return;
     }
+    // most often: a variable, or a value
+    if l == 1 {
+        out[v] = slots[from];
+        return;
+    }
     copy(slots, from, l, &mut *out, v);
 }
 
@@ -123,6 +129,7 @@ pub fn put_term(
                 ok: false,
                 nodes: 0,
                 w: w,
+                next: at,
             };
         }
         let d = nodes::data_at(cells, p);
@@ -132,6 +139,7 @@ pub fn put_term(
                 ok: false,
                 nodes: 0,
                 w: w,
+                next: at,
             };
         }
         let end = v + s.bytes;
@@ -140,6 +148,7 @@ pub fn put_term(
                 ok: false,
                 nodes: 0,
                 w: w,
+                next: at,
             };
         }
         put_node(slots, n, d.tag, d.number, s.bytes, &mut *out, v);
@@ -152,6 +161,7 @@ pub fn put_term(
         ok: true,
         nodes: k,
         w: v,
+        next: p,
     }
 }
 
@@ -178,27 +188,28 @@ pub fn put_terms(
         if !r.ok {
             return Done { ok: false, w: w };
         }
-        p = nodes::skip_data(cells, p, 1);
+        p = r.next;
         v = r.w;
         j += 1;
     }
     Done { ok: true, w: v }
 }
 
-// A term in slot j. A term with too many nodes is only marked.
-fn put_slot(cells: &[u16], at: usize, slots: &[u8], n: usize, out: &mut [u8], j: usize)
+// A term in slot j: the place behind its cells. A term with too many nodes is only marked.
+fn put_slot(cells: &[u16], at: usize, slots: &[u8], n: usize, out: &mut [u8], j: usize) -> usize
     requires { ⌜ (slot-width * j + slot-width ≤ length (now out)) × (slot-width * n ≤ length (now slots)) ⌝ }
     ensures { λ r. ⌜ take (slot-width * j) (now (out .exit)) ≡ take (slot-width * j) (now (out .entry)) ⌝ }
-    ensures { λ r. ⌜ SlotPut (now (cells .entry)) at (now (slots .entry)) n (now (out .exit)) (slot-width * j) ⌝ }
+    ensures { λ r. ⌜ SlotPut (now (cells .entry)) at (now (slots .entry)) n (now (out .exit)) (slot-width * j) r ⌝ }
 {
     let b = SLOT * j;
     let r = put_term(cells, at, slots, n, &mut *out, b + 2);
     if !r.ok {
         out[b] = LONG;
-        return;
+        return nodes::skip_data(cells, at, 1);
     }
     out[b] = r.nodes as u8;
     out[b + 1] = (r.w - (b + 2)) as u8;
+    r.next
 }
 
 // Some data terms, each in a slot of its own.
@@ -209,8 +220,7 @@ pub fn put_slots(cells: &[u16], at: usize, count: usize, slots: &[u8], n: usize,
     let mut p = at;
     let mut j: usize = 0;
     while j < count {
-        put_slot(cells, p, slots, n, &mut *out, j);
-        p = nodes::skip_data(cells, p, 1);
+        p = put_slot(cells, p, slots, n, &mut *out, j);
         j += 1;
     }
 }

@@ -9,7 +9,7 @@ use lib.Seq.{take-set-le, paste}
 use Rattle.putting.specs.Slots.{slot-width}
 use Rattle.putting.specs.Puts.{NodePut}
 use Rattle.putting.proofs.Bytes.{paste-kept}
-use Rattle.putting.proofs.PutLaws.{node-none, node-value, node-function, node-equal, node-slot, node-past}
+use Rattle.putting.proofs.PutLaws.{node-none, node-value, node-function, node-equal, node-slot, node-byte, node-past}
 use Rattle.putting.proofs.put_node.Statement.{statement}
 use Rattle.putting.proofs.put_node.Tie as tie
 
@@ -78,14 +78,27 @@ add-if5 c = search needs
 returns-5 : tie.Need-returns-5
 returns-5 c = let a = c .before .before .before .before .before .before .args in (refl, node-past (a .slots .now) (a .n) (a .tag) (a .number) (a .l) (a .v) (a .out .now) (λ z. omega arith) (λ z. omega arith) (omega arith) (omega arith) _)
 
-copy-requires : tie.Need-copy-requires
-copy-requires c κs = search needs
+shared-slice-read-out : tie.Need-shared-slice-read-out
+shared-slice-read-out c = search needs
+
+slice-write-out-5 : tie.Need-slice-write-out-5
+slice-write-out-5 c = search needs
 
 same-length-4 : tie.Need-same-length-4
 same-length-4 c = search needs
 
 returns-6 : tie.Need-returns-6
-returns-6 c = let a = c .before .before .before .before .before .before .before .before .before .before .args in
+returns-6 c = let a = c .before .before .before .before .before .before .before .before .args in
+    (take-set-le (a .v) (a .out .now) (a .v) _ (omega arith), node-byte (a .slots .now) (a .n) (a .tag) (a .number) (a .l) (a .v) (a .out .now) (λ z. omega arith) (λ z. omega arith) (omega arith) (omega arith) (omega arith))
+
+copy-requires : tie.Need-copy-requires
+copy-requires c κs = search needs
+
+same-length-5 : tie.Need-same-length-5
+same-length-5 c = search needs
+
+returns-7 : tie.Need-returns-7
+returns-7 c = let a = c .before .before .before .before .before .before .before .before .before .before .before .args in
     let e = c .before .before .copy .ensures in (
       ap (take (a .v)) e ∙ paste-kept (a .v) (a .v) (a .out .now) (drop (slot-width * a .number + 2) (a .slots .now)) (a .l) (omega arith) (omega arith),
       subst (λ (x : List ℕ). NodePut (a .slots .now) (a .n) (a .tag) (a .number) (a .l) (a .v) (a .out .now) x) (sym e)
@@ -116,6 +129,10 @@ put-node-spec =
     add-from
     add-if5
     returns-5
-    copy-requires
+    shared-slice-read-out
+    slice-write-out-5
     same-length-4
-    returns-6)
+    returns-6
+    copy-requires
+    same-length-5
+    returns-7)

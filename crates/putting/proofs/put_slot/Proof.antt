@@ -25,16 +25,19 @@ put-term-requires c κs = search needs
 slice-write-out : tie.Need-slice-write-out
 slice-write-out c = search needs
 
+skip-data-requires : tie.Need-skip-data-requires
+skip-data-requires c κs = search needs
+
 same-length : tie.Need-same-length
 same-length c = search needs
 
 returns : tie.Need-returns
 returns c =
-    let q = c .before .before .before .before .before .before .before .before .before .pre in
-    let o = c .before .before .before .before .put-term .last .1 .1 .1 .1 .0 in
-    let l = c .before .before .before .before .put-term .kept .1 .1 .1 .1 .0 in (
-      take-set-le (slot-width * c .before .before .before .before .before .before .before .before .before .args .j) o (slot-width * c .before .before .before .before .before .before .before .before .before .args .j) _ (omega arith) ∙ kept-front (slot-width * c .before .before .before .before .before .before .before .before .before .args .j) (slot-width * c .before .before .before .before .before .before .before .before .before .args .j + 2) (c .before .before .before .before .before .before .before .before .before .args .out .now) o (omega arith) (c .before .before .before .before .put-term .ensures .1 .0),
-      slot-long (c .before .before .before .before .before .before .before .before .before .args .cells .now) (c .before .before .before .before .before .before .before .before .before .args .at) (c .before .before .before .before .before .before .before .before .before .args .slots .now) (c .before .before .before .before .before .before .before .before .before .args .n) (slot-width * c .before .before .before .before .before .before .before .before .before .args .j) (c .before .before .before .before .before .before .before .before .before .args .out .now) (c .before .before .before .before .put-term .result) o (omega arith) (c .before .before .before .before .put-term .ensures .1 .1) (not-true _ (c .if1 .taken)),
+    let q = c .before .before .before .before .before .before .before .before .before .before .pre in
+    let o = c .before .before .before .before .before .put-term .last .1 .1 .1 .1 .0 in
+    let l = c .before .before .before .before .before .put-term .kept .1 .1 .1 .1 .0 in (
+      take-set-le (slot-width * c .before .before .before .before .before .before .before .before .before .before .args .j) o (slot-width * c .before .before .before .before .before .before .before .before .before .before .args .j) _ (omega arith) ∙ kept-front (slot-width * c .before .before .before .before .before .before .before .before .before .before .args .j) (slot-width * c .before .before .before .before .before .before .before .before .before .before .args .j + 2) (c .before .before .before .before .before .before .before .before .before .before .args .out .now) o (omega arith) (c .before .before .before .before .before .put-term .ensures .1 .0),
+      slot-long (c .before .before .before .before .before .before .before .before .before .before .args .cells .now) (c .before .before .before .before .before .before .before .before .before .before .args .at) (c .before .before .before .before .before .before .before .before .before .before .args .slots .now) (c .before .before .before .before .before .before .before .before .before .before .args .n) (slot-width * c .before .before .before .before .before .before .before .before .before .before .args .j) (c .before .before .before .before .before .before .before .before .before .before .args .out .now) (c .before .before .before .before .before .put-term .result) o (omega arith) (c .before .before .before .before .before .put-term .ensures .1 .1) (not-true _ (c .before .if1 .taken)) (c .skip-data .result) (c .skip-data .ensures .1),
     )
 
 cast-out : tie.Need-cast-out
@@ -83,6 +86,7 @@ put-slot-spec =
     add-put-term
     put-term-requires
     slice-write-out
+    skip-data-requires
     same-length
     returns
     cast-out

@@ -22,9 +22,6 @@ loop-holds c =
 put-slot-requires : tie.Need-put-slot-requires Inv-loop μ-loop
 put-slot-requires c κs = omega arith
 
-skip-data-requires : tie.Need-skip-data-requires Inv-loop μ-loop
-skip-data-requires c κs = omega arith
-
 add-j : tie.Need-add-j Inv-loop μ-loop
 add-j c = omega arith
 
@@ -33,8 +30,8 @@ loop-less c = omega arith
 
 loop-again : tie.Need-loop-again Inv-loop μ-loop
 loop-again c = (
-  (omega arith, c .before .before .before .put-slot .kept .1 .1 .1 .1 .0 ∙ c .before .before .before .before .before .before .loop .inv .0 .1),
-  slots-on (c .before .before .before .before .before .before .before .before .before .before .args .cells .now) (c .before .before .before .before .before .before .before .before .before .before .args .at) (c .before .before .before .before .before .before .before .before .before .before .args .count) (c .before .before .before .before .before .before .before .before .before .before .args .slots .now) (c .before .before .before .before .before .before .before .before .before .before .args .n) (c .before .before .before .before .before .before .loop .p) (c .before .before .before .before .before .before .loop .j) (c .before .before .before .before .before .before .loop .out) (c .before .before .before .before .before .before .loop .inv .1) (omega arith) (c .before .before .before .put-slot .last .1 .1 .1 .1 .0) (c .before .before .before .put-slot .ensures .0) (c .before .before .before .put-slot .ensures .1) (c .skip-data .result) (c .skip-data .ensures .1),
+  (omega arith, c .before .before .put-slot .kept .1 .1 .1 .1 .0 ∙ c .before .before .before .before .before .loop .inv .0 .1),
+  slots-on (c .before .before .before .before .before .before .before .before .before .args .cells .now) (c .before .before .before .before .before .before .before .before .before .args .at) (c .before .before .before .before .before .before .before .before .before .args .count) (c .before .before .before .before .before .before .before .before .before .args .slots .now) (c .before .before .before .before .before .before .before .before .before .args .n) (c .before .before .before .before .before .loop .p) (c .before .before .before .before .before .loop .j) (c .before .before .before .before .before .loop .out) (c .before .before .before .before .before .loop .inv .1) (omega arith) (c .before .before .put-slot .last .1 .1 .1 .1 .0) (c .before .before .put-slot .ensures .0) (c .before .before .put-slot .result) (c .before .before .put-slot .ensures .1),
 )
 
 same-length : tie.Need-same-length Inv-loop μ-loop
@@ -52,7 +49,6 @@ put-slots-spec =
     μ-loop
     loop-holds
     put-slot-requires
-    skip-data-requires
     add-j
     loop-less
     loop-again

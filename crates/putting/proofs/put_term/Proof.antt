@@ -31,7 +31,7 @@ same-length c = c .before .before .loop .inv .0 .5
 
 returns : tie.Need-returns Inv-loop μ-loop
 returns c =
-    (omega arith, (c .before .before .loop .inv .1, put-stuck (c .before .before .before .before .before .before .args .cells .now) (c .before .before .before .before .before .before .args .at) (c .before .before .before .before .before .before .args .slots .now) (c .before .before .before .before .before .before .args .n) (c .before .before .before .before .before .before .args .w) (c .before .before .before .before .before .before .args .out .now) (c .before .before .loop .p) (c .before .before .loop .need) (c .before .before .loop .k) (c .before .before .loop .v) (c .before .before .loop .out) (c .before .before .loop .inv .2) (omega arith) (omega arith) (record { ok = false; nodes = 0; w = c .before .before .before .before .before .before .args .w }) (c .before .before .loop .out)))
+    (omega arith, (c .before .before .loop .inv .1, put-stuck (c .before .before .before .before .before .before .args .cells .now) (c .before .before .before .before .before .before .args .at) (c .before .before .before .before .before .before .args .slots .now) (c .before .before .before .before .before .before .args .n) (c .before .before .before .before .before .before .args .w) (c .before .before .before .before .before .before .args .out .now) (c .before .before .loop .p) (c .before .before .loop .need) (c .before .before .loop .k) (c .before .before .loop .v) (c .before .before .loop .out) (c .before .before .loop .inv .2) (omega arith) (omega arith) (record { ok = false; nodes = 0; w = c .before .before .before .before .before .before .args .w; next = c .before .before .before .before .before .before .args .at }) (c .before .before .loop .out)))
 
 data-at-requires : tie.Need-data-at-requires Inv-loop μ-loop
 data-at-requires c κs = omega arith

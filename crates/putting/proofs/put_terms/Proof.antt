@@ -40,9 +40,6 @@ returns c =
       ),
     )
 
-skip-data-requires : tie.Need-skip-data-requires Inv-loop μ-loop
-skip-data-requires c κs = omega arith
-
 add-j : tie.Need-add-j Inv-loop μ-loop
 add-j c = omega arith
 
@@ -51,12 +48,12 @@ loop-less c = omega arith
 
 loop-again : tie.Need-loop-again Inv-loop μ-loop
 loop-again c =
-    let o = c .before .before .before .before .before .put-term .last .1 .1 .1 .1 .0 in
-    let i = c .before .before .before .before .before .before .before .before .loop .inv .0 in
-    let u = c .before .before .before .before .before .put-term .ensures .0 in (
-      (omega arith, omega arith, omega arith, c .before .before .before .before .before .put-term .kept .1 .1 .1 .1 .0 ∙ i .3),
-      kept-front (c .before .before .before .before .before .before .before .before .before .before .before .before .args .w) (c .before .before .before .before .before .before .before .before .loop .v) (c .before .before .before .before .before .before .before .before .loop .out) o (omega arith) (c .before .before .before .before .before .put-term .ensures .1 .0) ∙ c .before .before .before .before .before .before .before .before .loop .inv .1,
-      terms-on (c .before .before .before .before .before .before .before .before .before .before .before .before .args .cells .now) (c .before .before .before .before .before .before .before .before .before .before .before .before .args .at) (c .before .before .before .before .before .before .before .before .before .before .before .before .args .count) (c .before .before .before .before .before .before .before .before .before .before .before .before .args .slots .now) (c .before .before .before .before .before .before .before .before .before .before .before .before .args .n) (c .before .before .before .before .before .before .before .before .before .before .before .before .args .w) (c .before .before .before .before .before .before .before .before .before .before .before .before .args .out .now) (c .before .before .before .before .before .before .before .before .loop .p) (c .before .before .before .before .before .before .before .before .loop .j) (c .before .before .before .before .before .before .before .before .loop .v) (c .before .before .before .before .before .before .before .before .loop .out) (c .before .before .before .before .before .before .before .before .loop .inv .2) (omega arith) (c .before .before .before .before .before .put-term .result) o (c .before .before .before .before .before .put-term .ensures .1 .1) (not-false _ (c .before .if1 .left)) (c .skip-data .result) (c .skip-data .ensures .1),
+    let o = c .before .before .before .before .put-term .last .1 .1 .1 .1 .0 in
+    let i = c .before .before .before .before .before .before .before .loop .inv .0 in
+    let u = c .before .before .before .before .put-term .ensures .0 in (
+      (omega arith, omega arith, omega arith, c .before .before .before .before .put-term .kept .1 .1 .1 .1 .0 ∙ i .3),
+      kept-front (c .before .before .before .before .before .before .before .before .before .before .before .args .w) (c .before .before .before .before .before .before .before .loop .v) (c .before .before .before .before .before .before .before .loop .out) o (omega arith) (c .before .before .before .before .put-term .ensures .1 .0) ∙ c .before .before .before .before .before .before .before .loop .inv .1,
+      terms-on (c .before .before .before .before .before .before .before .before .before .before .before .args .cells .now) (c .before .before .before .before .before .before .before .before .before .before .before .args .at) (c .before .before .before .before .before .before .before .before .before .before .before .args .count) (c .before .before .before .before .before .before .before .before .before .before .before .args .slots .now) (c .before .before .before .before .before .before .before .before .before .before .before .args .n) (c .before .before .before .before .before .before .before .before .before .before .before .args .w) (c .before .before .before .before .before .before .before .before .before .before .before .args .out .now) (c .before .before .before .before .before .before .before .loop .p) (c .before .before .before .before .before .before .before .loop .j) (c .before .before .before .before .before .before .before .loop .v) (c .before .before .before .before .before .before .before .loop .out) (c .before .before .before .before .before .before .before .loop .inv .2) (omega arith) (c .before .before .before .before .put-term .result) o (c .before .before .before .before .put-term .ensures .1 .1) (not-false _ (c .if1 .left)),
     )
 
 same-length-2 : tie.Need-same-length-2 Inv-loop μ-loop
@@ -76,7 +73,6 @@ put-terms-spec =
     put-term-requires
     same-length
     returns
-    skip-data-requires
     add-j
     loop-less
     loop-again
