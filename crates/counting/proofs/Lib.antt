@@ -1,3 +1,4 @@
 pub mod AtHead
 pub mod Laws
+pub mod TwoParts
 pub mod Rows

@@ -13,6 +13,7 @@ pub mod alternatives; // the first alternatives that have no heads are passed
 pub mod numbering; // the numbers of the first new equations
 pub mod params; // the slots of an equation's parameters
 pub mod remembered; // what is found from a place on
+pub mod tally; // the count of a term and of the first parts of its first parts
 pub mod waiting; // what is walked later
 pub mod walk; // one walk over the term and the right sides that it calls at the head
 

@@ -13,6 +13,9 @@ use reader::limits::{FILE_BYTES, SHEET_BYTES};
 /// So many of the dearest are kept.
 const KEPT: usize = 12;
 
+/// After so many tries they are priced anew.
+const AGAIN: u32 = 20_000;
+
 /// A sheet and what its table costs.
 type Priced = (u128, Vec<u8>);
 
@@ -46,6 +49,15 @@ fn keep(kept: &mut Vec<Priced>, one: Priced) {
     kept.reverse();
     kept.dedup_by(|a, b| a.1 == b.1);
     kept.truncate(KEPT);
+}
+
+/// Of many prices some are too high by chance, and those would be kept: all are priced anew.
+fn again(kept: Vec<Priced>, price: Price, calls: u32) -> Vec<Priced> {
+    let mut anew = Vec::new();
+    for (_, sheet) in kept {
+        keep(&mut anew, (price(&sheet, calls), sheet));
+    }
+    anew
 }
 
 /// Places where a piece of a right side may begin or end.
@@ -121,19 +133,23 @@ fn main() {
         keep(&mut kept, (price(&sheet, 5), sheet));
     }
     println!("the dearest known: {} {unit}", kept[0].0);
-    let (end, mut tried) = (Instant::now() + Duration::from_secs(seconds), 0);
+    let (end, mut tried) = (Instant::now() + Duration::from_secs(seconds), 0u32);
     while Instant::now() < end {
+        if tried % AGAIN == 0 {
+            kept = again(kept, price, 20);
+        }
         let sheet = changed(&mut random, &kept);
         tried += 1;
         let fewest = kept[kept.len() - 1].0;
         if price(&sheet, 1) > fewest && price(&sheet, 5) > fewest {
-            let found = price(&sheet, 5);
+            let found = price(&sheet, 20);
             if found > kept[0].0 {
                 println!("{found} {unit}");
             }
             keep(&mut kept, (found, sheet));
         }
     }
+    kept = again(kept, price, 400);
     let (found, sheet) = &kept[0];
     let answer = match reader::make_table(sheet) {
         Ok(file) => format!("a file of {} bytes", file.len()),
