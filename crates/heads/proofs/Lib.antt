@@ -10,4 +10,5 @@ pub mod Standing
 pub mod Choosing
 pub mod Resuming
 pub mod Calling
+pub mod Bare
 pub mod Numbers

@@ -3,12 +3,15 @@
 ghost use mathlib.Core.Path.{_≡_};
 ghost use mathlib.Core.Bool.{true, false};
 ghost use mathlib.Core.Logic.{_⊎_};
-ghost use Prim.Native.Nat.{_*_, _≤_};
+ghost use mathlib.Core.List.{List};
+ghost use Prim.Native.Nat.{ℕ, _*_, _≤_};
 ghost use lib.ListN.{length, take};
-ghost use Rattle.contexts.specs.Spots.{arrays, Bound};
+ghost use Rattle.pcrl.specs.Limits.{max-variables};
+ghost use Rattle.following.specs.Follows.{calls-room};
+ghost use Rattle.contexts.specs.Spots.{arrays, Bound, Leads};
 ghost use Rattle.heads.specs.Stack.{later-cells, Steady};
 ghost use Rattle.heads.specs.Memory.{Remembers};
-ghost use Rattle.heads.specs.Progress.{Rooms, Looked, Leaf, Parting, Inner, Bounded, start, WrittenBy, aside-turn, Chosen, Resumed, Nearer, Turned};
+ghost use Rattle.heads.specs.Progress.{Rooms, Looked, Leaf, Parting, Bare, Onto, Inner, Lower, Bounded, start, WrittenBy, aside-turn, Chosen, Resumed, Nearer, Turned};
 use crate::alternatives::Ahead;
 use crate::alternatives::choice;
 use crate::alternatives::look;
@@ -34,20 +37,80 @@ struct Turn {
     done: Done,
 }
 
-// Neither a leaf (an action or a call) nor a choice: the walk goes one step down.
-fn inner(kind: usize) -> bool
-    ensures { λ r. ⌜ Inner kind r ⌝ }
+// A call without data, where no variable is in scope: the right side needs no slots of its own.
+fn bare(d: Node, s: Spot) -> bool
+    ensures { λ r. ⌜ (r ≡ true → Bare d s) ⌝ }
 {
-    if kind == nodes::ATOM {
+    if d.datas != 0 {
         return false;
     }
-    if kind == nodes::CALL {
+    if s.n != 0 {
         return false;
     }
-    if choice(kind) {
+    if s.fuel == 0 {
         return false;
     }
     true
+}
+
+// The walk goes one step down: at neither a leaf (an action or a call) nor a choice, and at a bare call.
+fn inner(d: Node, s: Spot) -> bool
+    ensures { λ r. ⌜ Inner d s r ⌝ }
+{
+    if d.kind == nodes::ATOM {
+        return false;
+    }
+    if d.kind == nodes::CALL {
+        return bare(d, s);
+    }
+    if choice(d.kind) {
+        return false;
+    }
+    true
+}
+
+// That step: into the right side of a bare call, or into a part of the term.
+fn down(
+    cells: &[u16],
+    starts: &[u16],
+    firsts: &[u8],
+    g: Ahead,
+    slots: &mut [u8],
+    vars: &mut [u8],
+    after: &mut [u8],
+    calls: &mut [u8],
+) -> Spot
+    requires { ⌜ ((counts : List ℕ) × Looked (now cells) counts g) × Onto (g .d) (g .s) × Bound (length (now calls)) (length (now slots)) (g .s) × (max-variables ≤ length (now vars)) × (calls-room ≤ length (now after)) ⌝ }
+    ensures { λ r. ⌜ Bound (length (now (calls .entry))) (length (now (slots .entry))) r × (r .ok ≡ true → Lower (g .s) r) ⌝ }
+    ensures { λ r. ⌜ ((counts conds : List ℕ) → Leads (now (cells .entry)) (now (starts .entry)) counts (now (firsts .entry)) (g .s) (arrays (now (slots .entry)) (now (vars .entry)) conds (now (calls .entry))) r (arrays (now (slots .exit)) (now (vars .exit)) conds (now (calls .exit)))) ⌝ }
+{
+    let d = g.d;
+    let s = g.s;
+    if d.kind == nodes::CALL {
+        return Spot {
+            ok: true,
+            at: elements::cell(starts, d.number),
+            fuel: s.fuel - 1,
+            n: 0,
+            m: s.m,
+            c: elements::byte(firsts, d.number),
+            nv: s.nv,
+            nc: s.nc,
+            lc: s.lc,
+            nk: s.nk,
+            top: s.top,
+        };
+    }
+    contexts::step(
+        cells,
+        d,
+        s,
+        second_side(g),
+        &mut *slots,
+        &mut *vars,
+        &mut *after,
+        &mut *calls,
+    )
 }
 
 // The walk is over; where it stood says nothing.
@@ -142,7 +205,7 @@ fn resumed(
     if heads == 0 {
         return over(g, false, x.w);
     }
-    let l = later_at(later, q - 1, g.s.fuel);
+    let l = later_at(later, q - 1);
     let t = l.s;
     if t.at >= cells.len() {
         return over(g, false, x.w);
@@ -246,10 +309,10 @@ fn next_turn(
     w: usize,
     remembered: &mut [u16],
 ) -> Turn
-    requires { ⌜ Steady (length (now calls)) (length (now slots)) (g .s .fuel) q0 (g .s) q (now later) × Rooms (length (now vars)) (length (now conds)) (length (now after)) (length (now calls)) × (w ≤ length (now out)) ⌝ }
+    requires { ⌜ ((fuel : ℕ) × Steady (length (now calls)) (length (now slots)) fuel q0 (g .s) q (now later)) × Rooms (length (now vars)) (length (now conds)) (length (now after)) (length (now calls)) × (w ≤ length (now out)) ⌝ }
     requires { ⌜ Looked (now cells) (now counts) g × (Leaf (g .d .kind) ⊎ Parting (g .d .kind)) × Remembers (now cells) (now counts) (now remembered) ⌝ }
     ensures { λ r. ⌜ (w ≤ r .done .w) × (r .done .w ≤ length (now (out .entry))) × (take (later-cells * q0) (now (later .exit)) ≡ take (later-cells * q0) (now (later .entry))) ⌝ }
-    ensures { λ r. ⌜ (r .over ≡ false → Steady (length (now (calls .entry))) (length (now (slots .entry))) (g .s .fuel) q0 (r .t) (r .q) (now (later .exit)) × Nearer (g .s) left r) ⌝ }
+    ensures { λ r. ⌜ (r .over ≡ false → ((fuel : ℕ) → Steady (length (now (calls .entry))) (length (now (slots .entry))) fuel q0 (g .s) q (now (later .entry)) → Steady (length (now (calls .entry))) (length (now (slots .entry))) fuel q0 (r .t) (r .q) (now (later .exit))) × Nearer (g .s) left r) ⌝ }
     ensures { λ r. ⌜ Turned (now (cells .entry)) (now (starts .entry)) (now (counts .entry)) (now (firsts .entry)) q0 (g .s) heads left q w (arrays (now (slots .entry)) (now (vars .entry)) (now (conds .entry)) (now (calls .entry))) (now (later .entry)) (now (out .entry)) r (arrays (now (slots .entry)) (now (vars .exit)) (now (conds .exit)) (now (calls .exit))) (now (later .exit)) (now (out .exit)) ⌝ }
     ensures { λ r. ⌜ Remembers (now (cells .entry)) (now (counts .entry)) (now (remembered .exit)) ⌝ }
 {
@@ -311,12 +374,12 @@ pub fn walk(
             return Done { ok: false, w: v };
         }
         let g = look(cells, counts, s, heads, &mut *remembered);
-        if inner(g.d.kind) {
-            s = contexts::step(
+        if inner(g.d, g.s) {
+            s = down(
                 cells,
-                g.d,
-                g.s,
-                second_side(g),
+                starts,
+                firsts,
+                g,
                 &mut *slots,
                 &mut *vars,
                 &mut *after,
