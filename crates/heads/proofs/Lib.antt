@@ -10,5 +10,4 @@ pub mod Standing
 pub mod Choosing
 pub mod Resuming
 pub mod Calling
-pub mod Bare
 pub mod Numbers

@@ -57,7 +57,7 @@ abbrev pub Bare : Node → Spot → Type 0
 Bare d s = (d .datas ≡ 0) × (s .n ≡ 0) × (0 < s .fuel)
 
 -- neither a leaf nor a choice, or a bare call
-pub record Onto (d : Node) (s : Spot) : Type 0 where
+pub record StepsDown (d : Node) (s : Spot) : Type 0 where
   pub no-atom : d .kind ≡ atom-kind → ⊥
   pub no-alt : d .kind ≡ alt-kind → ⊥
   pub no-cond : d .kind ≡ cond-kind → ⊥
@@ -65,7 +65,7 @@ pub record Onto (d : Node) (s : Spot) : Type 0 where
 
 -- is it so?
 abbrev pub Inner : Node → Spot → Bool → Type 0
-Inner d s r = (r ≡ true → Onto d s) × (r ≡ false → Leaf (d .kind) ⊎ Parting (d .kind))
+Inner d s r = (r ≡ true → StepsDown d s) × (r ≡ false → Leaf (d .kind) ⊎ Parting (d .kind))
 
 -- fewer calls may be followed, or the term stands further on
 abbrev pub Lower : Spot → Spot → Type 0

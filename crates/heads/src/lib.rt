@@ -10,6 +10,7 @@ ghost use Rattle.contexts.specs.Spots.{variable-limit};
 ghost use Rattle.heads.specs.Writing.{HeadsWritten, HeadsCounted, SummandsWritten};
 
 pub mod alternatives; // the first alternatives that have no heads are passed
+pub mod downward; // one step down in the walk's own loop
 pub mod numbering; // the numbers of the first new equations
 pub mod params; // the slots of an equation's parameters
 pub mod remembered; // what is found from a place on

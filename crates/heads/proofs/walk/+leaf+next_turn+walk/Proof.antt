@@ -36,8 +36,8 @@ use Rattle.contexts.proofs.emit.Reads as emit-reads
 use Rattle.heads.proofs.alternatives.choice.Reads as choice-reads
 use Rattle.heads.proofs.alternatives.look.Reads as look-reads
 use Rattle.heads.proofs.walk.chosen.Reads as chosen-reads
-use Rattle.heads.proofs.walk.down.Reads as down-reads
-use Rattle.heads.proofs.walk.inner.Reads as inner-reads
+use Rattle.heads.proofs.downward.down.Reads as down-reads
+use Rattle.heads.proofs.downward.inner.Reads as inner-reads
 use Rattle.heads.proofs.walk.resumed.Reads as resumed-reads
 use Rattle.heads.proofs.walk.+leaf+next_turn+walk.{statement}
 use Rattle.heads.proofs.walk.+leaf+next_turn+walk.Tie.{close}

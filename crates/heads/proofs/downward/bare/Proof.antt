@@ -1,8 +1,8 @@
--- `heads::walk::bare` meets its contract.
+-- `heads::downward::bare` meets its contract.
 use borrow.Author.Needs.{needs}
 use Rattle.putting.proofs.PutLaws.{never}
-use Rattle.heads.proofs.walk.bare.Statement.{statement}
-use Rattle.heads.proofs.walk.bare.Tie as tie
+use Rattle.heads.proofs.downward.bare.Statement.{statement}
+use Rattle.heads.proofs.downward.bare.Tie as tie
 
 returns : tie.Need-returns
 returns c = λ t. never t

@@ -1,11 +1,11 @@
--- `heads::walk::down` meets its contract.
+-- `heads::downward::down` meets its contract.
 use native.Mathlib.Omega.{arith}
 use mathlib.Core.Logic.{inl, inr}
 use lib.ListN.{length}
-use Rattle.heads.proofs.Bare.{bare-bound, bare-leads}
+use Rattle.heads.proofs.Calling.{bare-bound, bare-leads}
 use Rattle.heads.proofs.Remembering.{rest-at}
-use Rattle.heads.proofs.walk.down.Statement.{statement}
-use Rattle.heads.proofs.walk.down.Tie as tie
+use Rattle.heads.proofs.downward.down.Statement.{statement}
+use Rattle.heads.proofs.downward.down.Tie as tie
 
 cell-requires : tie.Need-cell-requires
 cell-requires c κs = tt

@@ -1,10 +1,10 @@
--- `heads::walk::inner` meets its contract.
+-- `heads::downward::inner` meets its contract.
 use native.Mathlib.Omega.{arith}
 use mathlib.Core.Path.{sym}
 use mathlib.Core.Logic.{inl, inr}
 use Rattle.putting.proofs.PutLaws.{never}
-use Rattle.heads.proofs.walk.inner.Statement.{statement}
-use Rattle.heads.proofs.walk.inner.Tie as tie
+use Rattle.heads.proofs.downward.inner.Statement.{statement}
+use Rattle.heads.proofs.downward.inner.Tie as tie
 
 returns : tie.Need-returns
 returns c = (λ t. never t, λ t. inl (inl (c .if1 .taken)))
