@@ -9,7 +9,7 @@ use Rattle.pcrl.specs.Sheet.{Proc, delta, atom, alt, cond, sum, seq, call}
 use Rattle.pcrl.specs.Parts.{new-count}
 use Rattle.nodes.specs.declared.Node.{Node}
 use Rattle.nodes.specs.declared.Skipped.{Skipped}
-use Rattle.nodes.specs.Layout.{Item, enc-datas, enc, encs, alt-kind, seq-kind, after-mark}
+use Rattle.nodes.specs.Layout.{Item, enc-datas, enc, encs, alt-kind, seq-kind, first-cell}
 use Rattle.nodes.specs.Nodes.{kind-of, node-own, node-number, node-datas, node-kids, open-node, node-arity, kind-small, own-small}
 use Rattle.nodes.specs.Views.{Views, Skips}
 use Rattle.nodes.proofs.Cells.{read-cell}
@@ -35,10 +35,10 @@ view-alt : (s : List ℕ) (at : ℕ) → getD s at 0 ≡ alt-kind → Views s at
 unfolding enc-datas
 view-alt s at two b p xs rest e =
     let tl = encs (node-kids b p ++ xs) in
-    let e₀ = read-cell s at (after-mark * node-own b p + kind-of p) (node-number p ∷ length (node-datas p) ∷ ((enc-datas (node-datas p) ++ tl) ++ rest)) (e ∙ ap (λ (l : List ℕ). l ++ rest) (open-node b p xs)) in
+    let e₀ = read-cell s at (first-cell (node-number p) (node-own b p) (kind-of p)) (length (enc-datas (node-datas p)) ∷ length (node-datas p) ∷ ((enc-datas (node-datas p) ++ tl) ++ rest)) (e ∙ ap (λ (l : List ℕ). l ++ rest) (open-node b p xs)) in
     let k : kind-of p ≡ alt-kind = omega (arith, e₀ .0, kind-small p) in
     let (number, datas) = alt-plain p k in
-    let e₁ = read-cell s (at + 1) (node-number p) (length (node-datas p) ∷ ((enc-datas (node-datas p) ++ tl) ++ rest)) (e₀ .1) in
+    let e₁ = read-cell s (at + 1) (length (enc-datas (node-datas p))) (length (node-datas p) ∷ ((enc-datas (node-datas p) ++ tl) ++ rest)) (e₀ .1) in
     let e₂ = read-cell s (at + 1 + 1) (length (node-datas p)) ((enc-datas (node-datas p) ++ tl) ++ rest) (e₁ .1) in
     let y : at + 1 + 1 + 1 ≡ at + 3 = omega arith in
     let e₃ : drop (at + 3) s ≡ tl ++ rest = rw (y, datas) at (e₂ .1) in

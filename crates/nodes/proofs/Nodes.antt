@@ -2,26 +2,33 @@
 use mathlib.Core.Path.{_≡_, refl, sym, ap, _∙_}
 use mathlib.Core.List.{List, [], _∷_, _++_, append-assoc}
 use mathlib.Core.Bool.{Bool}
-use Prim.Native.Nat.{ℕ, _+_, _-_, _*_, _/_, _%_, _<_, _≤_}
+use Prim.Native.Nat.{ℕ, zero, suc, _+_, _-_, _*_, _/_, _%_, _<_, _≤_}
 use native.Mathlib.Omega.{arith}
 use lib.ListN.{length, drop, getD, length-append}
-use Rattle.pcrl.specs.Sheet.{Proc}
+use lib.Seq.{drop-drop, drop-at}
+use Rattle.pcrl.specs.Sheet.{Data, Proc}
 use Rattle.pcrl.specs.Parts.{new-count}
 use Rattle.nodes.specs.declared.Node.{Node}
 use Rattle.nodes.specs.declared.Skipped.{Skipped}
-use Rattle.nodes.specs.Layout.{after-mark, enc-datas, Item, enc, encs}
+use Rattle.nodes.specs.Layout.{first-cell, enc-datas, Item, enc, encs}
 use Rattle.nodes.specs.Nodes.{kind-of, node-own, node-number, node-datas, node-kids, open-node, node-arity, kind-small, own-small}
-use Rattle.nodes.specs.Views.{SkipsData, Views, Skips}
+use Rattle.nodes.specs.Views.{Views, Skips}
 use Rattle.nodes.proofs.Cells.{cons-inside, read-cell}
 use Rattle.nodes.proofs.NewParts.{new-all, new-open}
 
+-- no data terms take no cells
+no-cells : (ds : List Data) → length ds ≡ 0 → length (enc-datas ds) ≡ 0
+unfolding enc-datas
+no-cells [] e = refl
+no-cells (d ∷ ds) e = absurd (omega arith)
+
 -- the node that is read
-pub opened : (s : List ℕ) (at next k number n : ℕ) → k ≡ getD s at 0 → number ≡ getD s (at + 1) 0 → n ≡ getD s (at + 2) 0 → SkipsData s (at + 3) n next
-    → Views s at (record { kind = k % 16; own = k / 16 % 2; number = number; terms = at + 3; datas = n; kids = k % 4; next = next })
-opened s at next k number n ek en ed sk b p xs rest e =
+pub opened : (s : List ℕ) (at k size n : ℕ) → k ≡ getD s at 0 → n ≡ getD s (at + 2) 0 → (n ≡ 0 → size ≡ 0) → (0 < n → size ≡ getD s (at + 1) 0)
+    → Views s at (record { kind = k % 16; own = k / 16 % 2; number = k / 32; terms = at + 3; datas = n; kids = k % 4; next = at + 3 + size })
+opened s at k size n ek ed none some b p xs rest e =
     let tl = enc-datas (node-datas p) ++ encs (node-kids b p ++ xs) in
-    let e₀ = read-cell s at (after-mark * node-own b p + kind-of p) (node-number p ∷ length (node-datas p) ∷ (tl ++ rest)) (e ∙ ap (λ (l : List ℕ). l ++ rest) (open-node b p xs)) in
-    let e₁ = read-cell s (at + 1) (node-number p) (length (node-datas p) ∷ (tl ++ rest)) (e₀ .1) in
+    let e₀ = read-cell s at (first-cell (node-number p) (node-own b p) (kind-of p)) (length (enc-datas (node-datas p)) ∷ length (node-datas p) ∷ (tl ++ rest)) (e ∙ ap (λ (l : List ℕ). l ++ rest) (open-node b p xs)) in
+    let e₁ = read-cell s (at + 1) (length (enc-datas (node-datas p))) (length (node-datas p) ∷ (tl ++ rest)) (e₀ .1) in
     let z : at + 1 + 1 ≡ at + 2 = omega arith in
     let e₂ = read-cell s (at + 2) (length (node-datas p)) (tl ++ rest) (ap (λ (k : ℕ). drop k s) (sym z) ∙ e₁ .1) in
     let y : at + 2 + 1 ≡ at + 3 = omega arith in
@@ -29,12 +36,16 @@ opened s at next k number n ek en ed sk b p xs rest e =
     record {
       kind-is = omega (arith, e₀ .0, kind-small p);
       own-is = omega (arith, e₀ .0, kind-small p, own-small b p);
-      number-is = en ∙ e₁ .0;
+      number-is = omega (arith, e₀ .0, kind-small p, own-small b p);
       datas-is = ed ∙ e₂ .0;
       terms-are = e₃;
       kids-is = omega (arith, e₀ .0, node-arity b p);
-      next-is = sk (node-datas p) (encs (node-kids b p ++ xs) ++ rest) (sym (ed ∙ e₂ .0)) e₃;
+      next-is = sym (drop-drop size (at + 3) s) ∙ ap (drop size) e₃ ∙ drop-at (enc-datas (node-datas p)) _ size (taken n refl (e₁ .0) (ed ∙ e₂ .0));
     }
+  where
+    taken : (m : ℕ) → n ≡ m → getD s (at + 1) 0 ≡ length (enc-datas (node-datas p)) → n ≡ length (node-datas p) → length (enc-datas (node-datas p)) ≡ size
+    taken zero z f g = no-cells (node-datas p) (sym g ∙ z) ∙ sym (none z)
+    taken (suc m) z f g = sym f ∙ sym (some (omega arith))
 
 -- one term is a list of terms
 pub one-item : (b : Bool) (p : Proc) (rest : List ℕ) → enc b p ++ rest ≡ encs ((b, p) ∷ []) ++ rest
@@ -45,7 +56,7 @@ one-item b p rest = rw append-assoc
 pub items-end : (s : List ℕ) (p : ℕ) → length s ≤ p → (xs : List Item) (rest : List ℕ) → 0 < length xs → drop p s ≡ encs xs ++ rest → ⊥
 items-end s p h [] rest l e = omega arith
 items-end s p h ((b, q) ∷ xs) rest l e =
-    omega (arith, cons-inside s p (after-mark * node-own b q + kind-of q) _ (e ∙ ap (λ (l : List ℕ). l ++ rest) (open-node b q xs)))
+    omega (arith, cons-inside s p (first-cell (node-number q) (node-own b q) (kind-of q)) _ (e ∙ ap (λ (l : List ℕ). l ++ rest) (open-node b q xs)))
 
 -- What is left of a term: terms that stand at p, as many as `need`; n is the count of new equations passed.
 abbrev pub SkipLeft : List ℕ → ℕ → ℕ → ℕ → ℕ → Type 0

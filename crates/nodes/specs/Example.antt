@@ -35,7 +35,7 @@ arrays = record {
   acts = 1 ∷ 1 ∷ 0 ∷ [];
   procs = 0 ∷ 0 ∷ 0 ∷ 0 ∷ 0 ∷ [];
   -- sum, its variable; conditional, its data; sequence; action, its data; call; delta; init's call
-  cells = 1 ∷ 1 ∷ 1 ∷ 1 ∷ 6 ∷ 0 ∷ 1 ∷ 2 ∷ 1 ∷ 1 ∷ 10 ∷ 0 ∷ 0 ∷ 4 ∷ 1 ∷ 1 ∷ 1 ∷ 8 ∷ 0 ∷ 0 ∷ 0 ∷ 0 ∷ 0 ∷ 8 ∷ 0 ∷ 0 ∷ [];
+  cells = 33 ∷ 1 ∷ 1 ∷ 1 ∷ 6 ∷ 3 ∷ 1 ∷ 2 ∷ 1 ∷ 1 ∷ 10 ∷ 0 ∷ 0 ∷ 36 ∷ 1 ∷ 1 ∷ 1 ∷ 8 ∷ 0 ∷ 0 ∷ 0 ∷ 0 ∷ 0 ∷ 8 ∷ 0 ∷ 0 ∷ [];
   starts = 0 ∷ [];
 }
 

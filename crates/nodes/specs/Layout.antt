@@ -1,5 +1,5 @@
 -- A resolved term in cells of 16 bits, in prefix order. Every node of a process term is:
--- a first cell, a number, how many data terms, the terms, the subterms.
+-- a first cell, how many cells its data terms take, how many they are, the terms, the subterms.
 use mathlib.Core.List.{List, [], _∷_, _++_}
 use mathlib.Core.Bool.{Bool, true, false}
 use Prim.Native.Nat.{ℕ, _+_, _*_}
@@ -39,7 +39,7 @@ unfoldable pub enc-datas : List Data → List ℕ
 enc-datas [] = []
 enc-datas (d ∷ ds) = enc-data d ++ enc-datas ds
 
--- The kinds of nodes: a first cell's rest by 16. The rest by 4 is the number of subterms.
+-- The kinds of nodes: a first cell's rest by 16. The rest by 4 is how many subterms there are.
 abbrev pub delta-kind : ℕ
 delta-kind = 0
 
@@ -65,6 +65,10 @@ seq-kind = 10
 abbrev pub after-mark : ℕ
 after-mark = 16
 
+-- a node's number stands in its first cell, so many times itself
+abbrev pub number-unit : ℕ
+number-unit = 32
+
 unfoldable pub one-if : Bool → ℕ
 one-if true = 1
 one-if false = 0
@@ -74,15 +78,23 @@ unfoldable pub act-number : Act → ℕ
 act-number tau = 0
 act-number (action a) = a + 1
 
+-- a node's number, whether it gets a new equation, and its kind
+abbrev pub first-cell : ℕ → ℕ → ℕ → ℕ
+first-cell number own kind = number-unit * number + (after-mark * own + kind)
+
+-- a node without its subterms
+abbrev pub enc-node : ℕ → List Data → List ℕ
+enc-node first ds = first ∷ length (enc-datas ds) ∷ length ds ∷ enc-datas ds
+
 -- r: the term stands after the first part of a sequence
 unfoldable pub enc : Bool → Proc → List ℕ
-enc r delta = (after-mark * one-if r + delta-kind) ∷ 0 ∷ 0 ∷ []
-enc r (atom a ds) = (after-mark * one-if r + atom-kind) ∷ act-number a ∷ length ds ∷ enc-datas ds
-enc r (alt p q) = (after-mark * one-if r + alt-kind) ∷ 0 ∷ 0 ∷ (enc false p ++ enc false q)
-enc r (cond c p q) = (after-mark * one-if r + cond-kind) ∷ 0 ∷ 1 ∷ (enc-data c ++ (enc false p ++ enc false q))
-enc r (sum x D p) = (after-mark * one-if r + sum-kind) ∷ D ∷ 1 ∷ (enc-data (var x) ++ enc false p)
-enc r (seq p q) = seq-kind ∷ 0 ∷ 0 ∷ (enc r p ++ enc true q)
-enc r (call k ds) = call-kind ∷ k ∷ length ds ∷ enc-datas ds
+enc r delta = enc-node (first-cell 0 (one-if r) delta-kind) []
+enc r (atom a ds) = enc-node (first-cell (act-number a) (one-if r) atom-kind) ds
+enc r (alt p q) = enc-node (first-cell 0 (one-if r) alt-kind) [] ++ (enc false p ++ enc false q)
+enc r (cond c p q) = enc-node (first-cell 0 (one-if r) cond-kind) (c ∷ []) ++ (enc false p ++ enc false q)
+enc r (sum x D p) = enc-node (first-cell D (one-if r) sum-kind) (var x ∷ []) ++ enc false p
+enc r (seq p q) = enc-node (first-cell 0 0 seq-kind) [] ++ (enc r p ++ enc true q)
+enc r (call k ds) = enc-node (first-cell k 0 call-kind) ds
 
 -- a term, and whether it stands after a first part
 abbrev pub Item : Type 0

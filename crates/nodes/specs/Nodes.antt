@@ -6,7 +6,7 @@ use Prim.Native.Nat.{ℕ, _+_, _*_, _%_, _<_}
 use native.Mathlib.Omega.{arith}
 use lib.ListN.{length}
 use Rattle.pcrl.specs.Sheet.{Data, val, var, app, Datas, nil, cons, list-of, Proc, delta, atom, alt, cond, sum, seq, call}
-use Rattle.nodes.specs.Layout.{value-tag, variable-tag, function-tag, enc-data, enc-arguments, enc-datas, delta-kind, sum-kind, alt-kind, atom-kind, cond-kind, call-kind, seq-kind, after-mark, one-if, act-number, Item, enc, encs}
+use Rattle.nodes.specs.Layout.{value-tag, variable-tag, function-tag, enc-data, enc-arguments, enc-datas, delta-kind, sum-kind, alt-kind, atom-kind, cond-kind, call-kind, seq-kind, first-cell, one-if, act-number, Item, enc, encs}
 
 unfoldable pub data-tag : Data → ℕ
 data-tag (val v) = value-tag
@@ -89,7 +89,7 @@ open-data (app f es) ds = ap (λ (l : List ℕ). (4 * f + function-tag) ∷ leng
 
 -- a process term opened: its cells, its data terms, then its subterms and what follows
 pub open-node : (r : Bool) (p : Proc) (xs : List Item)
-    → encs ((r, p) ∷ xs) ≡ (after-mark * node-own r p + kind-of p) ∷ node-number p ∷ length (node-datas p) ∷ (enc-datas (node-datas p) ++ encs (node-kids r p ++ xs))
+    → encs ((r, p) ∷ xs) ≡ first-cell (node-number p) (node-own r p) (kind-of p) ∷ length (enc-datas (node-datas p)) ∷ length (node-datas p) ∷ (enc-datas (node-datas p) ++ encs (node-kids r p ++ xs))
 unfolding encs enc kind-of node-own node-number node-datas node-kids enc-datas
 open-node r delta xs = refl
 open-node r (atom a ds) xs = refl

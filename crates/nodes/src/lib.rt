@@ -2,7 +2,7 @@
 ghost use mathlib.Core.Path.{_≡_};
 ghost use Prim.Native.Nat.{ℕ, _+_, _≤_, _<_};
 ghost use lib.Dec.{eqb};
-ghost use lib.ListN.{length};
+ghost use lib.ListN.{length, getD};
 ghost use Rattle.pcrl.specs.Tests.{or};
 ghost use Rattle.nodes.specs.Layout.{cell-limit};
 ghost use Rattle.nodes.specs.Bits.{bit, set-width};
@@ -43,6 +43,9 @@ pub const CALL: usize = 8;
 pub const SEQ: usize = 10;
 
 pub const AFTER: usize = 16;
+
+// A node's number stands in its first cell, so many times itself.
+pub const NUMBER: usize = 32;
 
 // The bytes of a row, as in Held.
 pub const FUNC_ROW: usize = 4;
@@ -138,23 +141,32 @@ pub fn skip_data(cells: &[u16], at: usize, n: usize) -> usize
     p
 }
 
+// How many cells the n data terms of the node at `at` take. Where there are none no cell is read: the processor need not wait for it.
+fn data_size(cells: &[u16], at: usize, n: usize) -> usize
+    requires { ⌜ at < length (now cells) ⌝ }
+    ensures { λ r. ⌜ (r < cell-limit) × (n ≡ 0 → r ≡ 0) × (0 < n → r ≡ getD (now (cells .entry)) (at + 1) 0) ⌝ }
+{
+    if n == 0 {
+        return 0;
+    }
+    cell(cells, at + 1)
+}
+
 pub fn node_at(cells: &[u16], at: usize) -> Node
     requires { ⌜ at < length (now cells) ⌝ }
     ensures { λ r. ⌜ On at r ⌝ }
     ensures { λ r. ⌜ Views (now (cells .entry)) at r ⌝ }
 {
     let k = cell(cells, at);
-    let number = cell(cells, at + 1);
     let n = cell(cells, at + 2);
-    let next = skip_data(cells, at + 3, n);
     Node {
-        kind: k % 16,
+        kind: k % AFTER,
         own: k / AFTER % 2,
-        number: number,
+        number: k / NUMBER,
         terms: at + 3,
         datas: n,
         kids: k % 4,
-        next: next,
+        next: at + 3 + data_size(cells, at, n),
     }
 }
 

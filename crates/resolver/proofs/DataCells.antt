@@ -11,10 +11,10 @@ use Rattle.pcrl.specs.Tree.{Name, RawData, Conjunction, Comparison, Negation, A
 use Rattle.pcrl.specs.Sheet.{Data, Datas, list-of, Sig, or-number, and-number}
 use Rattle.pcrl.specs.Names.{Names, number-of, resolve-data, resolve-ors, resolve-conjunction, resolve-ands, resolve-comparison, resolve-negation, resolve-atom, resolve-datas, resolve-given}
 use Rattle.parser.specs.Cells.{more-ors, more-ands}
-use Rattle.nodes.specs.Layout.{enc-data, enc-arguments, enc-datas}
+use Rattle.nodes.specs.Layout.{enc-data, enc-arguments, enc-datas, enc-node}
 use Rattle.resolver.specs.Raw.{disjuncts, conjuncts}
 use Rattle.resolver.specs.Room.{arguments-are}
-use Rattle.resolver.specs.Resolving.{data-cells, conjunction-cells, comparison-cells, negation-cells, atom-cells, datas-cells, given-cells, count-of, joins, _⊕_}
+use Rattle.resolver.specs.Resolving.{data-cells, conjunction-cells, comparison-cells, negation-cells, atom-cells, datas-cells, given-cells, condition-cells, count-of, joins, _⊕_}
 
 pub then-nothing : (o : Option (List ℕ)) → some [] ⊕ o ≡ o
 unfolding _⊕_
@@ -53,6 +53,20 @@ three-assoc none b c = refl
 three-assoc (some e) none c = refl
 three-assoc (some e) (some g) none = refl
 three-assoc (some e) (some g) (some h) = ap some (sym (append-assoc e g h))
+
+-- cells of so many data terms, and before them how many cells and terms they are
+unfoldable pub sized : ℕ → Option (List ℕ) → Option (List ℕ)
+sized count o = do
+  e ← o
+  some (length e ∷ count ∷ e)
+
+pub none-sized : (count : ℕ) → sized count none ≡ none
+unfolding sized
+none-sized count = refl
+
+pub some-sized : (count : ℕ) (e : List ℕ) → sized count (some e) ≡ some (length e ∷ count ∷ e)
+unfolding sized
+some-sized count e = refl
 
 -- one of each, one behind the other
 unfoldable pub each-cells : {A : Type 0} → (A → Option (List ℕ)) → List A → Option (List ℕ)
@@ -228,26 +242,34 @@ module _ (N : Names) (S : Sig) (scope : List Name) (Γ : List ℕ) where
       by (some x) = ors-grouped x d ∙ sym (then-assoc (joins or-cell (suc (more-ors d))) (enc-data x) (each-cells (conjunction-cells N S scope Γ) (disjuncts d)))
 
   -- ---- what is given to a name
-  pub given-some : (ds : RawDatas) → given-cells N S scope Γ (some ds) ≡ some (count-of ds ∷ []) ⊕ datas-cells N S scope Γ ds
-  unfolding given-cells datas-cells resolve-given _⊕_
+  pub given-some : (ds : RawDatas) → given-cells N S scope Γ (some ds) ≡ sized (count-of ds) (datas-cells N S scope Γ ds)
+  unfolding given-cells datas-cells resolve-given sized
   given-some ds = by (resolve-datas N S scope Γ ds) (resolved-count ds)
     where
       by : (o : Option Datas) → ((es : Datas) → o ≡ some es → length (list-of es) ≡ count-of ds)
-          → (_>>=_ (_>>=_ o (λ es. some (list-of es))) (λ es. some (length es ∷ enc-datas es)))
-          ≡ some (count-of ds ∷ []) ⊕ (_>>=_ o (λ es. some (enc-arguments es)))
+          → (_>>=_ (_>>=_ o (λ es. some (list-of es))) (λ es. some (length (enc-datas es) ∷ length es ∷ enc-datas es)))
+          ≡ sized (count-of ds) (_>>=_ o (λ es. some (enc-arguments es)))
       by none h = refl
-      by (some es) h = ap (λ k. some (k ∷ enc-datas (list-of es))) (h es refl) ∙ ap (λ l. some (count-of ds ∷ l)) (arguments-are es)
+      by (some es) h = ap (λ k. some (length (enc-datas (list-of es)) ∷ k ∷ enc-datas (list-of es))) (h es refl) ∙ ap (λ l. some (length l ∷ count-of ds ∷ l)) (arguments-are es)
 
-  -- a node for a name: its first cell and number, and what is given to it
-  unfoldable pub node-cells : ℕ → ℕ → Option RawDatas → Option (List ℕ)
-  node-cells first number ds = do
-    es ← resolve-given N S scope Γ ds
-    some (first ∷ number ∷ length es ∷ enc-datas es)
-
-  pub node-given : (first number : ℕ) (ds : Option RawDatas) → node-cells first number ds ≡ some (first ∷ number ∷ []) ⊕ given-cells N S scope Γ ds
-  unfolding node-cells given-cells _⊕_
-  node-given first number ds = by (resolve-given N S scope Γ ds)
+  pub condition-one : (d : RawData) → condition-cells N S scope Γ d ≡ sized 1 (data-cells N S scope Γ d)
+  unfolding condition-cells data-cells sized
+  condition-one d = by (resolve-data N S scope Γ d)
     where
-      by : (o : Option (List Data)) → (_>>=_ o (λ es. some (first ∷ number ∷ length es ∷ enc-datas es))) ≡ some (first ∷ number ∷ []) ⊕ (_>>=_ o (λ es. some (length es ∷ enc-datas es)))
+      by : (o : Option Data) → (_>>=_ o (λ e. some (length (enc-data e) ∷ 1 ∷ enc-data e))) ≡ sized 1 (_>>=_ o (λ e. some (enc-data e)))
+      by none = refl
+      by (some e) = refl
+
+  -- a node for a name: its first cell, and what is given to it
+  unfoldable pub node-cells : ℕ → Option RawDatas → Option (List ℕ)
+  node-cells first ds = do
+    es ← resolve-given N S scope Γ ds
+    some (enc-node first es)
+
+  pub node-given : (first : ℕ) (ds : Option RawDatas) → node-cells first ds ≡ some (first ∷ []) ⊕ given-cells N S scope Γ ds
+  unfolding node-cells given-cells _⊕_
+  node-given first ds = by (resolve-given N S scope Γ ds)
+    where
+      by : (o : Option (List Data)) → (_>>=_ o (λ es. some (enc-node first es))) ≡ some (first ∷ []) ⊕ (_>>=_ o (λ es. some (length (enc-datas es) ∷ length es ∷ enc-datas es)))
       by none = refl
       by (some es) = refl

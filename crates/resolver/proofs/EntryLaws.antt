@@ -15,7 +15,7 @@ use Rattle.pcrl.specs.Tree.{Name, RawDatas, InitLine}
 use Rattle.pcrl.specs.Sheet.{Data, Proc, Sig}
 use Rattle.pcrl.specs.Names.{Names, number-of, resolve-given, resolve-init}
 use Rattle.parser.specs.Cells.{Symbol, tag, init-tag, enc-call, enc-init}
-use Rattle.nodes.specs.Layout.{enc-datas, enc}
+use Rattle.nodes.specs.Layout.{enc-node, first-cell, one-if, call-kind, enc}
 use Rattle.names.specs.NameCells.{or-count, name-at, scope-at}
 use Rattle.names.specs.NameKinds.{procs-in}
 use Rattle.names.specs.declared.Kinds.{Kinds}
@@ -81,19 +81,19 @@ module _ (s raw names : List ℕ) (kinds : Kinds) (scope : List ℕ) (at w : ℕ
       let v : number-of (l .name) (N .procs) ≡ none = ap (number-of (l .name)) p ∙ ap (λ (x : Name). number-of x (procs-in s names kinds)) (sym y) ∙ u in
       rw v z
 
-  pub init-answered : k < kinds .procs → (number : ℕ) → number ≡ k → (a : Step) (o′ : List ℕ) → ResolvesNode s raw names kinds scope 0 (at + 1) 8 number w o a o′
+  pub init-answered : k < kinds .procs → (first : ℕ) → first ≡ first-cell k (one-if false) call-kind → (a : Step) (o′ : List ℕ) → ResolvesNode s raw names kinds scope 0 (at + 1) first w o a o′
       → ResolvesInit s raw names kinds scope at w o (record { ok = leb (a .at) (length raw); next = a .at; w = a .w }) o′
-  unfolding resolve-init enc-init node-cells scope-at scope-sorts enc
-  init-answered h number en a o′ g N S l rest gi f p e =
+  unfolding resolve-init enc-init node-cells scope-at scope-sorts enc one-if
+  init-answered h first ef a o′ g N S l rest gi f p e =
       let u = known (name-at s c) (procs-in s names kinds) k (kinds .procs) (procs-most s names kinds) found h in
       let y = init-name N l rest e in
       let v : number-of (l .name) (N .procs) ≡ some k = ap (number-of (l .name)) p ∙ ap (λ (x : Name). number-of x (procs-in s names kinds)) (sym y) ∙ u in
       rw v (by (resolve-given N S [] [] (l .data-given)) (g N S (l .name) (l .data-given) rest f (none-sorted kinds scope S gi) (next s raw at (tag init-tag) (enc-call (l .name) (l .data-given) ++ rest) e .behind)))
     where
-      same : (q : Option (List Data)) → (_>>=_ q (λ es. some (8 ∷ number ∷ length es ∷ enc-datas es))) ≡ (_>>=_ (called (_>>=_ q (λ ds. some (k, ds)))) (λ t. some (enc false t)))
+      same : (q : Option (List Data)) → (_>>=_ q (λ es. some (enc-node first es))) ≡ (_>>=_ (called (_>>=_ q (λ ds. some (k, ds)))) (λ t. some (enc false t)))
       same none = refl
-      same (some es) = ap (λ (i : ℕ). some (8 ∷ i ∷ length es ∷ enc-datas es)) en
+      same (some es) = ap (λ (i : ℕ). some (enc-node i es)) ef
 
-      by : (q : Option (List Data)) → Outcome raw (symbols s raw) rest w o (a .at) (a .w) o′ (_>>=_ q (λ es. some (8 ∷ number ∷ length es ∷ enc-datas es)))
+      by : (q : Option (List Data)) → Outcome raw (symbols s raw) rest w o (a .at) (a .w) o′ (_>>=_ q (λ es. some (enc-node first es)))
           → Answers (symbols s raw) rest w o (called (_>>=_ q (λ ds. some (k, ds)))) (record { ok = leb (a .at) (length raw); next = a .at; w = a .w }) o′
       by q h = answered raw (symbols s raw) rest w o a o′ (called (_>>=_ q (λ ds. some (k, ds)))) (subst (λ (x : Option (List ℕ)). Outcome raw (symbols s raw) rest w o (a .at) (a .w) o′ x) (same q) h)

@@ -12,7 +12,8 @@ use Rattle.pcrl.specs.Sheet.{Sig}
 use Rattle.pcrl.specs.Names.{Names, resolve-choice}
 use Rattle.parser.specs.Cells.{Symbol, tag, symbol-of, plus-tag, cond-tag, then-tag, enc-choice}
 use Rattle.parser.specs.Cells.{enc-data as raw-data}
-use Rattle.nodes.specs.Layout.{enc-datas, after-mark, one-if, delta-kind, atom-kind, alt-kind, cond-kind, seq-kind, act-number, enc}
+use Rattle.parser.specs.Reading.{Put}
+use Rattle.nodes.specs.Layout.{enc-datas, first-cell, one-if, delta-kind, atom-kind, alt-kind, cond-kind, seq-kind, act-number, enc}
 use Rattle.names.specs.NameCells.{scope-at}
 use Rattle.names.specs.declared.Kinds.{Kinds}
 use Rattle.names.specs.Standing.{symbols}
@@ -20,8 +21,8 @@ use Rattle.parser.specs.declared.Step.{Step}
 use Rattle.resolver.specs.Raw.{Term, choice, conditional, sequence, part, enc-term, resolve-term, sum-depth, term-depth, tokens-of, kids-of, Skips}
 use Rattle.resolver.specs.Sorting.{scope-sorts}
 use Rattle.resolver.specs.Writing.{Writes}
-use Rattle.resolver.specs.Resolving.{Outcome, lost, took, data-cells, term-cells, _⊕_, ResolvesData, ResolvesConstant, Forked, Forks}
-use Rattle.resolver.proofs.Writing.{writes-then}
+use Rattle.resolver.specs.Resolving.{Outcome, lost, took, condition-cells, term-cells, _⊕_, ResolvesCondition, ResolvesConstant, Forked, Forks}
+use Rattle.resolver.proofs.Writing.{writes-then, writes-cell}
 use Rattle.resolver.proofs.Symbols.{next}
 use Rattle.resolver.proofs.DataCells.{then-last, none-last}
 use Rattle.resolver.proofs.DataLaws.{became}
@@ -45,9 +46,9 @@ single-tokens group-tag = refl
 -- ---- delta and tau
 module _ (raw : List ℕ) (at : ℕ) (after : Bool) (w : ℕ) (o : List ℕ) where
   module _ (k : ℕ) (here : getD raw at 0 ≡ k) where
-    pub delta-took : k ≡ 12 → (first w′ : ℕ) (o′ : List ℕ) → first ≡ after-mark * one-if after + delta-kind → Writes (first ∷ 0 ∷ 0 ∷ []) w o w′ o′
+    pub delta-took : k ≡ 12 → (first w′ : ℕ) (o′ : List ℕ) → first ≡ first-cell 0 (one-if after) delta-kind → Writes (first ∷ 0 ∷ 0 ∷ []) w o w′ o′
         → ResolvesConstant raw at after w o (record { at = at + 1; w = w′ }) o′
-    unfolding kids-of tokens-of enc-term enc-choice term-cells resolve-term resolve-choice enc
+    unfolding kids-of tokens-of enc-term enc-choice term-cells resolve-term resolve-choice enc enc-datas
     delta-took ek first w′ o′ ef ws s N S scope Γ t rest e ht hk = let v = seen s raw at t rest e in by t (v .tag-of) (v .view) (v .cell) e
       where
         by : (t : Term) (m : ℕ) → View t m → getD raw at 0 ≡ m → drop at (symbols s raw) ≡ enc-term t ++ rest → Outcome raw (symbols s raw) rest w o (at + 1) w′ o′ (term-cells N S scope Γ after t)
@@ -61,7 +62,7 @@ module _ (raw : List ℕ) (at : ℕ) (after : Bool) (w : ℕ) (o : List ℕ) whe
         by t m (given x ds) q e = absurd (omega arith)
         by t m (sum v D p) q e = absurd (omega arith)
 
-    pub tau-took : k ≡ 13 → (first w′ : ℕ) (o′ : List ℕ) → first ≡ after-mark * one-if after + atom-kind → Writes (first ∷ 0 ∷ 0 ∷ []) w o w′ o′
+    pub tau-took : k ≡ 13 → (first w′ : ℕ) (o′ : List ℕ) → first ≡ first-cell 0 (one-if after) atom-kind → Writes (first ∷ 0 ∷ 0 ∷ []) w o w′ o′
         → ResolvesConstant raw at after w o (record { at = at + 1; w = w′ }) o′
     unfolding kids-of tokens-of enc-term enc-choice term-cells resolve-term resolve-choice enc act-number enc-datas
     tau-took ek first w′ o′ ef ws s N S scope Γ t rest e ht hk = let v = seen s raw at t rest e in by t (v .tag-of) (v .view) (v .cell) e
@@ -136,17 +137,19 @@ module _ (s raw names : List ℕ) (kinds : Kinds) (scope : List ℕ) (n at : ℕ
       }
 
   module _ (w′ : ℕ) (o′ : List ℕ) where
-    pub fork-then : getD raw at 0 ≡ then-tag → Writes (seq-kind ∷ 0 ∷ 0 ∷ []) w o w′ o′ → Forks s raw names kinds scope n at after w o (record { at = at; w = w′; left = after }) o′
-    unfolding enc-term enc-choice term-depth sum-depth
-    fork-then k ws N S t rest f so e hk = let v = seen s raw at t rest e in by t (v .tag-of) (two-parts raw at hk t (v .tag-of) (v .view) (v .cell)) (v .cell) e
+    pub fork-then : getD raw at 0 ≡ then-tag → (first : ℕ) → first ≡ first-cell 0 (one-if false) seq-kind → Writes (first ∷ 0 ∷ 0 ∷ []) w o w′ o′ → Forks s raw names kinds scope n at after w o (record { at = at; w = w′; left = after }) o′
+    unfolding enc-term enc-choice term-depth sum-depth one-if
+    fork-then k first ef ws N S t rest f so e hk = let v = seen s raw at t rest e in by t (v .tag-of) (two-parts raw at hk t (v .tag-of) (v .view) (v .cell)) (v .cell) e
       where
         by : (t : Term) (m : ℕ) → TwoParts t m → getD raw at 0 ≡ m → drop at (symbols s raw) ≡ enc-term t ++ rest → Forked s raw N S (scope-at s scope n) (scope-sorts scope n) at after t rest w o (record { at = at; w = w′; left = after }) o′
         by t m (by-then a b) q e =
-            together N S t (part a) (sequence b) rest then-tag (seq-kind ∷ 0 ∷ 0 ∷ []) w′ o′ after true e (omega arith) (omega arith) (ap (λ (i : ℕ). eqb i then-tag) k) (then-cells N S (scope-at s scope n) (scope-sorts scope n) after a b) ws
+            together N S t (part a) (sequence b) rest then-tag (first ∷ 0 ∷ 0 ∷ []) w′ o′ after true e (omega arith) (omega arith) (ap (λ (i : ℕ). eqb i then-tag) k)
+            (then-cells N S (scope-at s scope n) (scope-sorts scope n) after a b
+            ∙ ap (λ (y : ℕ). some (y ∷ 0 ∷ 0 ∷ []) ⊕ (term-cells N S (scope-at s scope n) (scope-sorts scope n) after (part a) ⊕ term-cells N S (scope-at s scope n) (scope-sorts scope n) true (sequence b))) (sym ef)) ws
         by t m (by-plus a b) q e = absurd (omega arith)
         by t m (by-cond a c b) q e = absurd (omega arith)
 
-    pub fork-plus : getD raw at 0 ≡ plus-tag → (first : ℕ) → first ≡ after-mark * one-if after + alt-kind → Writes (first ∷ 0 ∷ 0 ∷ []) w o w′ o′
+    pub fork-plus : getD raw at 0 ≡ plus-tag → (first : ℕ) → first ≡ first-cell 0 (one-if after) alt-kind → Writes (first ∷ 0 ∷ 0 ∷ []) w o w′ o′
         → Forks s raw names kinds scope n at after w o (record { at = at; w = w′; left = false }) o′
     unfolding enc-term enc-choice term-depth sum-depth
     fork-plus k first ef ws N S t rest f so e hk = let v = seen s raw at t rest e in by t (v .tag-of) (two-parts raw at hk t (v .tag-of) (v .view) (v .cell)) (v .cell) e
@@ -160,10 +163,10 @@ module _ (s raw names : List ℕ) (kinds : Kinds) (scope : List ℕ) (n at : ℕ
         by t m (by-cond a c b) q e = absurd (omega arith)
 
   pub fork-cond : (getD raw at 0 ≡ then-tag → ⊥) → (getD raw at 0 ≡ plus-tag → ⊥) → (p : ℕ) → Skips raw (at + 1) p
-      → (first w₁ : ℕ) (o₁ : List ℕ) → first ≡ after-mark * one-if after + cond-kind → Writes (first ∷ 0 ∷ 1 ∷ []) w o w₁ o₁
-      → (r : Step) (o′ : List ℕ) → ResolvesData s raw names kinds scope n p w₁ o₁ r o′ → Forks s raw names kinds scope n at after w o (record { at = r .at; w = r .w; left = false }) o′
+      → (first w₁ : ℕ) (o₁ : List ℕ) → first ≡ first-cell 0 (one-if after) cond-kind → Put o w first w₁ o₁
+      → (r : Step) (o′ : List ℕ) → ResolvesCondition s raw names kinds scope n p w₁ o₁ r o′ → Forks s raw names kinds scope n at after w o (record { at = r .at; w = r .w; left = false }) o′
   unfolding enc-term enc-choice term-depth sum-depth
-  fork-cond n₁ n₂ p skips first w₁ o₁ ef ws r o′ condition N S t rest f so e hk = let v = seen s raw at t rest e in by t (v .tag-of) (two-parts raw at hk t (v .tag-of) (v .view) (v .cell)) (v .cell) e
+  fork-cond n₁ n₂ p skips first w₁ o₁ ef put r o′ condition N S t rest f so e hk = let v = seen s raw at t rest e in by t (v .tag-of) (two-parts raw at hk t (v .tag-of) (v .view) (v .cell)) (v .cell) e
     where
       σ : List Name
       σ = scope-at s scope n
@@ -173,12 +176,12 @@ module _ (s raw names : List ℕ) (kinds : Kinds) (scope : List ℕ) (n at : ℕ
 
       -- the second part stands behind the condition, and that behind the first
       behind : (c l : List Symbol) (X : Option (List ℕ)) → Outcome raw (symbols s raw) l w₁ o₁ (r .at) (r .w) o′ X → (p₁ p₂ : ℕ) → p₁ ≤ length raw → drop p₁ (symbols s raw) ≡ c ++ l → p₂ ≡ max p₁ (r .at)
-          → Outcome raw (symbols s raw) l w o p₂ (r .w) o′ (some (first ∷ 0 ∷ 1 ∷ []) ⊕ X)
-      behind c l X (lost z) p₁ p₂ h x y = became (sym (none-last (first ∷ 0 ∷ 1 ∷ []))) (lost (omega arith))
+          → Outcome raw (symbols s raw) l w o p₂ (r .w) o′ (some (first ∷ []) ⊕ X)
+      behind c l X (lost z) p₁ p₂ h x y = became (sym (none-last (first ∷ []))) (lost (omega arith))
       behind c l X (took {e = g} z d ws₁) p₁ p₂ h x y =
           let f = further s raw p₁ (r .at) c l h z x d in
           let i : p₂ ≡ r .at = omega arith in
-          became (sym (then-last (first ∷ 0 ∷ 1 ∷ []) g)) (took (omega arith) (ap (λ (u : ℕ). drop u (symbols s raw)) i ∙ d) (writes-then ws ws₁))
+          became (sym (then-last (first ∷ []) g)) (took (omega arith) (ap (λ (u : ℕ). drop u (symbols s raw)) i ∙ d) (writes-then (writes-cell put) ws₁))
 
       by : (t : Term) (m : ℕ) → TwoParts t m → getD raw at 0 ≡ m → drop at (symbols s raw) ≡ enc-term t ++ rest → Forked s raw N S σ Γ at after t rest w o (record { at = r .at; w = r .w; left = false }) o′
       by t m (by-plus a b) q e = absurd (n₂ q)
@@ -190,12 +193,12 @@ module _ (s raw names : List ℕ) (kinds : Kinds) (scope : List ℕ) (n at : ℕ
             first = sequence a;
             second = sequence b;
             between = raw-data c ++ (enc-term (sequence b) ++ rest);
-            head = some (first ∷ 0 ∷ 1 ∷ []) ⊕ data-cells N S σ Γ c;
+            head = some (first ∷ []) ⊕ condition-cells N S σ Γ c;
             first-at = d;
             first-depth = omega arith;
             second-depth = omega arith;
             cells = cond-cells N S σ Γ after a c b
-                ∙ ap (λ (y : ℕ). (some (y ∷ 0 ∷ 1 ∷ []) ⊕ data-cells N S σ Γ c) ⊕ (term-cells N S σ Γ false (sequence a) ⊕ term-cells N S σ Γ false (sequence b))) (sym ef)
-                ∙ ap (λ (y : ℕ). (some (first ∷ 0 ∷ 1 ∷ []) ⊕ data-cells N S σ Γ c) ⊕ (term-cells N S σ Γ false (sequence a) ⊕ term-cells N S σ Γ (eqb y then-tag) (sequence b))) (sym q);
-            outcome = λ p₁ p₂ z h x y. behind (raw-data c) (enc-term (sequence b) ++ rest) (data-cells N S σ Γ c) g p₁ p₂ h x y;
+                ∙ ap (λ (y : ℕ). (some (y ∷ []) ⊕ condition-cells N S σ Γ c) ⊕ (term-cells N S σ Γ false (sequence a) ⊕ term-cells N S σ Γ false (sequence b))) (sym ef)
+                ∙ ap (λ (y : ℕ). (some (first ∷ []) ⊕ condition-cells N S σ Γ c) ⊕ (term-cells N S σ Γ false (sequence a) ⊕ term-cells N S σ Γ (eqb y then-tag) (sequence b))) (sym q);
+            outcome = λ p₁ p₂ z h x y. behind (raw-data c) (enc-term (sequence b) ++ rest) (condition-cells N S σ Γ c) g p₁ p₂ h x y;
           }

@@ -10,7 +10,7 @@ use Rattle.pcrl.specs.Tokens.{name}
 use Rattle.pcrl.specs.Tree.{Name, RawDatas, Part}
 use Rattle.pcrl.specs.Names.{number-of}
 use Rattle.parser.specs.Cells.{Symbol, enc-call, enc-choice}
-use Rattle.nodes.specs.Layout.{after-mark, one-if, atom-kind, call-kind}
+use Rattle.nodes.specs.Layout.{first-cell, one-if, atom-kind, call-kind}
 use Rattle.names.specs.NameCells.{name-at, scope-at}
 use Rattle.names.specs.NameKinds.{acts-in, procs-in}
 use Rattle.names.specs.declared.Kinds.{Kinds}
@@ -29,13 +29,13 @@ use Rattle.resolver.proofs.ProcessCells.{action-cells, process-cells, u
 use Rattle.resolver.proofs.Terms.{SingleTag, only-tag, plain-tag, last-tag, group-tag, View, single, plus, cond, then, delta, tau, bare, given, sum, seen}
 
 module _ (after : Bool) (o k : Option ℕ) (r : Known) where
-  pub naming-action : (i : ℕ) → o ≡ some i → r .known ≡ true → r .first ≡ after-mark * one-if after + atom-kind → r .number ≡ i + 1 → Naming after o k r
+  pub naming-action : (i : ℕ) → o ≡ some i → r .known ≡ true → r .first ≡ first-cell (i + 1) (one-if after) atom-kind → Naming after o k r
   unfolding Naming
-  naming-action i e a b c = subst (λ (x : Option ℕ). Naming after x k r) (sym e) (a, b, c)
+  naming-action i e a b = subst (λ (x : Option ℕ). Naming after x k r) (sym e) (a, b)
 
-  pub naming-process : (i : ℕ) → o ≡ none → k ≡ some i → r .known ≡ true → r .first ≡ call-kind → r .number ≡ i → Naming after o k r
-  unfolding Naming
-  naming-process i e f a b c = subst (λ (x : Option ℕ). Naming after x k r) (sym e) (subst (λ (x : Option ℕ). Naming after none x r) (sym f) (a, b, c))
+  pub naming-process : (i : ℕ) → o ≡ none → k ≡ some i → r .known ≡ true → r .first ≡ first-cell i (one-if false) call-kind → Naming after o k r
+  unfolding Naming one-if
+  naming-process i e f a b = subst (λ (x : Option ℕ). Naming after x k r) (sym e) (subst (λ (x : Option ℕ). Naming after none x r) (sym f) (a, b))
 
   pub naming-none : o ≡ none → k ≡ none → r .known ≡ false → Naming after o k r
   unfolding Naming
@@ -78,7 +78,7 @@ module _ (s raw names : List ℕ) (kinds : Kinds) (scope : List ℕ) (n at : ℕ
         go none (some k) p q m x ds y = let b : true ≡ false = sym (m .0) ∙ unknown in let l : _≡_ {A = ℕ} 0 1 = cc in absurd (omega arith)
         go none none p q m x ds y = became (sym (unnamed-cells N S (scope-at s scope n) (scope-sorts scope n) after x ds (cc) (cc))) (lost z)
 
-    pub part-took : f .known ≡ true → (r : Step) (o′ : List ℕ) → ResolvesNode s raw names kinds scope n at (f .first) (f .number) w o r o′ → ResolvesNamed s raw names kinds scope n at after w o r o′
+    pub part-took : f .known ≡ true → (r : Step) (o′ : List ℕ) → ResolvesNode s raw names kinds scope n at (f .first) w o r o′ → ResolvesNamed s raw names kinds scope n at after w o r o′
     unfolding Naming
     part-took is-known r o′ resolves N S t rest so fs as′ ps e h h′ =
         let v = seen s raw at t rest e in
@@ -87,12 +87,12 @@ module _ (s raw names : List ℕ) (kinds : Kinds) (scope : List ℕ) (n at : ℕ
       where
         go : (i k : Option ℕ) → number-of (name-at s c) (acts-in s names kinds) ≡ i → number-of (name-at s c) (procs-in s names kinds) ≡ k → Naming after i k f
             → (x : Name) (ds : Option RawDatas) → name-at s c ≡ x
-            → Outcome raw (symbols s raw) rest w o (r .at) (r .w) o′ (node-cells N S (scope-at s scope n) (scope-sorts scope n) (f .first) (f .number) ds)
+            → Outcome raw (symbols s raw) rest w o (r .at) (r .w) o′ (node-cells N S (scope-at s scope n) (scope-sorts scope n) (f .first) ds)
             → Outcome raw (symbols s raw) rest w o (r .at) (r .w) o′ (term-cells N S (scope-at s scope n) (scope-sorts scope n) after (part (Part.named x ds)))
         go (some i) k p q m x ds y u =
-            became (ap (λ (j : ℕ). node-cells N S (scope-at s scope n) (scope-sorts scope n) j (f .number) ds) (m .1) ∙ ap (λ (j : ℕ). node-cells N S (scope-at s scope n) (scope-sorts scope n) (after-mark * one-if after + atom-kind) j ds) (m .2)
+            became (ap (λ (j : ℕ). node-cells N S (scope-at s scope n) (scope-sorts scope n) j ds) (m .1)
             ∙ sym (action-cells N S (scope-at s scope n) (scope-sorts scope n) after x ds i (cc))) u
         go none (some k) p q m x ds y u =
-            became (ap (λ (j : ℕ). node-cells N S (scope-at s scope n) (scope-sorts scope n) j (f .number) ds) (m .1) ∙ ap (λ (j : ℕ). node-cells N S (scope-at s scope n) (scope-sorts scope n) call-kind j ds) (m .2)
+            became (ap (λ (j : ℕ). node-cells N S (scope-at s scope n) (scope-sorts scope n) j ds) (m .1)
             ∙ sym (process-cells N S (scope-at s scope n) (scope-sorts scope n) after x ds k (cc) (cc))) u
         go none none p q m x ds y u = let b : true ≡ false = sym is-known ∙ m in let l : _≡_ {A = ℕ} 0 1 = cc in absurd (omega arith)

@@ -16,7 +16,7 @@ use Rattle.pcrl.specs.Names.{Names, number-of, declared, new-variable}
 use Rattle.parser.specs.Cells.{Symbol, tag, token, sum-tag}
 use Rattle.parser.specs.Reading.{Put}
 use Rattle.nodes.specs.Scoped.{max-scope}
-use Rattle.nodes.specs.Layout.{after-mark, one-if, sum-kind, variable-tag}
+use Rattle.nodes.specs.Layout.{first-cell, one-if, sum-kind, variable-tag}
 use Rattle.names.specs.NameCells.{or-count, name-at, scope-at}
 use Rattle.names.specs.NameKinds.{total-of, sorts-in}
 use Rattle.names.specs.declared.Kinds.{Kinds}
@@ -121,15 +121,14 @@ module _ (s raw names : List ℕ) (kinds : Kinds) (scope : List ℕ) (n at : ℕ
           let f : number-of D (N .sorts) ≡ none = ap (number-of D) (dec .sorts-are) ∙ ap (λ (y : Name). number-of y (sorts-in s names kinds)) (sym (ap (name-at s) ec₂ ∙ t .sort)) ∙ u in
           became (sym (rw (q, f) refl)) (lost z)
 
-      pub binder-took : i ≤ kinds .sorts → (first d v v₁ w′ : ℕ) (o₁ o′ : List ℕ) → first ≡ after-mark * one-if after + sum-kind → d ≡ i → v ≡ 4 * n + 1 → Writes (first ∷ d ∷ 1 ∷ []) w o v₁ o₁ → Put o₁ v₁ v w′ o′
+      pub binder-took : i ≤ kinds .sorts → (first v v₁ w′ : ℕ) (o₁ o′ : List ℕ) → first ≡ first-cell i (one-if after) sum-kind → v ≡ 4 * n + 1 → Writes (first ∷ 1 ∷ 1 ∷ []) w o v₁ o₁ → Put o₁ v₁ v w′ o′
           → Binds s raw names kinds scope n at after w o (record { at = at + 3; w = w′ }) o′
       unfolding binder-cells
-      binder-took h first d v v₁ w′ o₁ o′ ef ed ev ws put N S x D rest dec e l =
+      binder-took h first v v₁ w′ o₁ o′ ef ev ws put N S x D rest dec e l =
           let t = two-names s raw at x D rest e in
           let q : new-variable N (scope-at s scope n) x ≡ true = ap (new-variable N (scope-at s scope n)) (sym (ap (name-at s) ec ∙ t .variable)) ∙ sym (says N dec) ∙ b in
           let u = known (name-at s c₂) (sorts-in s names kinds) i (suc (kinds .sorts)) (sorts-most s names kinds) si (omega arith) in
           let f : number-of D (N .sorts) ≡ some i = ap (number-of D) (dec .sorts-are) ∙ ap (λ (y : Name). number-of y (sorts-in s names kinds)) (sym (ap (name-at s) ec₂ ∙ t .sort)) ∙ u in
           let g : v ≡ 4 * length (scope-at s scope n) + variable-tag = let y = scope-many s scope n few in omega arith in
-          became (ap (λ (y : ℕ). some (y ∷ d ∷ 1 ∷ v ∷ [])) ef ∙ ap (λ (y : ℕ). some ((after-mark * one-if after + sum-kind) ∷ y ∷ 1 ∷ v ∷ [])) ed
-          ∙ ap (λ (y : ℕ). some ((after-mark * one-if after + sum-kind) ∷ i ∷ 1 ∷ y ∷ [])) g ∙ sym (rw (q, f) refl))
+          became (ap (λ (y : ℕ). some (y ∷ 1 ∷ 1 ∷ v ∷ [])) ef ∙ ap (λ (y : ℕ). some (first-cell i (one-if after) sum-kind ∷ 1 ∷ 1 ∷ y ∷ [])) g ∙ sym (rw (q, f) refl))
           (took (t .inside) (t .behind) (writes-then ws (writes-cell put)))

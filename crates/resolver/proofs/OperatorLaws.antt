@@ -2,7 +2,7 @@
 use mathlib.Core.Path.{_≡_, refl, sym, ap, _∙_, subst}
 use mathlib.Core.List.{List, [], _∷_, _++_, append-assoc, append-nil}
 use mathlib.Core.Option.{Option, none, some, Option·some-injective}
-use Prim.Native.Nat.{ℕ, suc, _+_, _-_, _*_, _≤_, _<_}
+use Prim.Native.Nat.{ℕ, suc, _+_, _-_, _*_, _≤_, _<_, min}
 use native.Mathlib.Omega.{arith}
 use lib.ListN.{length, drop, getD, length-append, List·getD-append}
 use lib.Seq.{getD-append-add}
@@ -118,7 +118,7 @@ module _ (w w₁ w₂ : ℕ) (o o₁ o₂ o₃ o₄ : List ℕ) (e g : List ℕ)
   pub both-written : Writes (0 ∷ 2 ∷ (e ++ g)) w o b o₄
   both-written = writes-then (writes-cell put₁) (writes-then (writes-cell put₂) (writes-then ws₁ ws₂))
 
-  module _ (room : w + suc (suc (length (e ++ g))) ≤ length o) where
+  module _ (room : w + suc (suc (length (e ++ g))) ≤ min (length o) cell-limit) where
     second-at : w₂ ≡ w + 2
     second-at = let x = writes-then (writes-cell put₁) (writes-cell put₂) .with-room (omega arith) in let z = x .next in omega arith
 
@@ -160,7 +160,7 @@ module _ (s raw names : List ℕ) (kinds : Kinds) (scope : List ℕ) (n at w : �
 
         -- the cell as it is found, if there was room
         found : (x y : Data) → resolve-negation N S σ Γ c ≡ some x → resolve-negation N S σ Γ d ≡ some y → Writes (enc-data x) w₂ o₂ (a .w) o₃ → Writes (enc-data y) (a .w) o₃ (b .w) o₄
-            → w + suc (suc (length (enc-data x ++ enc-data y))) ≤ length o → v ≡ 4 * number x y + function-tag
+            → w + suc (suc (length (enc-data x ++ enc-data y))) ≤ min (length o) cell-limit → v ≡ 4 * number x y + function-tag
         found x y p q ws₁ ws₂ room =
             let c₁ = first-read w w₁ w₂ o o₁ o₂ o₃ o₄ (enc-data x) (enc-data y) (a .w) (b .w) put₁ put₂ ws₁ ws₂ room (some-cell x) in
             let c₂ = second-read w w₁ w₂ o o₁ o₂ o₃ o₄ (enc-data x) (enc-data y) (a .w) (b .w) put₁ put₂ ws₁ ws₂ room (some-cell y) in

@@ -17,7 +17,7 @@ use Rattle.parser.specs.Cells.{Symbol, tag, token, then-tag, sum-tag, enc-call,
 use Rattle.parser.specs.Cells.{enc-conjunction, enc-comparison, enc-negation, enc-atom}
 use Rattle.parser.specs.Cells.{enc-data as raw-data, enc-datas as raw-datas}
 use Rattle.nodes.specs.Scoped.{max-scope}
-use Rattle.nodes.specs.Layout.{cell-limit, enc-data, enc-arguments, enc-datas, after-mark, one-if, atom-kind, sum-kind, call-kind, variable-tag, function-tag, enc}
+use Rattle.nodes.specs.Layout.{cell-limit, enc-data, enc-arguments, enc-datas, first-cell, one-if, atom-kind, sum-kind, call-kind, variable-tag, function-tag, enc}
 use Rattle.names.specs.NameCells.{or-count, name-at, scope-at}
 use Rattle.names.specs.NameKinds.{sorts-in, funcs-in, acts-in, procs-in}
 use Rattle.names.specs.declared.Kinds.{Kinds}
@@ -92,11 +92,17 @@ module _ (N : Names) (S : Sig) (scope : List Name) (Γ : List ℕ) where
     es ← resolve-datas N S scope Γ ds
     some (enc-arguments es)
 
-  -- how many data are given to a name, and the data
+  -- the data given to a name: how many cells they take, how many they are, and they
   unfoldable pub given-cells : Option RawDatas → Option (List ℕ)
   given-cells ds = do
     es ← resolve-given N S scope Γ ds
-    some (length es ∷ enc-datas es)
+    some (length (enc-datas es) ∷ length es ∷ enc-datas es)
+
+  -- a condition alike
+  unfoldable pub condition-cells : RawData → Option (List ℕ)
+  condition-cells d = do
+    e ← resolve-data N S scope Γ d
+    some (length (enc-data e) ∷ 1 ∷ enc-data e)
 
   unfoldable pub term-cells : Bool → Term → Option (List ℕ)
   term-cells after t = do
@@ -108,7 +114,7 @@ module _ (N : Names) (S : Sig) (scope : List Name) (Γ : List ℕ) where
   binder-cells after v D = do
     provided (new-variable N scope v)
     E ← number-of D (N .sorts)
-    some ((after-mark * one-if after + sum-kind) ∷ E ∷ 1 ∷ (4 * length scope + variable-tag) ∷ [])
+    some (first-cell E (one-if after) sum-kind ∷ 1 ∷ 1 ∷ (4 * length scope + variable-tag) ∷ [])
 
 unfoldable pub count-of : RawDatas → ℕ
 count-of (RawDatas.one d) = 1
@@ -152,6 +158,9 @@ ResolvesGiven s raw names kinds scope n at w o r o′ = (N : Names) (S : Sig) (x
     → N .funcs ≡ funcs-in s names kinds → KnownSorts kinds scope n S
     → drop at (symbols s raw) ≡ enc-call x ds ++ rest → Outcome raw (symbols s raw) rest w o (r .at) (r .w) o′ (given-cells N S (scope-at s scope n) (scope-sorts scope n) ds)
 
+abbrev pub ResolvesCondition : (s raw names : List ℕ) (kinds : Kinds) (scope : List ℕ) (n at w : ℕ) (o : List ℕ) → Step → List ℕ → Type 0
+ResolvesCondition = Resolves raw-data condition-cells
+
 -- the cell of `==` over data with these first cells, if it fits
 abbrev pub EqualCell : (scope : List ℕ) (c d : ℕ) → ℕ → Type 0
 EqualCell scope c d r = (N : Names) (S : Sig) → 4 * equal-at N S (cell-sort scope c) (cell-sort scope d) + function-tag < cell-limit → r ≡ 4 * equal-at N S (cell-sort scope c) (cell-sort scope d) + function-tag
@@ -161,10 +170,10 @@ unfoldable pub joins : ℕ → ℕ → List ℕ
 joins c zero = []
 joins c (suc k) = c ∷ 2 ∷ joins c k
 
--- an action's number, or else a process's
+-- an action, or else a process
 unfoldable pub Naming : Bool → Option ℕ → Option ℕ → Known → Type 0
-Naming after (some a) k r = (r .known ≡ true) × (r .first ≡ after-mark * one-if after + atom-kind) × (r .number ≡ a + 1)
-Naming after none (some k) r = (r .known ≡ true) × (r .first ≡ call-kind) × (r .number ≡ k)
+Naming after (some a) k r = (r .known ≡ true) × (r .first ≡ first-cell (a + 1) (one-if after) atom-kind)
+Naming after none (some k) r = (r .known ≡ true) × (r .first ≡ first-cell k 0 call-kind)
 Naming after none none r = r .known ≡ false
 
 -- the node of a sum, up to its term; if it is written, the variable is in scope

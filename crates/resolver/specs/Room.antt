@@ -163,7 +163,7 @@ module _ (N : Names) (S : Sig) where
         let k = data-room scope Γ c b e₂ in
         let l = sequence-room false scope Γ u s e₃ in
         subst (λ (x : Proc). length (enc after x) ≤ 3 * suc (length (enc-sequence t ++ (raw-data c ++ enc-sequence u)))) z
-        (omega (arith, length-append (enc-data b) (enc false a ++ enc false s), length-append (enc false a) (enc false s), length-append (enc-sequence t) (raw-data c ++ enc-sequence u), length-append (raw-data c) (enc-sequence u))))))
+        (omega (arith, length-append (enc-data b ++ []) (enc false a ++ enc false s), length-append (enc-data b) [], length-append (enc false a) (enc false s), length-append (enc-sequence t) (raw-data c ++ enc-sequence u), length-append (raw-data c) (enc-sequence u))))))
 
     sequence-room : (after : Bool) (scope : List Name) (Γ : List ℕ) (t : Sequence) (p : Proc) → resolve-sequence N S scope Γ t ≡ some p → length (enc after p) ≤ 3 * length (enc-sequence t)
     sequence-room after scope Γ (Sequence.last t) p q = let h = part-room after scope Γ t p q in omega arith

@@ -1,28 +1,28 @@
 // Cells read and written. Nothing asks for room: a cell past the end is not written.
 ghost use mathlib.Core.Path.{_≡_};
 ghost use mathlib.Core.List.{[], _∷_};
-ghost use Prim.Native.Nat.{_+_, _*_, _<_, _≤_};
+ghost use Prim.Native.Nat.{ℕ, _+_, _<_, _≤_};
 ghost use lib.ListN.{length};
-ghost use Rattle.nodes.specs.Layout.{after-mark, one-if};
-ghost use Rattle.nodes.specs.Layout.{cell-limit};
+ghost use Rattle.nodes.specs.Layout.{cell-limit, byte-limit, after-mark, one-if, first-cell};
 ghost use Rattle.resolver.specs.Raw.{kids-of, tokens-of, Skips};
 ghost use Rattle.resolver.specs.Writing.{Writes};
 ghost use Rattle.resolver.specs.Resolving.{joins};
 use elements::peek_cell;
+use elements::short;
 use elements::wide;
 use elements::wide_cell;
+use nodes::AFTER;
+use nodes::NUMBER;
 use parser::cells::put;
 use parser::codes::FIRST_ANDS;
 use parser::codes::FIRST_ORS;
 
-const AFTER: u16 = nodes::AFTER as u16;
-
 // The first three cells of a node.
-pub fn node(out: &mut [u16], w: usize, first: u16, number: u16, count: u16) -> usize
-    ensures { λ r. ⌜ Writes (first ∷ number ∷ count ∷ []) w (now (out .entry)) r (now (out .exit)) ⌝ }
+pub fn node(out: &mut [u16], w: usize, first: u16, length: u16, count: u16) -> usize
+    ensures { λ r. ⌜ Writes (first ∷ length ∷ count ∷ []) w (now (out .entry)) r (now (out .exit)) ⌝ }
 {
     let a = put(out, w, first);
-    let b = put(out, a, number);
+    let b = put(out, a, length);
     put(out, b, count)
 }
 
@@ -40,12 +40,23 @@ pub fn put_joins(out: &mut [u16], w: usize, c: u16, many: usize) -> usize
     v
 }
 
-// The first cell of a node that gets a new equation if it stands after a first part.
-pub fn marked(after: bool, kind: u16) -> u16
-    requires { ⌜ kind < 16 ⌝ }
-    ensures { λ r. ⌜ r ≡ after-mark * one-if after + kind ⌝ }
+// The first cell of a node: it gets a new equation if it stands after a first part.
+pub fn first_cell(number: usize, after: bool, kind: usize) -> u16
+    requires { ⌜ (number < byte-limit) × (kind < after-mark) ⌝ }
+    ensures { λ r. ⌜ r ≡ first-cell number (one-if after) kind ⌝ }
 {
-    if after { AFTER + kind } else { kind }
+    let k = NUMBER * number + kind;
+    if after { short(k + AFTER) } else { short(k) }
+}
+
+// How many cells were written from one place to a later one.
+pub fn span(from: usize, to: usize) -> u16
+    ensures { λ r. ⌜ ((n : ℕ) → to ≡ from + n → n < cell-limit → r ≡ n) ⌝ }
+{
+    if to < from {
+        return 0;
+    }
+    short(to - from)
 }
 
 // How many tokens stand behind a tag (crate parser, Cells).

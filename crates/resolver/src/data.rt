@@ -2,9 +2,10 @@
 ghost use Prim.Native.Nat.{_+_, _<_};
 ghost use lib.ListN.{length};
 ghost use Rattle.names.specs.NameList.{names-in, kinds-in, KeyedNames};
-ghost use Rattle.resolver.specs.Resolving.{Ahead, Few, ResolvesData, ResolvesConjunction, ResolvesComparison, ResolvesNegation, ResolvesAtom, ResolvesDatas, ResolvesGiven};
+ghost use Rattle.resolver.specs.Resolving.{Ahead, Few, ResolvesData, ResolvesConjunction, ResolvesComparison, ResolvesNegation, ResolvesAtom, ResolvesDatas, ResolvesGiven, ResolvesCondition};
 use crate::DataRun;
 use crate::cells::put_joins;
+use crate::cells::span;
 use crate::operators::equal_cell;
 use elements::cell;
 use elements::peek_cell;
@@ -258,7 +259,7 @@ pub fn data_list(
     }
 }
 
-// How many data are given to the name at `at`, and the data.
+// The data given to the name at `at`: how many cells they take, how many they are, and they.
 pub fn given(
     s: &[u8],
     raw: &[u16],
@@ -274,7 +275,8 @@ pub fn given(
     ensures data { λ r. ⌜ ResolvesGiven (now (s .entry)) (now (raw .entry)) (names-in (now (declared .entry))) (kinds-in (now (declared .entry))) (now (scope .entry)) n at w (now (out .entry)) r (now (out .exit)) ⌝ }
 {
     let k = peek_cell(raw, at);
-    let v = put(out, w, 0);
+    let c = put(out, w, 0);
+    let v = put(out, c, 0);
     if k == BARE_TAG {
         return Step { at: at + 2, w: v };
     }
@@ -282,6 +284,28 @@ pub fn given(
         return lost(raw, w);
     }
     let l = data_list(s, raw, declared, scope, n, at + 2, out, v);
-    put(out, w, short(l.count));
+    put(out, c, short(l.count));
+    put(out, w, span(v, l.w));
     Step { at: l.at, w: l.w }
+}
+
+// A condition: how many cells it takes, that it is one data term, and it.
+pub fn condition(
+    s: &[u8],
+    raw: &[u16],
+    declared: &[u16],
+    scope: &[u16],
+    n: usize,
+    at: usize,
+    out: &mut [u16],
+    w: usize,
+) -> Step
+    requires { ⌜ Few (now raw) (kinds-in (now declared)) (now scope) n × KeyedNames (now s) (now declared) ⌝ }
+    ensures { λ r. ⌜ ResolvesCondition (now (s .entry)) (now (raw .entry)) (names-in (now (declared .entry))) (kinds-in (now (declared .entry))) (now (scope .entry)) n at w (now (out .entry)) r (now (out .exit)) ⌝ }
+{
+    let c = put(out, w, 0);
+    let v = put(out, c, 1);
+    let d = data_term(s, raw, declared, scope, n, at, out, v);
+    put(out, w, span(v, d.w));
+    d
 }

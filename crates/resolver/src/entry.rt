@@ -5,14 +5,14 @@ ghost use Rattle.names.specs.NameList.{names-in, kinds-in, KeyedNames};
 ghost use Rattle.resolver.specs.Sorting.{ScopeKept};
 ghost use Rattle.resolver.specs.Resolving.{Few, ResolvesRight, ResolvesInit};
 use crate::RightSide;
+use crate::cells::first_cell;
 use crate::data::given;
-use crate::process::CALL;
 use crate::process::term;
 use elements::cell;
 use elements::peek_cell;
-use elements::short;
 use names::PROC_COUNT;
 use names::keys::proc_in;
+use nodes::CALL;
 use parser::cells::put;
 
 // The right side of a process at `at`, with n names in scope.
@@ -59,8 +59,7 @@ pub fn init(
             w: w,
         };
     }
-    let b = put(out, w, CALL);
-    let v = put(out, b, short(k));
+    let v = put(out, w, first_cell(k, false, CALL));
     let a = given(s, raw, declared, scope, 0, at + 1, out, v);
     RightSide {
         ok: a.at <= raw.len(),

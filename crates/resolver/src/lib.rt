@@ -23,11 +23,10 @@ pub struct DataRun {
     pub count: usize,
 }
 
-// The first cell and the number of a node for a name, if the name is known.
+// The first cell of a node for a name, if the name is known.
 pub struct Known {
     pub known: bool,
     pub first: u16,
-    pub number: u16,
 }
 
 // A node of two subterms: how far its head was read, the next free cell, and whether the first subterm stands after a first part.

@@ -12,12 +12,12 @@ ghost use Rattle.resolver.specs.Resolving.{Ahead, Few, Naming, InScope, 
 use crate::FIRST_SORT;
 use crate::Fork;
 use crate::Known;
+use crate::cells::first_cell;
 use crate::cells::kids;
-use crate::cells::marked;
 use crate::cells::node;
 use crate::cells::skip;
 use crate::cells::tokens;
-use crate::data::data_term;
+use crate::data::condition;
 use crate::data::given;
 use elements::cell;
 use elements::peek_cell;
@@ -28,7 +28,14 @@ use names::SORT_COUNT;
 use names::fresh::new_variable;
 use names::keys::part_in;
 use names::keys::sort_in;
+use nodes::ALT;
+use nodes::ATOM;
+use nodes::CALL;
+use nodes::COND;
+use nodes::DELTA;
 use nodes::MAX_SCOPE;
+use nodes::SEQ;
+use nodes::SUM;
 use parser::Step;
 use parser::cells::lost;
 use parser::cells::put;
@@ -37,20 +44,6 @@ use parser::codes::PLUS_TAG;
 use parser::codes::SUM_TAG;
 use parser::codes::TAU_TAG;
 use parser::codes::THEN_TAG;
-
-const DELTA: u16 = nodes::DELTA as u16;
-
-const SUM: u16 = nodes::SUM as u16;
-
-const ALT: u16 = nodes::ALT as u16;
-
-const ATOM: u16 = nodes::ATOM as u16;
-
-const COND: u16 = nodes::COND as u16;
-
-pub const CALL: u16 = nodes::CALL as u16;
-
-const SEQ: u16 = nodes::SEQ as u16;
 
 // "As a part a name is an action or a process."
 fn named(s: &[u8], declared: &[u16], x: u16, after: bool) -> Known
@@ -62,22 +55,19 @@ fn named(s: &[u8], declared: &[u16], x: u16, after: bool) -> Known
     if i < acts {
         return Known {
             known: true,
-            first: marked(after, ATOM),
-            number: short(i + 1),
+            first: first_cell(i + 1, after, ATOM),
         };
     }
     let k = i - acts;
     if k < cell(declared, PROC_COUNT) {
         return Known {
             known: true,
-            first: CALL,
-            number: short(k),
+            first: first_cell(k, false, CALL),
         };
     }
     Known {
         known: false,
         first: 0,
-        number: 0,
     }
 }
 
@@ -112,7 +102,7 @@ fn binder(
     }
     scope[n] = x;
     scope[FIRST_SORT + n] = short(d);
-    let v = node(out, w, marked(after, SUM), short(d), 1);
+    let v = node(out, w, first_cell(d, after, SUM), 1, 1);
     Step {
         at: at + 3,
         w: put(out, v, short(4 * n + 1)),
@@ -129,13 +119,13 @@ fn constant(raw: &[u16], at: usize, after: bool, out: &mut [u16], w: usize) -> S
     if k == DELTA_TAG {
         return Step {
             at: at + 1,
-            w: node(out, w, marked(after, DELTA), 0, 0),
+            w: node(out, w, first_cell(0, after, DELTA), 0, 0),
         };
     }
     if k == TAU_TAG {
         return Step {
             at: at + 1,
-            w: node(out, w, marked(after, ATOM), 0, 0),
+            w: node(out, w, first_cell(0, after, ATOM), 0, 0),
         };
     }
     lost(raw, w)
@@ -160,19 +150,19 @@ fn fork(
     if k == THEN_TAG {
         return Fork {
             at: at,
-            w: node(out, w, SEQ, 0, 0),
+            w: node(out, w, first_cell(0, false, SEQ), 0, 0),
             left: after,
         };
     }
     if k == PLUS_TAG {
         return Fork {
             at: at,
-            w: node(out, w, marked(after, ALT), 0, 0),
+            w: node(out, w, first_cell(0, after, ALT), 0, 0),
             left: false,
         };
     }
-    let v = node(out, w, marked(after, COND), 0, 1);
-    let d = data_term(s, raw, declared, scope, n, skip(raw, at + 1), out, v);
+    let v = put(out, w, first_cell(0, after, COND));
+    let d = condition(s, raw, declared, scope, n, skip(raw, at + 1), out, v);
     Fork {
         at: d.at,
         w: d.w,
@@ -200,8 +190,7 @@ fn named_part(
     if !f.known {
         return lost(raw, w);
     }
-    let a = put(out, w, f.first);
-    let v = put(out, a, f.number);
+    let v = put(out, w, f.first);
     given(s, raw, declared, scope, n, at, out, v)
 }
 

@@ -20,7 +20,7 @@ use Rattle.laws.specs.Optional.{first-given, each-given}
 use Rattle.pcrl.specs.Print.{print-lines, print-proc, print-init}
 use Rattle.parser.specs.Cells.{Symbol, enc-proc, enc-init}
 use Rattle.nodes.specs.declared.Outline.{Outline}
-use Rattle.nodes.specs.Layout.{enc}
+use Rattle.nodes.specs.Layout.{cell-limit, enc}
 use Rattle.nodes.specs.Scoped.{Scoped}
 use Rattle.nodes.specs.Held.{ProcAt, HeldProcs, Held}
 use Rattle.names.specs.NameCells.{name-at, declared-at, names-at, scope-at}
@@ -143,9 +143,9 @@ module _ (s raw sorts funcs acts procs : List ℕ) (R : RawSheet) (stand : Lines
   -- PROCESSES AND INIT ARE HELD, init behind the right sides
   procs-held : (S : Sig) (ps : List Process) (x : ℕ × List Data) (b : ProcRows) (o o′ : List ℕ) (most w′ : ℕ) (n : Outline) → n .procs ≡ length procs → n .init ≡ b .w → FewLines raw sorts funcs acts procs
       → for-each (resolve-proc (names-of R) S) (R .procs) ≡ some ps → ProcessesHeld (length (names-of R .procs)) b o most ps → resolve-init (names-of R) S (R .start) ≡ some x
-      → Writes (enc false (call (x .0) (x .1))) (b .w) o w′ o′ → most + 3 * length (print-init (R .start)) ≤ length o
+      → Writes (enc false (call (x .0) (x .1))) (b .w) o w′ o′ → most + 3 * length (print-init (R .start)) ≤ length o → length o < cell-limit
       → HeldProcs (record { sig = S; procs = ps; start = x }) (b .procs) o′ (b .starts) n
-  procs-held S ps x b o o′ most w′ n np ni few pe held xe wr room =
+  procs-held S ps x b o o′ most w′ n np ni few pe held xe wr room short =
       let many = each-length (λ (l : ProcLine) (q : Process). resolve-proc (names-of R) S l ≡ some q) (R .procs) ps (each-given (resolve-proc (names-of R) S) (R .procs) ps pe) in
       let lines = lines-many in
       let names = names-many in
@@ -211,13 +211,13 @@ Holds s rows values cells H = Held H (arrays rows values cells) (rows .outline) 
 
 -- the whole sheet; listed are the names in the array of declared names
 sheet-resolves : (s raw sorts funcs acts procs : List ℕ) (at : ℕ) (values o o′ names listed : List ℕ) (n : ℕ) (fresh : Bool) (a : SigRows) (b : ProcRows) (c : RightSide) (ok : Bool)
-    → FewLines raw sorts funcs acts procs → length o′ ≡ length o → n ≡ total-of (kinds-of sorts funcs acts procs)
+    → FewLines raw sorts funcs acts procs → length o′ ≡ length o → length o < cell-limit → n ≡ total-of (kinds-of sorts funcs acts procs)
     → scope-at s names n ≡ names-at s raw sorts (length sorts) ++ (names-at s raw funcs (length funcs) ++ (names-at s raw acts (length acts) ++ names-at s raw procs (length procs)))
     → take n listed ≡ take n names → fresh ≡ distinct (bytes "Bool" ∷ scope-at s listed n) → SignatureRead s raw sorts funcs acts values a → ProcessesRead s raw procs listed (kinds-of sorts funcs acts procs) (a .funcs) b o
     → (empty scope : List ℕ) → ResultsPut (a .funcs) empty scope → ResolvesInit s raw listed (kinds-of sorts funcs acts procs) scope at (b .w) o c o′ → ok ≡ and fresh (and (a .ok) (and (b .ok) (c .ok)))
     → LinesResolve s raw sorts funcs acts procs at values o′ (record { ok = ok; rows = rows-of sorts funcs acts procs names a b })
 unfolding resolve resolve-terms symbols Counted arrays scope-at
-sheet-resolves s raw sorts funcs acts procs at values o o′ names listed n fresh a b c ok few same total scoped alike new sig procs-read empty scope results init-read e R stand init-at m counted bounded values-room cells-room =
+sheet-resolves s raw sorts funcs acts procs at values o o′ names listed n fresh a b c ok few same short total scoped alike new sig procs-read empty scope results init-read e R stand init-at m counted bounded values-room cells-room =
     let rows : SheetRows = rows-of sorts funcs acts procs names a b in
     let D = lines-declare s raw sorts funcs acts procs R stand listed n total (ap (map (name-at s)) alike ∙ scoped) in
     let known : declared (names-of R) ≡ bytes "Bool" ∷ scope-at s names n = declared-are s raw R sorts funcs acts procs (stand .sorts-at) (stand .funcs-at) (stand .acts-at) (stand .procs-at) names n scoped in
@@ -238,22 +238,22 @@ sheet-resolves s raw sorts funcs acts procs at values o o′ names listed n fres
     (λ x xe w. (
       record {
         signature = held (rows .outline) refl refl refl;
-        processes = procs-held s raw sorts funcs acts procs R stand S ps x b o o′ (3 * length (print-lines "proc" print-proc (R .procs))) (c .w) (rows .outline) refl refl few pe pheld xe w (omega arith);
+        processes = procs-held s raw sorts funcs acts procs R stand S ps x b o o′ (3 * length (print-lines "proc" print-proc (R .procs))) (c .w) (rows .outline) refl refl few pe pheld xe w (omega arith) short;
       },
       actions-named s raw sorts funcs acts procs R stand names n scoped S se,
     )))))))
 
 -- THE WHOLE SHEET, by the array of declared names
 pub lines-resolve : (s raw sorts funcs acts procs : List ℕ) (at : ℕ) (values o o′ names l : List ℕ) (n : ℕ) (fresh : Bool) (a : SigRows) (b : ProcRows) (c : RightSide) (ok : Bool)
-    → FewLines raw sorts funcs acts procs → length o′ ≡ length o → n ≡ total-of (kinds-of sorts funcs acts procs)
+    → FewLines raw sorts funcs acts procs → length o′ ≡ length o → length o < cell-limit → n ≡ total-of (kinds-of sorts funcs acts procs)
     → scope-at s names n ≡ names-at s raw sorts (length sorts) ++ (names-at s raw funcs (length funcs) ++ (names-at s raw acts (length acts) ++ names-at s raw procs (length procs)))
     → kinds-in l ≡ kinds-of sorts funcs acts procs → take (total-of (kinds-of sorts funcs acts procs)) (names-in l) ≡ take (total-of (kinds-of sorts funcs acts procs)) names
     → fresh ≡ distinct (bytes "Bool" ∷ scope-at s (names-in l) (total-of (kinds-in l))) → SignatureRead s raw sorts funcs acts values a → ProcessesRead s raw procs (names-in l) (kinds-in l) (a .funcs) b o
     → (empty scope : List ℕ) → ResultsPut (a .funcs) empty scope → ResolvesInit s raw (names-in l) (kinds-in l) scope at (b .w) o c o′ → ok ≡ and fresh (and (a .ok) (and (b .ok) (c .ok)))
     → LinesResolve s raw sorts funcs acts procs at values o′ (record { ok = ok; rows = rows-of sorts funcs acts procs names a b })
-lines-resolve s raw sorts funcs acts procs at values o o′ names l n fresh a b c ok few same total scoped kinds alike new sig procs-read empty scope results init-read e =
+lines-resolve s raw sorts funcs acts procs at values o o′ names l n fresh a b c ok few same short total scoped kinds alike new sig procs-read empty scope results init-read e =
     let alike′ = subst⁻¹ (λ (m : ℕ). take m (names-in l) ≡ take m names) total alike in
     let new′ = subst⁻¹ (λ (m : ℕ). fresh ≡ distinct (bytes "Bool" ∷ scope-at s (names-in l) m)) total (subst (λ (k : Kinds). fresh ≡ distinct (bytes "Bool" ∷ scope-at s (names-in l) (total-of k))) kinds new) in
-    sheet-resolves s raw sorts funcs acts procs at values o o′ names (names-in l) n fresh a b c ok few same total scoped alike′ new′ sig
+    sheet-resolves s raw sorts funcs acts procs at values o o′ names (names-in l) n fresh a b c ok few same short total scoped alike′ new′ sig
     (subst (λ (k : Kinds). ProcessesRead s raw procs (names-in l) k (a .funcs) b o) kinds procs-read) empty scope results
     (subst (λ (k : Kinds). ResolvesInit s raw (names-in l) k scope at (b .w) o c o′) kinds init-read) e

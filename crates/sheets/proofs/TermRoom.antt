@@ -161,7 +161,8 @@ module _ (N : Names) (S : Sig) where
         subst (λ (x : Proc). length (enc after x) ≤ 3 * length (print-sequence t ++ (the "<|" ∷ (print-data c ++ (the "|>" ∷ print-sequence u))))) z
         (omega (
           arith,
-          length-append (enc-data b) (enc false a ++ enc false s),
+          length-append (enc-data b ++ []) (enc false a ++ enc false s),
+          length-append (enc-data b) [],
           length-append (enc false a) (enc false s),
           length-append (print-sequence t) (the "<|" ∷ (print-data c ++ (the "|>" ∷ print-sequence u))),
           length-append (print-data c) (the "|>" ∷ print-sequence u),

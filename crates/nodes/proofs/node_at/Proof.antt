@@ -14,23 +14,23 @@ add-cell c = search needs
 cell-requires-2 : tie.Need-cell-requires-2
 cell-requires-2 c κs = search needs
 
-add-cell-2 : tie.Need-add-cell-2
-add-cell-2 c = search needs
+add-t9 : tie.Need-add-t9
+add-t9 c = search needs
 
-cell-requires-3 : tie.Need-cell-requires-3
-cell-requires-3 c κs = search needs
+add-t11 : tie.Need-add-t11
+add-t11 c = search needs
 
-add-skip-data : tie.Need-add-skip-data
-add-skip-data c = search needs
+data-size-requires : tie.Need-data-size-requires
+data-size-requires c κs = search needs
 
-skip-data-requires : tie.Need-skip-data-requires
-skip-data-requires c κs = search needs
-
-add-t10 : tie.Need-add-t10
-add-t10 c = search needs
+add-t13 : tie.Need-add-t13
+add-t13 c = search needs
 
 returns : tie.Need-returns
-returns c = (omega arith, opened (c .before .before .before .before .before .args .cells .now) (c .before .before .before .before .before .args .at) (c .skip-data .result) (c .before .before .before .cell .result) (c .before .before .cell2 .result) (c .before .cell3 .result) (c .before .before .before .cell .ensures .0) (c .before .before .cell2 .ensures .0) (c .before .cell3 .ensures .0) (c .skip-data .ensures .1))
+returns c =
+    let start = c .before .before .before .before .args in
+    let size = c .data-size in
+    (omega arith, opened (start .cells .now) (start .at) (c .before .before .cell .result) (size .result) (c .before .cell2 .result) (c .before .before .cell .ensures .0) (c .before .cell2 .ensures .0) (size .ensures .1) (size .ensures .2))
 
 pub node-at-spec : {M : Type 1} → statement M
 node-at-spec =
@@ -39,9 +39,8 @@ node-at-spec =
     cell-requires
     add-cell
     cell-requires-2
-    add-cell-2
-    cell-requires-3
-    add-skip-data
-    skip-data-requires
-    add-t10
+    add-t9
+    add-t11
+    data-size-requires
+    add-t13
     returns)

@@ -2,6 +2,7 @@
 use mathlib.Core.Path.{refl, _∙_}
 use Prim.Native.Nat.{_+_}
 use native.Mathlib.Omega.{arith}
+use borrow.Author.Needs.{needs}
 use Rattle.names.specs.NameList.{names-in, kinds-in}
 use Rattle.resolver.proofs.GivenLaws.{node-put}
 use Rattle.resolver.proofs.EntryLaws.{init-unknown, init-answered}
@@ -26,36 +27,32 @@ returns c =
     let args = start .args in
     init-unknown (args .s .now) (args .raw .now) (names-in (args .declared .now)) (kinds-in (args .declared .now)) (args .scope .now) (args .at) (args .w) (args .out .now) (c .before .before .before .peek-cell .result) (c .before .before .proc-in .result) (c .before .before .before .peek-cell .ensures) (c .before .before .proc-in .ensures .1) (omega (arith, c .before .cell .ensures, c .if1 .taken)) (record { ok = _; next = args .at; w = args .w }) (args .out .now) refl
 
+first-cell-requires : tie.Need-first-cell-requires
+first-cell-requires c κs = search needs
+
 put-requires : tie.Need-put-requires
 put-requires c κs = tt
 
-short-requires : tie.Need-short-requires
-short-requires c κs = tt
-
-put-requires-2 : tie.Need-put-requires-2
-put-requires-2 c κs = tt
-
 add-given : tie.Need-add-given
-add-given c = let q = c .before .before .before .before .before .before .before .before .before .before .before .before .before .before .before .before .before .before .pre in omega arith
+add-given c = let q = c .before .before .before .before .before .before .before .before .before .before .before .before .before .before .pre in omega arith
 
 given-requires : tie.Need-given-requires
-given-requires c κs = let q = c .before .before .before .before .before .before .before .before .before .before .before .before .before .before .before .before .before .before .before .pre in let f = q .0 in (omega arith, q .2)
+given-requires c κs = let q = c .before .before .before .before .before .before .before .before .before .before .before .before .before .before .before .pre in let f = q .0 in (omega arith, q .2)
 
 same-length : tie.Need-same-length
-same-length c = c .before .before .before .given .kept .1 .1 .1 .1 .1 .1 .0 ∙ (c .before .before .before .before .before .before .before .put2 .kept .0 ∙ c .before .before .before .before .before .before .before .before .before .before .before .before .put .kept .0)
+same-length c = c .before .before .before .given .kept .1 .1 .1 .1 .1 .1 .0 ∙ c .before .before .before .before .before .before .before .put .kept .0
 
 returns-2 : tie.Need-returns-2
 returns-2 c =
-    let start = c .before .before .before .before .before .before .before .before .before .before .before .before .before .before .before .before .before .before .before .before .before .before .before in
+    let start = c .before .before .before .before .before .before .before .before .before .before .before .before .before .before .before .before .before .before .before in
     let args = start .args in
     let q = start .pre .0 .kinds-few in
-    let put = c .before .before .before .before .before .before .before .before .before .before .before .before .put in
-    let put2 = c .before .before .before .before .before .before .before .put2 in
+    let put = c .before .before .before .before .before .before .before .put in
     let given = c .before .before .before .given in
-    let below = c .before .before .before .before .before .before .before .before .before .before .before .before .before .before .if1 .left in
-    let count = c .before .before .before .before .before .before .before .before .before .before .before .before .before .before .before .cell .ensures in
-    init-answered (args .s .now) (args .raw .now) (names-in (args .declared .now)) (kinds-in (args .declared .now)) (args .scope .now) (args .at) (args .w) (args .out .now) (c .before .before .before .before .before .before .before .before .before .before .before .before .before .before .before .before .before .peek-cell .result) (c .before .before .before .before .before .before .before .before .before .before .before .before .before .before .before .before .proc-in .result) (c .before .before .before .before .before .before .before .before .before .before .before .before .before .before .before .before .before .peek-cell .ensures) (c .before .before .before .before .before .before .before .before .before .before .before .before .before .before .before .before .proc-in .ensures .1) (omega arith) (c .before .before .before .before .before .before .before .before .short .result) (c .before .before .before .before .before .before .before .before .short .ensures (omega arith)) (given .result) (given .last .1 .1 .1 .1 .1 .1 .0)
-    (node-put (args .s .now) (args .raw .now) (names-in (args .declared .now)) (kinds-in (args .declared .now)) (args .scope .now) 0 (args .at + 1) 8 (c .before .before .before .before .before .before .before .before .short .result) (args .w) (args .out .now) (put .result) (put2 .result) (put .last .0) (put2 .last .0) (put .ensures) (put2 .ensures) (given .result) (given .last .1 .1 .1 .1 .1 .1 .0) (given .ensures .1))
+    let below = c .before .before .before .before .before .before .before .before .before .before .if1 .left in
+    let count = c .before .before .before .before .before .before .before .before .before .before .before .cell .ensures in
+    init-answered (args .s .now) (args .raw .now) (names-in (args .declared .now)) (kinds-in (args .declared .now)) (args .scope .now) (args .at) (args .w) (args .out .now) (c .before .before .before .before .before .before .before .before .before .before .before .before .before .peek-cell .result) (c .before .before .before .before .before .before .before .before .before .before .before .before .proc-in .result) (c .before .before .before .before .before .before .before .before .before .before .before .before .before .peek-cell .ensures) (c .before .before .before .before .before .before .before .before .before .before .before .before .proc-in .ensures .1) (omega arith) (c .before .before .before .before .before .before .before .before .first-cell .result) (c .before .before .before .before .before .before .before .before .first-cell .ensures) (given .result) (given .last .1 .1 .1 .1 .1 .1 .0)
+    (node-put (args .s .now) (args .raw .now) (names-in (args .declared .now)) (kinds-in (args .declared .now)) (args .scope .now) 0 (args .at + 1) (c .before .before .before .before .before .before .before .before .first-cell .result) (args .w) (args .out .now) (put .result) (put .last .0) (put .ensures) (given .result) (given .last .1 .1 .1 .1 .1 .1 .0) (given .ensures .1))
 
 pub init-spec : {M : Type 1} → statement M
 init-spec =
@@ -66,9 +63,8 @@ init-spec =
     proc-in-requires
     cell-requires
     returns
+    first-cell-requires
     put-requires
-    short-requires
-    put-requires-2
     add-given
     given-requires
     same-length

@@ -94,46 +94,43 @@ mul-scope-2 c = let q = c .before .before .before .before .before .before .befor
 slice-write-scope-2 : tie.Need-slice-write-scope-2
 slice-write-scope-2 c = let q = c .before .before .before .before .before .before .before .before .before .before .before .before .before .before .before .pre in let l = length-set (c .before .before .before .before .before .before .before .before .before .before .before .before .before .before .before .args .scope .now) (c .before .before .before .before .before .before .before .before .before .before .before .before .before .before .before .args .n) (c .before .before .before .before .before .before .before .before .before .peek-cell .result) in omega arith
 
-marked-requires : tie.Need-marked-requires
-marked-requires c κs = omega arith
-
-short-requires-2 : tie.Need-short-requires-2
-short-requires-2 c κs = tt
+first-cell-requires : tie.Need-first-cell-requires
+first-cell-requires c κs = search needs
 
 node-requires : tie.Need-node-requires
 node-requires c κs = tt
 
 add-t20 : tie.Need-add-t20
-add-t20 c = let q = c .before .before .before .before .before .before .before .before .before .before .before .before .before .before .before .before .before .before .before .before .before .pre in omega arith
+add-t20 c = let q = c .before .before .before .before .before .before .before .before .before .before .before .before .before .before .before .before .before .before .before .before .pre in omega arith
 
 mul-short : tie.Need-mul-short
-mul-short c = let q = c .before .before .before .before .before .before .before .before .before .before .before .before .before .before .before .before .before .before .before .before .before .before .pre in omega arith
+mul-short c = let q = c .before .before .before .before .before .before .before .before .before .before .before .before .before .before .before .before .before .before .before .before .before .pre in omega arith
 
 add-short : tie.Need-add-short
-add-short c = let q = c .before .before .before .before .before .before .before .before .before .before .before .before .before .before .before .before .before .before .before .before .before .before .pre in omega arith
+add-short c = let q = c .before .before .before .before .before .before .before .before .before .before .before .before .before .before .before .before .before .before .before .before .before .pre in omega arith
 
-short-requires-3 : tie.Need-short-requires-3
-short-requires-3 c κs = tt
+short-requires-2 : tie.Need-short-requires-2
+short-requires-2 c κs = tt
 
 put-requires : tie.Need-put-requires
 put-requires c κs = tt
 
 same-length-4 : tie.Need-same-length-4
-same-length-4 c = length-set (set (c .before .before .before .before .before .before .before .before .before .before .before .before .before .before .before .before .before .before .before .before .before .before .before .before .before .before .args .scope .now) (c .before .before .before .before .before .before .before .before .before .before .before .before .before .before .before .before .before .before .before .before .before .before .before .before .before .before .args .n) (c .before .before .before .before .before .before .before .before .before .before .before .before .before .before .before .before .before .before .before .before .peek-cell .result)) _ _ ∙ length-set (c .before .before .before .before .before .before .before .before .before .before .before .before .before .before .before .before .before .before .before .before .before .before .before .before .before .before .args .scope .now) (c .before .before .before .before .before .before .before .before .before .before .before .before .before .before .before .before .before .before .before .before .before .before .before .before .before .before .args .n) (c .before .before .before .before .before .before .before .before .before .before .before .before .before .before .before .before .before .before .before .before .peek-cell .result)
+same-length-4 c = length-set (set (c .before .before .before .before .before .before .before .before .before .before .before .before .before .before .before .before .before .before .before .before .before .before .before .before .before .args .scope .now) (c .before .before .before .before .before .before .before .before .before .before .before .before .before .before .before .before .before .before .before .before .before .before .before .before .before .args .n) (c .before .before .before .before .before .before .before .before .before .before .before .before .before .before .before .before .before .before .before .peek-cell .result)) _ _ ∙ length-set (c .before .before .before .before .before .before .before .before .before .before .before .before .before .before .before .before .before .before .before .before .before .before .before .before .before .args .scope .now) (c .before .before .before .before .before .before .before .before .before .before .before .before .before .before .before .before .before .before .before .before .before .before .before .before .before .args .n) (c .before .before .before .before .before .before .before .before .before .before .before .before .before .before .before .before .before .before .before .peek-cell .result)
 
 same-length-5 : tie.Need-same-length-5
 same-length-5 c = c .before .before .put .kept .0 ∙ c .before .before .before .before .before .before .before .node .kept .0
 
 returns-4 : tie.Need-returns-4
 returns-4 c =
-    let start = c .before .before .before .before .before .before .before .before .before .before .before .before .before .before .before .before .before .before .before .before .before .before .before .before .before .before in
+    let start = c .before .before .before .before .before .before .before .before .before .before .before .before .before .before .before .before .before .before .before .before .before .before .before .before .before in
     let args = start .args in
     let few = start .pre .0 in
     let q = start .pre .1 in
-    let found : c .before .before .before .before .before .before .before .before .before .before .before .before .before .before .before .sort-in .result ≤ kinds-in (args .declared .now) .sorts = omega (arith, c .before .before .before .before .before .before .before .before .before .before .before .before .before .before .cell .ensures, c .before .before .before .before .before .before .before .before .before .before .before .before .before .if2 .left) in
-    let deep : args .n < 32 = c .before .before .before .before .before .before .before .before .before .before .before .before .if3 .left in
-    let sort = c .before .before .before .before .before .before .before .before .before .before .before .short .ensures (omega arith) in
-    (omega arith, (push-kept (args .scope .now) (args .n) (c .before .before .before .before .before .before .before .before .before .before .before .before .before .before .before .before .before .before .before .before .peek-cell .result) (c .before .before .before .before .before .before .before .before .before .before .before .short .result) deep (few .scope-many), (λ h. (deep, both-pushed (args .s .now) (args .raw .now) (names-in (args .declared .now)) (kinds-in (args .declared .now)) (args .scope .now) (args .n) (args .at) (c .before .before .before .before .before .before .before .before .before .before .before .before .before .before .before .before .before .before .before .before .peek-cell .result) (c .before .before .before .before .before .before .before .before .before .before .before .before .before .before .before .before .peek-cell2 .result) (c .before .before .before .before .before .before .before .before .before .before .before .short .result) (c .before .before .before .before .before .before .before .before .before .before .before .before .before .before .before .sort-in .result) (c .before .before .before .before .before .before .before .before .before .before .before .before .before .before .before .before .before .before .before .before .peek-cell .ensures) (c .before .before .before .before .before .before .before .before .before .before .before .before .before .before .before .before .peek-cell2 .ensures) (c .before .before .before .before .before .before .before .before .before .before .before .before .before .before .before .sort-in .ensures .1) sort), binder-took (args .s .now) (args .raw .now) (names-in (args .declared .now)) (kinds-in (args .declared .now)) (args .scope .now) (args .n) (args .at) (args .after) (args .w) (args .out .now) (omega arith) (c .before .before .before .before .before .before .before .before .before .before .before .before .before .before .before .before .before .before .before .before .peek-cell .result) (c .before .before .before .before .before .before .before .before .before .before .before .before .before .before .before .before .before .before .before .before .peek-cell .ensures) (c .before .before .before .before .before .before .before .before .before .before .before .before .before .before .before .before .before .before .new-variable .result) (says-new (args .s .now) (names-in (args .declared .now)) (kinds-in (args .declared .now)) (args .scope .now) (args .n) (c .before .before .before .before .before .before .before .before .before .before .before .before .before .before .before .before .before .before .before .before .peek-cell .result) (c .before .before .before .before .before .before .before .before .before .before .before .before .before .before .before .before .before .before .new-variable .result) (c .before .before .before .before .before .before .before .before .before .before .before .before .before .before .before .before .before .before .new-variable .ensures)) (not-false _ (c .before .before .before .before .before .before .before .before .before .before .before .before .before .before .before .before .before .if1 .left)) (c .before .before .before .before .before .before .before .before .before .before .before .before .before .before .before .before .peek-cell2 .result) (c .before .before .before .before .before .before .before .before .before .before .before .before .before .before .before .before .peek-cell2 .ensures) (c .before .before .before .before .before .before .before .before .before .before .before .before .before .before .before .sort-in .result) (c .before .before .before .before .before .before .before .before .before .before .before .before .before .before .before .sort-in .ensures .1) found (c .before .before .before .before .before .before .before .before .before .marked .result) (c .before .before .before .before .before .before .before .before .short2 .result) (c .before .before .before .short3 .result) (c .before .before .before .before .before .before .before .node .result) (c .before .before .put .result) (c .before .before .before .before .before .before .before .node .last .0) (c .before .before .put .last .0) (c .before .before .before .before .before .before .before .before .before .marked .ensures) (c .before .before .before .before .before .before .before .before .short2 .ensures (omega arith)) (c .before .before .before .short3 .ensures (omega arith)) (c .before .before .before .before .before .before .before .node .ensures) (c .before .before .put .ensures))))
+    let found : c .before .before .before .before .before .before .before .before .before .before .before .before .before .before .sort-in .result ≤ kinds-in (args .declared .now) .sorts = omega (arith, c .before .before .before .before .before .before .before .before .before .before .before .before .before .cell .ensures, c .before .before .before .before .before .before .before .before .before .before .before .before .if2 .left) in
+    let deep : args .n < 32 = c .before .before .before .before .before .before .before .before .before .before .before .if3 .left in
+    let sort = c .before .before .before .before .before .before .before .before .before .before .short .ensures (omega arith) in
+    (omega arith, (push-kept (args .scope .now) (args .n) (c .before .before .before .before .before .before .before .before .before .before .before .before .before .before .before .before .before .before .before .peek-cell .result) (c .before .before .before .before .before .before .before .before .before .before .short .result) deep (few .scope-many), (λ h. (deep, both-pushed (args .s .now) (args .raw .now) (names-in (args .declared .now)) (kinds-in (args .declared .now)) (args .scope .now) (args .n) (args .at) (c .before .before .before .before .before .before .before .before .before .before .before .before .before .before .before .before .before .before .before .peek-cell .result) (c .before .before .before .before .before .before .before .before .before .before .before .before .before .before .before .peek-cell2 .result) (c .before .before .before .before .before .before .before .before .before .before .short .result) (c .before .before .before .before .before .before .before .before .before .before .before .before .before .before .sort-in .result) (c .before .before .before .before .before .before .before .before .before .before .before .before .before .before .before .before .before .before .before .peek-cell .ensures) (c .before .before .before .before .before .before .before .before .before .before .before .before .before .before .before .peek-cell2 .ensures) (c .before .before .before .before .before .before .before .before .before .before .before .before .before .before .sort-in .ensures .1) sort), binder-took (args .s .now) (args .raw .now) (names-in (args .declared .now)) (kinds-in (args .declared .now)) (args .scope .now) (args .n) (args .at) (args .after) (args .w) (args .out .now) (omega arith) (c .before .before .before .before .before .before .before .before .before .before .before .before .before .before .before .before .before .before .before .peek-cell .result) (c .before .before .before .before .before .before .before .before .before .before .before .before .before .before .before .before .before .before .before .peek-cell .ensures) (c .before .before .before .before .before .before .before .before .before .before .before .before .before .before .before .before .before .new-variable .result) (says-new (args .s .now) (names-in (args .declared .now)) (kinds-in (args .declared .now)) (args .scope .now) (args .n) (c .before .before .before .before .before .before .before .before .before .before .before .before .before .before .before .before .before .before .before .peek-cell .result) (c .before .before .before .before .before .before .before .before .before .before .before .before .before .before .before .before .before .new-variable .result) (c .before .before .before .before .before .before .before .before .before .before .before .before .before .before .before .before .before .new-variable .ensures)) (not-false _ (c .before .before .before .before .before .before .before .before .before .before .before .before .before .before .before .before .if1 .left)) (c .before .before .before .before .before .before .before .before .before .before .before .before .before .before .before .peek-cell2 .result) (c .before .before .before .before .before .before .before .before .before .before .before .before .before .before .before .peek-cell2 .ensures) (c .before .before .before .before .before .before .before .before .before .before .before .before .before .before .sort-in .result) (c .before .before .before .before .before .before .before .before .before .before .before .before .before .before .sort-in .ensures .1) found (c .before .before .before .before .before .before .before .before .first-cell .result) (c .before .before .before .short2 .result) (c .before .before .before .before .before .before .before .node .result) (c .before .before .put .result) (c .before .before .before .before .before .before .before .node .last .0) (c .before .before .put .last .0) (c .before .before .before .before .before .before .before .before .first-cell .ensures) (c .before .before .before .short2 .ensures (omega arith)) (c .before .before .before .before .before .before .before .node .ensures) (c .before .before .put .ensures))))
 
 pub binder-spec : {M : Type 1} → statement M
 binder-spec =
@@ -161,13 +158,12 @@ binder-spec =
     add-scope
     mul-scope-2
     slice-write-scope-2
-    marked-requires
-    short-requires-2
+    first-cell-requires
     node-requires
     add-t20
     mul-short
     add-short
-    short-requires-3
+    short-requires-2
     put-requires
     same-length-4
     same-length-5

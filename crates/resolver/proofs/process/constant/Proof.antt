@@ -11,8 +11,8 @@ peek-cell-requires c κs = tt
 add-t8 : tie.Need-add-t8
 add-t8 c = omega arith
 
-marked-requires : tie.Need-marked-requires
-marked-requires c κs = omega arith
+first-cell-requires : tie.Need-first-cell-requires
+first-cell-requires c κs = omega arith
 
 node-requires : tie.Need-node-requires
 node-requires c κs = tt
@@ -21,13 +21,13 @@ same-length : tie.Need-same-length
 same-length c = c .before .before .node .kept .0
 
 returns : tie.Need-returns
-returns c = (omega arith, delta-took (c .before .before .before .before .before .before .before .before .before .args .raw .now) (c .before .before .before .before .before .before .before .before .before .args .at) (c .before .before .before .before .before .before .before .before .before .args .after) (c .before .before .before .before .before .before .before .before .before .args .w) (c .before .before .before .before .before .before .before .before .before .args .out .now) (c .before .before .before .before .before .before .peek-cell .result) (sym (c .before .before .before .before .before .before .peek-cell .ensures)) (c .before .before .before .before .before .if1 .taken) (c .before .before .before .marked .result) (c .before .before .node .result) (c .before .before .node .last .0) (c .before .before .before .marked .ensures) (c .before .before .node .ensures))
+returns c = (omega arith, delta-took (c .before .before .before .before .before .before .before .before .before .args .raw .now) (c .before .before .before .before .before .before .before .before .before .args .at) (c .before .before .before .before .before .before .before .before .before .args .after) (c .before .before .before .before .before .before .before .before .before .args .w) (c .before .before .before .before .before .before .before .before .before .args .out .now) (c .before .before .before .before .before .before .peek-cell .result) (sym (c .before .before .before .before .before .before .peek-cell .ensures)) (c .before .before .before .before .before .if1 .taken) (c .before .before .before .first-cell .result) (c .before .before .node .result) (c .before .before .node .last .0) (c .before .before .before .first-cell .ensures) (c .before .before .node .ensures))
 
 add-t13 : tie.Need-add-t13
 add-t13 c = omega arith
 
-marked-requires-2 : tie.Need-marked-requires-2
-marked-requires-2 c κs = omega arith
+first-cell-requires-2 : tie.Need-first-cell-requires-2
+first-cell-requires-2 c κs = omega arith
 
 node-requires-2 : tie.Need-node-requires-2
 node-requires-2 c κs = tt
@@ -36,7 +36,7 @@ same-length-2 : tie.Need-same-length-2
 same-length-2 c = c .before .before .node2 .kept .0
 
 returns-2 : tie.Need-returns-2
-returns-2 c = (omega arith, tau-took (c .before .before .before .before .before .before .before .before .before .before .args .raw .now) (c .before .before .before .before .before .before .before .before .before .before .args .at) (c .before .before .before .before .before .before .before .before .before .before .args .after) (c .before .before .before .before .before .before .before .before .before .before .args .w) (c .before .before .before .before .before .before .before .before .before .before .args .out .now) (c .before .before .before .before .before .before .before .peek-cell .result) (sym (c .before .before .before .before .before .before .before .peek-cell .ensures)) (c .before .before .before .before .before .if2 .taken) (c .before .before .before .marked2 .result) (c .before .before .node2 .result) (c .before .before .node2 .last .0) (c .before .before .before .marked2 .ensures) (c .before .before .node2 .ensures))
+returns-2 c = (omega arith, tau-took (c .before .before .before .before .before .before .before .before .before .before .args .raw .now) (c .before .before .before .before .before .before .before .before .before .before .args .at) (c .before .before .before .before .before .before .before .before .before .before .args .after) (c .before .before .before .before .before .before .before .before .before .before .args .w) (c .before .before .before .before .before .before .before .before .before .before .args .out .now) (c .before .before .before .before .before .before .before .peek-cell .result) (sym (c .before .before .before .before .before .before .before .peek-cell .ensures)) (c .before .before .before .before .before .if2 .taken) (c .before .before .before .first-cell2 .result) (c .before .before .node2 .result) (c .before .before .node2 .last .0) (c .before .before .before .first-cell2 .ensures) (c .before .before .node2 .ensures))
 
 lost-requires : tie.Need-lost-requires
 lost-requires c κs = tt
@@ -50,12 +50,12 @@ constant-spec =
     (tie.spec
     peek-cell-requires
     add-t8
-    marked-requires
+    first-cell-requires
     node-requires
     same-length
     returns
     add-t13
-    marked-requires-2
+    first-cell-requires-2
     node-requires-2
     same-length-2
     returns-2

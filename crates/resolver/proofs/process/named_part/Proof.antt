@@ -29,26 +29,22 @@ returns c =
 put-requires : tie.Need-put-requires
 put-requires c κs = tt
 
-put-requires-2 : tie.Need-put-requires-2
-put-requires-2 c κs = tt
-
 given-requires : tie.Need-given-requires
-given-requires c κs = let q = c .before .before .before .before .before .before .before .before .before .before .before .before .before .before .before .before .before .before .pre .0 in (omega arith, c .before .before .before .before .before .before .before .before .before .before .before .before .before .before .before .before .before .before .pre .2)
+given-requires c κs = let q = c .before .before .before .before .before .before .before .before .before .before .before .before .before .before .pre .0 in (omega arith, c .before .before .before .before .before .before .before .before .before .before .before .before .before .before .pre .2)
 
 same-length : tie.Need-same-length
-same-length c = c .before .before .given .kept .1 .1 .1 .1 .1 .1 .0 ∙ (c .before .before .before .before .before .before .put2 .kept .0 ∙ c .before .before .before .before .before .before .before .before .before .before .put .kept .0)
+same-length c = c .before .before .given .kept .1 .1 .1 .1 .1 .1 .0 ∙ c .before .before .before .before .before .before .put .kept .0
 
 returns-2 : tie.Need-returns-2
 returns-2 c =
-    let start = c .before .before .before .before .before .before .before .before .before .before .before .before .before .before .before .before .before .before .before .before .before in
+    let start = c .before .before .before .before .before .before .before .before .before .before .before .before .before .before .before .before .before in
     let args = start .args in
-    let named = c .before .before .before .before .before .before .before .before .before .before .before .before .before .before .named in
-    let put = c .before .before .before .before .before .before .before .before .before .before .put in
-    let put2 = c .before .before .before .before .before .before .put2 in
+    let named = c .before .before .before .before .before .before .before .before .before .before .named in
+    let put = c .before .before .before .before .before .before .put in
     let given = c .before .before .given in (
       given .ensures .0,
-      part-took (args .s .now) (args .raw .now) (names-in (args .declared .now)) (kinds-in (args .declared .now)) (args .scope .now) (args .n) (args .at) (args .after) (args .w) (args .out .now) (c .before .before .before .before .before .before .before .before .before .before .before .before .before .before .before .peek-cell .result) (c .before .before .before .before .before .before .before .before .before .before .before .before .before .before .before .peek-cell .ensures) (named .result) (named .ensures) (not-false _ (c .before .before .before .before .before .before .before .before .before .before .before .before .if1 .left)) (given .result) (given .last .1 .1 .1 .1 .1 .1 .0)
-          (node-put (args .s .now) (args .raw .now) (names-in (args .declared .now)) (kinds-in (args .declared .now)) (args .scope .now) (args .n) (args .at) (named .result .first) (named .result .number) (args .w) (args .out .now) (put .result) (put2 .result) (put .last .0) (put2 .last .0) (put .ensures) (put2 .ensures) (given .result) (given .last .1 .1 .1 .1 .1 .1 .0) (given .ensures .1)),
+      part-took (args .s .now) (args .raw .now) (names-in (args .declared .now)) (kinds-in (args .declared .now)) (args .scope .now) (args .n) (args .at) (args .after) (args .w) (args .out .now) (c .before .before .before .before .before .before .before .before .before .before .before .peek-cell .result) (c .before .before .before .before .before .before .before .before .before .before .before .peek-cell .ensures) (named .result) (named .ensures) (not-false _ (c .before .before .before .before .before .before .before .before .if1 .left)) (given .result) (given .last .1 .1 .1 .1 .1 .1 .0)
+          (node-put (args .s .now) (args .raw .now) (names-in (args .declared .now)) (kinds-in (args .declared .now)) (args .scope .now) (args .n) (args .at) (named .result .first) (args .w) (args .out .now) (put .result) (put .last .0) (put .ensures) (given .result) (given .last .1 .1 .1 .1 .1 .1 .0) (given .ensures .1)),
     )
 
 pub named-part-spec : {M : Type 1} → statement M
@@ -61,7 +57,6 @@ named-part-spec =
     lost-requires
     returns
     put-requires
-    put-requires-2
     given-requires
     same-length
     returns-2)

@@ -103,7 +103,7 @@ returns c =
     lines-resolve (start .args .s .now) (start .args .raw .now) (start .args .sorts .now) (start .args .funcs .now) (start .args .acts .now) (start .args .procs .now) (start .args .at)
     (signature .last .1 .1 .1 .1 .1 .0) (processes .last .1 .1 .1 .1 .1 .0) (init .last .1 .1 .1 .1 .1 .0) (names .last .1 .1 .1 .1 .1 .0) (listed .last .1 .1 .1 .0)
     (names .result) (new .result) (signature .result) (processes .result) (init .result) (c .both3 .result)
-    (start .pre .0) (init .kept .1 .1 .1 .1 .1 .0)
+    (start .pre .0) (init .kept .1 .1 .1 .1 .1 .0) (let same = processes .kept .1 .1 .1 .1 .1 .0 in let short = start .pre .3 in omega arith)
     (declared-many (start .args .s .now) (start .args .raw .now) (start .args .sorts .now) (start .args .funcs .now) (start .args .acts .now) (start .args .procs .now) (names .last .1 .1 .1 .1 .1 .0) (names .result) (names .ensures .0) (names .ensures .1 (start .args .s .now)))
     (names .ensures .1 (start .args .s .now)) (listed .ensures .1 .0) (listed .ensures .1 .1) (new .ensures)
     (signature .ensures) (processes .ensures) _ (c .before .before .before .before .before .before .before .before .before .before .before .before .before .before .before .put-results .last .1 .0) (c .before .before .before .before .before .before .before .before .before .before .before .before .before .before .before .put-results .ensures) (init .ensures)
