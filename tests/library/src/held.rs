@@ -63,9 +63,11 @@ impl Terms<'_> {
 
     fn node(&mut self, kind: &str, after: bool, number: usize, datas: &[Data]) {
         let mark = if after { self.kinds["AFTER"] } else { 0 };
-        let first = self.kinds[kind] + mark;
-        self.cells.extend([first, number, datas.len()]);
+        let first = self.kinds["NUMBER"] * number + mark + self.kinds[kind];
+        let node = self.cells.len();
+        self.cells.extend([first, 0, datas.len()]);
         datas.iter().for_each(|data| self.data(data));
+        self.cells[node + 1] = self.cells.len() - (node + 3);
     }
 
     fn choice(&mut self, after: bool, scope: usize, choice: &[Conditional]) {
