@@ -5,7 +5,7 @@ use mathlib.Core.Bool.{Bool}
 use Prim.Native.Nat.{ℕ, zero, suc, _+_, _-_, _*_, _/_, _%_, _<_, _≤_}
 use native.Mathlib.Omega.{arith}
 use lib.ListN.{length, drop, getD, length-append}
-use lib.Seq.{drop-drop, drop-at}
+use lib.Seq.{drop-append-seam, drop-drop}
 use Rattle.pcrl.specs.Sheet.{Data, Proc}
 use Rattle.pcrl.specs.Parts.{new-count}
 use Rattle.nodes.specs.declared.Node.{Node}
@@ -23,9 +23,9 @@ no-cells [] e = refl
 no-cells (d ∷ ds) e = absurd (omega arith)
 
 -- the node that is read
-pub opened : (s : List ℕ) (at k size n : ℕ) → k ≡ getD s at 0 → n ≡ getD s (at + 2) 0 → (n ≡ 0 → size ≡ 0) → (0 < n → size ≡ getD s (at + 1) 0)
-    → Views s at (record { kind = k % 16; own = k / 16 % 2; number = k / 32; terms = at + 3; datas = n; kids = k % 4; next = at + 3 + size })
-opened s at k size n ek ed none some b p xs rest e =
+pub opened : (s : List ℕ) (at next k n : ℕ) → k ≡ getD s at 0 → n ≡ getD s (at + 2) 0 → (n ≡ 0 → next ≡ at + 3) → (0 < n → next ≡ at + 3 + getD s (at + 1) 0)
+    → Views s at (record { kind = k % 16; own = k / 16 % 2; number = k / 32; terms = at + 3; datas = n; kids = k % 4; next = next })
+opened s at next k n ek ed none some b p xs rest e =
     let tl = enc-datas (node-datas p) ++ encs (node-kids b p ++ xs) in
     let e₀ = read-cell s at (first-cell (node-number p) (node-own b p) (kind-of p)) (length (enc-datas (node-datas p)) ∷ length (node-datas p) ∷ (tl ++ rest)) (e ∙ ap (λ (l : List ℕ). l ++ rest) (open-node b p xs)) in
     let e₁ = read-cell s (at + 1) (length (enc-datas (node-datas p))) (length (node-datas p) ∷ (tl ++ rest)) (e₀ .1) in
@@ -40,12 +40,12 @@ opened s at k size n ek ed none some b p xs rest e =
       datas-is = ed ∙ e₂ .0;
       terms-are = e₃;
       kids-is = omega (arith, e₀ .0, node-arity b p);
-      next-is = sym (drop-drop size (at + 3) s) ∙ ap (drop size) e₃ ∙ drop-at (enc-datas (node-datas p)) _ size (taken n refl (e₁ .0) (ed ∙ e₂ .0));
+      next-is = ap (λ (k : ℕ). drop k s) (behind n refl (e₁ .0) (ed ∙ e₂ .0)) ∙ sym (drop-drop (length (enc-datas (node-datas p))) (at + 3) s) ∙ ap (drop (length (enc-datas (node-datas p)))) e₃ ∙ drop-append-seam (enc-datas (node-datas p)) _;
     }
   where
-    taken : (m : ℕ) → n ≡ m → getD s (at + 1) 0 ≡ length (enc-datas (node-datas p)) → n ≡ length (node-datas p) → length (enc-datas (node-datas p)) ≡ size
-    taken zero z f g = no-cells (node-datas p) (sym g ∙ z) ∙ sym (none z)
-    taken (suc m) z f g = sym f ∙ sym (some (omega arith))
+    behind : (m : ℕ) → n ≡ m → getD s (at + 1) 0 ≡ length (enc-datas (node-datas p)) → n ≡ length (node-datas p) → next ≡ at + 3 + length (enc-datas (node-datas p))
+    behind zero z f g = omega (arith, none z, no-cells (node-datas p) (sym g ∙ z))
+    behind (suc m) z f g = omega (arith, some (omega arith), f)
 
 -- one term is a list of terms
 pub one-item : (b : Bool) (p : Proc) (rest : List ℕ) → enc b p ++ rest ≡ encs ((b, p) ∷ []) ++ rest

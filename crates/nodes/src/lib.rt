@@ -141,15 +141,15 @@ pub fn skip_data(cells: &[u16], at: usize, n: usize) -> usize
     p
 }
 
-// How many cells the n data terms of the node at `at` take. Where there are none no cell is read: the processor need not wait for it.
-fn data_size(cells: &[u16], at: usize, n: usize) -> usize
+// The place behind the n data terms of the node at `at`. Where there are none no cell is read: the processor need not wait for it.
+fn behind_data(cells: &[u16], at: usize, n: usize) -> usize
     requires { ⌜ at < length (now cells) ⌝ }
-    ensures { λ r. ⌜ (r < cell-limit) × (n ≡ 0 → r ≡ 0) × (0 < n → r ≡ getD (now (cells .entry)) (at + 1) 0) ⌝ }
+    ensures { λ r. ⌜ (at + 3 ≤ r) × (n ≡ 0 → r ≡ at + 3) × (0 < n → r ≡ at + 3 + getD (now (cells .entry)) (at + 1) 0) ⌝ }
 {
     if n == 0 {
-        return 0;
+        return at + 3;
     }
-    cell(cells, at + 1)
+    at + 3 + cell(cells, at + 1)
 }
 
 pub fn node_at(cells: &[u16], at: usize) -> Node
@@ -166,7 +166,7 @@ pub fn node_at(cells: &[u16], at: usize) -> Node
         terms: at + 3,
         datas: n,
         kids: k % 4,
-        next: at + 3 + data_size(cells, at, n),
+        next: behind_data(cells, at, n),
     }
 }
 

@@ -17,20 +17,14 @@ cell-requires-2 c κs = search needs
 add-t9 : tie.Need-add-t9
 add-t9 c = search needs
 
-add-t11 : tie.Need-add-t11
-add-t11 c = search needs
-
-data-size-requires : tie.Need-data-size-requires
-data-size-requires c κs = search needs
-
-add-t13 : tie.Need-add-t13
-add-t13 c = search needs
+behind-data-requires : tie.Need-behind-data-requires
+behind-data-requires c κs = search needs
 
 returns : tie.Need-returns
 returns c =
     let start = c .before .before .before .before .args in
-    let size = c .data-size in
-    (omega arith, opened (start .cells .now) (start .at) (c .before .before .cell .result) (size .result) (c .before .cell2 .result) (c .before .before .cell .ensures .0) (c .before .cell2 .ensures .0) (size .ensures .1) (size .ensures .2))
+    let next = c .behind-data in
+    (omega arith, opened (start .cells .now) (start .at) (next .result) (c .before .before .cell .result) (c .before .cell2 .result) (c .before .before .cell .ensures .0) (c .before .cell2 .ensures .0) (next .ensures .1) (next .ensures .2))
 
 pub node-at-spec : {M : Type 1} → statement M
 node-at-spec =
@@ -40,7 +34,5 @@ node-at-spec =
     add-cell
     cell-requires-2
     add-t9
-    add-t11
-    data-size-requires
-    add-t13
+    behind-data-requires
     returns)
