@@ -4,21 +4,22 @@ use mathlib.Core.List.{List, [], _∷_}
 use mathlib.Core.Bool.{Bool, true, false}
 use mathlib.Core.Option.{some}
 use Prim.Native.Nat.{ℕ, zero, suc, _+_, _-_, _*_, _/_, _%_, _≤_, _<_}
-use native.Mathlib.Nat.{div-add-mod', mul-add-div-right, mul-add-mod-self-right, mul-assoc, mul-comm, mul-le-mul, mul-div-left, mod-eq-of-lt}
+use native.Mathlib.Nat.{div-eq-of-lt-le, div-mul-le-self, div-add-mod', mul-add-div-right, mul-add-mod-self-right, mul-assoc, mul-comm, mul-le-mul, mul-div-left, mod-eq-of-lt}
 use native.Mathlib.Numerals.{add-one}
 use native.Mathlib.Omega.{arith}
 use lib.Dec.{eqb, ltb}
-use lib.ListN.{length, getD, getElem?, drop, set}
-use lib.Seq.{getD-set-same, getD-set-other, drop-cons}
+use lib.ListN.{length, getD, getElem?, drop, set, length-set, replicate, length-replicate}
+use lib.Seq.{set-set, getD-set-same, getD-set-other, drop-cons}
 use borrow.Author.Tests.{ltb-true, ltb-false, lt-ltb, le-ltb, eqb-true, eqb-false}
 use Rattle.pcrl.specs.Tests.{and}
 use Rattle.evaluation.specs.Run.{pick, top, peak}
 use Rattle.evaluation.specs.Known.{Alike}
 use Rattle.evaluation.proofs.Bytes.{run-same}
-use Rattle.assignments.specs.Places.{product, valuesOf, places}
+use Rattle.assignments.specs.Places.{product, valuesOf, places, Sizes}
 use Rattle.assignments.specs.Conditions.{env, code, holds, all-below, Tested, Finds}
 use Rattle.assignments.specs.Parting.{asked, part-met, Part}
-use Rattle.assignments.specs.Lanes.{inner, Sifted, RowMet, Came}
+use Rattle.evaluation.specs.Rows.{lane-env}
+use Rattle.assignments.specs.Lanes.{inner, Sifted, RowMet, Strip, Lent, Rowed, Came}
 use Rattle.assignments.specs.declared.Found.{Found}
 use Rattle.assignments.proofs.Blocks.{product-pos, coarser, finer, in-block, env-same, split-at, all-same, asked-same, asked-some, asked-none, same-on, in-grain, asked-or}
 use Rattle.assignments.proofs.Periods.{around}
@@ -78,79 +79,156 @@ row-values (suc l) (n ∷ s) q i pos h k = ap₂ (λ (x : ℕ) (l : List ℕ). x
     head : (q * product (drop l s) + i * product (drop (suc l) s)) / product s % n ≡ q * product (drop l s) / product s % n
     head = ap (λ (x : ℕ). x % n) (coarser l s (q * product (drop l s) + i * product (drop (suc l) s)) (q * product (drop l s)) same)
 
+-- the same by the numbers of the row's and its blocks' assignments
+row-at : (l : ℕ) (s : List ℕ) (q i : ℕ) → ((v : ℕ) → v < length s → 0 < getD s v 0) → l < length s → i < getD s l 0 → (w g x y : ℕ) → w ≡ product (drop l s) → g ≡ product (drop (l + 1) s) → x ≡ q * w + i * g → y ≡ q * w → valuesOf s x ≡ set (valuesOf s y) l i
+row-at l s q i pos h k w g x y is-w is-g is-x is-y =
+    let e : x ≡ q * product (drop l s) + i * product (drop (suc l) s) = is-x ∙ ap₂ (λ (a b : ℕ). q * a + i * b) is-w (is-g ∙ ap (λ (m : ℕ). product (drop m s)) (add-one l)) in
+    let o : y ≡ q * product (drop l s) = is-y ∙ ap (λ (a : ℕ). q * a) is-w in
+    ap (valuesOf s) e ∙ row-values l s q i pos h k ∙ ap (λ (v : ℕ). set (valuesOf s v) l i) (sym o)
+
+value-at : (u : ℕ) (s : List ℕ) (j : ℕ) → u < length s → getD (valuesOf s j) u 0 ≡ j / product (drop (suc u) s) % getD s u 0
+value-at u [] j h = absurd (omega arith)
+value-at zero (n ∷ s) j h = refl
+value-at (suc u) (n ∷ s) j h = value-at u s j (omega arith)
+
+-- a value put in an environment and in the values that it is made of
+env-set : (p : ℕ) (a w f : List ℕ) → p ≤ length a → Alike f (env p a w) → (l x : ℕ) → p + l < length f → l < length w → Alike (set f (p + l) x) (env p a (set w l x))
+env-set p a w f few alike l x h k v = go (eqb v (p + l)) refl
+  where
+    go : (t : Bool) → eqb v (p + l) ≡ t → getD (set f (p + l) x) v 0 ≡ getD (env p a (set w l x)) v 0
+    go true q =
+        let e : v ≡ p + l = eqb-true v (p + l) q in
+        let z : v - p ≡ l = omega arith in
+        ap (λ (y : ℕ). getD (set f (p + l) x) y 0) e ∙ getD-set-same f (p + l) x 0 h ∙ sym (getD-set-same w l x 0 k) ∙ ap (λ (y : ℕ). getD (set w l x) y 0) (sym z) ∙ sym (split-at p a (set w l x) few v (omega arith))
+    go false q =
+        let e : v ≡ p + l → ⊥ = eqb-false v (p + l) q in
+        getD-set-other f (p + l) v x 0 e ∙ alike v ∙ sym (env-same p a (set w l x) w few v (λ y. getD-set-other w l (v - p) x 0 (λ z. e (omega arith))))
+
 -- WHAT THE CONDITIONS SAY IN A LANE
 
 module _ (s funcs froms ends blocks : List ℕ) (n p g : ℕ) (sizes a : List ℕ) (few : p ≤ length a) (positive : (i : ℕ) → i < length sizes → 0 < getD sizes i 0) (part : (i : ℕ) → i < n → Part s p sizes froms ends blocks g i)
-    (l : ℕ) (inside : l < length sizes) (is-grain : g ≡ product (drop (l + 1) sizes)) (w : ℕ) (is-w : w ≡ product (drop l sizes)) (f : List ℕ) (j : ℕ) (aligned : j % w ≡ 0) (alike : Alike f (env p a (valuesOf sizes j))) (known : p + l < length f) where
+    (l u w : ℕ) (four : length sizes ≡ 4) (rowed : Rowed sizes l u g w) (f : List ℕ) (j : ℕ) (aligned : j % w ≡ 0) (alike : Alike f (env p a (valuesOf sizes j))) (known : p + l < length f)
+    (slow fast met : List ℕ) (first m lanes : ℕ) (strip : Strip (getD sizes l 0) first lanes slow fast met) (is-lanes : lanes ≡ m * getD sizes l 0) (is-first : first ≡ getD f (p + u) 0) (fits : first + m ≤ getD sizes u 0) where
   abbrev size : ℕ
   size = getD sizes l 0
 
-  pub row-wide : w ≡ getD sizes l 0 * g
-  row-wide = is-w ∙ product-at l sizes inside ∙ ap (λ (x : ℕ). getD sizes l 0 * x) (sym is-grain)
+  abbrev count : ℕ
+  count = getD sizes u 0
+
+  -- assignments for all values at level u
+  abbrev b : ℕ
+  b = product (drop u sizes)
+
+  -- rows before the strip's block
+  abbrev Q : ℕ
+  Q = j / w / count
+
+  in-l : l < length sizes
+  in-l = omega (arith, rowed .l-inside)
+
+  in-u : u < length sizes
+  in-u = omega (arith, rowed .l-inside, rowed .u-first)
+
+  row-wide : w ≡ getD sizes l 0 * g
+  row-wide = rowed .row-is ∙ product-at l sizes in-l ∙ ap (λ (x : ℕ). getD sizes l 0 * x) (sym (rowed .grain-is))
+
+  b-wide : product (drop u sizes) ≡ getD sizes u 0 * w
+  b-wide = product-at u sizes in-u ∙ ap (λ (x : ℕ). getD sizes u 0 * x) (sym (rowed .again-is))
 
   pos-w : 0 < w
-  pos-w = subst (λ (x : ℕ). 0 < x) (sym is-w) (product-pos l sizes positive)
+  pos-w = subst (λ (x : ℕ). 0 < x) (sym (rowed .row-is)) (product-pos l sizes positive)
 
   pos-g : 0 < g
-  pos-g = subst (λ (x : ℕ). 0 < x) (sym is-grain) (product-pos (l + 1) sizes positive)
+  pos-g = subst (λ (x : ℕ). 0 < x) (sym (rowed .grain-is)) (product-pos (l + 1) sizes positive)
+
+  pos-b : 0 < product (drop u sizes)
+  pos-b = product-pos u sizes positive
 
   begins : j ≡ j / w * w
   begins = omega (arith, div-add-mod' j w)
 
-  values-in : (i : ℕ) → i < size → valuesOf sizes (j + i * g) ≡ set (valuesOf sizes j) l i
-  values-in i h =
-      let e : product (drop (suc l) sizes) ≡ g = ap (λ (x : ℕ). product (drop x sizes)) (sym (add-one l)) ∙ sym is-grain in
-      let r = row-values l sizes (j / w) i positive inside h in
-      let u : j / w * product (drop l sizes) ≡ j = ap (λ (x : ℕ). j / w * x) (sym is-w) ∙ sym begins in
-      subst (λ (x : ℕ). valuesOf sizes (x + i * g) ≡ set (valuesOf sizes x) l i) u (subst (λ (x : ℕ). valuesOf sizes (j / w * product (drop l sizes) + i * x) ≡ set (valuesOf sizes (j / w * product (drop l sizes))) l i) e r)
+  first-is : first ≡ j / w % getD sizes u 0
+  first-is =
+      let z : p + u - p ≡ u = omega arith in
+      let y : product (drop (suc u) sizes) ≡ w = ap (λ (x : ℕ). product (drop x sizes)) (sym (add-one u)) ∙ sym (rowed .again-is) in
+      is-first ∙ alike (p + u) ∙ split-at p a (valuesOf sizes j) few (p + u) (omega arith) ∙ ap (λ (x : ℕ). getD (valuesOf sizes j) x 0) z ∙ value-at u sizes j in-u ∙ ap (λ (x : ℕ). j / x % getD sizes u 0) y
 
-  lane-alike : (i : ℕ) → i < size → (v : ℕ) → getD (env p a (valuesOf sizes (j + i * g))) v 0 ≡ getD (set f (p + l) i) v 0
-  lane-alike i h v = ap (λ (x : List ℕ). getD (env p a x) v 0) (values-in i h) ∙ go (eqb v (p + l)) refl
-    where
-      go : (t : Bool) → eqb v (p + l) ≡ t → getD (env p a (set (valuesOf sizes j) l i)) v 0 ≡ getD (set f (p + l) i) v 0
-      go true q =
-          let e : v ≡ p + l = eqb-true v (p + l) q in
-          let z : v - p ≡ l = omega arith in
-          split-at p a (set (valuesOf sizes j) l i) few v (omega arith) ∙ ap (λ (x : ℕ). getD (set (valuesOf sizes j) l i) x 0) z ∙ getD-set-same (valuesOf sizes j) l i 0 (omega (arith, values-length sizes j)) ∙ sym (getD-set-same f (p + l) i 0 known) ∙ ap (λ (x : ℕ). getD (set f (p + l) i) x 0) (sym e)
-      go false q =
-          let e : v ≡ p + l → ⊥ = eqb-false v (p + l) q in
-          env-same p a (set (valuesOf sizes j) l i) (valuesOf sizes j) few v (λ x. getD-set-other (valuesOf sizes j) l (v - p) i 0 (λ y. e (omega arith))) ∙ sym (alike v) ∙ sym (getD-set-other f (p + l) v i 0 e)
+  row-is-at : j / w ≡ j / w / getD sizes u 0 * getD sizes u 0 + first
+  row-is-at = omega (arith, div-add-mod' (j / w) (getD sizes u 0), first-is)
 
-  in-lane : (i x : ℕ) → j + i * g ≤ x → x < j + i * g + g → x / g ≡ (j + i * g) / g
-  in-lane i x u v =
-      let e : j + i * g ≡ (j / w * getD sizes l 0 + i) * g = lane-at begins in
-      let d : (j + i * g) / g ≡ j / w * getD sizes l 0 + i = ap (λ (y : ℕ). y / g) e ∙ mul-div-left (j / w * getD sizes l 0 + i) pos-g in
-      let m : ((j + i * g) / g + 1) * g ≡ j + i * g + g = ap (λ (y : ℕ). (y + 1) * g) d ∙ omega arith in
-      in-block (j + i * g) g x pos-g u (omega arith)
-    where
-      lane-at : j ≡ j / w * w → j + i * g ≡ (j / w * getD sizes l 0 + i) * g
-      lane-at b =
-          let z : j / w * w ≡ j / w * getD sizes l 0 * g = ap (λ (y : ℕ). j / w * y) row-wide ∙ sym (mul-assoc (j / w) (getD sizes l 0) g) in
-          omega arith
+  -- rows behind the block's first one
+  row-place : (q : ℕ) → (j / w + q) * w ≡ Q * b + (first + q) * w
+  row-place q =
+      let e : Q * b ≡ Q * count * w = ap (λ (x : ℕ). Q * x) b-wide ∙ sym (mul-assoc Q count w) in
+      let o : j / w * w ≡ (Q * count + first) * w = ap (λ (x : ℕ). x * w) row-is-at in
+      omega (arith, e, o)
 
-  in-row : (i x : ℕ) → i < size → j + i * g ≤ x → x < j + i * g + g → x / w ≡ j / w
-  in-row i x h u v =
-      let b = lane-below i (getD sizes l 0) g w h row-wide in
-      let e : (j / w + 1) * w ≡ j + w = omega (arith, begins) in
-      in-block j w x pos-w (omega arith) (omega arith)
+  strip-values : (q c : ℕ) → first + q < getD sizes u 0 → c < getD sizes l 0 → valuesOf sizes (j + (q * getD sizes l 0 + c) * g) ≡ set (set (valuesOf sizes j) u (first + q)) l c
+  strip-values q c h k =
+      let e : q * w ≡ q * getD sizes l 0 * g = ap (λ (x : ℕ). q * x) row-wide ∙ sym (mul-assoc q (getD sizes l 0) g) in
+      let r₀ : first < getD sizes u 0 = omega arith in
+      let z : j ≡ Q * b + first * w = omega (arith, begins, row-place 0) in
+      row-at l sizes (j / w + q) c positive in-l k w g (j + (q * getD sizes l 0 + c) * g) ((j / w + q) * w) (rowed .row-is) (rowed .grain-is) (omega (arith, e, begins)) refl
+      ∙ ap (λ (x : List ℕ). set x l c) (row-at u sizes Q (first + q) positive in-u h b w ((j / w + q) * w) (Q * b) refl (rowed .again-is) (row-place q) refl ∙ sym (set-set (valuesOf sizes (Q * b)) u first (first + q)) ∙ ap (λ (x : List ℕ). set x u (first + q)) (sym (row-at u sizes Q first positive in-u r₀ b w j (Q * b) refl (rowed .again-is) z refl)))
 
-  pub row-says : (d : ℕ) → Tested (asked s funcs froms ends blocks f) blocks (w - 1) n d → d < w → (i x : ℕ) → i < size → j + i * g ≤ x → x < j + i * g + g
-      → part-met s funcs froms ends blocks n (env p a (valuesOf sizes x)) ≡ all-below n (inner s funcs froms ends blocks w (set f (p + l) i))
-  row-says d t small i x h u v = all-same n (asked s funcs froms ends blocks (env p a (valuesOf sizes x))) (inner s funcs froms ends blocks w (set f (p + l) i)) (λ m k. go m k (ltb (getD blocks m 0) w) refl)
-    where
-      e₀ : List ℕ
-      e₀ = env p a (valuesOf sizes (j + i * g))
+  module _ (i : ℕ) (in-lanes : i < lanes) where
+    abbrev row-of : ℕ
+    row-of = getD slow i 0 - first
 
-      go : (m : ℕ) → m < n → (b : Bool) → ltb (getD blocks m 0) w ≡ b → asked s funcs froms ends blocks (env p a (valuesOf sizes x)) m ≡ pick b (asked s funcs froms ends blocks (set f (p + l) i) m) true
-      go m k true q =
-          in-grain s funcs froms ends blocks n p g sizes a few positive part (l + 1) is-grain e₀ (j + i * g) (λ y. refl) x (in-lane i x u v) m k
-          ∙ asked-same s funcs froms ends blocks e₀ (set f (p + l) i) m (λ z. ap (λ (y : List ℕ). eqb (top y) (getD s (getD froms m 0) 0)) (run-same s funcs e₀ (set f (p + l) i) (code s (getD froms m 0) (getD ends m 0)) (λ y o. lane-alike i h y)))
-      go m k false q =
-          let o = ltb-false (getD blocks m 0) w q in
-          let b = part m k .block-is (omega (arith, pos-w)) in
-          asked-same s funcs froms ends blocks (env p a (valuesOf sizes x)) f m (λ z.
-          same-on s funcs froms ends blocks n p g sizes a few positive part f j alike m x (finer l (peak (code s (getD froms m 0) (getD ends m 0)) - p) sizes positive (subst (λ (y : ℕ). y ≤ product (drop (peak (code s (getD froms m 0) (getD ends m 0)) - p) sizes)) is-w (subst (λ (y : ℕ). w ≤ y) b o)) x j (subst (λ (y : ℕ). x / y ≡ j / y) is-w (in-row i x h u v))))
-          ∙ t .all-pass (omega (arith, t .no-less, pos-w)) m k (omega (arith, pos-w))
+    row-below : first + row-of < getD sizes u 0
+    row-below = go (ltb row-of m) refl
+      where
+        go : (t : Bool) → ltb row-of m ≡ t → first + row-of < getD sizes u 0
+        go true q = omega (arith, ltb-true row-of m q)
+        go false q =
+            let z : m * getD sizes l 0 ≤ row-of * getD sizes l 0 = mul-le-mul (ltb-false row-of m q) (let y : getD sizes l 0 ≤ getD sizes l 0 = omega arith in y) in
+            absurd (omega (arith, z, strip .lane-is i in-lanes))
+
+    lane-alike : Alike (lane-env f (p + u) (p + l) slow fast i) (env p a (valuesOf sizes (j + i * g)))
+    lane-alike v =
+        let x : first + row-of ≡ getD slow i 0 = omega (arith, strip .slow-least i in-lanes) in
+        let y : j + i * g ≡ j + (row-of * getD sizes l 0 + getD fast i 0) * g = ap (λ (k : ℕ). j + k * g) (strip .lane-is i in-lanes) in
+        let e = subst (λ (k : ℕ). valuesOf sizes (j + (row-of * getD sizes l 0 + getD fast i 0) * g) ≡ set (set (valuesOf sizes j) u k) l (getD fast i 0)) x (strip-values row-of (getD fast i 0) row-below (strip .fast-below i in-lanes)) in
+        env-set p a (set (valuesOf sizes j) u (getD slow i 0)) (set f (p + u) (getD slow i 0)) few (env-set p a (valuesOf sizes j) f few alike u (getD slow i 0) (omega (arith, rowed .u-first)) (omega (arith, values-length sizes j, in-u))) l (getD fast i 0) (omega (arith, length-set f (p + u) (getD slow i 0))) (omega (arith, length-set (valuesOf sizes j) u (getD slow i 0), values-length sizes j, in-l)) v
+        ∙ ap (λ (k : List ℕ). getD (env p a k) v 0) (sym (ap (valuesOf sizes) y ∙ e))
+
+    module _ (x : ℕ) (from-lane : j + i * g ≤ x) (before-next : x < j + i * g + g) where
+      in-lane : x / g ≡ (j + i * g) / g
+      in-lane =
+          let o : j / w * w ≡ j / w * getD sizes l 0 * g = ap (λ (y : ℕ). j / w * y) row-wide ∙ sym (mul-assoc (j / w) (getD sizes l 0) g) in
+          let e : j + i * g ≡ (j / w * getD sizes l 0 + i) * g = omega (arith, begins, o) in
+          let d : (j + i * g) / g ≡ j / w * getD sizes l 0 + i = ap (λ (y : ℕ). y / g) e ∙ mul-div-left (j / w * getD sizes l 0 + i) pos-g in
+          let m : ((j + i * g) / g + 1) * g ≡ j + i * g + g = ap (λ (y : ℕ). (y + 1) * g) d ∙ omega (arith, e) in
+          in-block (j + i * g) g x pos-g from-lane (omega (arith, m, before-next))
+
+      in-b : x / product (drop u sizes) ≡ j / product (drop u sizes)
+      in-b =
+          let z : j ≡ Q * b + first * w = omega (arith, begins, row-place 0) in
+          let e = lane-below i lanes g (lanes * g) in-lanes refl in
+          let o : lanes * g ≡ m * w = ap (λ (k : ℕ). k * g) is-lanes ∙ mul-assoc m (getD sizes l 0) g ∙ ap (λ (k : ℕ). m * k) (sym row-wide) in
+          let t : (first + m) * w ≤ getD sizes u 0 * w = mul-le-mul fits (let k : w ≤ w = omega arith in k) in
+          let c : x / b ≡ Q = div-eq-of-lt-le b (omega (arith, z, from-lane)) (omega (arith, z, e, o, t, b-wide, before-next)) in
+          let d : j / b ≡ Q = div-eq-of-lt-le b (omega (arith, z)) (omega (arith, z, e, o, t, b-wide, from-lane, before-next)) in
+          c ∙ sym d
+
+      pub row-says : (w₂ : ℕ) → w₂ ≡ product (drop u sizes) → (d : ℕ) → Tested (asked s funcs froms ends blocks f) blocks (w₂ - 1) n d → d < w₂
+          → part-met s funcs froms ends blocks n (env p a (valuesOf sizes x)) ≡ all-below n (inner s funcs froms ends blocks w₂ (lane-env f (p + u) (p + l) slow fast i))
+      row-says w₂ is-b d t small = all-same n (asked s funcs froms ends blocks (env p a (valuesOf sizes x))) (inner s funcs froms ends blocks w₂ (lane-env f (p + u) (p + l) slow fast i)) (λ m k. go m k (ltb (getD blocks m 0) w₂) refl)
+        where
+          e₀ : List ℕ
+          e₀ = lane-env f (p + u) (p + l) slow fast i
+
+          pos-w₂ : 0 < w₂
+          pos-w₂ = omega (arith, pos-b, is-b)
+
+          go : (m : ℕ) → m < n → (b : Bool) → ltb (getD blocks m 0) w₂ ≡ b → asked s funcs froms ends blocks (env p a (valuesOf sizes x)) m ≡ pick b (asked s funcs froms ends blocks (lane-env f (p + u) (p + l) slow fast i) m) true
+          go m k true q = in-grain s funcs froms ends blocks n p g sizes a few positive part (l + 1) (rowed .grain-is) (lane-env f (p + u) (p + l) slow fast i) (j + i * g) lane-alike x in-lane m k
+          go m k false q =
+              let o = ltb-false (getD blocks m 0) w₂ q in
+              let r = part m k .block-is (omega (arith, pos-w₂)) in
+              asked-same s funcs froms ends blocks (env p a (valuesOf sizes x)) f m (λ z.
+              same-on s funcs froms ends blocks n p g sizes a few positive part f j alike m x (finer u (peak (code s (getD froms m 0) (getD ends m 0)) - p) sizes positive (subst (λ (y : ℕ). y ≤ product (drop (peak (code s (getD froms m 0) (getD ends m 0)) - p) sizes)) is-b (subst (λ (y : ℕ). w₂ ≤ y) r o)) x j in-b))
+              ∙ t .all-pass (omega (arith, t .no-less, pos-w₂)) m k (omega (arith, pos-w₂))
 
 -- LANES SIFTED BY ONE CONDITION AFTER ANOTHER
 
@@ -158,11 +236,11 @@ pick-none : (b : Bool) (x : ℕ) → x ≡ 0 → x ≡ pick b x 0
 pick-none true x e = refl
 pick-none false x e = e
 
-pub sift-none : (t : ℕ → Bool) (met : List ℕ) (left : ℕ) → ((i : ℕ) → i < 16 → getD met i 0 ≡ 0) → Sifted t met met left
-sift-none t met left h = record { sifted = λ i k. pick-none (t i) (getD met i 0) (h i k); none = λ e i k. h i k }
+pub sift-none : (lanes : ℕ) (t : ℕ → Bool) (met : List ℕ) (left : ℕ) → ((i : ℕ) → i < lanes → getD met i 0 ≡ 0) → Sifted lanes t met met left
+sift-none lanes t met left h = record { sifted = λ i k. pick-none (t i) (getD met i 0) (h i k); none = λ e i k. h i k }
 
-pub sift-all : (t : ℕ → Bool) (met : List ℕ) (left : ℕ) → ((i : ℕ) → t i ≡ true) → (left ≡ 0 → (i : ℕ) → i < 16 → getD met i 0 ≡ 0) → Sifted t met met left
-sift-all t met left h z = record { sifted = λ i k. sym (ap (λ (b : Bool). pick b (getD met i 0) 0) (h i)); none = z }
+pub sift-all : (lanes : ℕ) (t : ℕ → Bool) (met : List ℕ) (left : ℕ) → ((i : ℕ) → t i ≡ true) → (left ≡ 0 → (i : ℕ) → i < lanes → getD met i 0 ≡ 0) → Sifted lanes t met met left
+sift-all lanes t met left h z = record { sifted = λ i k. sym (ap (λ (b : Bool). pick b (getD met i 0) 0) (h i)); none = z }
 
 pub not-asked : (h : Bool) (block w : ℕ) → block ≡ 0 → pick (ltb block w) (pick (ltb 0 block) h true) true ≡ true
 not-asked h block w e = rw (le-ltb 0 block (omega arith)) (go (ltb block w))
@@ -177,13 +255,13 @@ not-inner h block w e = rw (le-ltb block w e) refl
 pub is-inner : (h : Bool) (block w : ℕ) → 0 < block → block < w → h ≡ pick (ltb block w) (pick (ltb 0 block) h true) true
 is-inner h block w e k = rw (lt-ltb block w k, lt-ltb 0 block e) refl
 
-pub met-start : (t : ℕ → ℕ → Bool) (met : List ℕ) (left : ℕ) → ((i : ℕ) → i < 16 → getD met i 0 ≡ 1) → 0 < left → RowMet t 0 met left
+pub met-start : (lanes : ℕ) (t : ℕ → ℕ → Bool) (met : List ℕ) (left : ℕ) → ((i : ℕ) → i < lanes → getD met i 0 ≡ 1) → 0 < left → RowMet lanes t 0 met left
 unfolding all-below
-met-start t met left h k = record { lanes = h; none = λ e. absurd (omega arith) }
+met-start lanes t met left h k = record { each = h; none = λ e. absurd (omega arith) }
 
-pub met-more : (t : ℕ → ℕ → Bool) (n : ℕ) (met met′ : List ℕ) (left left′ : ℕ) → RowMet t n met left → Sifted (λ i. t i n) met met′ left′ → RowMet t (n + 1) met′ left′
+pub met-more : (lanes : ℕ) (t : ℕ → ℕ → Bool) (n : ℕ) (met met′ : List ℕ) (left left′ : ℕ) → RowMet lanes t n met left → Sifted lanes (λ i. t i n) met met′ left′ → RowMet lanes t (n + 1) met′ left′
 unfolding all-below
-met-more t n met met′ left left′ r q = record { lanes = λ i h. rw (add-one n) (q .sifted i h ∙ ap (λ (x : ℕ). pick (t i n) x 0) (r .lanes i h) ∙ join (t i n) (all-below n (t i))); none = q .none }
+met-more lanes t n met met′ left left′ r q = record { each = λ i h. rw (add-one n) (q .sifted i h ∙ ap (λ (x : ℕ). pick (t i n) x 0) (r .each i h) ∙ join (t i n) (all-below n (t i))); none = q .none }
   where
     join : (a b : Bool) → _≡_ {A = ℕ} (pick a (pick b 1 0) 0) (pick (and a b) 1 0)
     join true b = refl
@@ -273,9 +351,9 @@ module _ (acc : ℕ → Bool) (total from k : ℕ) (r : Found) where
   pub came-past : (j left w : ℕ) → j + w ≤ total → Going acc total from k j left → r .found ≡ false → Finds (places acc w j) left (r .found) (r .at) (r .left) → Going acc total from k (j + w) (r .left)
   came-past j left w fits g e f = row-past acc total from k j left w fits g (r .at) (r .left) (subst (λ (b : Bool). Finds (places acc w j) left b (r .at) (r .left)) e f)
 
--- a row is not long
-pub row-small : (size g : ℕ) → size ≤ 16 → g ≤ 65536 → size * g ≤ 1048576
-row-small size g h k = let m : size * g ≤ 16 * 65536 = mul-le-mul h k in omega arith
+-- a strip is not long
+pub row-small : (size g : ℕ) → size ≤ 128 → g ≤ 65536 → size * g ≤ 8388608
+row-small size g h k = let m : size * g ≤ 128 * 65536 = mul-le-mul h k in omega arith
 
 -- THE SEARCH GOES ON BY ROWS
 
@@ -291,3 +369,89 @@ module _ (acc : ℕ → Bool) (total from k j left : ℕ) (so-far : Going acc to
   rows-past e =
       let c = going-from acc total j left (r .at) (r .left) (subst (λ (b : Bool). Came acc total j left b (r .at) (r .left)) e came) in
       (so-far .0 ∙ c .0, omega (arith, so-far .1, c .1))
+
+  found-came : r .found ≡ true → Came acc total from k (r .found) (r .at) (r .left)
+  unfolding Came Finds
+  found-came e = subst (λ (b : Bool). Came acc total from k b (r .at) (r .left)) (sym e) (subst (λ (b : Bool). Finds (places acc (total - from) from) k b (r .at) (r .left)) e (rows-found e))
+
+  -- what the search finds from there on, or how far it comes
+  pub came-then : Came acc total from k (r .found) (r .at) (r .left)
+  came-then = go (r .found) refl
+    where
+      go : (b : Bool) → r .found ≡ b → Came acc total from k (r .found) (r .at) (r .left)
+      go true e = found-came e
+      go false e = came-at acc total from k r (r .at) (r .left) (e, (refl, refl)) (rows-past e)
+
+-- LANES OF A STRIP
+
+pub strip-none : (size first : ℕ) (slow fast met : List ℕ) → Strip size first 0 slow fast met
+strip-none size first slow fast met = record { slow-least = λ i h. absurd (omega arith); fast-below = λ i h. absurd (omega arith); lane-is = λ i h. absurd (omega arith); all-kept = λ i h. absurd (omega arith) }
+
+below-set : (P : ℕ → ℕ → Type 0) (n : ℕ) (l : List ℕ) (x : ℕ) → n < length l → ((i : ℕ) → i < n → P i (getD l i 0)) → P n x → (i : ℕ) → i < n + 1 → P i (getD (set l n x) i 0)
+below-set P n l x h p q i k = go (ltb i n) refl
+  where
+    go : (t : Bool) → ltb i n ≡ t → P i (getD (set l n x) i 0)
+    go true r = let o = ltb-true i n r in subst (P i) (sym (getD-set-other l n i x 0 (λ y. omega arith))) (p i o)
+    go false r =
+        let o = ltb-false i n r in
+        let z : n ≡ i = omega arith in
+        subst (λ (m : ℕ). P m (getD (set l n x) m 0)) z (subst (P n) (sym (getD-set-same l n x 0 h)) q)
+
+pub strip-more : (size first n : ℕ) (slow fast met : List ℕ) (x y : ℕ) → n < length slow → n < length fast → n < length met → first ≤ x → y < size → n ≡ (x - first) * size + y → Strip size first n slow fast met → Strip size first (n + 1) (set slow n x) (set fast n y) (set met n 1)
+strip-more size first n slow fast met x y hs hf hm least below is-n t =
+    record {
+      slow-least = below-set (λ i v. first ≤ v) n slow x hs (t .slow-least) least;
+      fast-below = below-set (λ i v. v < size) n fast y hf (t .fast-below) below;
+      lane-is = λ i k. pair i (ltb i n) refl k;
+      all-kept = below-set (λ i v. v ≡ 1) n met 1 hm (t .all-kept) refl;
+    }
+  where
+    pair : (i : ℕ) (b : Bool) → ltb i n ≡ b → i < n + 1 → i ≡ (getD (set slow n x) i 0 - first) * size + getD (set fast n y) i 0
+    pair i true r k =
+        let o = ltb-true i n r in
+        t .lane-is i o ∙ ap₂ (λ (v z : ℕ). (v - first) * size + z) (sym (getD-set-other slow n i x 0 (λ q. omega arith))) (sym (getD-set-other fast n i y 0 (λ q. omega arith)))
+    pair i false r k =
+        let o = ltb-false i n r in
+        let z : i ≡ n = omega arith in
+        rw z (is-n ∙ ap₂ (λ (v z : ℕ). (v - first) * size + z) (sym (getD-set-same slow n x 0 hs)) (sym (getD-set-same fast n y 0 hf)))
+
+-- the next lane, in the same row or in the next one
+pub next-row : (size first n x y : ℕ) → first ≤ x → n ≡ (x - first) * size + y → y + 1 ≡ size → n + 1 ≡ (x + 1 - first) * size + 0
+next-row size first n x y h e k = let z : x + 1 - first ≡ suc (x - first) = omega arith in let o : (x + 1 - first) * size ≡ suc (x - first) * size = ap (λ (m : ℕ). m * size) z in omega arith
+
+pub few-rows : (a m size : ℕ) → m ≤ a / size → a ≤ 128 → m * size ≤ 128
+few-rows a m size h k = let z : m * size ≤ a / size * size = mul-le-mul h (let y : size ≤ size = omega arith in y) in omega (arith, div-mul-le-self a size)
+
+-- rows that are not marked yet
+pub zero-at : (n x : ℕ) → _≡_ {A = ℕ} (getD (replicate n 0) x 0) 0
+zero-at zero x = refl
+zero-at (suc n) zero = refl
+zero-at (suc n) (suc x) = zero-at n x
+
+-- as much room as before
+pub lent-again : (rows marks slow fast met rows′ marks′ slow′ fast′ met′ : List ℕ) → length rows′ ≡ length rows → length marks′ ≡ length marks → length slow′ ≡ length slow → length fast′ ≡ length fast → length met′ ≡ length met → Lent rows marks slow fast met → Lent rows′ marks′ slow′ fast′ met′
+lent-again rows marks slow fast met rows′ marks′ slow′ fast′ met′ a b c d e l = record { rows-long = omega (arith, l .rows-long); marks-long = omega (arith, l .marks-long); slow-long = omega (arith, l .slow-long); fast-long = omega (arith, l .fast-long); met-long = omega (arith, l .met-long) }
+
+pub finds-gone : (l : List ℕ) (k : ℕ) (r : Found) (at left : ℕ) → (r .found ≡ false) × ((r .at ≡ at) × (r .left ≡ left)) → ((x : ℕ) → Finds l k false x left) → Finds l k (r .found) (r .at) (r .left)
+finds-gone l k r at left e f = subst (λ (b : Bool). Finds l k b (r .at) (r .left)) (sym (e .0)) (subst (λ (x : ℕ). Finds l k false (r .at) x) (sym (e .1 .1)) (f (r .at)))
+
+-- what is found in the w numbers from j on
+pub came-lanes : (acc : ℕ → Bool) (total j k : ℕ) (r : Found) (w : ℕ) → j + w ≤ total → (r .found ≡ false → r .at ≡ j + w) → Finds (places acc w j) k (r .found) (r .at) (r .left) → Came acc total j k (r .found) (r .at) (r .left)
+came-lanes acc total j k r w fits at f = go (r .found) refl
+  where
+    go : (b : Bool) → r .found ≡ b → Came acc total j k (r .found) (r .at) (r .left)
+    go true e = came-in acc total j k r j k w fits (going-start acc total j k) e f
+    go false e = came-at acc total j k r (j + w) (r .left) (e, (at e, refl)) (came-past acc total j k r j k w fits (going-start acc total j k) e f)
+
+module _ (sizes : List ℕ) (l u g w : ℕ) (rowed : Rowed sizes l u g w) (four : length sizes ≡ 4) (right : Sizes sizes) where
+  pub all-positive : (i : ℕ) → i < length sizes → 0 < getD sizes i 0
+  all-positive i h = right i (omega arith) .0
+
+  pub row-pos : 0 < w
+  row-pos = subst (λ (x : ℕ). 0 < x) (sym (rowed .row-is)) (product-pos l sizes all-positive)
+
+  pub strip-pos : (b : ℕ) → b ≡ product (drop u sizes) → 0 < b
+  strip-pos b e = subst (λ (x : ℕ). 0 < x) (sym e) (product-pos u sizes all-positive)
+
+pub zero-room : Lent (replicate 2560 0) (replicate 20 0) (replicate 128 0) (replicate 128 0) (replicate 128 0)
+zero-room = record { rows-long = omega (arith, length-replicate {A = ℕ} 2560 0); marks-long = omega (arith, length-replicate {A = ℕ} 20 0); slow-long = omega (arith, length-replicate {A = ℕ} 128 0); fast-long = omega (arith, length-replicate {A = ℕ} 128 0); met-long = omega (arith, length-replicate {A = ℕ} 128 0) }

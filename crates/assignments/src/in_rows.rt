@@ -1,29 +1,19 @@
-// The search by rows of blocks: one block for each value of the last variable that the conditions name. A condition is evaluated for a row at once.
+// Where the search by rows of blocks pays: one block for each value of the last variable that the conditions name. Rows that differ in one more variable are searched together, in strips.
 ghost use mathlib.Core.Path.{_≡_};
-ghost use mathlib.Core.Bool.{Bool, true, false};
-ghost use Prim.Native.Nat.{ℕ, _+_, _*_, _≤_, _<_};
-ghost use lib.Dec.{ltb};
-ghost use lib.ListN.{length, getD, drop, set};
+ghost use mathlib.Core.Bool.{true, false};
+ghost use Prim.Native.Nat.{ℕ, _+_, _≤_, _<_};
+ghost use lib.ListN.{getD, drop};
 ghost use Rattle.pcrl.specs.Limits.{frame-width, max-variables, max-conditions};
-ghost use Rattle.laws.specs.TermLength.{max-term};
-ghost use Rattle.evaluation.specs.Run.{pick};
-ghost use Rattle.assignments.specs.Places.{product, valuesOf, places, Sizes};
-ghost use Rattle.assignments.specs.Conditions.{env, holds, Finds};
-ghost use Rattle.assignments.specs.Parting.{Standing, part-met, Part};
-ghost use Rattle.assignments.specs.Lanes.{inner, Sifted, RowMet, Came};
+ghost use Rattle.assignments.specs.Places.{product, valuesOf, Sizes};
+ghost use Rattle.assignments.specs.Conditions.{env};
+ghost use Rattle.assignments.specs.Parting.{part-met, Part};
+ghost use Rattle.assignments.specs.Lanes.{Came};
 use crate::Eight;
 use crate::Found;
 use crate::Four;
 use crate::block_size;
-use crate::environment;
-use crate::one_part::found_at;
 use crate::one_part::next;
-use crate::one_part::none_found;
-use crate::one_part::test;
-use crate::values;
-use crate::wide_block;
-use elements::wide;
-use evaluation::rows::KeptLanes;
+use crate::strips::by_strips;
 
 // So many blocks are enough to look for rows, and a row has so many at the fewest.
 const MANY: usize = 16;
@@ -31,7 +21,7 @@ const MANY: usize = 16;
 const FEW: u8 = 4;
 
 // The search came so far, with so much of k left.
-fn gone_to(at: usize, left: u64) -> Found
+pub fn gone_to(at: usize, left: u64) -> Found
     ensures { λ r. ⌜ (r .found ≡ false) × ((r .at ≡ at) × (r .left ≡ left)) ⌝ }
 {
     Found {
@@ -73,87 +63,6 @@ fn row_level(z: Four, g: usize) -> usize
     4
 }
 
-// Of the lanes that are kept, those in which a condition holds, if it is asked and its block is less than w.
-fn row_tried(
-    s: &[u8],
-    funcs: &[u16],
-    e: &[u8],
-    v: usize,
-    from: usize,
-    end: usize,
-    block: u32,
-    w: u32,
-    met: KeptLanes,
-) -> KeptLanes
-    ensures { λ r. ⌜ (from + 1 ≤ end → end ≤ from + 1 + max-term → end ≤ length (now (s .entry)) → v < length (now (e .entry)) → (met .some ≡ 0 → (i : ℕ) → i < 16 → getD (met .at) i 0 ≡ 0) → Sifted (λ i. pick (ltb block w) (pick (ltb 0 block) (holds (now (s .entry)) (now (funcs .entry)) (set (now (e .entry)) v i) from end) true) true) (met .at) (r .at) (r .some)) ⌝ }
-{
-    if met.some == 0 {
-        return met;
-    }
-    if block == 0 {
-        return met;
-    }
-    if w <= block {
-        return met;
-    }
-    if s.len() <= from {
-        return met;
-    }
-    evaluation::rows::row_holds(s, funcs, e, v, from + 1, end, s[from], met)
-}
-
-// The lanes in which all conditions hold that are asked and whose blocks are less than w.
-fn row_test(
-    s: &[u8],
-    funcs: &[u16],
-    e: &[u8],
-    v: usize,
-    froms: &[usize; 8],
-    ends: &[usize; 8],
-    blocks: &[u32; 8],
-    n: usize,
-    w: u32,
-) -> KeptLanes
-    requires { ⌜ n ≤ max-conditions ⌝ }
-    ensures { λ r. ⌜ (((i : ℕ) → i < n → Standing (now (s .entry)) (now (froms .entry)) (now (ends .entry)) i) → v < length (now (e .entry)) → RowMet (λ i. inner (now (s .entry)) (now (funcs .entry)) (now (froms .entry)) (now (ends .entry)) (now (blocks .entry)) w (set (now (e .entry)) v i)) n (r .at) (r .some)) ⌝ }
-{
-    let mut met = KeptLanes {
-        at: [1u8; 16],
-        some: 1,
-    };
-    let mut i: usize = 0;
-    while i < n {
-        met = row_tried(s, funcs, e, v, froms[i], ends[i], blocks[i], w, met);
-        i += 1;
-    }
-    met
-}
-
-// The k-th of the assignments in a row of blocks of g from j on: those of the lanes that are kept.
-fn in_row(lanes: [u8; 16], size: usize, g: usize, j: usize, k: u64) -> Found
-    requires { ⌜ (size ≤ 16) × ((g ≤ 65536) × (j < 131072)) ⌝ }
-    ensures { λ r. ⌜ (r .at ≤ j + size * g) × ((r .left ≤ k) × ((acc : ℕ → Bool) → ((i x : ℕ) → i < size → j + i * g ≤ x → x < j + i * g + g → acc x ≡ ltb 0 (getD lanes i 0)) → Finds (places acc (size * g) j) k (r .found) (r .at) (r .left))) ⌝ }
-{
-    let m = g as u64;
-    let mut left = k;
-    let mut at = j;
-    let mut i: usize = 0;
-    while i < size {
-        if lanes[i] == 0 {
-            at += g;
-            i += 1;
-        } else {
-            if left < m {
-                return found_at(at + (left as usize));
-            }
-            left -= m;
-            at += g;
-            i += 1;
-        }
-    }
-    none_found(left)
-}
-
 // Where rows begin to pay: behind the first one, if there are more.
 pub fn first_row(z: Four, g: usize, from: usize, to: usize) -> usize
     requires { ⌜ Sizes (z .at) × ((to ≤ 131072) × ((0 < g) × (g ≤ 65536))) ⌝ }
@@ -175,7 +84,7 @@ pub fn first_row(z: Four, g: usize, from: usize, to: usize) -> usize
     next(from, block_size(z, l))
 }
 
-fn narrow(x: usize) -> u32
+pub fn narrow(x: usize) -> u32
     requires { ⌜ x ≤ 65536 ⌝ }
     ensures { λ r. ⌜ r ≡ x ⌝ }
 {
@@ -205,34 +114,37 @@ pub fn find_rows(
     if 4 <= l {
         return gone_to(from, k);
     }
-    let sizes = z.at;
-    let size = wide(sizes[l]);
     let w = block_size(z, l);
-    let b = narrow(w);
-    let mut j = from;
-    let mut left = k;
-    while j < to {
-        if to - j < w {
-            return gone_to(j, left);
-        }
-        if j % w != 0 {
-            return gone_to(j, left);
-        }
-        let e = environment(params, p, values(z, j));
-        let a = e.at;
-        let d = test(s, funcs, &a, froms, ends, blocks, n, b - 1);
-        if d < b {
-            let m = row_test(s, funcs, &a, p + l, froms, ends, blocks, n, b);
-            let lanes = m.at;
-            let r = in_row(lanes, size, g, j, left);
-            if r.found {
-                return r;
-            }
-            left = r.left;
-            j += w;
-        } else {
-            j = next(j, wide_block(d));
-        }
+    let u = row_level(z, w);
+    if l <= u {
+        return gone_to(from, k);
     }
-    gone_to(j, left)
+    let mut rows = [0u8; 2560];
+    let mut marks = [0u8; 20];
+    let mut slow = [0u8; 128];
+    let mut fast = [0u8; 128];
+    let mut met = [0u8; 128];
+    by_strips(
+        s,
+        funcs,
+        params,
+        p,
+        z,
+        froms,
+        ends,
+        blocks,
+        n,
+        g,
+        l,
+        u,
+        w,
+        from,
+        to,
+        k,
+        &mut rows,
+        &mut marks,
+        &mut slow,
+        &mut fast,
+        &mut met,
+    )
 }

@@ -9,6 +9,7 @@ ghost use Rattle.assignments.specs.Conditions.{env, met, Ready, Finds};
 
 pub mod one_part; // the search with one part of the conditions
 pub mod in_rows; // the same by rows of blocks
+pub mod strips; // rows that are searched together
 pub mod gaps; // variables that no condition names, between others
 pub mod rounds; // the search in all rounds
 pub mod two_parts; // the conditions parted in two, and the search with both parts

@@ -1,24 +1,37 @@
--- Rows of 16 values, one behind another in a list: lane i of a row is its value for value i of one variable.
+-- Rows of up to 128 values, one behind another in a list: lane i of a row is its value for one pair of values of two variables.
 use mathlib.Core.Path.{_≡_}
 use mathlib.Core.List.{List}
 use Prim.Native.Nat.{ℕ, _+_, _*_, _<_, _≤_}
 use lib.Dec.{eqb}
-use lib.ListN.{getD}
+use lib.ListN.{getD, set}
 use Rattle.evaluation.specs.Run.{pick}
 
 abbrev pub lane : List ℕ → ℕ → ℕ → ℕ
-lane rows t i = getD rows (t * 16 + i) 0
+lane rows t i = getD rows (t * 128 + i) 0
 
--- row d is f, lane by lane; the rest is as it was
-pub record RowPut (rows : List ℕ) (d : ℕ) (f : ℕ → ℕ) (rows′ : List ℕ) : Type 0 where
-  pub lanes : (i : ℕ) → i < 16 → lane rows′ d i ≡ f i
-  pub others : (x : ℕ) → (d * 16 ≤ x → x < d * 16 + 16 → ⊥) → getD rows′ x 0 ≡ getD rows x 0
+-- what the variables are worth in lane i: u is what `slow` has there, and v what `fast` has
+abbrev pub lane-env : List ℕ → ℕ → ℕ → List ℕ → List ℕ → ℕ → List ℕ
+lane-env e u v slow fast i = set (set e u (getD slow i 0)) v (getD fast i 0)
+
+-- the lanes from a to b of row d are f; the rest is as it was
+pub record Putting (rows : List ℕ) (d : ℕ) (f : ℕ → ℕ) (a b : ℕ) (rows′ : List ℕ) : Type 0 where
+  pub so-far : (i : ℕ) → a ≤ i → i < b → lane rows′ d i ≡ f i
+  pub rest : (x : ℕ) → (d * 128 + a ≤ x → x < d * 128 + b → ⊥) → getD rows′ x 0 ≡ getD rows x 0
+
+-- row d is f, lane by lane for n lanes; the other rows are as they were
+pub record RowPut (n : ℕ) (rows : List ℕ) (d : ℕ) (f : ℕ → ℕ) (rows′ : List ℕ) : Type 0 where
+  pub lanes : (i : ℕ) → i < n → lane rows′ d i ≡ f i
+  pub others : (x : ℕ) → (d * 128 ≤ x → x < d * 128 + 128 → ⊥) → getD rows′ x 0 ≡ getD rows x 0
 
 -- a row whose mark is 0 has the same value in every lane
 abbrev pub Marked : List ℕ → List ℕ → Type 0
-Marked rows marks = (r : ℕ) → r < 51 → getD marks r 0 ≡ 0 → (i : ℕ) → i < 16 → lane rows r i ≡ lane rows r 0
+Marked rows marks = (r : ℕ) → r < 20 → getD marks r 0 ≡ 0 → (i : ℕ) → i < 128 → lane rows r i ≡ lane rows r 0
+
+-- zeros stand behind the rows
+abbrev pub Zeros : List ℕ → Type 0
+Zeros rows = (x : ℕ) → 2176 ≤ x → getD rows x 0 ≡ 0
 
 -- of the lanes that are kept, those in which f is what is wanted; `some` is 0 only if none is left
-pub record LanesKept (f : ℕ → ℕ) (wanted : ℕ) (met met′ : List ℕ) (some : ℕ) : Type 0 where
-  pub kept-lanes : (i : ℕ) → i < 16 → getD met′ i 0 ≡ pick (eqb (f i) wanted) (getD met i 0) 0
-  pub none-left : some ≡ 0 → (i : ℕ) → i < 16 → getD met′ i 0 ≡ 0
+pub record LanesKept (n : ℕ) (f : ℕ → ℕ) (wanted : ℕ) (met met′ : List ℕ) (some : ℕ) : Type 0 where
+  pub kept-lanes : (i : ℕ) → i < n → getD met′ i 0 ≡ pick (eqb (f i) wanted) (getD met i 0) 0
+  pub none-left : some ≡ 0 → (i : ℕ) → i < n → getD met′ i 0 ≡ 0

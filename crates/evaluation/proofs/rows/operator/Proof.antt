@@ -5,16 +5,16 @@ use Prim.Native.Nat.{ℕ, _+_, _-_, _*_, _≤_}
 use mathlib.Core.Path.{_≡_, refl, ap, ap₂, _∙_}
 use lib.ListN.{length, length-set, getD}
 use Rattle.evaluation.specs.Run.{operator-code, operator-worth}
-use Rattle.evaluation.specs.Rows.{lane}
-use Rattle.evaluation.proofs.Lanes.{Putting, put-none, put-more, put-read, put-all}
+use Rattle.evaluation.specs.Rows.{lane, Putting}
+use Rattle.evaluation.proofs.Lanes.{put-none, put-more, put-read, put-all}
 use Rattle.evaluation.proofs.rows.operator.Statement.{statement}
 use Rattle.evaluation.proofs.rows.operator.Tie as tie
 
 abbrev Inv-loop : tie.InvT-loop
-Inv-loop n rows₀ t d x y z r i₀ rows i = (i ≤ 16) × (((x ≡ t * 16) × ((y ≡ t * 16 + 16) × ((z ≡ t * 16 + 32) × (r ≡ d * 16)))) × ((length rows ≡ length rows₀) × Putting rows₀ d (λ m. operator-worth (n - operator-code) (lane rows₀ t m) (lane rows₀ (t + 1) m) (lane rows₀ (t + 2) m)) i rows))
+Inv-loop c rows₀ t d x y z r i₀ rows i = (i ≤ 128) × (((x ≡ t * 128) × ((y ≡ t * 128 + 128) × ((z ≡ t * 128 + 256) × (r ≡ d * 128)))) × ((length rows ≡ length rows₀) × Putting rows₀ d (λ m. operator-worth (c - operator-code) (lane rows₀ t m) (lane rows₀ (t + 1) m) (lane rows₀ (t + 2) m)) 0 i rows))
 
 abbrev μ-loop : tie.MeasureT-loop
-μ-loop n rows₀ t d x y z r i₀ rows i = 16 - i
+μ-loop c rows₀ t d x y z r i₀ rows i = 128 - i
 
 mul-x : tie.Need-mul-x Inv-loop μ-loop
 mul-x c = omega arith
@@ -29,7 +29,7 @@ mul-r : tie.Need-mul-r Inv-loop μ-loop
 mul-r c = omega arith
 
 loop-holds : tie.Need-loop-holds Inv-loop μ-loop
-loop-holds c = (omega arith, ((omega arith, (omega arith, (omega arith, omega arith))), (refl, put-none _ _ _)))
+loop-holds c = (omega arith, ((omega arith, (omega arith, (omega arith, omega arith))), (refl, put-none _ _ _ _ _ (omega arith))))
 
 add-operator-worth : tie.Need-add-operator-worth Inv-loop μ-loop
 add-operator-worth c = omega arith
@@ -65,18 +65,18 @@ loop-less : tie.Need-loop-less Inv-loop μ-loop
 loop-less c = omega arith
 
 loop-again : tie.Need-loop-again Inv-loop μ-loop
-loop-again c = let a = c .before .before .before .before .before .before .before .args in let l = c .before .before .before .before .before .loop in let p = l .inv .1 .1 .1 in let f : ℕ → ℕ = λ m. operator-worth (a .n - operator-code) (lane (a .rows .now) (a .t) m) (lane (a .rows .now) (a .t + 1) m) (lane (a .rows .now) (a .t + 2) m) in
-    let u = put-read (a .rows .now) (a .d) f (l .i) (l .rows) p (a .t) (a .t * 16) refl (omega arith) in
-    let v = put-read (a .rows .now) (a .d) f (l .i) (l .rows) p (a .t + 1) (a .t * 16 + 16) (omega arith) (omega arith) in
-    let q = put-read (a .rows .now) (a .d) f (l .i) (l .rows) p (a .t + 2) (a .t * 16 + 16 + 16) (omega arith) (omega arith) in
-    let w = c .operator-worth .ensures ∙ ap (λ (y : ℕ). operator-worth (a .n - operator-code) y (getD (l .rows) (a .t * 16 + 16 + l .i) 0) (getD (l .rows) (a .t * 16 + 16 + 16 + l .i) 0)) u ∙ ap₂ (λ (y z : ℕ). operator-worth (a .n - operator-code) (lane (a .rows .now) (a .t) (l .i)) y z) v q in
-    (omega arith, (l .inv .1 .0, (simp length-set (l .inv .1 .1 .0), put-more (a .rows .now) (a .d) f (l .i) (l .rows) (a .d * 16) (c .operator-worth .result) refl (omega arith) w p)))
+loop-again c = let a = c .before .before .before .before .before .before .before .args in let l = c .before .before .before .before .before .loop in let p = l .inv .1 .1 .1 in let f : ℕ → ℕ = λ m. operator-worth (a .c - operator-code) (lane (a .rows .now) (a .t) m) (lane (a .rows .now) (a .t + 1) m) (lane (a .rows .now) (a .t + 2) m) in
+    let u = put-read (a .rows .now) (a .d) f 0 (l .i) (l .rows) p (a .t) (l .i) (a .t * 128 + l .i) refl (omega arith) (omega arith) in
+    let v = put-read (a .rows .now) (a .d) f 0 (l .i) (l .rows) p (a .t + 1) (l .i) (a .t * 128 + 128 + l .i) (omega arith) (omega arith) (omega arith) in
+    let q = put-read (a .rows .now) (a .d) f 0 (l .i) (l .rows) p (a .t + 2) (l .i) (a .t * 128 + 128 + 128 + l .i) (omega arith) (omega arith) (omega arith) in
+    let w = c .operator-worth .ensures ∙ ap (λ (y : ℕ). operator-worth (a .c - operator-code) y (getD (l .rows) (a .t * 128 + 128 + l .i) 0) (getD (l .rows) (a .t * 128 + 128 + 128 + l .i) 0)) u ∙ ap₂ (λ (y z : ℕ). operator-worth (a .c - operator-code) (lane (a .rows .now) (a .t) (l .i)) y z) v q in
+    (omega arith, (l .inv .1 .0, (simp length-set (l .inv .1 .1 .0), put-more (a .rows .now) (a .d) f 0 (l .i) (l .rows) (a .d * 128 + l .i) (c .operator-worth .result) refl (omega arith) (omega arith) w p)))
 
 same-length : tie.Need-same-length Inv-loop μ-loop
 same-length c = c .before .loop .inv .1 .1 .0
 
 returns : tie.Need-returns Inv-loop μ-loop
-returns c = let a = c .before .before .before .args in let l = c .before .loop in put-all (a .rows .now) (a .d) _ (l .i) (l .rows) (omega arith) (l .inv .1 .1 .1)
+returns c = let a = c .before .before .before .args in let l = c .before .loop in put-all 128 (a .rows .now) (a .d) _ (l .i) (l .rows) (omega arith) (omega arith) (l .inv .1 .1 .1)
 
 pub operator-spec : {M : Type 1} → statement M
 operator-spec =

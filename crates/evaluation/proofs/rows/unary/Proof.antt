@@ -5,7 +5,7 @@ use Prim.Native.Nat.{ℕ, _+_, _*_}
 use mathlib.Core.Path.{_≡_, refl, sym, ap, _∙_}
 use lib.ListN.{getD}
 use Rattle.evaluation.specs.Rows.{lane}
-use Rattle.evaluation.proofs.Lanes.{put-as, mark-put}
+use Rattle.evaluation.proofs.Lanes.{put-fewer, put-as, mark-put}
 use Rattle.evaluation.proofs.rows.unary.Statement.{statement}
 use Rattle.evaluation.proofs.rows.unary.Tie as tie
 
@@ -40,17 +40,23 @@ same-length-2 : tie.Need-same-length-2
 same-length-2 c = search needs
 
 returns : tie.Need-returns
-returns c = λ w. let a = c .before .before .before .before .before .before .before .before .before .before .before .before .args in let p = c .before .before .fill .ensures in let z : a .t * 16 ≡ a .t * 16 + 0 = omega arith in
-    (put-as (a .rows .now) (a .d) _ _ _ (λ i k. c .before .before .before .peek .ensures ∙ ap (λ (y : ℕ). getD (a .s .now) (a .q + y) 0) (c .before .before .before .before .wide .ensures .0 ∙ ap (λ (x : ℕ). getD (a .rows .now) x 0) z ∙ sym (w (a .t) (omega arith) (c .before .before .before .before .before .before .before .if1 .taken) i k))) p, mark-put (a .rows .now) (a .marks .now) (a .d) _ _ 0 (omega arith) (omega arith) (λ e i. refl) p w)
+returns c = λ w. let a = c .before .before .before .before .before .before .before .before .before .before .before .before .args in let p = put-fewer (a .n) 128 (a .rows .now) (a .d) _ _ (omega arith) (c .before .before .fill .ensures) in let z : a .t * 128 ≡ a .t * 128 + 0 = omega arith in
+    (put-as (a .n) (a .rows .now) (a .d) _ _ _ (λ i k. c .before .before .before .peek .ensures ∙ ap (λ (y : ℕ). getD (a .s .now) (a .q + y) 0) (c .before .before .before .before .wide .ensures .0 ∙ ap (λ (x : ℕ). getD (a .rows .now) x 0) z ∙ sym (w (a .t) (omega arith) (c .before .before .before .before .before .before .before .if1 .taken) i (omega arith)))) p, mark-put 128 (a .rows .now) (a .marks .now) (a .d) _ _ 0 (omega arith) (omega arith) (λ e. (omega arith, λ i. refl)) (c .before .before .fill .ensures) w)
 
 slice-write-marks-2 : tie.Need-slice-write-marks-2
 slice-write-marks-2 c = search needs
+
+highest-requires : tie.Need-highest-requires
+highest-requires c κs = search needs
+
+wide-requires-2 : tie.Need-wide-requires-2
+wide-requires-2 c κs = search needs
 
 add-if2 : tie.Need-add-if2
 add-if2 c = search needs
 
 one-inside-requires : tie.Need-one-inside-requires
-one-inside-requires c κs = (omega arith, (omega arith, (omega arith, (omega arith, omega arith))))
+one-inside-requires c κs = (λ i h. omega (arith, c .before .before .before .highest .ensures i h, c .before .before .wide2 .ensures .0), (omega arith, (omega arith, (omega arith, (omega arith, omega arith)))))
 
 same-length-3 : tie.Need-same-length-3
 same-length-3 c = search needs
@@ -59,7 +65,7 @@ same-length-4 : tie.Need-same-length-4
 same-length-4 c = search needs
 
 returns-2 : tie.Need-returns-2
-returns-2 c = λ w. let a = c .before .before .before .before .before .before .before .before .before .before .args in let p = c .before .before .one-inside .ensures in (p, mark-put (a .rows .now) (a .marks .now) (a .d) _ _ 1 (omega arith) (omega arith) (λ e i. absurd (omega arith)) p w)
+returns-2 c = λ w. let a = c .before .before .before .before .before .before .before .before .before .before .before .before .before .args in let p = c .before .before .one-inside .ensures in (p, mark-put (a .n) (a .rows .now) (a .marks .now) (a .d) _ _ 1 (omega arith) (omega arith) (λ e. absurd (omega arith)) p w)
 
 one-requires : tie.Need-one-requires
 one-requires c κs = search needs
@@ -71,7 +77,7 @@ same-length-6 : tie.Need-same-length-6
 same-length-6 c = search needs
 
 returns-3 : tie.Need-returns-3
-returns-3 c = λ w. let a = c .before .before .before .before .before .before .before .before .before .before .args in let p = c .before .before .one .ensures in (p, mark-put (a .rows .now) (a .marks .now) (a .d) _ _ 1 (omega arith) (omega arith) (λ e i. absurd (omega arith)) p w)
+returns-3 c = λ w. let a = c .before .before .before .before .before .before .before .before .before .before .before .before .before .args in let p = c .before .before .one .ensures in (p, mark-put (a .n) (a .rows .now) (a .marks .now) (a .d) _ _ 1 (omega arith) (omega arith) (λ e. absurd (omega arith)) p w)
 
 pub unary-spec : {M : Type 1} → statement M
 unary-spec =
@@ -89,6 +95,8 @@ unary-spec =
     same-length-2
     returns
     slice-write-marks-2
+    highest-requires
+    wide-requires-2
     add-if2
     one-inside-requires
     same-length-3

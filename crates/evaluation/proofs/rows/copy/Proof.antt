@@ -1,0 +1,63 @@
+-- Lane by lane.
+use borrow.Author.Needs.{needs}
+use native.Mathlib.Omega.{arith}
+use Prim.Native.Nat.{ℕ, _+_, _-_, _*_, _≤_}
+use mathlib.Core.Path.{_≡_, refl, _∙_}
+use lib.ListN.{length, length-set, getD}
+use Rattle.evaluation.specs.Rows.{Putting}
+use Rattle.evaluation.proofs.Lanes.{put-none, put-more, put-all}
+use Rattle.evaluation.proofs.rows.copy.Statement.{statement}
+use Rattle.evaluation.proofs.rows.copy.Tie as tie
+
+abbrev Inv-loop : tie.InvT-loop
+Inv-loop from rows₀ d r i₀ rows i = (i ≤ 128) × ((r ≡ d * 128) × ((length rows ≡ length rows₀) × Putting rows₀ d (λ n. getD from n 0) 0 i rows))
+
+abbrev μ-loop : tie.MeasureT-loop
+μ-loop from rows₀ d r i₀ rows i = 128 - i
+
+mul-r : tie.Need-mul-r Inv-loop μ-loop
+mul-r c = omega arith
+
+loop-holds : tie.Need-loop-holds Inv-loop μ-loop
+loop-holds c = (omega arith, (omega arith, (refl, put-none _ _ _ _ _ (omega arith))))
+
+shared-slice-read-rows : tie.Need-shared-slice-read-rows Inv-loop μ-loop
+shared-slice-read-rows c = omega arith
+
+add-rows : tie.Need-add-rows Inv-loop μ-loop
+add-rows c = omega arith
+
+slice-write-rows : tie.Need-slice-write-rows Inv-loop μ-loop
+slice-write-rows c = omega arith
+
+add-i : tie.Need-add-i Inv-loop μ-loop
+add-i c = omega arith
+
+loop-less : tie.Need-loop-less Inv-loop μ-loop
+loop-less c = omega arith
+
+loop-again : tie.Need-loop-again Inv-loop μ-loop
+loop-again c = let a = c .before .before .before .args in let l = c .before .before .loop in (omega arith, (l .inv .1 .0, (simp length-set (l .inv .1 .1 .0), put-more (a .rows .now) (a .d) (λ n. getD (a .from .now) n 0) 0 (l .i) (l .rows) (a .d * 128 + l .i) (getD (a .from .now) (l .i) 0) refl (omega arith) (omega arith) refl (l .inv .1 .1 .1))))
+
+same-length : tie.Need-same-length Inv-loop μ-loop
+same-length c = c .before .loop .inv .1 .1 .0
+
+returns : tie.Need-returns Inv-loop μ-loop
+returns c = let a = c .before .before .args in let l = c .before .loop in put-all 128 (a .rows .now) (a .d) (λ n. getD (a .from .now) n 0) (l .i) (l .rows) (omega arith) (omega arith) (l .inv .1 .1 .1)
+
+pub copy-spec : {M : Type 1} → statement M
+copy-spec =
+    tie.close
+    (tie.spec
+    Inv-loop
+    μ-loop
+    mul-r
+    loop-holds
+    shared-slice-read-rows
+    add-rows
+    slice-write-rows
+    add-i
+    loop-less
+    loop-again
+    same-length
+    returns)
