@@ -1,5 +1,5 @@
-//! Random conditions that tie four sum variables together, of sorts of 1 to 16 values: rows of the last variable that they
-//! name are tested at once. Step k beside the reader, for every k or for some, and k too large.
+//! Random conditions that tie four sum variables together, of sorts of 1 to 16 values: blocks for pairs of values of the last
+//! two variables that they name are tested at once. Step k beside the reader, for every k or for some, and k too large.
 
 use library::asked::{lent, same};
 use library::common::random::Random;
