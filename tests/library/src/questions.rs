@@ -185,6 +185,30 @@ pub fn dearest() -> Question {
     )
 }
 
+/// Data over the variables that are named in turn.
+fn mixed(variables: &str) -> String {
+    let mut turn = variables.chars().cycle();
+    let named = |letter| match letter {
+        'p' => turn.next().expect("a variable"),
+        other => other,
+    };
+    tree(29, "p").chars().map(named).collect()
+}
+
+/// Whole tables of the conditions that take longest known. The other reader takes more than a minute for each.
+pub fn dearest_tables() -> Vec<Question> {
+    let calls = vec!["Y"; 230].join("+");
+    let table = |what, variables| {
+        let more = four_sums_with("t", |_| mixed(variables));
+        question(what, file(&calls, &more), u64::MAX)
+    };
+    vec![
+        table("a whole table of conditions on all four in turn", "pqrs"),
+        table("the same, mostly on the last", "pqrssssssssssss"),
+        table("the same, mostly on the last two", "rsrsrsrsrsrsrpq"),
+    ]
+}
+
 /// Whether a stack has a run of so many steps.
 fn lives(table: &Table, stack: &[reader::Frame], steps: usize) -> bool {
     let next = |(_, next): &(Label, Vec<reader::Frame>)| lives(table, next, steps - 1);

@@ -1,7 +1,7 @@
 //! The questions that are timed: both answer them alike, and they are of the sizes that they are named for.
 
 use library::asked::{lent, same, same_all};
-use library::questions::{dearest, going_on, largest, usual};
+use library::questions::{dearest, dearest_tables, going_on, largest, usual};
 use library::sheets;
 use library::stepping::{frames_of, ANSWER, STEP};
 
@@ -46,6 +46,9 @@ fn conditions_of_31_nodes_over_four_sums_of_16() {
 fn whole_tables() {
     assert_eq!(largest().len(), 65_536);
     assert!(dearest().file.len() > 60_000);
+    assert!(dearest_tables()
+        .iter()
+        .all(|question| question.file.len() > 60_000));
 }
 
 #[test]

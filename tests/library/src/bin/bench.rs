@@ -10,9 +10,9 @@ use std::time::Duration;
 use library::common::{operators, slow, worst, Case};
 use library::large::large_file;
 use library::printing::{printings, Printing};
-use library::questions::{dearest, going_on, largest, smallest, usual, Question};
+use library::questions::{dearest, dearest_tables, going_on, largest, smallest, usual, Question};
 use library::stepping::{Answer, Frame, ANSWER};
-use library::timing::{compare, compare_each};
+use library::timing::{compare, compare_each, least};
 use library::{asked, sheets, stepping};
 
 /// What eight shifts make of a register with this byte at its top.
@@ -258,6 +258,23 @@ fn bench_list(what: &str, file: &[u8], start: Frame, questions: &[u64]) {
     );
 }
 
+/// One question from a file, without the reader.
+fn bench_alone(question: &Question) {
+    let Question {
+        what,
+        file,
+        frames,
+        k,
+    } = question;
+    let mut answer = Answer::plain(0);
+    let mut call = || {
+        let (mut lent, mut depth) = (frames.clone(), 1);
+        stepping::ask(file, &mut lent, &mut depth, *k, &mut answer);
+    };
+    let time = least(&mut call, 5);
+    println!("ask {what:<66} proved {time:>10.2?}");
+}
+
 fn bench_start(what: &str, file: &[u8]) {
     let mut frames = asked::lent(&[]);
     let mut depth = 0;
@@ -323,5 +340,6 @@ fn main() {
     }
     if wanted("dear") {
         bench_ask(&dearest());
+        dearest_tables().iter().for_each(bench_alone);
     }
 }

@@ -12,6 +12,8 @@ pub fn sheets() -> Vec<Case> {
     }
     cases.extend([
         shared_lefts(),
+        scattered(),
+        in_turn(),
         alternatives("a", 255),
         alternatives("a.X.a.X", 60),
         behind_deltas(0),
@@ -63,6 +65,25 @@ fn shared_lefts() -> Case {
     let body = left(15, 127, 1400, false);
     let sheet = format!("act a;proc X={body};proc D=delta;proc Y=X;init Y;");
     Case::new("brackets on the left, called once more", sheet, 0)
+}
+
+/// Heads all over a line of calls that have none, in brackets on the left.
+fn scattered() -> Case {
+    let line = repeated(&format!("{}a", "D+".repeat(60)), 31, "+");
+    let (open, sides) = ("(".repeat(15), ")+D".repeat(15));
+    let sheet = format!("act a;proc X={open}{line}{sides};proc D=delta;init X;");
+    Case::new("15 brackets on the left, heads among calls without", sheet, 0)
+}
+
+/// Brackets on the left and on the right in turn, with calls that have no heads and a head in each.
+fn in_turn() -> Case {
+    let idle = repeated("D", 120, "+");
+    let mut text = format!("{idle}+a");
+    for _ in 0..7 {
+        text = format!("(a+({text}+{idle}+a)+{idle})");
+    }
+    let sheet = format!("act a;proc X={text};proc D=delta;init X;");
+    Case::new("brackets on the left and on the right in turn", sheet, 0)
 }
 
 fn alternatives(head: &str, count: usize) -> Case {
