@@ -225,3 +225,14 @@ high-more rows t i m x w m′ e v h l p k o = go (ltb k i) refl
     go : (b : Bool) → ltb k i ≡ b → lane rows t k ≤ m′
     go true q = omega (arith, p k (ltb-true k i q))
     go false q = let z = ltb-false k i q in let y : t * 128 + k ≡ x = omega arith in let u : lane rows t k ≡ w = ap (λ (n : ℕ). getD rows n 0) y ∙ sym v in omega arith
+
+-- one element more of a list is known
+pub list-more : (P : ℕ → ℕ → Type 0) (n : ℕ) (l : List ℕ) (w : ℕ) → n < length l → P n w → ((m : ℕ) → m < n → P m (getD l m 0)) → (m : ℕ) → m < n + 1 → P m (getD (set l n w) m 0)
+list-more P n l w h e p m k = go (ltb m n) refl
+  where
+    go : (t : Bool) → ltb m n ≡ t → P m (getD (set l n w) m 0)
+    go true q = let o = ltb-true m n q in subst (P m) (sym (getD-set-other l n m w 0 (λ y. omega arith))) (p m o)
+    go false q =
+        let o = ltb-false m n q in
+        let z : n ≡ m = omega arith in
+        subst (λ (x : ℕ). P x (getD (set l n w) x 0)) z (subst (P n) (sym (getD-set-same l n w 0 h)) e)

@@ -129,7 +129,7 @@ fn two(s: &[u8], q: usize, width: u8, rows: &mut [u8], t: usize, d: usize, n: us
     }
 }
 
-// The same for the lanes from k on where all places are in the stream.
+// The same for the lanes from k on where all places are in the stream; the places first, so that the compiler makes them 8 at a time.
 fn two_part(s: &[u8], q: usize, width: u8, rows: &mut [u8], t: usize, d: usize, k: usize)
     requires { ⌜ ((i : ℕ) → k ≤ i → i < k + 16 → q + (lane (now rows) t i * width + lane (now rows) (t + 1) i) < length (now s)) × ((k + 16 ≤ 128) × ((q < 131072) × ((t ≤ 17) × ((d < 17) × (2560 ≤ length (now rows)))))) ⌝ }
     ensures { λ _. ⌜ Putting (now (rows .entry)) d (λ i. getD (now (s .entry)) (q + (lane (now (rows .entry)) t i * width + lane (now (rows .entry)) (t + 1) i)) 0) k (k + 16) (now (rows .exit)) ⌝ }
@@ -137,10 +137,16 @@ fn two_part(s: &[u8], q: usize, width: u8, rows: &mut [u8], t: usize, d: usize, 
     let x = t * LANES + k;
     let y = x + LANES;
     let r = d * LANES + k;
+    let mut at = [0u16; 16];
     let mut i: usize = 0;
     while i < PART {
-        rows[r + i] = s[q + row(rows[x + i], width, rows[y + i])];
+        at[i] = row(rows[x + i], width, rows[y + i]) as u16;
         i += 1;
+    }
+    let mut j: usize = 0;
+    while j < PART {
+        rows[r + j] = s[q + (at[j] as usize)];
+        j += 1;
     }
 }
 

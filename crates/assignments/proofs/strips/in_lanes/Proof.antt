@@ -22,7 +22,7 @@ mul-if1 : tie.Need-mul-if1
 mul-if1 c = omega (arith, row-small (c .before .before .before .before .before .before .before .before .args .lanes) (c .before .before .before .before .before .before .before .before .args .g) (omega arith) (omega arith))
 
 gone-to-requires : tie.Need-gone-to-requires
-gone-to-requires c κs = search needs
+gone-to-requires c κs = tt
 
 returns : tie.Need-returns
 returns c = let a = c .before .before .before .before .before .before .before .before .before .before .args in let f = c .gone-to .ensures in (λ z. absurd (let y : _≡_ {A = ℕ} 0 1 = cc (f .0) in omega arith), (λ z. omega (arith, f .1 .0), (omega (arith, f .1 .1), λ st h k w z. (w, (z, λ acc says. came-at acc (a .to) (a .j) (a .k) (c .gone-to .result) (a .j) (a .k) f (going-start acc (a .to) (a .j) (a .k)))))))
@@ -34,22 +34,22 @@ row-test-requires : tie.Need-row-test-requires
 row-test-requires c κs = let a = c .before .before .before .before .before .before .before .before .before .before .before .before .before .before .before .before .before .before .before .before .before .before .before .before .args in let pre = c .before .before .before .before .before .before .before .before .before .before .before .before .before .before .before .before .before .before .before .before .before .before .before .before .pre in let k = c .before .before .before .before .before .before .before .before .before .before .before .strip .kept in (pre .1 .1 .0, (lent-again (a .rows .now) (a .marks .now) (a .slow .now) (a .fast .now) (a .met .now) _ _ _ _ _ refl refl (k .0) (k .1 .0) (k .1 .1 .0) (pre .1 .1 .1), pre .1 .0 .1 .1))
 
 gone-to-requires-2 : tie.Need-gone-to-requires-2
-gone-to-requires-2 c κs = search needs
+gone-to-requires-2 c κs = tt
 
 same-length : tie.Need-same-length
-same-length c = search needs
+same-length c = c .before .before .before .before .before .before .before .before .row-test .kept .1 .1 .1 .1 .1 .1 .1 .1 .1 .1 .1 .1 .1 .0
 
 same-length-2 : tie.Need-same-length-2
-same-length-2 c = search needs
+same-length-2 c = c .before .before .before .before .before .before .before .before .row-test .kept .1 .1 .1 .1 .1 .1 .1 .1 .1 .1 .1 .1 .1 .1 .0
 
 same-length-3 : tie.Need-same-length-3
-same-length-3 c = search needs
+same-length-3 c = c .before .before .before .before .before .before .before .before .before .before .before .before .before .before .before .before .before .before .before .before .strip .kept .0
 
 same-length-4 : tie.Need-same-length-4
-same-length-4 c = search needs
+same-length-4 c = c .before .before .before .before .before .before .before .before .before .before .before .before .before .before .before .before .before .before .before .before .strip .kept .1 .0
 
 same-length-5 : tie.Need-same-length-5
-same-length-5 c = search needs
+same-length-5 c = c .before .before .before .before .before .before .before .before .row-test .kept .1 .1 .1 .1 .1 .1 .1 .1 .1 .1 .1 .1 .1 .1 .1 .0 ∙ c .before .before .before .before .before .before .before .before .before .before .before .before .before .before .before .before .before .before .before .before .strip .kept .1 .1 .0
 
 returns-2 : tie.Need-returns-2
 returns-2 c = let a = c .before .before .before .before .before .before .before .before .before .before .before .before .before .before .before .before .before .before .before .before .before .before .before .before .before .before .before .before .before .before .before .before .before .args in let f = c .gone-to2 .ensures in (λ z. absurd (let y : _≡_ {A = ℕ} 0 1 = cc (f .0) in omega arith), (λ z. omega (arith, f .1 .0), (omega (arith, f .1 .1), λ st h k w z. let r = c .before .before .before .before .before .before .before .before .row-test .ensures st h k w z in (r .0, (r .1 .0, λ acc says. came-at acc (a .to) (a .j) (a .k) (c .gone-to2 .result) (a .j) (a .k) f (going-start acc (a .to) (a .j) (a .k)))))))
@@ -58,19 +58,19 @@ in-row-requires : tie.Need-in-row-requires
 in-row-requires c κs = let pre = c .before .before .before .before .before .before .before .before .before .before .before .before .before .before .before .before .before .before .before .before .before .before .before .before .before .before .before .before .before .before .before .before .before .pre in (pre .1 .0 .1 .1, (omega (arith, c .before .before .before .before .before .before .before .before .row-test .kept .1 .1 .1 .1 .1 .1 .1 .1 .1 .1 .1 .1 .1 .1 .1 .0, c .before .before .before .before .before .before .before .before .before .before .before .before .before .before .before .before .before .before .before .before .strip .kept .1 .1 .0, pre .1 .1 .1 .met-long), (pre .0 .1 .1, omega (arith, pre .0 .0, pre .0 .1 .0))))
 
 same-length-6 : tie.Need-same-length-6
-same-length-6 c = search needs
+same-length-6 c = c .before .before .before .before .before .before .before .before .before .row-test .kept .1 .1 .1 .1 .1 .1 .1 .1 .1 .1 .1 .1 .1 .0
 
 same-length-7 : tie.Need-same-length-7
-same-length-7 c = search needs
+same-length-7 c = c .before .before .before .before .before .before .before .before .before .row-test .kept .1 .1 .1 .1 .1 .1 .1 .1 .1 .1 .1 .1 .1 .1 .0
 
 same-length-8 : tie.Need-same-length-8
-same-length-8 c = search needs
+same-length-8 c = c .before .before .before .before .before .before .before .before .before .before .before .before .before .before .before .before .before .before .before .before .before .strip .kept .0
 
 same-length-9 : tie.Need-same-length-9
-same-length-9 c = search needs
+same-length-9 c = c .before .before .before .before .before .before .before .before .before .before .before .before .before .before .before .before .before .before .before .before .before .strip .kept .1 .0
 
 same-length-10 : tie.Need-same-length-10
-same-length-10 c = search needs
+same-length-10 c = c .before .before .before .before .before .before .before .before .before .row-test .kept .1 .1 .1 .1 .1 .1 .1 .1 .1 .1 .1 .1 .1 .1 .1 .0 ∙ c .before .before .before .before .before .before .before .before .before .before .before .before .before .before .before .before .before .before .before .before .before .strip .kept .1 .1 .0
 
 returns-3 : tie.Need-returns-3
 returns-3 c = let a = c .before .before .before .before .before .before .before .before .before .before .before .before .before .before .before .before .before .before .before .before .before .before .before .before .before .before .before .before .before .before .before .before .before .before .args in let q = c .in-row in let pre = c .before .before .before .before .before .before .before .before .before .before .before .before .before .before .before .before .before .before .before .before .before .before .before .before .before .before .before .before .before .before .before .before .before .before .pre in let fits : a .j + a .lanes * a .g ≤ a .to = omega (arith, c .before .before .before .before .before .before .before .before .before .before .before .before .before .before .before .before .before .before .before .before .before .before .before .before .before .if1 .left, pre .0 .0) in (

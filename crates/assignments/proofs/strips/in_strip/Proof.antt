@@ -21,22 +21,22 @@ rem-if1 : tie.Need-rem-if1
 rem-if1 c = let a = c .before .before .before .before .before .before .before .args in let pre = c .before .before .before .before .before .before .before .pre in let len = four-length (a .z) _ (c .before .before .before .before .before .before .before .good .1 .1 .1 .1 .0) in row-pos (a .z .at) (a .l) (a .u) (a .g) (a .w) (pre .1 .1 .0) len (pre .0 .1 .1 .1 .0)
 
 gone-to-requires : tie.Need-gone-to-requires
-gone-to-requires c κs = search needs
+gone-to-requires c κs = tt
 
 returns : tie.Need-returns
 returns c = let a = c .before .before .before .before .before .before .before .before .before .args in let pre = c .before .before .before .before .before .before .before .before .before .pre in let len = four-length (a .z) _ (c .before .before .before .before .before .before .before .before .before .good .1 .1 .1 .1 .0) in let acc : ℕ → Bool = λ i. part-met (a .s .now) (a .funcs .now) (a .froms .now) (a .ends .now) (a .blocks .now) (a .n) (env (a .p) (a .params .at) (valuesOf (a .z .at) i)) in let f = c .gone-to .ensures in (λ z. absurd (let y : _≡_ {A = ℕ} 0 1 = cc (f .0) in omega arith), (λ z. omega (arith, f .1 .0), (omega (arith, f .1 .1), λ part w z. (w, (z, came-at acc (a .to) (a .j) (a .k) (c .gone-to .result) (a .j) (a .k) f (going-start acc (a .to) (a .j) (a .k)))))))
 
 block-size-requires : tie.Need-block-size-requires
-block-size-requires c κs = search needs
+block-size-requires c κs = c .before .before .before .before .before .before .before .before .pre .0 .1 .1 .1 .0
 
 narrow-requires : tie.Need-narrow-requires
-narrow-requires c κs = search needs
+narrow-requires c κs = c .block-size .ensures .1
 
 values-requires : tie.Need-values-requires
 values-requires c κs = λ i h. c .before .before .before .before .before .before .before .before .before .before .pre .0 .1 .1 .1 .0 i h .0
 
 environment-requires : tie.Need-environment-requires
-environment-requires c κs = search needs
+environment-requires c κs = (c .before .before .before .before .before .before .before .before .before .before .before .pre .0 .0, c .before .before .before .before .before .before .before .before .before .before .before .pre .0 .1 .0)
 
 slice-aggregate-test : tie.Need-slice-aggregate-test
 slice-aggregate-test c = search needs
@@ -45,16 +45,16 @@ sub-test : tie.Need-sub-test
 sub-test c = let a = c .before .before .before .before .before .before .before .before .before .before .before .before .before .before .args in let pre = c .before .before .before .before .before .before .before .before .before .before .before .before .before .before .pre in let len = four-length (a .z) _ (c .before .before .before .before .before .before .before .before .before .before .before .before .before .before .good .1 .1 .1 .1 .0) in let is-b : c .before .before .before .before .narrow .result ≡ product (drop (a .u) (a .z .at)) = c .before .before .before .before .narrow .ensures ∙ c .before .before .before .before .before .block-size .ensures .0 in let pos = strip-pos (a .z .at) (a .l) (a .u) (a .g) (a .w) (pre .1 .1 .0) len (pre .0 .1 .1 .1 .0) (c .before .before .before .before .narrow .result) is-b in omega (arith, pos)
 
 test-requires : tie.Need-test-requires
-test-requires c κs = search needs
+test-requires c κs = c .before .before .before .before .before .before .before .before .before .before .before .before .before .before .pre .0 .1 .1 .0
 
 wide-block-requires : tie.Need-wide-block-requires
-wide-block-requires c κs = search needs
+wide-block-requires c κs = tt
 
 next-requires : tie.Need-next-requires
 next-requires c κs = let a = c .before .before .before .before .before .before .before .before .before .before .before .before .before .before .before .before .before .args in let pre = c .before .before .before .before .before .before .before .before .before .before .before .before .before .before .before .before .before .pre in let len = four-length (a .z) _ (c .before .before .before .before .before .before .before .before .before .before .before .before .before .before .before .before .before .good .1 .1 .1 .1 .0) in let is-b : c .before .before .before .before .before .before .before .narrow .result ≡ product (drop (a .u) (a .z .at)) = c .before .before .before .before .before .before .before .narrow .ensures ∙ c .before .before .before .before .before .before .before .before .block-size .ensures .0 in let pos = strip-pos (a .z .at) (a .l) (a .u) (a .g) (a .w) (pre .1 .1 .0) len (pre .0 .1 .1 .1 .0) (c .before .before .before .before .before .before .before .narrow .result) is-b in (omega (arith, pos, c .wide-block .ensures .0, c .before .if2 .taken), (c .wide-block .ensures .1, omega (arith, pre .1 .0, pre .0 .1 .1 .1 .1 .0)))
 
 gone-to-requires-2 : tie.Need-gone-to-requires-2
-gone-to-requires-2 c κs = search needs
+gone-to-requires-2 c κs = tt
 
 returns-2 : tie.Need-returns-2
 returns-2 c = let a = c .before .before .before .before .before .before .before .before .before .before .before .before .before .before .before .before .before .before .before .args in let pre = c .before .before .before .before .before .before .before .before .before .before .before .before .before .before .before .before .before .before .before .pre in let len = four-length (a .z) _ (c .before .before .before .before .before .before .before .before .before .before .before .before .before .before .before .before .before .before .before .good .1 .1 .1 .1 .0) in let is-b : c .before .before .before .before .before .before .before .before .before .narrow .result ≡ product (drop (a .u) (a .z .at)) = c .before .before .before .before .before .before .before .before .before .narrow .ensures ∙ c .before .before .before .before .before .before .before .before .before .before .block-size .ensures .0 in let pos = strip-pos (a .z .at) (a .l) (a .u) (a .g) (a .w) (pre .1 .1 .0) len (pre .0 .1 .1 .1 .0) (c .before .before .before .before .before .before .before .before .before .narrow .result) is-b in let e = c .before .before .before .before .before .before .before .environment in let d = c .before .before .before .before .test in let few : a .p ≤ length (a .params .at) = let o = eight-length (a .params) _ (c .before .before .before .before .before .before .before .before .before .before .before .before .before .before .before .before .before .before .before .good .1 .1 .0) in omega (arith, pre .0 .0) in let alike : Alike (e .result .at) (env (a .p) (a .params .at) (valuesOf (a .z .at) (a .j))) = λ v. e .ensures v ∙ ap (λ (o : List ℕ). getD (env (a .p) (a .params .at) o) v 0) (c .before .before .before .before .before .before .before .before .values .ensures) in let acc : ℕ → Bool = λ i. part-met (a .s .now) (a .funcs .now) (a .froms .now) (a .ends .now) (a .blocks .now) (a .n) (env (a .p) (a .params .at) (valuesOf (a .z .at) i)) in let f = c .gone-to2 .ensures in let r = c .before .next in (
@@ -92,7 +92,7 @@ rows-in-requires : tie.Need-rows-in-requires
 rows-in-requires c κs = let pre = c .before .before .before .before .before .before .before .before .before .before .before .before .before .before .before .before .before .pre in pre .0 .1 .1 .1 .0 (c .before .before .before .before .before .before .before .before .before .before .before .before .before .before .before .before .before .args .l) (pre .1 .1 .0 .l-inside) .0
 
 gone-to-requires-3 : tie.Need-gone-to-requires-3
-gone-to-requires-3 c κs = search needs
+gone-to-requires-3 c κs = tt
 
 returns-3 : tie.Need-returns-3
 returns-3 c = let a = c .before .before .before .before .before .before .before .before .before .before .before .before .before .before .before .before .before .before .before .before .args in let pre = c .before .before .before .before .before .before .before .before .before .before .before .before .before .before .before .before .before .before .before .before .pre in let len = four-length (a .z) _ (c .before .before .before .before .before .before .before .before .before .before .before .before .before .before .before .before .before .before .before .before .good .1 .1 .1 .1 .0) in let acc : ℕ → Bool = λ i. part-met (a .s .now) (a .funcs .now) (a .froms .now) (a .ends .now) (a .blocks .now) (a .n) (env (a .p) (a .params .at) (valuesOf (a .z .at) i)) in let f = c .gone-to3 .ensures in (λ z. absurd (let y : _≡_ {A = ℕ} 0 1 = cc (f .0) in omega arith), (λ z. omega (arith, f .1 .0), (omega (arith, f .1 .1), λ part w z. (w, (z, came-at acc (a .to) (a .j) (a .k) (c .gone-to3 .result) (a .j) (a .k) f (going-start acc (a .to) (a .j) (a .k)))))))
@@ -107,7 +107,7 @@ add-in-lanes-2 : tie.Need-add-in-lanes-2
 add-in-lanes-2 c = let pre = c .before .before .before .before .before .before .before .before .before .before .before .before .before .before .before .before .before .before .before .before .pre in omega (arith, pre .0 .0, pre .1 .1 .0 .u-first, pre .1 .1 .0 .l-inside)
 
 wide-requires : tie.Need-wide-requires
-wide-requires c κs = search needs
+wide-requires c κs = tt
 
 mul-in-lanes : tie.Need-mul-in-lanes
 mul-in-lanes c = let lanes : c .before .before .before .rows-in .result * c .wide .result ≤ 128 = subst (λ (x : ℕ). c .before .before .before .rows-in .result * x ≤ 128) (sym (c .wide .ensures .0)) (c .before .before .before .rows-in .ensures .0) in omega (arith, lanes)
@@ -116,19 +116,19 @@ in-lanes-requires : tie.Need-in-lanes-requires
 in-lanes-requires c κs = let a = c .before .before .before .before .before .before .before .before .before .before .before .before .before .before .before .before .before .before .before .before .before .before .before .before .before .before .args in let pre = c .before .before .before .before .before .before .before .before .before .before .before .before .before .before .before .before .before .before .before .before .before .before .before .before .before .before .pre in let lanes : c .before .before .before .before .before .before .before .before .rows-in .result * c .before .before .before .before .before .wide .result ≤ 128 = subst (λ (x : ℕ). c .before .before .before .before .before .before .before .before .rows-in .result * x ≤ 128) (sym (c .before .before .before .before .before .wide .ensures .0)) (c .before .before .before .before .before .before .before .before .rows-in .ensures .0) in let some : 0 < c .before .before .before .before .before .before .before .before .rows-in .result = omega (arith, c .before .before .before .before .before .before .before .if3 .left) in let fits = c .before .before .before .before .before .before .before .before .rows-in .ensures .1 some in let inside = pre .1 .1 .0 .l-inside in let before = pre .1 .1 .0 .u-first in let right = pre .0 .1 .1 .1 .0 in ((pre .1 .0, (pre .0 .1 .1 .1 .1 .0, pre .0 .1 .1 .1 .1 .1 .1)), ((right (a .l) inside .0, (omega (arith, fits, some, right (a .u) (omega arith) .1), lanes)), (pre .0 .1 .1 .0, pre .1 .1 .1)))
 
 same-length : tie.Need-same-length
-same-length c = search needs
+same-length c = c .before .before .before .before .before .before .before .before .before .before .in-lanes .kept .1 .1 .1 .1 .1 .1 .1 .1 .1 .1 .1 .1 .1 .1 .1 .1 .1 .0
 
 same-length-2 : tie.Need-same-length-2
-same-length-2 c = search needs
+same-length-2 c = c .before .before .before .before .before .before .before .before .before .before .in-lanes .kept .1 .1 .1 .1 .1 .1 .1 .1 .1 .1 .1 .1 .1 .1 .1 .1 .1 .1 .0
 
 same-length-3 : tie.Need-same-length-3
-same-length-3 c = search needs
+same-length-3 c = c .before .before .before .before .before .before .before .before .before .before .in-lanes .kept .1 .1 .1 .1 .1 .1 .1 .1 .1 .1 .1 .1 .1 .1 .1 .1 .1 .1 .1 .0
 
 same-length-4 : tie.Need-same-length-4
-same-length-4 c = search needs
+same-length-4 c = c .before .before .before .before .before .before .before .before .before .before .in-lanes .kept .1 .1 .1 .1 .1 .1 .1 .1 .1 .1 .1 .1 .1 .1 .1 .1 .1 .1 .1 .1 .0
 
 same-length-5 : tie.Need-same-length-5
-same-length-5 c = search needs
+same-length-5 c = c .before .before .before .before .before .before .before .before .before .before .in-lanes .kept .1 .1 .1 .1 .1 .1 .1 .1 .1 .1 .1 .1 .1 .1 .1 .1 .1 .1 .1 .1 .1 .0
 
 returns-4 : tie.Need-returns-4
 returns-4 c = let a = c .before .before .before .before .before .before .before .before .before .before .before .before .before .before .before .before .before .before .before .before .before .before .before .before .before .before .before .before .before .before .before .before .before .before .before .before .before .args in let pre = c .before .before .before .before .before .before .before .before .before .before .before .before .before .before .before .before .before .before .before .before .before .before .before .before .before .before .before .before .before .before .before .before .before .before .before .before .before .pre in let len = four-length (a .z) _ (c .before .before .before .before .before .before .before .before .before .before .before .before .before .before .before .before .before .before .before .before .before .before .before .before .before .before .before .before .before .before .before .before .before .before .before .before .before .good .1 .1 .1 .1 .0) in let is-b : c .before .before .before .before .before .before .before .before .before .before .before .before .before .before .before .before .before .before .before .before .before .before .before .before .before .before .before .narrow .result ≡ product (drop (a .u) (a .z .at)) = c .before .before .before .before .before .before .before .before .before .before .before .before .before .before .before .before .before .before .before .before .before .before .before .before .before .before .before .narrow .ensures ∙ c .before .before .before .before .before .before .before .before .before .before .before .before .before .before .before .before .before .before .before .before .before .before .before .before .before .before .before .before .block-size .ensures .0 in let pos = strip-pos (a .z .at) (a .l) (a .u) (a .g) (a .w) (pre .1 .1 .0) len (pre .0 .1 .1 .1 .0) (c .before .before .before .before .before .before .before .before .before .before .before .before .before .before .before .before .before .before .before .before .before .before .before .before .before .before .before .narrow .result) is-b in let e = c .before .before .before .before .before .before .before .before .before .before .before .before .before .before .before .before .before .before .before .before .before .before .before .before .before .environment in let d = c .before .before .before .before .before .before .before .before .before .before .before .before .before .before .before .before .before .before .before .before .before .before .test in let few : a .p ≤ length (a .params .at) = let o = eight-length (a .params) _ (c .before .before .before .before .before .before .before .before .before .before .before .before .before .before .before .before .before .before .before .before .before .before .before .before .before .before .before .before .before .before .before .before .before .before .before .before .before .good .1 .1 .0) in omega (arith, pre .0 .0) in let alike : Alike (e .result .at) (env (a .p) (a .params .at) (valuesOf (a .z .at) (a .j))) = λ v. e .ensures v ∙ ap (λ (o : List ℕ). getD (env (a .p) (a .params .at) o) v 0) (c .before .before .before .before .before .before .before .before .before .before .before .before .before .before .before .before .before .before .before .before .before .before .before .before .before .before .values .ensures) in let acc : ℕ → Bool = λ i. part-met (a .s .now) (a .funcs .now) (a .froms .now) (a .ends .now) (a .blocks .now) (a .n) (env (a .p) (a .params .at) (valuesOf (a .z .at) i)) in let some : 0 < c .before .before .before .before .before .before .before .before .before .before .before .before .before .before .before .before .before .before .before .rows-in .result = omega (arith, c .before .before .before .before .before .before .before .before .before .before .before .before .before .before .before .before .before .before .if3 .left) in let fits = c .before .before .before .before .before .before .before .before .before .before .before .before .before .before .before .before .before .before .before .rows-in .ensures .1 some in let r = c .before .before .before .before .before .before .before .before .before .before .in-lanes in (
