@@ -97,7 +97,7 @@ typedef struct {
  * Answers  0 if its table can be made, else 1 to 10. No bytes at all: 5.
  * Leaves   Nothing is written.
  * Time     Not more than make_table.
- * Stack    At most 128 KiB; usual sheets 19 to 109 KB. */
+ * Stack    At most 128 KiB; usual sheets 17 to 109 KB. */
 uint8_t wizbratel_check_sheet(const uint8_t *sheet, size_t length);
 
 /* Make the table file of a sheet.
@@ -106,8 +106,8 @@ uint8_t wizbratel_check_sheet(const uint8_t *sheet, size_t length);
  *          no output (`out` NULL, `room` 0) gets 11.
  * Leaves   After 0 the file over the front of `out` and its length in `*written`; what is behind it in
  *          `out` is untouched. One sheet gives the same bytes every time.
- * Time     1.0 us for 25 bytes, 9 us for 500, 0.1 ms for 4,096; the dearest sheets found 0.8 ms.
- * Stack    At most 128 KiB; usual sheets 19 to 109 KB. */
+ * Time     1.1 us for 25 bytes, 9 us for 500, 0.1 ms for 4,096; the dearest sheets found 0.4 ms.
+ * Stack    At most 128 KiB; usual sheets 17 to 109 KB. */
 uint8_t wizbratel_make_table(const uint8_t *sheet, size_t length, uint8_t *out, size_t room, size_t *written);
 
 /* Walk: step 0 up to 8 times, as text: a line for each step (its number, the label, the depth after it), then
@@ -156,9 +156,9 @@ uint8_t wizbratel_start(const uint8_t *file, size_t length, wizbratel_frame *fra
  *          behind it, and `*depth` is its depth; after ENDED and NONE they are as they were.
  * Time     The file is checked at each call: 0.9 us with 512 bytes, 0.17 ms with 65,536. Then the steps before
  *          k are counted: 0.04 to 0.2 us for usual tables. The dearest table found, 230 summands with four
- *          sums of 16 values and eight long conditions, each on all of them, takes 1.6 s if k is too large. So
+ *          sums of 16 values and eight long conditions, each on all of them, takes 0.8 s if k is too large. So
  *          look at a table of unknown origin in a thread that may wait.
- * Stack    7 KB for a file of 512 bytes; at most 72 KB. */
+ * Stack    8 KB for a file of 512 bytes; at most 73 KB. */
 uint8_t wizbratel_ask(const uint8_t *file, size_t length, wizbratel_frame *frames, size_t count, size_t *depth, uint64_t k,
                       wizbratel_answer *answer);
 
@@ -172,7 +172,7 @@ uint8_t wizbratel_ask(const uint8_t *file, size_t length, wizbratel_frame *frame
  *          answers, and what is behind the last answer is untouched. With no questions, or no room, the
  *          stack is only checked.
  * Time     As check_table once, then 0.04 to 0.2 us a question for usual tables; at the worst as ask.
- * Stack    7 KB for a file of 512 bytes; at most 72 KB. */
+ * Stack    8 KB for a file of 512 bytes; at most 73 KB. */
 uint8_t wizbratel_ask_all(const uint8_t *file, size_t length, wizbratel_frame *frames, size_t count, size_t *depth,
                           const uint64_t *questions, size_t question_count, wizbratel_answer *answers, size_t bytes);
 

@@ -214,7 +214,9 @@ fn reach(
     while p < q {
         own = passed(own, k.a);
         work = weigh(work, p, k.a.next);
-        p = pass_idle(cells, counts, base, q);
+        let r = pass_idle(cells, counts, base, q);
+        work = weigh(work, q, r);
+        p = r;
         d = nodes::node_at(cells, p);
         k = first_part(cells, counts, base, d, &mut *remembered);
         q = only_side(d, k, heads, cells.len(), p);

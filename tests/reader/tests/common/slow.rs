@@ -72,7 +72,11 @@ fn scattered() -> Case {
     let line = repeated(&format!("{}a", "D+".repeat(60)), 31, "+");
     let (open, sides) = ("(".repeat(15), ")+D".repeat(15));
     let sheet = format!("act a;proc X={open}{line}{sides};proc D=delta;init X;");
-    Case::new("15 brackets on the left, heads among calls without", sheet, 0)
+    Case::new(
+        "15 brackets on the left, heads among calls without",
+        sheet,
+        0,
+    )
 }
 
 /// Brackets on the left and on the right in turn, with calls that have no heads and a head in each.
@@ -126,6 +130,11 @@ fn entered_again() -> Vec<Case> {
         ),
         entered("1,700 calls between two heads", &format!("a+{idle}+a"), 125),
         entered(
+            "a bracket and 1,700 calls before a head",
+            &format!("V+(V+V)+{idle}+a"),
+            250,
+        ),
+        entered(
             "1,700 calls and a head as a first part",
             &format!("({idle}+a).V"),
             250,
@@ -162,7 +171,11 @@ fn bracketed_lines() -> Case {
         "act a;proc V=delta;{}proc X13=a;proc G={calls};init G;",
         numbered(13, link)
     );
-    Case::new("13 processes of 15 brackets in a line, called 230 times", sheet, 0)
+    Case::new(
+        "13 processes of 15 brackets in a line, called 230 times",
+        sheet,
+        0,
+    )
 }
 
 /// A line of processes, each with much that has no heads.
