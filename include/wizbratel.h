@@ -156,7 +156,7 @@ uint8_t wizbratel_start(const uint8_t *file, size_t length, wizbratel_frame *fra
  *          behind it, and `*depth` is its depth; after ENDED and NONE they are as they were.
  * Time     The file is checked at each call: 0.9 us with 512 bytes, 0.17 ms with 65,536. Then the steps before
  *          k are counted: 0.04 to 0.2 us for usual tables. The dearest table found, 230 summands with four
- *          sums of 16 values and eight long conditions, each on all of them, takes 0.8 s if k is too large. So
+ *          sums of 16 values and eight long conditions, each on all of them, takes 1.1 s if k is too large. So
  *          look at a table of unknown origin in a thread that may wait.
  * Stack    8 KB for a file of 512 bytes; at most 73 KB. */
 uint8_t wizbratel_ask(const uint8_t *file, size_t length, wizbratel_frame *frames, size_t count, size_t *depth, uint64_t k,

@@ -195,17 +195,45 @@ fn mixed(variables: &str) -> String {
     tree(29, "p").chars().map(named).collect()
 }
 
+/// A process with four sums around eight conditions of 31 nodes, whose tests are towers of `!`.
+fn negated() -> String {
+    let test = format!("{}even(f(f(p,q),f(r,s)))", "!".repeat(23));
+    let tests = format!("<|{test}|>delta)").repeat(8);
+    format!(
+        "proc Y=sum(u:D,sum(v:D,sum(w:D,sum(x:D,Z(u,v,w,x)))));\
+         proc Z(p:D,q:D,r:D,s:D)={}a(p,s){tests};",
+        "(".repeat(8)
+    )
+}
+
+/// The same with towers of a function of one argument, put together by calls.
+fn towers() -> String {
+    let tower =
+        |height: usize, data: &str| format!("{}{data}{}", "g(".repeat(height), ")".repeat(height));
+    let (lowest, middle, highest) = (tower(9, "f(f(p,q),f(r,s))"), tower(7, "m"), tower(7, "m"));
+    let tests = format!("<|t({highest})|>delta)").repeat(8);
+    format!(
+        "proc Y=sum(u:D,sum(v:D,sum(w:D,sum(x:D,Z(u,v,w,x)))));\
+         proc Z(p:D,q:D,r:D,s:D)=U(p,s,{lowest});proc U(p:D,s:D,m:D)=W(p,s,{middle});\
+         proc W(p:D,s:D,m:D)={}a(p,s){tests};",
+        "(".repeat(8)
+    )
+}
+
 /// Whole tables of the conditions that take longest known. The other reader takes more than a minute for each.
 pub fn dearest_tables() -> Vec<Question> {
     let calls = vec!["Y"; 230].join("+");
-    let table = |what, variables| {
-        let more = four_sums_with("t", |_| mixed(variables));
-        question(what, file(&calls, &more), u64::MAX)
-    };
+    let table = |what, more: String| question(what, file(&calls, &more), u64::MAX);
+    let over = |variables| four_sums_with("t", |_| mixed(variables));
     vec![
-        table("a whole table of conditions on all four in turn", "pqrs"),
-        table("the same, mostly on the last", "pqrssssssssssss"),
-        table("the same, mostly on the last two", "rsrsrsrsrsrsrpq"),
+        table(
+            "a whole table of conditions on all four in turn",
+            over("pqrs"),
+        ),
+        table("the same, mostly on the last", over("pqrssssssssssss")),
+        table("the same, mostly on the last two", over("rsrsrsrsrsrsrpq")),
+        table("the same, towers of !", negated()),
+        table("the same, towers of a function of one argument", towers()),
     ]
 }
 
