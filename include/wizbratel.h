@@ -97,7 +97,7 @@ typedef struct {
  * Answers  0 if its table can be made, else 1 to 10. No bytes at all: 5.
  * Leaves   Nothing is written.
  * Time     Not more than make_table.
- * Stack    At most 128 KiB; usual sheets 17 to 109 KB. */
+ * Stack    At most 128 KiB; usual sheets 19 to 109 KB. */
 uint8_t wizbratel_check_sheet(const uint8_t *sheet, size_t length);
 
 /* Make the table file of a sheet.
@@ -107,7 +107,7 @@ uint8_t wizbratel_check_sheet(const uint8_t *sheet, size_t length);
  * Leaves   After 0 the file over the front of `out` and its length in `*written`; what is behind it in
  *          `out` is untouched. One sheet gives the same bytes every time.
  * Time     1.1 us for 25 bytes, 9 us for 500, 0.1 ms for 4,096; the dearest sheets found 0.4 ms.
- * Stack    At most 128 KiB; usual sheets 17 to 109 KB. */
+ * Stack    At most 128 KiB; usual sheets 19 to 109 KB. */
 uint8_t wizbratel_make_table(const uint8_t *sheet, size_t length, uint8_t *out, size_t room, size_t *written);
 
 /* Walk: step 0 up to 8 times, as text: a line for each step (its number, the label, the depth after it), then
