@@ -106,7 +106,7 @@ uint8_t wizbratel_check_sheet(const uint8_t *sheet, size_t length);
  *          no output (`out` NULL, `room` 0) gets 11.
  * Leaves   After 0 the file over the front of `out` and its length in `*written`; what is behind it in
  *          `out` is untouched. One sheet gives the same bytes every time.
- * Time     1.1 us for 25 bytes, 9 us for 500, 0.1 ms for 4,096; the dearest sheets found 0.4 ms.
+ * Time     1.1 us for 25 bytes, 9 us for 500, 0.1 ms for 4,096; the dearest sheets found 0.3 ms.
  * Stack    At most 128 KiB; usual sheets 19 to 109 KB. */
 uint8_t wizbratel_make_table(const uint8_t *sheet, size_t length, uint8_t *out, size_t room, size_t *written);
 
