@@ -81,10 +81,10 @@ pub fn count(cells: &[u16], at: usize, counts: &[u16], base: usize) -> Counted
                 own: m,
             };
         }
-        // a choice without a new equation: three cells and no data
+        // a choice without a new equation, which has no data
         if cell(cells, p) == nodes::ALT {
             need += 1;
-            p += 3;
+            p += nodes::HEADER;
             continue;
         }
         let d = nodes::node_at(cells, p);

@@ -19,7 +19,7 @@ use Rattle.contexts.specs.declared.Spot.{Spot}
 use Rattle.contexts.specs.declared.Side.{Side}
 use Rattle.contexts.specs.Steps.{RestAt}
 use Rattle.heads.specs.declared.alternatives.Ahead.{Ahead}
-use Rattle.heads.specs.declared.remembered.Found.{Found}
+use Rattle.heads.specs.declared.remembered.Arrival.{Arrival}
 use Rattle.heads.specs.Progress.{Parted, Looked, SecondSide, side-spot, Past}
 use Rattle.heads.specs.Memory.{entry-cells, entries, memory-room, Finds, entry-at, found, EntryRight, Remembers, EntryPut, FoundFor}
 use Rattle.heads.proofs.Walking.{passed}
@@ -97,7 +97,7 @@ remembers-none cells counts = record { long = length-replicate {A = ℕ} memory-
 -- WHAT IS FOUND
 
 module _ (cells counts : List ℕ) where
-  pub finds-by : (base heads p : ℕ) (f : Found) → Finds cells counts base heads p f → (x₀ x₁ x₂ x₃ x₄ x₅ x₆ x₇ x₈ : ℕ) → x₀ ≡ p → x₁ ≡ base → x₂ ≡ heads → x₃ ≡ f .at → x₄ ≡ f .own → x₅ ≡ f .next → x₆ ≡ f .a .next → x₇ ≡ f .a .heads → x₈ ≡ f .a .own
+  pub finds-by : (base heads p : ℕ) (f : Arrival) → Finds cells counts base heads p f → (x₀ x₁ x₂ x₃ x₄ x₅ x₆ x₇ x₈ : ℕ) → x₀ ≡ p → x₁ ≡ base → x₂ ≡ heads → x₃ ≡ f .at → x₄ ≡ f .own → x₅ ≡ f .next → x₆ ≡ f .a .next → x₇ ≡ f .a .heads → x₈ ≡ f .a .own
       → Finds cells counts x₁ x₂ x₀ (record { at = x₃; own = x₄; next = x₅; a = record { next = x₆; heads = x₇; own = x₈ }; work = 0 })
   finds-by base heads p f fd x₀ x₁ x₂ x₃ x₄ x₅ x₆ x₇ x₈ e₀ e₁ e₂ e₃ e₄ e₅ e₆ e₇ e₈ = record {
     inside = omega (arith, fd .inside);
@@ -105,12 +105,12 @@ module _ (cells counts : List ℕ) where
     counted = λ h. rw (e₁, e₅, e₆, e₇, e₈) (fd .counted (omega arith));
   }
 
-  pub recalled : (l : List ℕ) (i p base heads : ℕ) (r : Found) → Remembers cells counts l → i < entries → FoundFor l i p base heads → r ≡ found (entry-at l i) → Finds cells counts base heads p r
+  pub recalled : (l : List ℕ) (i p base heads : ℕ) (r : Arrival) → Remembers cells counts l → i < entries → FoundFor l i p base heads → r ≡ found (entry-at l i) → Finds cells counts base heads p r
   recalled l i p base heads r rm low (some, ep, eb, eh) e =
-      subst (λ (x : Found). Finds cells counts base heads p x) (sym e) (subst (λ (x : ℕ). Finds cells counts base heads x (found (entry-at l i))) ep (subst (λ (x : ℕ). Finds cells counts base x (getD l (entry-cells * i) 0) (found (entry-at l i))) eh (subst (λ (x : ℕ). Finds cells counts x (getD l (entry-cells * i + 2) 0) (getD l (entry-cells * i) 0) (found (entry-at l i))) eb (rm .right i low some))))
+      subst (λ (x : Arrival). Finds cells counts base heads p x) (sym e) (subst (λ (x : ℕ). Finds cells counts base heads x (found (entry-at l i))) ep (subst (λ (x : ℕ). Finds cells counts base x (getD l (entry-cells * i) 0) (found (entry-at l i))) eh (subst (λ (x : ℕ). Finds cells counts x (getD l (entry-cells * i + 2) 0) (getD l (entry-cells * i) 0) (found (entry-at l i))) eb (rm .right i low some))))
 
   -- what is found, as the walk goes on there
-  module _ (heads : ℕ) (s : Spot) (f : Found) (fd : Finds cells counts (row-width * s .fuel) heads (s .at) f) (small : s .c < byte-limit) (t : Spot)
+  module _ (heads : ℕ) (s : Spot) (f : Arrival) (fd : Finds cells counts (row-width * s .fuel) heads (s .at) f) (small : s .c < byte-limit) (t : Spot)
       (et : t ≡ side-spot s (record { second = true; at = f .at; c = (s .c + f .own % byte-limit) % byte-limit })) (b : Node) (on : On (f .at) b) (vw : Views cells (f .at) b) where
     pub found-past : Past cells counts heads s t
     found-past =

@@ -8,11 +8,11 @@ use Rattle.nodes.specs.Layout.{alt-kind}
 use Rattle.counting.specs.declared.Counted.{Counted}
 use Rattle.counting.specs.Limits.{row}
 use Rattle.counting.specs.Counting.{Counts}
-use Rattle.heads.specs.declared.remembered.Found.{Found}
+use Rattle.heads.specs.declared.remembered.Arrival.{Arrival}
 use Rattle.heads.specs.declared.tally.Tally.{Tally}
 use Rattle.heads.specs.declared.tally.Lead.{Lead}
 use Rattle.heads.specs.Memory.{Reaches, Finds}
-use Rattle.heads.specs.Tallying.{Leads, Tallies}
+use Rattle.heads.specs.Tallying.{LeadAt, Tallies}
 use Rattle.heads.proofs.Reaching.{reaches-by, reaches-same, reaches-then, reaches-first}
 
 module _ (cells counts : List ℕ) (base : ℕ) where
@@ -21,7 +21,7 @@ module _ (cells counts : List ℕ) (base : ℕ) where
   tally-here at a ct = record { counted = ct; deeper = λ heads h. reaches-same cells counts base heads at }
 
   -- a choice whose heads are all in its first side
-  pub tally-up : (at p : ℕ) (l : Lead) (k : Tally) (c : Counted) → Leads cells at p l → p ≤ k .a .next → Tallies cells counts base p k → Counts cells (row base counts) (l .at) c
+  pub tally-up : (at p : ℕ) (l : Lead) (k : Tally) (c : Counted) → LeadAt cells at p l → p ≤ k .a .next → Tallies cells counts base p k → Counts cells (row base counts) (l .at) c
       → l .d .kind ≡ alt-kind → c .heads ≤ k .a .heads → Tallies cells counts base (l .at) (record { a = c; deep = k .deep })
   tally-up at p l k c ld far t ct is most = record {
     counted = ct;

@@ -11,7 +11,7 @@ use Rattle.counting.specs.declared.Counted.{Counted}
 use Rattle.counting.specs.Limits.{row-width, row}
 use Rattle.counting.specs.Counting.{Counts}
 use Rattle.contexts.specs.declared.Spot.{Spot}
-use Rattle.heads.specs.declared.remembered.Found.{Found}
+use Rattle.heads.specs.declared.remembered.Arrival.{Arrival}
 use Rattle.heads.specs.declared.tally.Tally.{Tally}
 use Rattle.heads.specs.Progress.{side-spot, Past}
 
@@ -38,7 +38,7 @@ abbrev pub Reaches : List ℕ → List ℕ → ℕ → ℕ → ℕ → ℕ → �
 Reaches cells counts base heads p q n = (s : Spot) → s .at ≡ p → row-width * s .fuel ≡ base → s .c < byte-limit → Past cells counts heads s (spot-on s q n)
 
 -- what is found from p on, for a term of so many heads
-pub record Finds (cells counts : List ℕ) (base heads p : ℕ) (f : Found) : Type 0 where
+pub record Finds (cells counts : List ℕ) (base heads p : ℕ) (f : Arrival) : Type 0 where
   pub inside : f .at < length cells
   pub reaches : Reaches cells counts base heads p (f .at) (f .own)
   pub counted : f .next ≤ f .a .next → Counts cells (row base counts) (f .next) (f .a)
@@ -57,7 +57,7 @@ entry-at l i =
     getD l (entry-cells * i) 0 ∷ getD l (entry-cells * i + 1) 0 ∷ getD l (entry-cells * i + 2) 0 ∷ getD l (entry-cells * i + 3) 0 ∷ getD l (entry-cells * i + 4) 0 ∷ getD l (entry-cells * i + 5) 0
     ∷ getD l (entry-cells * i + 6) 0 ∷ getD l (entry-cells * i + 7) 0 ∷ getD l (entry-cells * i + 8) 0 ∷ []
 
-abbrev pub found : List ℕ → Found
+abbrev pub found : List ℕ → Arrival
 found e = record { at = getD e 3 0; own = getD e 4 0; next = getD e 5 0; a = record { next = getD e 6 0; heads = getD e 7 0; own = getD e 8 0 }; work = 0 }
 
 -- an entry for a term without heads is empty
@@ -73,7 +73,7 @@ abbrev pub EntryPut : List ℕ → ℕ → List ℕ → List ℕ → Type 0
 EntryPut l i e l′ = ((j : ℕ) → j < entry-cells → getD l′ (entry-cells * i + j) 0 ≡ getD e j 0) × ((j : ℕ) → (j < entry-cells * i) ⊎ (entry-cells * i + entry-cells ≤ j) → getD l′ j 0 ≡ getD l j 0)
 
 -- all numbers of an entry fit cells
-pub record Fitting (p base heads : ℕ) (f : Found) : Type 0 where
+pub record Fitting (p base heads : ℕ) (f : Arrival) : Type 0 where
   pub p-fits : p < cell-limit
   pub base-fits : base < cell-limit
   pub heads-fit : heads < cell-limit

@@ -11,7 +11,7 @@ use Rattle.heads.specs.declared.tally.Lead.{Lead}
 use Rattle.heads.specs.Memory.{Reaches}
 
 -- the choice or sequence, from `at` on, whose first part stands at p
-pub record Leads (cells : List ℕ) (at p : ℕ) (l : Lead) : Type 0 where
+pub record LeadAt (cells : List ℕ) (at p : ℕ) (l : Lead) : Type 0 where
   pub from : at ≤ l .at
   pub before : l .at < p
   pub inside : l .at < length cells

@@ -8,8 +8,8 @@ ghost use Rattle.counting.specs.Limits.{most-heads, max-fuel, row};
 ghost use Rattle.heads.specs.Progress.{Choice, Parted, Looked, SecondSide, side-spot, Idle, Behind, Past};
 ghost use Rattle.heads.specs.Memory.{work-limit, Reaches, OnlySide, Passed, Finds, Remembers};
 ghost use Rattle.heads.specs.Tallying.{Tallies};
+use crate::remembered::Arrival;
 use crate::remembered::ENTRIES;
-use crate::remembered::Found;
 use crate::remembered::WORK;
 use crate::remembered::find;
 use crate::remembered::found_at;
@@ -201,7 +201,7 @@ fn reach(
     heads: usize,
     at: usize,
     remembered: &mut [u16],
-) -> Found
+) -> Arrival
     requires { ⌜ (at < length (now cells)) × (base < cell-limit) × Remembers (now cells) (now counts) (now remembered) ⌝ }
     ensures { λ r. ⌜ Finds (now (cells .entry)) (now (counts .entry)) base heads at r × Remembers (now (cells .entry)) (now (counts .entry)) (now (remembered .exit)) ⌝ }
 {
@@ -222,7 +222,7 @@ fn reach(
         q = only_side(d, k, heads, cells.len(), p);
     }
     let a = k.a;
-    Found {
+    Arrival {
         at: p,
         own: own,
         next: d.next,
@@ -239,7 +239,7 @@ fn recall(
     heads: usize,
     at: usize,
     remembered: &mut [u16],
-) -> Found
+) -> Arrival
     requires { ⌜ (at < length (now cells)) × (base < cell-limit) × Remembers (now cells) (now counts) (now remembered) ⌝ }
     ensures { λ r. ⌜ Finds (now (cells .entry)) (now (counts .entry)) base heads at r × Remembers (now (cells .entry)) (now (counts .entry)) (now (remembered .exit)) ⌝ }
 {
@@ -255,7 +255,7 @@ fn recall(
 }
 
 // Is what was found right for the node d there?
-fn usable(d: Node, f: Found) -> bool
+fn usable(d: Node, f: Arrival) -> bool
     ensures { λ r. ⌜ (r ≡ true → (d .next ≡ f .next) × (Parted (d .kind) → f .next ≤ f .a .next)) ⌝ }
 {
     let a = f.a;

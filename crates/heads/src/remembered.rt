@@ -10,7 +10,7 @@ use elements::cell;
 use elements::short;
 
 // Where the walk comes to, the new equations passed, and the count of the first part there, that stands at `next`; the cells looked at.
-pub struct Found {
+pub struct Arrival {
     pub at: usize,
     pub own: usize,
     pub next: usize,
@@ -51,7 +51,7 @@ pub fn find(l: &[u16], p: usize, base: usize, heads: usize) -> usize
     i
 }
 
-pub fn found_at(l: &[u16], i: usize) -> Found
+pub fn found_at(l: &[u16], i: usize) -> Arrival
     requires { ⌜ i < entries ⌝ }
     ensures { λ r. ⌜ r ≡ found (entry-at (now (l .entry)) i) ⌝ }
 {
@@ -61,7 +61,7 @@ pub fn found_at(l: &[u16], i: usize) -> Found
         heads: cell(l, k + 7),
         own: cell(l, k + 8),
     };
-    Found {
+    Arrival {
         at: cell(l, k + 3),
         own: cell(l, k + 4),
         next: cell(l, k + 5),
@@ -96,7 +96,7 @@ fn put_entry(l: &mut [u16], i: usize, e: &[u16])
     }
 }
 
-fn fits(p: usize, base: usize, heads: usize, f: Found) -> bool
+fn fits(p: usize, base: usize, heads: usize, f: Arrival) -> bool
     ensures { λ r. ⌜ (r ≡ true → Fitting p base heads f) ⌝ }
 {
     if p >= CELL_LIMIT {
@@ -137,7 +137,7 @@ pub fn remember(
     p: usize,
     base: usize,
     heads: usize,
-    f: Found,
+    f: Arrival,
 )
     requires { ⌜ Remembers (now cells) (now counts) (now l) × Finds (now cells) (now counts) base heads p f ⌝ }
     ensures { λ r. ⌜ Remembers (now (cells .entry)) (now (counts .entry)) (now (l .exit)) ⌝ }

@@ -8,16 +8,13 @@ ghost use Rattle.nodes.specs.Layout.{cell-limit, alt-kind, seq-kind};
 ghost use Rattle.counting.specs.Limits.{most-heads, row};
 ghost use Rattle.counting.specs.Counting.{Counts};
 ghost use Rattle.heads.specs.Memory.{Remembers};
-ghost use Rattle.heads.specs.Tallying.{Leads, Tallies};
-use crate::remembered::Found;
+ghost use Rattle.heads.specs.Tallying.{LeadAt, Tallies};
+use crate::remembered::Arrival;
 use crate::remembered::WORK;
 use crate::remembered::remember;
 use counting::Counted;
 use elements::cell;
 use nodes::Node;
-
-// The cells of a choice or a sequence before its first part.
-const FIRST: usize = 3;
 
 // The count of a term, and the innermost of the first sides of its first sides that has all its heads.
 pub struct Tally {
@@ -51,7 +48,7 @@ fn lowest(cells: &[u16], at: usize) -> usize
         if !leads(cell(cells, p)) {
             return p;
         }
-        p += FIRST;
+        p += nodes::HEADER;
     }
     p
 }
@@ -77,12 +74,12 @@ fn no_lead() -> Lead
 
 // The choice or sequence, from `at` on, whose first part stands at p.
 fn lead_of(cells: &[u16], at: usize, p: usize) -> Lead
-    ensures { λ r. ⌜ (r .ok ≡ true → Leads (now (cells .entry)) at p r) ⌝ }
+    ensures { λ r. ⌜ (r .ok ≡ true → LeadAt (now (cells .entry)) at p r) ⌝ }
 {
-    if p < FIRST {
+    if p < nodes::HEADER {
         return no_lead();
     }
-    let q = p - FIRST;
+    let q = p - nodes::HEADER;
     if q < at {
         return no_lead();
     }
@@ -133,7 +130,7 @@ fn note(
     if a.next - p < WORK {
         return;
     }
-    let f = Found {
+    let f = Arrival {
         at: q,
         own: 0,
         next: p,
@@ -143,6 +140,7 @@ fn note(
     remember(cells, counts, &mut *remembered, q, base, heads, f);
 }
 
+// The count of the term at `at`, from the innermost of its first parts outwards.
 pub fn tally_of(
     cells: &[u16],
     counts: &[u16],

@@ -47,6 +47,9 @@ pub const AFTER: usize = 16;
 // A node's number stands in its first cell, so many times itself.
 pub const NUMBER: usize = 32;
 
+// The cells of a node before its data: the first, how many cells the data take, and how many terms they are.
+pub const HEADER: usize = 3;
+
 // The bytes of a row, as in Held.
 pub const FUNC_ROW: usize = 4;
 
@@ -147,9 +150,9 @@ fn behind_data(cells: &[u16], at: usize, n: usize) -> usize
     ensures { λ r. ⌜ (at + 3 ≤ r) × (n ≡ 0 → r ≡ at + 3) × (0 < n → r ≡ at + 3 + getD (now (cells .entry)) (at + 1) 0) ⌝ }
 {
     if n == 0 {
-        return at + 3;
+        return at + HEADER;
     }
-    at + 3 + cell(cells, at + 1)
+    at + HEADER + cell(cells, at + 1)
 }
 
 pub fn node_at(cells: &[u16], at: usize) -> Node
@@ -163,7 +166,7 @@ pub fn node_at(cells: &[u16], at: usize) -> Node
         kind: k % AFTER,
         own: k / AFTER % 2,
         number: k / NUMBER,
-        terms: at + 3,
+        terms: at + HEADER,
         datas: n,
         kids: k % 4,
         next: behind_data(cells, at, n),

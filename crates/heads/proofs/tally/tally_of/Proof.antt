@@ -7,7 +7,7 @@ use lib.ListN.{length}
 use Rattle.counting.specs.Limits.{most-heads, row}
 use Rattle.counting.specs.Counting.{Counts}
 use Rattle.heads.specs.Memory.{Remembers}
-use Rattle.heads.specs.Tallying.{Leads, Tallies}
+use Rattle.heads.specs.Tallying.{LeadAt, Tallies}
 use Rattle.heads.proofs.Tallying.{tally-here, tally-up}
 use Rattle.heads.proofs.tally.tally_of.Statement.{statement}
 use Rattle.heads.proofs.tally.tally_of.Tie as tie
