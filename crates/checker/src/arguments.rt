@@ -22,6 +22,12 @@ use nodes::VARIABLE;
 use nodes::data_at;
 use nodes::skip_data;
 
+// Data terms that stand one behind another: where, and how many.
+pub struct Given {
+    pub at: usize,
+    pub count: usize,
+}
+
 // A sort's size, 0 for no sort.
 pub fn size_of(sizes: &[u8], sorts: usize, sort: usize) -> usize
     ensures { λ r. ⌜ r < byte-limit ⌝ }
@@ -65,8 +71,7 @@ pub fn fits(
 // Do as many data terms as a row has sorts fit these sorts, one by one?
 pub fn each_fits(
     cells: &[u16],
-    at: usize,
-    count: usize,
+    given: Given,
     row: &[u8],
     start: usize,
     scope: &[u16],
@@ -74,13 +79,14 @@ pub fn each_fits(
     funcs: &[u8],
     n: Outline,
 ) -> bool
-    requires { ⌜ (start < start-limit) × (count < cell-limit) ⌝ }
-    ensures { λ r. ⌜ EachFitsAt (now (cells .entry)) (now (scope .entry)) (now (sizes .entry)) (now (funcs .entry)) n at count (now (row .entry)) start r ⌝ }
+    requires { ⌜ (start < start-limit) × (given .count < cell-limit) ⌝ }
+    ensures { λ r. ⌜ EachFitsAt (now (cells .entry)) (now (scope .entry)) (now (sizes .entry)) (now (funcs .entry)) n (given .at) (given .count) (now (row .entry)) start r ⌝ }
 {
+    let count = given.count;
     if byte(row, start) != count {
         return false;
     }
-    let mut p = at;
+    let mut p = given.at;
     let mut i: usize = 0;
     while i < count {
         let sort = byte(row, start + 1 + i);
@@ -96,18 +102,17 @@ pub fn each_fits(
 // Do data terms fit one sort, each of them?
 pub fn every_fits(
     cells: &[u16],
-    at: usize,
-    count: usize,
+    given: Given,
     sort: usize,
     scope: &[u16],
     sizes: &[u8],
     funcs: &[u8],
     n: Outline,
 ) -> bool
-    ensures { λ r. ⌜ EveryFitsAt (now (cells .entry)) (now (scope .entry)) (now (sizes .entry)) (now (funcs .entry)) n at count sort r ⌝ }
+    ensures { λ r. ⌜ EveryFitsAt (now (cells .entry)) (now (scope .entry)) (now (sizes .entry)) (now (funcs .entry)) n (given .at) (given .count) sort r ⌝ }
 {
-    let mut p = at;
-    let mut need = count;
+    let mut p = given.at;
+    let mut need = given.count;
     while need > 0 {
         if !fits(cells, p, sort, scope, sizes, funcs, n) {
             return false;
@@ -137,7 +142,11 @@ pub fn operator_fits(
     if d.kids != o.count {
         return false;
     }
-    every_fits(cells, d.next, d.kids, o.sort, scope, sizes, funcs, n)
+    let given = Given {
+        at: d.next,
+        count: d.kids,
+    };
+    every_fits(cells, given, o.sort, scope, sizes, funcs, n)
 }
 
 // Do the arguments of one node of a data term fit?
@@ -158,10 +167,13 @@ pub fn arguments_fit(
     if d.number >= n.funcs {
         return operator_fits(cells, d, scope, sizes, funcs, n);
     }
+    let given = Given {
+        at: d.next,
+        count: d.kids,
+    };
     each_fits(
         cells,
-        d.next,
-        d.kids,
+        given,
         funcs,
         FUNC_ROW * d.number,
         scope,
@@ -174,18 +186,17 @@ pub fn arguments_fit(
 // Do the arguments of every node in some data terms fit?
 pub fn all_fit(
     cells: &[u16],
-    at: usize,
-    count: usize,
+    given: Given,
     scope: &[u16],
     sizes: &[u8],
     funcs: &[u8],
     n: Outline,
 ) -> bool
-    requires { ⌜ count < cell-limit ⌝ }
-    ensures { λ r. ⌜ AllFitAt (now (cells .entry)) (now (scope .entry)) (now (sizes .entry)) (now (funcs .entry)) n at count r ⌝ }
+    requires { ⌜ given .count < cell-limit ⌝ }
+    ensures { λ r. ⌜ AllFitAt (now (cells .entry)) (now (scope .entry)) (now (sizes .entry)) (now (funcs .entry)) n (given .at) (given .count) r ⌝ }
 {
-    let mut p = at;
-    let mut need = count;
+    let mut p = given.at;
+    let mut need = given.count;
     while need > 0 {
         if p >= cells.len() {
             return false;
@@ -197,7 +208,11 @@ pub fn all_fit(
         let takes = bools(d);
         if takes > 0 {
             let r = run_of(cells, d.next, takes);
-            if !every_fits(cells, r.next, r.count, BOOL, scope, sizes, funcs, n) {
+            let taken = Given {
+                at: r.next,
+                count: r.count,
+            };
+            if !every_fits(cells, taken, BOOL, scope, sizes, funcs, n) {
                 return false;
             }
             need = need - 1 + r.count;
@@ -216,8 +231,7 @@ pub fn all_fit(
 // "Argument counts and sorts right": have data terms the sorts of a row?
 pub fn arguments_right(
     cells: &[u16],
-    at: usize,
-    count: usize,
+    given: Given,
     row: &[u8],
     start: usize,
     scope: &[u16],
@@ -225,11 +239,11 @@ pub fn arguments_right(
     funcs: &[u8],
     n: Outline,
 ) -> bool
-    requires { ⌜ (start < start-limit) × (count < cell-limit) ⌝ }
-    ensures { λ r. ⌜ ArgumentsAt (now (cells .entry)) (now (scope .entry)) (now (sizes .entry)) (now (funcs .entry)) n at count (now (row .entry)) start r ⌝ }
+    requires { ⌜ (start < start-limit) × (given .count < cell-limit) ⌝ }
+    ensures { λ r. ⌜ ArgumentsAt (now (cells .entry)) (now (scope .entry)) (now (sizes .entry)) (now (funcs .entry)) n (given .at) (given .count) (now (row .entry)) start r ⌝ }
 {
-    if !each_fits(cells, at, count, row, start, scope, sizes, funcs, n) {
+    if !each_fits(cells, given, row, start, scope, sizes, funcs, n) {
         return false;
     }
-    all_fit(cells, at, count, scope, sizes, funcs, n)
+    all_fit(cells, given, scope, sizes, funcs, n)
 }

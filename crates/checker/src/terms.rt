@@ -6,6 +6,7 @@ ghost use lib.ListN.{length};
 ghost use Rattle.nodes.specs.Layout.{cell-limit};
 ghost use Rattle.nodes.specs.Scoped.{max-scope};
 ghost use Rattle.checker.specs.Sorts.{AtomSays, CallSays, CondSays, NodeSays, Binds, TermSays};
+use crate::arguments::Given;
 use crate::arguments::all_fit;
 use crate::arguments::arguments_right;
 use crate::arguments::fits;
@@ -46,17 +47,11 @@ pub fn atom_right(
     if a >= n.acts {
         return false;
     }
-    arguments_right(
-        cells,
-        d.terms,
-        d.datas,
-        acts,
-        ACT_ROW * a,
-        scope,
-        sizes,
-        funcs,
-        n,
-    )
+    let given = Given {
+        at: d.terms,
+        count: d.datas,
+    };
+    arguments_right(cells, given, acts, ACT_ROW * a, scope, sizes, funcs, n)
 }
 
 pub fn call_right(
@@ -74,10 +69,13 @@ pub fn call_right(
     if d.number >= n.procs {
         return false;
     }
+    let given = Given {
+        at: d.terms,
+        count: d.datas,
+    };
     arguments_right(
         cells,
-        d.terms,
-        d.datas,
+        given,
         procs,
         PROC_ROW * d.number,
         scope,
@@ -102,7 +100,11 @@ pub fn cond_right(
     if !fits(cells, d.terms, BOOL, scope, sizes, funcs, n) {
         return false;
     }
-    all_fit(cells, d.terms, d.datas, scope, sizes, funcs, n)
+    let given = Given {
+        at: d.terms,
+        count: d.datas,
+    };
+    all_fit(cells, given, scope, sizes, funcs, n)
 }
 
 // Is one node of a process term right?

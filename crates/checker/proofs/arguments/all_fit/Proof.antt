@@ -11,23 +11,23 @@ use Rattle.checker.proofs.arguments.all_fit.Statement.{statement}
 use Rattle.checker.proofs.arguments.all_fit.Tie as tie
 
 abbrev Inv-loop : tie.InvT-loop
-Inv-loop cells at count scope sizes funcs n p₀ need₀ p need = (need < length cells + cell-limit) × AllLeft cells scope sizes funcs n at count p need
+Inv-loop cells scope sizes funcs n p₀ need₀ p need = (need < length cells + cell-limit) × AllLeft cells scope sizes funcs n p₀ need₀ p need
 
 abbrev μ-loop : tie.MeasureT-loop
-μ-loop cells at count scope sizes funcs n p₀ need₀ p need = length cells - p
+μ-loop cells scope sizes funcs n p₀ need₀ p need = length cells - p
 
 loop-holds : tie.Need-loop-holds Inv-loop μ-loop
 loop-holds c =
     let args = c .before .before .before .before .args in
-    (omega arith, all-start (args .cells .now) (args .scope .now) (args .sizes .now) (args .funcs .now) (args .n) (args .at) (args .count))
+    (omega arith, all-start (args .cells .now) (args .scope .now) (args .sizes .now) (args .funcs .now) (args .n) (args .given .at) (args .given .count))
 
 returns : tie.Need-returns Inv-loop μ-loop
 returns c = let args = c .before .before .before .before .before .before .before .args in let here = c .before .before .loop in
-    all-stuck (args .cells .now) (args .scope .now) (args .sizes .now) (args .funcs .now) (args .n) (args .at) (args .count) (here .p) (here .need) (here .inv .1) (omega arith) (omega arith) false
+    all-stuck (args .cells .now) (args .scope .now) (args .sizes .now) (args .funcs .now) (args .n) (args .given .at) (args .given .count) (here .p) (here .need) (here .inv .1) (omega arith) (omega arith) false
 
 returns-2 : tie.Need-returns-2 Inv-loop μ-loop
 returns-2 c = let args = c .before .before .before .before .before .before .before .before .args in let here = c .before .before .before .loop in
-    all-many (args .cells .now) (args .scope .now) (args .sizes .now) (args .funcs .now) (args .n) (args .at) (args .count) (here .p) (here .need) (here .inv .1) (omega arith) (omega arith) false
+    all-many (args .cells .now) (args .scope .now) (args .sizes .now) (args .funcs .now) (args .n) (args .given .at) (args .given .count) (here .p) (here .need) (here .inv .1) (omega arith) (omega arith) false
 
 data-at-requires : tie.Need-data-at-requires Inv-loop μ-loop
 data-at-requires c κs = omega arith
@@ -50,7 +50,7 @@ returns-3 c =
     let t = c .before .before .before .before .bools in
     let r = c .before .before .run-of in
     let f = c .before .every-fits in
-    run-failed (args .cells .now) (args .scope .now) (args .sizes .now) (args .funcs .now) (args .n) (args .at) (args .count) (here .p) (here .need) (here .inv .1) left (d .result) (d .ensures .1) (t .result) (t .ensures .1) (omega arith) (r .result .next) (r .result .count) (r .ensures .1) (f .result) (f .ensures) (not-true _ (c .if4 .taken))
+    run-failed (args .cells .now) (args .scope .now) (args .sizes .now) (args .funcs .now) (args .n) (args .given .at) (args .given .count) (here .p) (here .need) (here .inv .1) left (d .result) (d .ensures .1) (t .result) (t .ensures .1) (omega arith) (r .result .next) (r .result .count) (r .ensures .1) (f .result) (f .ensures) (not-true _ (c .if4 .taken))
 
 sub-need : tie.Need-sub-need Inv-loop μ-loop
 sub-need c = omega arith
@@ -72,7 +72,7 @@ loop-again c =
     let t = c .before .before .before .before .before .bools in
     let r = c .before .before .before .run-of in
     let f = c .before .before .every-fits in
-    (omega arith, run-passed (args .cells .now) (args .scope .now) (args .sizes .now) (args .funcs .now) (args .n) (args .at) (args .count) (here .p) (here .need) (here .inv .1) left (d .result) (d .ensures .1) (t .result) (t .ensures .1) (omega arith) (r .result .next) (r .result .count) (r .ensures .1) (f .result) (f .ensures) (not-false _ (c .before .if4 .left)))
+    (omega arith, run-passed (args .cells .now) (args .scope .now) (args .sizes .now) (args .funcs .now) (args .n) (args .given .at) (args .given .count) (here .p) (here .need) (here .inv .1) left (d .result) (d .ensures .1) (t .result) (t .ensures .1) (omega arith) (r .result .next) (r .result .count) (r .ensures .1) (f .result) (f .ensures) (not-false _ (c .before .if4 .left)))
 
 arguments-fit-requires : tie.Need-arguments-fit-requires Inv-loop μ-loop
 arguments-fit-requires c κs = omega arith
@@ -83,7 +83,7 @@ returns-4 c =
     let here = c .before .before .before .before .before .before .before .before .loop in
     let d = c .before .before .before .before .data-at in
     let f = c .before .arguments-fit in
-    all-failed (args .cells .now) (args .scope .now) (args .sizes .now) (args .funcs .now) (args .n) (args .at) (args .count) (here .p) (here .need) (here .inv .1) (omega arith) (d .result) (d .ensures .1) (f .result) (f .ensures) (not-true _ (c .if5 .taken))
+    all-failed (args .cells .now) (args .scope .now) (args .sizes .now) (args .funcs .now) (args .n) (args .given .at) (args .given .count) (here .p) (here .need) (here .inv .1) (omega arith) (d .result) (d .ensures .1) (f .result) (f .ensures) (not-true _ (c .if5 .taken))
 
 sub-need-2 : tie.Need-sub-need-2 Inv-loop μ-loop
 sub-need-2 c = omega arith
@@ -100,11 +100,11 @@ loop-again-2 c =
     let here = c .before .before .before .before .before .before .before .before .before .loop in
     let d = c .before .before .before .before .before .data-at in
     let f = c .before .before .arguments-fit in
-    (omega arith, all-step (args .cells .now) (args .scope .now) (args .sizes .now) (args .funcs .now) (args .n) (args .at) (args .count) (here .p) (here .need) (here .inv .1) (omega arith) (d .result) (d .ensures .1) (f .result) (f .ensures) (not-false _ (c .before .if5 .left)))
+    (omega arith, all-step (args .cells .now) (args .scope .now) (args .sizes .now) (args .funcs .now) (args .n) (args .given .at) (args .given .count) (here .p) (here .need) (here .inv .1) (omega arith) (d .result) (d .ensures .1) (f .result) (f .ensures) (not-false _ (c .before .if5 .left)))
 
 returns-5 : tie.Need-returns-5 Inv-loop μ-loop
 returns-5 c = let args = c .before .before .before .before .before .before .args in let here = c .before .loop in
-    all-done (args .cells .now) (args .scope .now) (args .sizes .now) (args .funcs .now) (args .n) (args .at) (args .count) (here .p) (here .need) (here .inv .1) (omega arith)
+    all-done (args .cells .now) (args .scope .now) (args .sizes .now) (args .funcs .now) (args .n) (args .given .at) (args .given .count) (here .p) (here .need) (here .inv .1) (omega arith)
 
 pub all-fit-spec : {M : Type 1} → statement M
 all-fit-spec = tie.close (tie.spec Inv-loop μ-loop loop-holds returns returns-2 data-at-requires bools-requires run-of-requires every-fits-requires returns-3 sub-need add-need loop-less loop-again arguments-fit-requires returns-4 sub-need-2 add-need-2 loop-less-2 loop-again-2 returns-5)

@@ -9,13 +9,13 @@ each-fits-requires : tie.Need-each-fits-requires
 each-fits-requires c κs = search needs
 
 returns : tie.Need-returns
-returns c = arguments-unfit (c .before .before .before .before .before .before .before .args .cells .now) (c .before .before .before .before .before .before .before .args .scope .now) (c .before .before .before .before .before .before .before .args .sizes .now) (c .before .before .before .before .before .before .before .args .funcs .now) (c .before .before .before .before .before .before .before .args .n) (c .before .before .before .before .before .before .before .args .at) (c .before .before .before .before .before .before .before .args .count) (c .before .before .before .before .before .before .before .args .row .now) (c .before .before .before .before .before .before .before .args .start) (c .before .each-fits .result) (c .before .each-fits .ensures) (not-true _ (c .if1 .taken))
+returns c = arguments-unfit (c .before .before .before .before .before .before .before .args .cells .now) (c .before .before .before .before .before .before .before .args .scope .now) (c .before .before .before .before .before .before .before .args .sizes .now) (c .before .before .before .before .before .before .before .args .funcs .now) (c .before .before .before .before .before .before .before .args .n) (c .before .before .before .before .before .before .before .args .given .at) (c .before .before .before .before .before .before .before .args .given .count) (c .before .before .before .before .before .before .before .args .row .now) (c .before .before .before .before .before .before .before .args .start) (c .before .each-fits .result) (c .before .each-fits .ensures) (not-true _ (c .if1 .taken))
 
 all-fit-requires : tie.Need-all-fit-requires
 all-fit-requires c κs = search needs
 
 returns-2 : tie.Need-returns-2
-returns-2 c = arguments-all (c .before .before .before .before .before .before .before .before .args .cells .now) (c .before .before .before .before .before .before .before .before .args .scope .now) (c .before .before .before .before .before .before .before .before .args .sizes .now) (c .before .before .before .before .before .before .before .before .args .funcs .now) (c .before .before .before .before .before .before .before .before .args .n) (c .before .before .before .before .before .before .before .before .args .at) (c .before .before .before .before .before .before .before .before .args .count) (c .before .before .before .before .before .before .before .before .args .row .now) (c .before .before .before .before .before .before .before .before .args .start) (c .before .before .each-fits .result) (c .before .before .each-fits .ensures) (not-false _ (c .before .if1 .left)) (c .all-fit .result) (c .all-fit .ensures)
+returns-2 c = arguments-all (c .before .before .before .before .before .before .before .before .args .cells .now) (c .before .before .before .before .before .before .before .before .args .scope .now) (c .before .before .before .before .before .before .before .before .args .sizes .now) (c .before .before .before .before .before .before .before .before .args .funcs .now) (c .before .before .before .before .before .before .before .before .args .n) (c .before .before .before .before .before .before .before .before .args .given .at) (c .before .before .before .before .before .before .before .before .args .given .count) (c .before .before .before .before .before .before .before .before .args .row .now) (c .before .before .before .before .before .before .before .before .args .start) (c .before .before .each-fits .result) (c .before .before .each-fits .ensures) (not-false _ (c .before .if1 .left)) (c .all-fit .result) (c .all-fit .ensures)
 
 pub arguments-right-spec : {M : Type 1} → statement M
 arguments-right-spec = tie.close (tie.spec each-fits-requires returns all-fit-requires returns-2)

@@ -8,19 +8,19 @@ use Rattle.checker.proofs.arguments.each_fits.Statement.{statement}
 use Rattle.checker.proofs.arguments.each_fits.Tie as tie
 
 abbrev Inv-loop : tie.InvT-loop
-Inv-loop cells at count row start scope sizes funcs n p₀ i₀ p i = (i ≤ count) × EachLeft cells scope sizes funcs n at count row start p i
+Inv-loop cells row start scope sizes funcs n count p₀ i₀ p i = (i ≤ count) × EachLeft cells scope sizes funcs n p₀ count row start p i
 
 abbrev μ-loop : tie.MeasureT-loop
-μ-loop cells at count row start scope sizes funcs n p₀ i₀ p i = count - i
+μ-loop cells row start scope sizes funcs n count p₀ i₀ p i = count - i
 
 byte-requires : tie.Need-byte-requires Inv-loop μ-loop
 byte-requires c κs = search needs
 
 returns : tie.Need-returns Inv-loop μ-loop
-returns c = each-uneven (c .before .before .before .before .before .before .before .args .cells .now) (c .before .before .before .before .before .before .before .args .scope .now) (c .before .before .before .before .before .before .before .args .sizes .now) (c .before .before .before .before .before .before .before .args .funcs .now) (c .before .before .before .before .before .before .before .args .n) (c .before .before .before .before .before .before .before .args .at) (c .before .before .before .before .before .before .before .args .count) (c .before .before .before .before .before .before .before .args .row .now) (c .before .before .before .before .before .before .before .args .start) (λ z. omega (arith, c .before .byte .ensures .0))
+returns c = each-uneven (c .before .before .before .before .before .before .before .args .cells .now) (c .before .before .before .before .before .before .before .args .scope .now) (c .before .before .before .before .before .before .before .args .sizes .now) (c .before .before .before .before .before .before .before .args .funcs .now) (c .before .before .before .before .before .before .before .args .n) (c .before .before .before .before .before .before .before .args .given .at) (c .before .before .before .before .before .before .before .args .given .count) (c .before .before .before .before .before .before .before .args .row .now) (c .before .before .before .before .before .before .before .args .start) (λ z. omega (arith, c .before .byte .ensures .0))
 
 loop-holds : tie.Need-loop-holds Inv-loop μ-loop
-loop-holds c = (omega arith, each-start (c .before .before .before .before .before .before .before .args .cells .now) (c .before .before .before .before .before .before .before .args .scope .now) (c .before .before .before .before .before .before .before .args .sizes .now) (c .before .before .before .before .before .before .before .args .funcs .now) (c .before .before .before .before .before .before .before .args .n) (c .before .before .before .before .before .before .before .args .at) (c .before .before .before .before .before .before .before .args .count) (c .before .before .before .before .before .before .before .args .row .now) (c .before .before .before .before .before .before .before .args .start))
+loop-holds c = (omega arith, each-start (c .before .before .before .before .before .before .before .args .cells .now) (c .before .before .before .before .before .before .before .args .scope .now) (c .before .before .before .before .before .before .before .args .sizes .now) (c .before .before .before .before .before .before .before .args .funcs .now) (c .before .before .before .before .before .before .before .args .n) (c .before .before .before .before .before .before .before .args .given .at) (c .before .before .before .before .before .before .before .args .given .count) (c .before .before .before .before .before .before .before .args .row .now) (c .before .before .before .before .before .before .before .args .start))
 
 add-byte : tie.Need-add-byte Inv-loop μ-loop
 add-byte c = omega arith
@@ -35,7 +35,7 @@ fits-requires : tie.Need-fits-requires Inv-loop μ-loop
 fits-requires c κs = search needs
 
 returns-2 : tie.Need-returns-2 Inv-loop μ-loop
-returns-2 c = each-failed (c .before .before .before .before .before .before .before .before .before .before .before .before .args .cells .now) (c .before .before .before .before .before .before .before .before .before .before .before .before .args .scope .now) (c .before .before .before .before .before .before .before .before .before .before .before .before .args .sizes .now) (c .before .before .before .before .before .before .before .before .before .before .before .before .args .funcs .now) (c .before .before .before .before .before .before .before .before .before .before .before .before .args .n) (c .before .before .before .before .before .before .before .before .before .before .before .before .args .at) (c .before .before .before .before .before .before .before .before .before .before .before .before .args .count) (c .before .before .before .before .before .before .before .before .before .before .before .before .args .row .now) (c .before .before .before .before .before .before .before .before .before .before .before .before .args .start) (c .before .before .before .before .loop .p) (c .before .before .before .before .loop .i) (c .before .before .before .before .loop .inv .1) (omega (arith, c .before .before .before .before .before .before .byte .ensures .0)) (omega arith) (c .before .before .byte2 .result) (c .before .before .byte2 .ensures .0) (c .before .fits2 .result) (c .before .fits2 .ensures) (not-true _ (c .if2 .taken))
+returns-2 c = each-failed (c .before .before .before .before .before .before .before .before .before .before .before .before .args .cells .now) (c .before .before .before .before .before .before .before .before .before .before .before .before .args .scope .now) (c .before .before .before .before .before .before .before .before .before .before .before .before .args .sizes .now) (c .before .before .before .before .before .before .before .before .before .before .before .before .args .funcs .now) (c .before .before .before .before .before .before .before .before .before .before .before .before .args .n) (c .before .before .before .before .before .before .before .before .before .before .before .before .args .given .at) (c .before .before .before .before .before .before .before .before .before .before .before .before .args .given .count) (c .before .before .before .before .before .before .before .before .before .before .before .before .args .row .now) (c .before .before .before .before .before .before .before .before .before .before .before .before .args .start) (c .before .before .before .before .loop .p) (c .before .before .before .before .loop .i) (c .before .before .before .before .loop .inv .1) (omega (arith, c .before .before .before .before .before .before .byte .ensures .0)) (omega arith) (c .before .before .byte2 .result) (c .before .before .byte2 .ensures .0) (c .before .fits2 .result) (c .before .fits2 .ensures) (not-true _ (c .if2 .taken))
 
 skip-data-requires : tie.Need-skip-data-requires Inv-loop μ-loop
 skip-data-requires c κs = omega arith
@@ -47,10 +47,10 @@ loop-less : tie.Need-loop-less Inv-loop μ-loop
 loop-less c = omega arith
 
 loop-again : tie.Need-loop-again Inv-loop μ-loop
-loop-again c = (omega arith, each-step (c .before .before .before .before .before .before .before .before .before .before .before .before .before .args .cells .now) (c .before .before .before .before .before .before .before .before .before .before .before .before .before .args .scope .now) (c .before .before .before .before .before .before .before .before .before .before .before .before .before .args .sizes .now) (c .before .before .before .before .before .before .before .before .before .before .before .before .before .args .funcs .now) (c .before .before .before .before .before .before .before .before .before .before .before .before .before .args .n) (c .before .before .before .before .before .before .before .before .before .before .before .before .before .args .at) (c .before .before .before .before .before .before .before .before .before .before .before .before .before .args .count) (c .before .before .before .before .before .before .before .before .before .before .before .before .before .args .row .now) (c .before .before .before .before .before .before .before .before .before .before .before .before .before .args .start) (c .before .before .before .before .before .loop .p) (c .before .before .before .before .before .loop .i) (c .before .before .before .before .before .loop .inv .1) (omega (arith, c .before .before .before .before .before .before .before .byte .ensures .0)) (omega arith) (c .before .before .before .byte2 .result) (c .before .before .before .byte2 .ensures .0) (c .before .before .fits2 .result) (c .before .before .fits2 .ensures) (not-false _ (c .before .if2 .left)) (c .skip-data .result) (c .skip-data .ensures .1))
+loop-again c = (omega arith, each-step (c .before .before .before .before .before .before .before .before .before .before .before .before .before .args .cells .now) (c .before .before .before .before .before .before .before .before .before .before .before .before .before .args .scope .now) (c .before .before .before .before .before .before .before .before .before .before .before .before .before .args .sizes .now) (c .before .before .before .before .before .before .before .before .before .before .before .before .before .args .funcs .now) (c .before .before .before .before .before .before .before .before .before .before .before .before .before .args .n) (c .before .before .before .before .before .before .before .before .before .before .before .before .before .args .given .at) (c .before .before .before .before .before .before .before .before .before .before .before .before .before .args .given .count) (c .before .before .before .before .before .before .before .before .before .before .before .before .before .args .row .now) (c .before .before .before .before .before .before .before .before .before .before .before .before .before .args .start) (c .before .before .before .before .before .loop .p) (c .before .before .before .before .before .loop .i) (c .before .before .before .before .before .loop .inv .1) (omega (arith, c .before .before .before .before .before .before .before .byte .ensures .0)) (omega arith) (c .before .before .before .byte2 .result) (c .before .before .before .byte2 .ensures .0) (c .before .before .fits2 .result) (c .before .before .fits2 .ensures) (not-false _ (c .before .if2 .left)) (c .skip-data .result) (c .skip-data .ensures .1))
 
 returns-3 : tie.Need-returns-3 Inv-loop μ-loop
-returns-3 c = each-done (c .before .before .before .before .before .before .before .before .before .args .cells .now) (c .before .before .before .before .before .before .before .before .before .args .scope .now) (c .before .before .before .before .before .before .before .before .before .args .sizes .now) (c .before .before .before .before .before .before .before .before .before .args .funcs .now) (c .before .before .before .before .before .before .before .before .before .args .n) (c .before .before .before .before .before .before .before .before .before .args .at) (c .before .before .before .before .before .before .before .before .before .args .count) (c .before .before .before .before .before .before .before .before .before .args .row .now) (c .before .before .before .before .before .before .before .before .before .args .start) (c .before .loop .p) (c .before .loop .i) (c .before .loop .inv .1) (omega (arith, c .before .before .before .byte .ensures .0)) (omega arith)
+returns-3 c = each-done (c .before .before .before .before .before .before .before .before .before .args .cells .now) (c .before .before .before .before .before .before .before .before .before .args .scope .now) (c .before .before .before .before .before .before .before .before .before .args .sizes .now) (c .before .before .before .before .before .before .before .before .before .args .funcs .now) (c .before .before .before .before .before .before .before .before .before .args .n) (c .before .before .before .before .before .before .before .before .before .args .given .at) (c .before .before .before .before .before .before .before .before .before .args .given .count) (c .before .before .before .before .before .before .before .before .before .args .row .now) (c .before .before .before .before .before .before .before .before .before .args .start) (c .before .loop .p) (c .before .loop .i) (c .before .loop .inv .1) (omega (arith, c .before .before .before .byte .ensures .0)) (omega arith)
 
 pub each-fits-spec : {M : Type 1} → statement M
 each-fits-spec =

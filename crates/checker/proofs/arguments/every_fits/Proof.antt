@@ -7,22 +7,22 @@ use Rattle.checker.proofs.arguments.every_fits.Statement.{statement}
 use Rattle.checker.proofs.arguments.every_fits.Tie as tie
 
 abbrev Inv-loop : tie.InvT-loop
-Inv-loop cells at count sort scope sizes funcs n p₀ need₀ p need = EveryLeft cells scope sizes funcs n at count sort p need
+Inv-loop cells sort scope sizes funcs n p₀ need₀ p need = EveryLeft cells scope sizes funcs n p₀ need₀ sort p need
 
 abbrev μ-loop : tie.MeasureT-loop
-μ-loop cells at count sort scope sizes funcs n p₀ need₀ p need = need
+μ-loop cells sort scope sizes funcs n p₀ need₀ p need = need
 
 loop-holds : tie.Need-loop-holds Inv-loop μ-loop
 loop-holds c =
     let args = c .before .before .before .before .args in
-    every-start (args .cells .now) (args .scope .now) (args .sizes .now) (args .funcs .now) (args .n) (args .at) (args .count) (args .sort)
+    every-start (args .cells .now) (args .scope .now) (args .sizes .now) (args .funcs .now) (args .n) (args .given .at) (args .given .count) (args .sort)
 
 fits-requires : tie.Need-fits-requires Inv-loop μ-loop
 fits-requires c κs = search needs
 
 returns : tie.Need-returns Inv-loop μ-loop
 returns c = let args = c .before .before .before .before .before .before .before .before .args in let here = c .before .before .before .loop in
-    every-failed (args .cells .now) (args .scope .now) (args .sizes .now) (args .funcs .now) (args .n) (args .at) (args .count) (args .sort) (here .p) (here .need) (here .inv) (omega arith) (c .before .fits2 .result) (c .before .fits2 .ensures) (not-true _ (c .if1 .taken))
+    every-failed (args .cells .now) (args .scope .now) (args .sizes .now) (args .funcs .now) (args .n) (args .given .at) (args .given .count) (args .sort) (here .p) (here .need) (here .inv) (omega arith) (c .before .fits2 .result) (c .before .fits2 .ensures) (not-true _ (c .if1 .taken))
 
 skip-data-requires : tie.Need-skip-data-requires Inv-loop μ-loop
 skip-data-requires c κs = omega arith
@@ -37,11 +37,11 @@ loop-again : tie.Need-loop-again Inv-loop μ-loop
 loop-again c =
     let args = c .before .before .before .before .before .before .before .before .before .args in
     let here = c .before .before .before .before .loop in
-    every-step (args .cells .now) (args .scope .now) (args .sizes .now) (args .funcs .now) (args .n) (args .at) (args .count) (args .sort) (here .p) (here .need) (here .inv) (omega arith) (c .before .before .fits2 .result) (c .before .before .fits2 .ensures) (not-false _ (c .before .if1 .left)) (c .skip-data .result) (c .skip-data .ensures .1)
+    every-step (args .cells .now) (args .scope .now) (args .sizes .now) (args .funcs .now) (args .n) (args .given .at) (args .given .count) (args .sort) (here .p) (here .need) (here .inv) (omega arith) (c .before .before .fits2 .result) (c .before .before .fits2 .ensures) (not-false _ (c .before .if1 .left)) (c .skip-data .result) (c .skip-data .ensures .1)
 
 returns-2 : tie.Need-returns-2 Inv-loop μ-loop
 returns-2 c = let args = c .before .before .before .before .before .before .args in let here = c .before .loop in
-    every-done (args .cells .now) (args .scope .now) (args .sizes .now) (args .funcs .now) (args .n) (args .at) (args .count) (args .sort) (here .p) (here .need) (here .inv) (omega arith)
+    every-done (args .cells .now) (args .scope .now) (args .sizes .now) (args .funcs .now) (args .n) (args .given .at) (args .given .count) (args .sort) (here .p) (here .need) (here .inv) (omega arith)
 
 pub every-fits-spec : {M : Type 1} → statement M
 every-fits-spec =
