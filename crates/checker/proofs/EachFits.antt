@@ -150,6 +150,21 @@ module _ (cells scope sizes funcs : List ℕ) (n : Outline) (at count : ℕ) (ro
               said-no r (fit w x es rest (c .0) b) z
               (subst (Each (Fits (w .sig) (w .vars)) (x ∷ es)) (next-sort Ds s inside sort is) f .0)
 
+      pub each-last : i + 1 ≡ count → r ≡ true → EachFitsAt cells scope sizes funcs n at count row start true
+      unfolding Each Every
+      each-last one z w ds Ds rest sc l s e = let v = left w ds Ds rest sc l s e in go (v .0) (v .1) (v .2) (v .3) (v .4)
+        where
+          F : Data → ℕ → Type 0
+          F = Fits (w .sig) (w .vars)
+
+          go : (es : List Data) → length es + i ≡ count → drop p cells ≡ enc-datas es ++ rest → Every (ScopedData (w .level)) es → (Each F es (drop i Ds) → Each F ds Ds) → Each F ds Ds
+          go [] a b c f = absurd (omega arith)
+          go (x ∷ []) a b c f =
+              let none : drop (i + 1) Ds ≡ [] = drop-of-length-le Ds {i = i + 1} (omega (arith, s .many)) in
+              let h = said-yes r (fit w x [] rest (c .0) b) z in
+              f (subst (Each F (x ∷ [])) (sym (next-sort Ds s inside sort is)) (h, subst (Each F []) (sym none) tt))
+          go (x ∷ y ∷ es) a b c f = absurd (omega arith)
+
       pub each-step : r ≡ true → (p′ : ℕ) → SkipsData cells p 1 p′ → EachLeft p′ (i + 1)
       unfolding Each Every
       each-step z p′ sk w ds Ds rest sc l s e = let v = left w ds Ds rest sc l s e in go (v .0) (v .1) (v .2) (v .3) (v .4) (v .5)

@@ -63,6 +63,18 @@ module _ (cells scope sizes funcs : List ℕ) (n : Outline) (at count sort : ℕ
           go [] a b c f = omega arith
           go (x ∷ es) a b c f = said-no r (fit w x es rest (c .0) b) z (f .0)
 
+      pub every-last : need ≡ 1 → r ≡ true → EveryFitsAt cells scope sizes funcs n at count sort true
+      unfolding Every
+      every-last one z w ds rest sc l e = let v = left w ds rest sc l e in go (v .0) (v .1) (v .2) (v .3) (v .4)
+        where
+          F : List Data → Type 0
+          F = Every (λ d. Fits (w .sig) (w .vars) d sort)
+
+          go : (es : List Data) → length es ≡ need → drop p cells ≡ enc-datas es ++ rest → Every (ScopedData (w .level)) es → (F es → F ds) → F ds
+          go [] a b c f = absurd (omega arith)
+          go (x ∷ []) a b c f = f (said-yes r (fit w x [] rest (c .0) b) z, tt)
+          go (x ∷ y ∷ es) a b c f = absurd (omega arith)
+
       pub every-step : r ≡ true → (p′ : ℕ) → SkipsData cells p 1 p′ → EveryLeft p′ (need - 1)
       unfolding Every
       every-step z p′ sk w ds rest sc l e = let v = left w ds rest sc l e in go (v .0) (v .1) (v .2) (v .3) (v .4) (v .5)

@@ -93,8 +93,12 @@ pub fn each_fits(
         if !fits(cells, p, sort, scope, sizes, funcs, n) {
             return false;
         }
-        p = skip_data(cells, p, 1);
         i += 1;
+        // behind the last one nothing is looked at
+        if i == count {
+            return true;
+        }
+        p = skip_data(cells, p, 1);
     }
     true
 }
@@ -116,6 +120,10 @@ pub fn every_fits(
     while need > 0 {
         if !fits(cells, p, sort, scope, sizes, funcs, n) {
             return false;
+        }
+        // behind the last one nothing is looked at
+        if need == 1 {
+            return true;
         }
         p = skip_data(cells, p, 1);
         need -= 1;

@@ -3,7 +3,7 @@ use borrow.Author.Needs.{needs}
 use Prim.Native.Nat.{_-_, _≤_}
 use native.Mathlib.Omega.{arith}
 use borrow.Author.Tests.{not-true, not-false}
-use Rattle.checker.proofs.EachFits.{EachLeft, each-uneven, each-start, each-done, each-failed, each-step}
+use Rattle.checker.proofs.EachFits.{EachLeft, each-uneven, each-start, each-done, each-failed, each-last, each-step}
 use Rattle.checker.proofs.arguments.each_fits.Statement.{statement}
 use Rattle.checker.proofs.arguments.each_fits.Tie as tie
 
@@ -37,20 +37,33 @@ fits-requires c κs = search needs
 returns-2 : tie.Need-returns-2 Inv-loop μ-loop
 returns-2 c = each-failed (c .before .before .before .before .before .before .before .before .before .before .before .before .args .cells .now) (c .before .before .before .before .before .before .before .before .before .before .before .before .args .scope .now) (c .before .before .before .before .before .before .before .before .before .before .before .before .args .sizes .now) (c .before .before .before .before .before .before .before .before .before .before .before .before .args .funcs .now) (c .before .before .before .before .before .before .before .before .before .before .before .before .args .n) (c .before .before .before .before .before .before .before .before .before .before .before .before .args .given .at) (c .before .before .before .before .before .before .before .before .before .before .before .before .args .given .count) (c .before .before .before .before .before .before .before .before .before .before .before .before .args .row .now) (c .before .before .before .before .before .before .before .before .before .before .before .before .args .start) (c .before .before .before .before .loop .p) (c .before .before .before .before .loop .i) (c .before .before .before .before .loop .inv .1) (omega (arith, c .before .before .before .before .before .before .byte .ensures .0)) (omega arith) (c .before .before .byte2 .result) (c .before .before .byte2 .ensures .0) (c .before .fits2 .result) (c .before .fits2 .ensures) (not-true _ (c .if2 .taken))
 
-skip-data-requires : tie.Need-skip-data-requires Inv-loop μ-loop
-skip-data-requires c κs = omega arith
-
 add-i : tie.Need-add-i Inv-loop μ-loop
 add-i c = omega arith
+
+returns-3 : tie.Need-returns-3 Inv-loop μ-loop
+returns-3 c =
+    let args = c .before .before .before .before .before .before .before .before .before .before .before .before .before .args in
+    let here = c .before .before .before .before .before .loop in
+    let s = c .before .before .before .byte2 in
+    let f = c .before .before .fits2 in
+    each-last (args .cells .now) (args .scope .now) (args .sizes .now) (args .funcs .now) (args .n) (args .given .at) (args .given .count) (args .row .now) (args .start) (here .p) (here .i) (here .inv .1) (omega (arith, c .before .before .before .before .before .before .before .byte .ensures .0)) (omega arith) (s .result) (s .ensures .0) (f .result) (f .ensures) (omega arith) (not-false _ (c .before .if2 .left))
+
+skip-data-requires : tie.Need-skip-data-requires Inv-loop μ-loop
+skip-data-requires c κs = omega arith
 
 loop-less : tie.Need-loop-less Inv-loop μ-loop
 loop-less c = omega arith
 
 loop-again : tie.Need-loop-again Inv-loop μ-loop
-loop-again c = (omega arith, each-step (c .before .before .before .before .before .before .before .before .before .before .before .before .before .args .cells .now) (c .before .before .before .before .before .before .before .before .before .before .before .before .before .args .scope .now) (c .before .before .before .before .before .before .before .before .before .before .before .before .before .args .sizes .now) (c .before .before .before .before .before .before .before .before .before .before .before .before .before .args .funcs .now) (c .before .before .before .before .before .before .before .before .before .before .before .before .before .args .n) (c .before .before .before .before .before .before .before .before .before .before .before .before .before .args .given .at) (c .before .before .before .before .before .before .before .before .before .before .before .before .before .args .given .count) (c .before .before .before .before .before .before .before .before .before .before .before .before .before .args .row .now) (c .before .before .before .before .before .before .before .before .before .before .before .before .before .args .start) (c .before .before .before .before .before .loop .p) (c .before .before .before .before .before .loop .i) (c .before .before .before .before .before .loop .inv .1) (omega (arith, c .before .before .before .before .before .before .before .byte .ensures .0)) (omega arith) (c .before .before .before .byte2 .result) (c .before .before .before .byte2 .ensures .0) (c .before .before .fits2 .result) (c .before .before .fits2 .ensures) (not-false _ (c .before .if2 .left)) (c .skip-data .result) (c .skip-data .ensures .1))
+loop-again c =
+    let args = c .before .before .before .before .before .before .before .before .before .before .before .before .before .before .args in
+    let here = c .before .before .before .before .before .before .loop in
+    let s = c .before .before .before .before .byte2 in
+    let f = c .before .before .before .fits2 in
+    (omega arith, each-step (args .cells .now) (args .scope .now) (args .sizes .now) (args .funcs .now) (args .n) (args .given .at) (args .given .count) (args .row .now) (args .start) (here .p) (here .i) (here .inv .1) (omega (arith, c .before .before .before .before .before .before .before .before .byte .ensures .0)) (omega arith) (s .result) (s .ensures .0) (f .result) (f .ensures) (not-false _ (c .before .before .if2 .left)) (c .skip-data .result) (c .skip-data .ensures .1))
 
-returns-3 : tie.Need-returns-3 Inv-loop μ-loop
-returns-3 c = each-done (c .before .before .before .before .before .before .before .before .before .args .cells .now) (c .before .before .before .before .before .before .before .before .before .args .scope .now) (c .before .before .before .before .before .before .before .before .before .args .sizes .now) (c .before .before .before .before .before .before .before .before .before .args .funcs .now) (c .before .before .before .before .before .before .before .before .before .args .n) (c .before .before .before .before .before .before .before .before .before .args .given .at) (c .before .before .before .before .before .before .before .before .before .args .given .count) (c .before .before .before .before .before .before .before .before .before .args .row .now) (c .before .before .before .before .before .before .before .before .before .args .start) (c .before .loop .p) (c .before .loop .i) (c .before .loop .inv .1) (omega (arith, c .before .before .before .byte .ensures .0)) (omega arith)
+returns-4 : tie.Need-returns-4 Inv-loop μ-loop
+returns-4 c = each-done (c .before .before .before .before .before .before .before .before .before .args .cells .now) (c .before .before .before .before .before .before .before .before .before .args .scope .now) (c .before .before .before .before .before .before .before .before .before .args .sizes .now) (c .before .before .before .before .before .before .before .before .before .args .funcs .now) (c .before .before .before .before .before .before .before .before .before .args .n) (c .before .before .before .before .before .before .before .before .before .args .given .at) (c .before .before .before .before .before .before .before .before .before .args .given .count) (c .before .before .before .before .before .before .before .before .before .args .row .now) (c .before .before .before .before .before .before .before .before .before .args .start) (c .before .loop .p) (c .before .loop .i) (c .before .loop .inv .1) (omega (arith, c .before .before .before .byte .ensures .0)) (omega arith)
 
 pub each-fits-spec : {M : Type 1} → statement M
 each-fits-spec =
@@ -66,8 +79,9 @@ each-fits-spec =
     byte-requires-2
     fits-requires
     returns-2
-    skip-data-requires
     add-i
+    returns-3
+    skip-data-requires
     loop-less
     loop-again
-    returns-3)
+    returns-4)

@@ -2,7 +2,7 @@
 use borrow.Author.Needs.{needs}
 use native.Mathlib.Omega.{arith}
 use borrow.Author.Tests.{not-true, not-false}
-use Rattle.checker.proofs.EveryFits.{EveryLeft, every-start, every-done, every-failed, every-step}
+use Rattle.checker.proofs.EveryFits.{EveryLeft, every-start, every-done, every-failed, every-last, every-step}
 use Rattle.checker.proofs.arguments.every_fits.Statement.{statement}
 use Rattle.checker.proofs.arguments.every_fits.Tie as tie
 
@@ -24,6 +24,13 @@ returns : tie.Need-returns Inv-loop μ-loop
 returns c = let args = c .before .before .before .before .before .before .before .before .args in let here = c .before .before .before .loop in
     every-failed (args .cells .now) (args .scope .now) (args .sizes .now) (args .funcs .now) (args .n) (args .given .at) (args .given .count) (args .sort) (here .p) (here .need) (here .inv) (omega arith) (c .before .fits2 .result) (c .before .fits2 .ensures) (not-true _ (c .if1 .taken))
 
+returns-2 : tie.Need-returns-2 Inv-loop μ-loop
+returns-2 c =
+    let args = c .before .before .before .before .before .before .before .before .before .args in
+    let here = c .before .before .before .before .loop in
+    let f = c .before .before .fits2 in
+    every-last (args .cells .now) (args .scope .now) (args .sizes .now) (args .funcs .now) (args .n) (args .given .at) (args .given .count) (args .sort) (here .p) (here .need) (here .inv) (omega arith) (f .result) (f .ensures) (omega arith) (not-false _ (c .before .if1 .left))
+
 skip-data-requires : tie.Need-skip-data-requires Inv-loop μ-loop
 skip-data-requires c κs = omega arith
 
@@ -35,12 +42,13 @@ loop-less c = omega arith
 
 loop-again : tie.Need-loop-again Inv-loop μ-loop
 loop-again c =
-    let args = c .before .before .before .before .before .before .before .before .before .args in
-    let here = c .before .before .before .before .loop in
-    every-step (args .cells .now) (args .scope .now) (args .sizes .now) (args .funcs .now) (args .n) (args .given .at) (args .given .count) (args .sort) (here .p) (here .need) (here .inv) (omega arith) (c .before .before .fits2 .result) (c .before .before .fits2 .ensures) (not-false _ (c .before .if1 .left)) (c .skip-data .result) (c .skip-data .ensures .1)
+    let args = c .before .before .before .before .before .before .before .before .before .before .args in
+    let here = c .before .before .before .before .before .loop in
+    let f = c .before .before .before .fits2 in
+    every-step (args .cells .now) (args .scope .now) (args .sizes .now) (args .funcs .now) (args .n) (args .given .at) (args .given .count) (args .sort) (here .p) (here .need) (here .inv) (omega arith) (f .result) (f .ensures) (not-false _ (c .before .before .if1 .left)) (c .skip-data .result) (c .skip-data .ensures .1)
 
-returns-2 : tie.Need-returns-2 Inv-loop μ-loop
-returns-2 c = let args = c .before .before .before .before .before .before .args in let here = c .before .loop in
+returns-3 : tie.Need-returns-3 Inv-loop μ-loop
+returns-3 c = let args = c .before .before .before .before .before .before .args in let here = c .before .loop in
     every-done (args .cells .now) (args .scope .now) (args .sizes .now) (args .funcs .now) (args .n) (args .given .at) (args .given .count) (args .sort) (here .p) (here .need) (here .inv) (omega arith)
 
 pub every-fits-spec : {M : Type 1} → statement M
@@ -52,8 +60,9 @@ every-fits-spec =
     loop-holds
     fits-requires
     returns
+    returns-2
     skip-data-requires
     sub-need
     loop-less
     loop-again
-    returns-2)
+    returns-3)
