@@ -13,6 +13,7 @@ use elements::peek_cell;
 use names::PROC_COUNT;
 use names::keys::proc_in;
 use nodes::CALL;
+use parser::Step;
 use parser::cells::put;
 
 // The right side of a process at `at`, with n names in scope.
@@ -30,7 +31,8 @@ pub fn right_side(
     ensures kept { λ r. ⌜ ScopeKept n (now (scope .entry)) (now (scope .exit)) ⌝ }
     ensures resolves { λ r. ⌜ ResolvesRight (now (s .entry)) (now (raw .entry)) (names-in (now (declared .entry))) (kinds-in (now (declared .entry))) (now (scope .entry)) n at w (now (out .entry)) r (now (out .exit)) ⌝ }
 {
-    let a = term(s, raw, declared, scope, n, at, false, out, w);
+    let from = Step { at: at, w: w };
+    let a = term(s, raw, declared, scope, n, from, false, out);
     RightSide {
         ok: a.at <= raw.len(),
         next: a.at,

@@ -78,33 +78,32 @@ fn binder(
     declared: &[u16],
     scope: &mut [u16],
     n: usize,
-    at: usize,
+    from: Step,
     after: bool,
     out: &mut [u16],
-    w: usize,
 ) -> Step
-    requires { ⌜ Few (now raw) (kinds-in (now declared)) (now scope) n × (at < length (now raw)) × KeyedNames (now s) (now declared) ⌝ }
-    ensures ahead { λ r. ⌜ Ahead (length (now (raw .entry))) (at + 1) (r .at) ⌝ }
+    requires { ⌜ Few (now raw) (kinds-in (now declared)) (now scope) n × (from .at < length (now raw)) × KeyedNames (now s) (now declared) ⌝ }
+    ensures ahead { λ r. ⌜ Ahead (length (now (raw .entry))) (from .at + 1) (r .at) ⌝ }
     ensures kept { λ r. ⌜ ScopeKept n (now (scope .entry)) (now (scope .exit)) ⌝ }
-    ensures bound { λ r. ⌜ InScope (now (s .entry)) (now (raw .entry)) (names-in (now (declared .entry))) (kinds-in (now (declared .entry))) (now (scope .entry)) n at r (now (scope .exit)) ⌝ }
-    ensures binds { λ r. ⌜ Binds (now (s .entry)) (now (raw .entry)) (names-in (now (declared .entry))) (kinds-in (now (declared .entry))) (now (scope .entry)) n at after w (now (out .entry)) r (now (out .exit)) ⌝ }
+    ensures bound { λ r. ⌜ InScope (now (s .entry)) (now (raw .entry)) (names-in (now (declared .entry))) (kinds-in (now (declared .entry))) (now (scope .entry)) n (from .at) r (now (scope .exit)) ⌝ }
+    ensures binds { λ r. ⌜ Binds (now (s .entry)) (now (raw .entry)) (names-in (now (declared .entry))) (kinds-in (now (declared .entry))) (now (scope .entry)) n (from .at) after (from .w) (now (out .entry)) r (now (out .exit)) ⌝ }
 {
-    let x = peek_cell(raw, at + 1);
+    let x = peek_cell(raw, from.at + 1);
     if !new_variable(s, declared, scope, n, x) {
-        return lost(raw, w);
+        return lost(raw, from.w);
     }
-    let d = sort_in(s, declared, peek_cell(raw, at + 2));
+    let d = sort_in(s, declared, peek_cell(raw, from.at + 2));
     if d > cell(declared, SORT_COUNT) {
-        return lost(raw, w);
+        return lost(raw, from.w);
     }
     if n >= MAX_SCOPE {
-        return lost(raw, w);
+        return lost(raw, from.w);
     }
     scope[n] = x;
     scope[FIRST_SORT + n] = short(d);
-    let v = node(out, w, first_cell(d, after, SUM), 1, 1);
+    let v = node(out, from.w, first_cell(d, after, SUM), 1, 1);
     Step {
-        at: at + 3,
+        at: from.at + 3,
         w: put(out, v, short(4 * n + 1)),
     }
 }
@@ -138,31 +137,30 @@ fn fork(
     declared: &[u16],
     scope: &[u16],
     n: usize,
-    at: usize,
+    from: Step,
     after: bool,
     out: &mut [u16],
-    w: usize,
 ) -> Fork
-    requires { ⌜ Few (now raw) (kinds-in (now declared)) (now scope) n × (at < length (now raw)) × KeyedNames (now s) (now declared) ⌝ }
-    ensures { λ r. ⌜ Forks (now (s .entry)) (now (raw .entry)) (names-in (now (declared .entry))) (kinds-in (now (declared .entry))) (now (scope .entry)) n at after w (now (out .entry)) r (now (out .exit)) ⌝ }
+    requires { ⌜ Few (now raw) (kinds-in (now declared)) (now scope) n × (from .at < length (now raw)) × KeyedNames (now s) (now declared) ⌝ }
+    ensures { λ r. ⌜ Forks (now (s .entry)) (now (raw .entry)) (names-in (now (declared .entry))) (kinds-in (now (declared .entry))) (now (scope .entry)) n (from .at) after (from .w) (now (out .entry)) r (now (out .exit)) ⌝ }
 {
-    let k = peek_cell(raw, at);
+    let k = peek_cell(raw, from.at);
     if k == THEN_TAG {
         return Fork {
-            at: at,
-            w: node(out, w, first_cell(0, false, SEQ), 0, 0),
+            at: from.at,
+            w: node(out, from.w, first_cell(0, false, SEQ), 0, 0),
             left: after,
         };
     }
     if k == PLUS_TAG {
         return Fork {
-            at: at,
-            w: node(out, w, first_cell(0, after, ALT), 0, 0),
+            at: from.at,
+            w: node(out, from.w, first_cell(0, after, ALT), 0, 0),
             left: false,
         };
     }
-    let v = put(out, w, first_cell(0, after, COND));
-    let d = condition(s, raw, declared, scope, n, skip(raw, at + 1), out, v);
+    let v = put(out, from.w, first_cell(0, after, COND));
+    let d = condition(s, raw, declared, scope, n, skip(raw, from.at + 1), out, v);
     Fork {
         at: d.at,
         w: d.w,
@@ -177,21 +175,20 @@ fn named_part(
     declared: &[u16],
     scope: &[u16],
     n: usize,
-    at: usize,
+    from: Step,
     after: bool,
     out: &mut [u16],
-    w: usize,
 ) -> Step
-    requires { ⌜ Few (now raw) (kinds-in (now declared)) (now scope) n × (at < length (now raw)) × KeyedNames (now s) (now declared) ⌝ }
-    ensures ahead { λ r. ⌜ Ahead (length (now (raw .entry))) at (r .at) ⌝ }
-    ensures resolves { λ r. ⌜ ResolvesNamed (now (s .entry)) (now (raw .entry)) (names-in (now (declared .entry))) (kinds-in (now (declared .entry))) (now (scope .entry)) n at after w (now (out .entry)) r (now (out .exit)) ⌝ }
+    requires { ⌜ Few (now raw) (kinds-in (now declared)) (now scope) n × (from .at < length (now raw)) × KeyedNames (now s) (now declared) ⌝ }
+    ensures ahead { λ r. ⌜ Ahead (length (now (raw .entry))) (from .at) (r .at) ⌝ }
+    ensures resolves { λ r. ⌜ ResolvesNamed (now (s .entry)) (now (raw .entry)) (names-in (now (declared .entry))) (kinds-in (now (declared .entry))) (now (scope .entry)) n (from .at) after (from .w) (now (out .entry)) r (now (out .exit)) ⌝ }
 {
-    let f = named(s, declared, peek_cell(raw, at + 1), after);
+    let f = named(s, declared, peek_cell(raw, from.at + 1), after);
     if !f.known {
-        return lost(raw, w);
+        return lost(raw, from.w);
     }
-    let v = put(out, w, f.first);
-    given(s, raw, declared, scope, n, at, out, v)
+    let v = put(out, from.w, f.first);
+    given(s, raw, declared, scope, n, from.at, out, v)
 }
 
 // A `+`, a `.` or a conditional, up to its second part.
@@ -201,18 +198,21 @@ fn first_part(
     declared: &[u16],
     scope: &mut [u16],
     n: usize,
-    at: usize,
+    from: Step,
     after: bool,
     out: &mut [u16],
-    w: usize,
 ) -> Step
-    requires { ⌜ Few (now raw) (kinds-in (now declared)) (now scope) n × (at < length (now raw)) × KeyedNames (now s) (now declared) ⌝ }
-    ensures ahead { λ r. ⌜ at + 1 ≤ r .at ⌝ }
+    requires { ⌜ Few (now raw) (kinds-in (now declared)) (now scope) n × (from .at < length (now raw)) × KeyedNames (now s) (now declared) ⌝ }
+    ensures ahead { λ r. ⌜ from .at + 1 ≤ r .at ⌝ }
     ensures kept { λ r. ⌜ ScopeKept n (now (scope .entry)) (now (scope .exit)) ⌝ }
-    ensures resolves { λ r. ⌜ ResolvesFirst (now (s .entry)) (now (raw .entry)) (names-in (now (declared .entry))) (kinds-in (now (declared .entry))) (now (scope .entry)) n at after w (now (out .entry)) r (now (out .exit)) ⌝ }
+    ensures resolves { λ r. ⌜ ResolvesFirst (now (s .entry)) (now (raw .entry)) (names-in (now (declared .entry))) (kinds-in (now (declared .entry))) (now (scope .entry)) n (from .at) after (from .w) (now (out .entry)) r (now (out .exit)) ⌝ }
 {
-    let h = fork(s, raw, declared, scope, n, at, after, out, w);
-    let a = term(s, raw, declared, scope, n, at + 1, h.left, out, h.w);
+    let h = fork(s, raw, declared, scope, n, from, after, out);
+    let next = Step {
+        at: from.at + 1,
+        w: h.w,
+    };
+    let a = term(s, raw, declared, scope, n, next, h.left, out);
     // the second part stands behind the condition, if there is one
     if a.at < h.at {
         return Step { at: h.at, w: a.w };
@@ -220,31 +220,30 @@ fn first_part(
     a
 }
 
-// A choice, conditional, sequence or part at `at`, with n names in scope; whether it stands after a first part.
+// A choice, conditional, sequence or part at `from.at`, with n names in scope; whether it stands after a first part.
 pub fn term(
     s: &[u8],
     raw: &[u16],
     declared: &[u16],
     scope: &mut [u16],
     n: usize,
-    at: usize,
+    from: Step,
     after: bool,
     out: &mut [u16],
-    w: usize,
 ) -> Step
     requires { ⌜ Few (now raw) (kinds-in (now declared)) (now scope) n × KeyedNames (now s) (now declared) ⌝ }
-    ensures ahead { λ r. ⌜ Ahead (length (now (raw .entry))) at (r .at) ⌝ }
+    ensures ahead { λ r. ⌜ Ahead (length (now (raw .entry))) (from .at) (r .at) ⌝ }
     ensures kept { λ r. ⌜ ScopeKept n (now (scope .entry)) (now (scope .exit)) ⌝ }
-    ensures resolves { λ r. ⌜ ResolvesTerm (now (s .entry)) (now (raw .entry)) (names-in (now (declared .entry))) (kinds-in (now (declared .entry))) (now (scope .entry)) n at after w (now (out .entry)) r (now (out .exit)) ⌝ }
+    ensures resolves { λ r. ⌜ ResolvesTerm (now (s .entry)) (now (raw .entry)) (names-in (now (declared .entry))) (kinds-in (now (declared .entry))) (now (scope .entry)) n (from .at) after (from .w) (now (out .entry)) r (now (out .exit)) ⌝ }
 {
-    let mut p = at;
+    let mut p = from.at;
     let mut m = n;
     let mut r = after;
-    let mut v = w;
+    let mut v = from.w;
     while p < raw.len() {
         let k = peek_cell(raw, p);
         if k == SUM_TAG {
-            let b = binder(s, raw, declared, scope, m, p, r, out, v);
+            let b = binder(s, raw, declared, scope, m, Step { at: p, w: v }, r, out);
             p = b.at;
             m += 1;
             r = false;
@@ -252,7 +251,7 @@ pub fn term(
             continue;
         }
         if tokens(k) > 0 {
-            return named_part(s, raw, declared, scope, m, p, r, out, v);
+            return named_part(s, raw, declared, scope, m, Step { at: p, w: v }, r, out);
         }
         let f = kids(k);
         // delta or tau; one subterm, a bracket's or the last of a chain; two parts
@@ -263,7 +262,7 @@ pub fn term(
             p += 1;
             continue;
         }
-        let h = first_part(s, raw, declared, scope, m, p, r, out, v);
+        let h = first_part(s, raw, declared, scope, m, Step { at: p, w: v }, r, out);
         p = h.at;
         r = k == THEN_TAG;
         v = h.w;
