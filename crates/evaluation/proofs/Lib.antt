@@ -1,4 +1,5 @@
 pub mod Bytes
 pub mod Operators
 pub mod Terms
-pub mod Lanes
+pub mod LaneLaws
+pub mod TowerLaws

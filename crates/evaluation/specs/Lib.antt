@@ -1,3 +1,4 @@
 pub mod Run
 pub mod Known
 pub mod Rows
+pub mod Towers

@@ -7,7 +7,9 @@ ghost use Rattle.pcrl.specs.Decode.{node-of};
 ghost use Rattle.laws.specs.TermLength.{max-term};
 ghost use Rattle.evaluation.specs.Run.{pick, operator-code, operator-count, operator-worth, argument-count, worth-of, extent, run, top, named, peak, lowered, foot};
 
-pub mod rows; // terms for all values of one variable at once
+pub mod lanes; // one row of values
+pub mod rows; // terms for all values of two variables at once
+pub mod towers; // nodes of one argument, taken together
 
 use elements::cell;
 use elements::larger;

@@ -5,7 +5,7 @@ use Prim.Native.Nat.{ℕ, _+_, _-_, _*_, _≤_, _<_}
 use mathlib.Core.Path.{_≡_, refl, ap, ap₂, _∙_}
 use lib.ListN.{length, length-set, getD}
 use Rattle.evaluation.specs.Rows.{lane, Putting}
-use Rattle.evaluation.proofs.Lanes.{Keeping, keep-none, keep-more, keep-all}
+use Rattle.evaluation.proofs.LaneLaws.{Keeping, keep-none, keep-more, keep-all}
 use Rattle.evaluation.proofs.rows.keep.Statement.{statement}
 use Rattle.evaluation.proofs.rows.keep.Tie as tie
 

@@ -9,7 +9,7 @@ use Rattle.evaluation.specs.Rows.{lane-env}
 use Rattle.pcrl.specs.Stream.{variable-code}
 use Rattle.evaluation.specs.Run.{operator-count}
 use Rattle.evaluation.proofs.Bytes.{no-arguments, one-argument, two-arguments, operator-arguments}
-use Rattle.evaluation.proofs.Lanes.{put-fewer, mark-put, put-value, put-variable, lane-fast, lane-slow, lane-other, put-one, put-two, put-operator}
+use Rattle.evaluation.proofs.LaneLaws.{put-fewer, mark-put, put-value, put-variable, lane-fast, lane-slow, lane-other, put-one, put-two, put-operator}
 use Rattle.evaluation.proofs.rows.node.Statement.{statement}
 use Rattle.evaluation.proofs.rows.node.Tie as tie
 

@@ -3,7 +3,7 @@ use borrow.Author.Needs.{needs}
 use native.Mathlib.Omega.{arith}
 use Prim.Native.Nat.{ℕ, _+_, _*_, _-_, _≤_}
 use mathlib.Core.Path.{_≡_, refl}
-use Rattle.evaluation.proofs.Lanes.{kept-as}
+use Rattle.evaluation.proofs.LaneLaws.{kept-as}
 use Rattle.evaluation.proofs.rows.row_holds.Statement.{statement}
 use Rattle.evaluation.proofs.rows.row_holds.Tie as tie
 

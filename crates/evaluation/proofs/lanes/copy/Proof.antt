@@ -5,9 +5,9 @@ use Prim.Native.Nat.{ℕ, _+_, _-_, _*_, _≤_}
 use mathlib.Core.Path.{_≡_, refl, _∙_}
 use lib.ListN.{length, length-set, getD}
 use Rattle.evaluation.specs.Rows.{Putting}
-use Rattle.evaluation.proofs.Lanes.{put-none, put-more, put-all}
-use Rattle.evaluation.proofs.rows.copy.Statement.{statement}
-use Rattle.evaluation.proofs.rows.copy.Tie as tie
+use Rattle.evaluation.proofs.LaneLaws.{put-none, put-more, put-all}
+use Rattle.evaluation.proofs.lanes.copy.Statement.{statement}
+use Rattle.evaluation.proofs.lanes.copy.Tie as tie
 
 abbrev Inv-loop : tie.InvT-loop
 Inv-loop from rows₀ d r i₀ rows i = (i ≤ 128) × ((r ≡ d * 128) × ((length rows ≡ length rows₀) × Putting rows₀ d (λ n. getD from n 0) 0 i rows))

@@ -6,9 +6,9 @@ use mathlib.Core.Path.{_≡_, refl, ap, ap₂, _∙_}
 use lib.ListN.{length, length-set, getD}
 use Rattle.evaluation.specs.Run.{operator-code, operator-worth}
 use Rattle.evaluation.specs.Rows.{lane, Putting}
-use Rattle.evaluation.proofs.Lanes.{put-none, put-more, put-read, put-all}
-use Rattle.evaluation.proofs.rows.operator.Statement.{statement}
-use Rattle.evaluation.proofs.rows.operator.Tie as tie
+use Rattle.evaluation.proofs.LaneLaws.{put-none, put-more, put-read, put-all}
+use Rattle.evaluation.proofs.lanes.operator.Statement.{statement}
+use Rattle.evaluation.proofs.lanes.operator.Tie as tie
 
 abbrev Inv-loop : tie.InvT-loop
 Inv-loop c rows₀ t d x y z r i₀ rows i = (i ≤ 128) × (((x ≡ t * 128) × ((y ≡ t * 128 + 128) × ((z ≡ t * 128 + 256) × (r ≡ d * 128)))) × ((length rows ≡ length rows₀) × Putting rows₀ d (λ m. operator-worth (c - operator-code) (lane rows₀ t m) (lane rows₀ (t + 1) m) (lane rows₀ (t + 2) m)) 0 i rows))

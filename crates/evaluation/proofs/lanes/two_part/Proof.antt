@@ -5,9 +5,9 @@ use Prim.Native.Nat.{ℕ, _+_, _-_, _*_, _≤_, _<_}
 use mathlib.Core.Path.{_≡_, refl, ap, ap₂, subst, _∙_}
 use lib.ListN.{length, length-set, getD}
 use Rattle.evaluation.specs.Rows.{lane, Putting}
-use Rattle.evaluation.proofs.Lanes.{put-none, put-next, list-more}
-use Rattle.evaluation.proofs.rows.two_part.Statement.{statement}
-use Rattle.evaluation.proofs.rows.two_part.Tie as tie
+use Rattle.evaluation.proofs.LaneLaws.{put-none, put-next, list-more}
+use Rattle.evaluation.proofs.lanes.two_part.Statement.{statement}
+use Rattle.evaluation.proofs.lanes.two_part.Tie as tie
 
 abbrev Inv-loop : tie.InvT-loop
 Inv-loop s q width rows t d k x y r at₀ i₀ at i = (i ≤ 16) × (((x ≡ t * 128 + k) × ((y ≡ t * 128 + k + 128) × (r ≡ d * 128 + k))) × ((length at ≡ 16) × ((m : ℕ) → m < i → (getD at m 0 ≡ lane rows t (k + m) * width + lane rows (t + 1) (k + m)) × (getD at m 0 < 65536))))

@@ -5,9 +5,9 @@ use Prim.Native.Nat.{ℕ, _+_, _-_, _*_, _≤_, _<_}
 use mathlib.Core.Path.{_≡_, refl, ap, ap₂, _∙_}
 use lib.ListN.{length, length-set, getD}
 use Rattle.evaluation.specs.Rows.{lane, Putting}
-use Rattle.evaluation.proofs.Lanes.{high-more}
-use Rattle.evaluation.proofs.rows.highest.Statement.{statement}
-use Rattle.evaluation.proofs.rows.highest.Tie as tie
+use Rattle.evaluation.proofs.LaneLaws.{high-more}
+use Rattle.evaluation.proofs.lanes.highest.Statement.{statement}
+use Rattle.evaluation.proofs.lanes.highest.Tie as tie
 
 abbrev Inv-loop : tie.InvT-loop
 Inv-loop rows t x m₀ i₀ m i = (i ≤ 128) × ((x ≡ t * 128) × ((k : ℕ) → k < i → lane rows t k ≤ m))

@@ -5,9 +5,9 @@ use Prim.Native.Nat.{ℕ, _+_, _-_, _*_, _≤_}
 use mathlib.Core.Path.{_≡_, refl, _∙_}
 use lib.ListN.{length, length-set}
 use Rattle.evaluation.specs.Rows.{Putting}
-use Rattle.evaluation.proofs.Lanes.{put-none, put-more, put-all}
-use Rattle.evaluation.proofs.rows.fill.Statement.{statement}
-use Rattle.evaluation.proofs.rows.fill.Tie as tie
+use Rattle.evaluation.proofs.LaneLaws.{put-none, put-more, put-all}
+use Rattle.evaluation.proofs.lanes.fill.Statement.{statement}
+use Rattle.evaluation.proofs.lanes.fill.Tie as tie
 
 abbrev Inv-loop : tie.InvT-loop
 Inv-loop rows₀ d b r i₀ rows i = (i ≤ 128) × ((r ≡ d * 128) × ((length rows ≡ length rows₀) × Putting rows₀ d (λ n. b) 0 i rows))

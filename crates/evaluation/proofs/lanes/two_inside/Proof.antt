@@ -5,9 +5,9 @@ use Prim.Native.Nat.{ℕ, _+_, _-_, _*_, _%_, _≤_, _<_}
 use mathlib.Core.Path.{_≡_, refl, sym, ap, ap₂, subst, _∙_}
 use lib.ListN.{length, length-set, getD}
 use Rattle.evaluation.specs.Rows.{lane, Putting}
-use Rattle.evaluation.proofs.Lanes.{put-none, same-pairs, put-join, put-all}
-use Rattle.evaluation.proofs.rows.two_inside.Statement.{statement}
-use Rattle.evaluation.proofs.rows.two_inside.Tie as tie
+use Rattle.evaluation.proofs.LaneLaws.{put-none, same-pairs, put-join, put-all}
+use Rattle.evaluation.proofs.lanes.two_inside.Statement.{statement}
+use Rattle.evaluation.proofs.lanes.two_inside.Tie as tie
 
 abbrev Inv-loop : tie.InvT-loop
 Inv-loop s q width rows₀ t d n i₀ rows i = ((i ≤ 128) × (i % 16 ≡ 0)) × ((length rows ≡ length rows₀) × Putting rows₀ d (λ m. getD s (q + (lane rows₀ t m * width + lane rows₀ (t + 1) m)) 0) 0 i rows)

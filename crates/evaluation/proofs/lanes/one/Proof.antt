@@ -5,9 +5,9 @@ use Prim.Native.Nat.{ℕ, _+_, _-_, _*_, _≤_}
 use mathlib.Core.Path.{_≡_, refl, ap, _∙_}
 use lib.ListN.{length, length-set, getD}
 use Rattle.evaluation.specs.Rows.{lane, Putting}
-use Rattle.evaluation.proofs.Lanes.{put-none, put-more, put-read, put-all}
-use Rattle.evaluation.proofs.rows.one.Statement.{statement}
-use Rattle.evaluation.proofs.rows.one.Tie as tie
+use Rattle.evaluation.proofs.LaneLaws.{put-none, put-more, put-read, put-all}
+use Rattle.evaluation.proofs.lanes.one.Statement.{statement}
+use Rattle.evaluation.proofs.lanes.one.Tie as tie
 
 abbrev Inv-loop : tie.InvT-loop
 Inv-loop s q rows₀ t d n x r i₀ rows i = (i ≤ n) × (((x ≡ t * 128) × (r ≡ d * 128)) × ((length rows ≡ length rows₀) × Putting rows₀ d (λ m. getD s (q + lane rows₀ t m) 0) 0 i rows))
