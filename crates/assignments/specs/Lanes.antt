@@ -8,6 +8,7 @@ use lib.Dec.{ltb}
 use lib.ListN.{length, getD, drop, getElem?}
 use Rattle.pcrl.specs.Limits.{max-variables}
 use Rattle.evaluation.specs.Run.{pick}
+use Rattle.evaluation.specs.Rows.{lane-count, row-room, mark-room}
 use Rattle.assignments.specs.Places.{product, places}
 use Rattle.assignments.specs.Conditions.{all-below}
 use Rattle.assignments.specs.Parting.{asked}
@@ -35,11 +36,11 @@ pub record Strip (size first n : ℕ) (slow fast met : List ℕ) : Type 0 where
 
 -- room for rows and lanes
 pub record Lent (rows marks slow fast met : List ℕ) : Type 0 where
-  pub rows-long : 2560 ≤ length rows
-  pub marks-long : 20 ≤ length marks
-  pub slow-long : 128 ≤ length slow
-  pub fast-long : 128 ≤ length fast
-  pub met-long : 128 ≤ length met
+  pub rows-long : row-room ≤ length rows
+  pub marks-long : mark-room ≤ length marks
+  pub slow-long : lane-count ≤ length slow
+  pub fast-long : lane-count ≤ length fast
+  pub met-long : lane-count ≤ length met
 
 -- rows of w assignments, of blocks of g for the values at level l; there is one for each value at level u
 pub record Rowed (sizes : List ℕ) (l u g w : ℕ) : Type 0 where

@@ -14,6 +14,9 @@ use crate::Four;
 use crate::block_size;
 use crate::one_part::next;
 use crate::strips::by_strips;
+use evaluation::lanes::LANES;
+use evaluation::lanes::MARK_ROOM;
+use evaluation::lanes::ROW_ROOM;
 
 // So many blocks are enough to look for rows, and a row has so many at the fewest.
 const MANY: usize = 16;
@@ -119,11 +122,11 @@ pub fn find_rows(
     if l <= u {
         return gone_to(from, k);
     }
-    let mut rows = [0u8; 2560];
-    let mut marks = [0u8; 20];
-    let mut slow = [0u8; 128];
-    let mut fast = [0u8; 128];
-    let mut met = [0u8; 128];
+    let mut rows = [0u8; ROW_ROOM];
+    let mut marks = [0u8; MARK_ROOM];
+    let mut slow = [0u8; LANES];
+    let mut fast = [0u8; LANES];
+    let mut met = [0u8; LANES];
     by_strips(
         s,
         funcs,

@@ -7,7 +7,7 @@ ghost use lib.Dec.{ltb};
 ghost use lib.ListN.{length, getD};
 ghost use Rattle.pcrl.specs.Limits.{frame-width, max-conditions};
 ghost use Rattle.evaluation.specs.Run.{pick};
-ghost use Rattle.evaluation.specs.Rows.{lane-env, Marked, Zeros};
+ghost use Rattle.evaluation.specs.Rows.{lane-count, lane-env, Marked, Zeros};
 ghost use Rattle.assignments.specs.Places.{valuesOf, places, Sizes};
 ghost use Rattle.assignments.specs.Conditions.{env, holds, all-below, Finds};
 ghost use Rattle.assignments.specs.Parting.{Standing, part-met, Part};
@@ -26,9 +26,8 @@ use crate::values;
 use crate::wide_block;
 use elements::smaller;
 use elements::wide;
+use evaluation::lanes::LANES;
 use evaluation::rows::UNKNOWN;
-
-const LANES: usize = 128;
 
 // Of the lanes that are kept, those in which a condition holds, if it is asked and its block is less than w; 0 only if there are none.
 fn row_tried(
@@ -49,7 +48,7 @@ fn row_tried(
     marks: &mut [u8],
     met: &mut [u8],
 ) -> u8
-    requires { ⌜ Lent (now rows) (now marks) (now slow) (now fast) (now met) × (lanes ≤ 128) ⌝ }
+    requires { ⌜ Lent (now rows) (now marks) (now slow) (now fast) (now met) × (lanes ≤ lane-count) ⌝ }
     ensures { λ r. ⌜ (from + 1 ≤ end → end ≤ length (now (s .entry)) → u < length (now (e .entry)) → v < length (now (e .entry)) → Marked (now (rows .entry)) (now (marks .entry)) → Zeros (now (rows .entry)) → Marked (now (rows .exit)) (now (marks .exit)) × (Zeros (now (rows .exit)) × ((r ≡ 255 → ⊥) → (some ≡ 255 → ⊥) × ((some ≡ 0 → (i : ℕ) → i < lanes → getD (now (met .entry)) i 0 ≡ 0) → Sifted lanes (λ i. pick (ltb block w) (pick (ltb 0 block) (holds (now (s .entry)) (now (funcs .entry)) (lane-env (now (e .entry)) u v (now (slow .entry)) (now (fast .entry)) i) from end) true) true) (now (met .entry)) (now (met .exit)) r)))) ⌝ }
 {
     if some == 0 {
@@ -104,7 +103,7 @@ fn row_test(
     marks: &mut [u8],
     met: &mut [u8],
 ) -> u8
-    requires { ⌜ (n ≤ max-conditions) × (Lent (now rows) (now marks) (now slow) (now fast) (now met) × (lanes ≤ 128)) ⌝ }
+    requires { ⌜ (n ≤ max-conditions) × (Lent (now rows) (now marks) (now slow) (now fast) (now met) × (lanes ≤ lane-count)) ⌝ }
     ensures { λ r. ⌜ (((i : ℕ) → i < n → Standing (now (s .entry)) (now (froms .entry)) (now (ends .entry)) i) → u < length (now (e .entry)) → v < length (now (e .entry)) → Marked (now (rows .entry)) (now (marks .entry)) → Zeros (now (rows .entry)) → Marked (now (rows .exit)) (now (marks .exit)) × (Zeros (now (rows .exit)) × (((i : ℕ) → i < lanes → getD (now (met .entry)) i 0 ≡ 1) → (r ≡ 255 → ⊥) → RowMet lanes (λ i. inner (now (s .entry)) (now (funcs .entry)) (now (froms .entry)) (now (ends .entry)) (now (blocks .entry)) w (lane-env (now (e .entry)) u v (now (slow .entry)) (now (fast .entry)) i)) n (now (met .exit)) r))) ⌝ }
 {
     let mut some: u8 = 1;
@@ -135,7 +134,7 @@ fn row_test(
 
 // The k-th of the assignments in a row of blocks of g from j on: those of the lanes that are kept.
 fn in_row(lanes: &[u8], size: usize, g: usize, j: usize, k: u64) -> Found
-    requires { ⌜ (size ≤ 128) × ((128 ≤ length (now lanes)) × ((g ≤ 65536) × (j < 131072))) ⌝ }
+    requires { ⌜ (size ≤ lane-count) × ((lane-count ≤ length (now lanes)) × ((g ≤ 65536) × (j < 131072))) ⌝ }
     ensures { λ r. ⌜ (r .at ≤ j + size * g) × ((r .left ≤ k) × ((r .found ≡ false → r .at ≡ j + size * g) × ((acc : ℕ → Bool) → ((i x : ℕ) → i < size → j + i * g ≤ x → x < j + i * g + g → acc x ≡ ltb 0 (getD (now (lanes .entry)) i 0)) → Finds (places acc (size * g) j) k (r .found) (r .at) (r .left)))) ⌝ }
 {
     let m = g as u64;
@@ -160,7 +159,7 @@ fn in_row(lanes: &[u8], size: usize, g: usize, j: usize, k: u64) -> Found
 
 // What n lanes have for the two variables, the first one `first` for the slow one; all are kept.
 fn strip(slow: &mut [u8], fast: &mut [u8], met: &mut [u8], size: u8, first: u8, n: usize)
-    requires { ⌜ (0 < size) × ((first ≤ 16) × ((n ≤ 128) × ((128 ≤ length (now slow)) × ((128 ≤ length (now fast)) × (128 ≤ length (now met)))))) ⌝ }
+    requires { ⌜ (0 < size) × ((first ≤ 16) × ((n ≤ lane-count) × ((lane-count ≤ length (now slow)) × ((lane-count ≤ length (now fast)) × (lane-count ≤ length (now met)))))) ⌝ }
     ensures { λ _. ⌜ Strip size first n (now (slow .exit)) (now (fast .exit)) (now (met .exit)) ⌝ }
 {
     let mut x = first;
@@ -183,7 +182,7 @@ fn strip(slow: &mut [u8], fast: &mut [u8], met: &mut [u8], size: u8, first: u8, 
 // How many rows of so many lanes a strip has, where the slow variable goes from `first` up to `count`.
 fn rows_in(size: u8, count: u8, first: u8) -> usize
     requires { ⌜ 0 < size ⌝ }
-    ensures { λ r. ⌜ (r * size ≤ 128) × (0 < r → first + r ≤ count) ⌝ }
+    ensures { λ r. ⌜ (r * size ≤ lane-count) × (0 < r → first + r ≤ count) ⌝ }
 {
     if count <= first {
         return 0;
@@ -216,7 +215,7 @@ fn in_lanes(
     fast: &mut [u8],
     met: &mut [u8],
 ) -> Found
-    requires { ⌜ ((j < to) × ((to ≤ 131072) × (g ≤ 65536))) × (((0 < size) × ((first ≤ 16) × (lanes ≤ 128))) × ((n ≤ max-conditions) × Lent (now rows) (now marks) (now slow) (now fast) (now met))) ⌝ }
+    requires { ⌜ ((j < to) × ((to ≤ 131072) × (g ≤ 65536))) × (((0 < size) × ((first ≤ 16) × (lanes ≤ lane-count))) × ((n ≤ max-conditions) × Lent (now rows) (now marks) (now slow) (now fast) (now met))) ⌝ }
     ensures { λ r. ⌜ (r .found ≡ true → r .at ≤ to) × ((r .found ≡ false → j ≤ r .at) × ((r .left ≤ k) × (((i : ℕ) → i < n → Standing (now (s .entry)) (now (froms .entry)) (now (ends .entry)) i) → u < length (now (e .entry)) → v < length (now (e .entry)) → Marked (now (rows .entry)) (now (marks .entry)) → Zeros (now (rows .entry)) → Marked (now (rows .exit)) (now (marks .exit)) × (Zeros (now (rows .exit)) × ((acc : ℕ → Bool) → ((sl fa me : List ℕ) → Strip size first lanes sl fa me → (i x : ℕ) → i < lanes → j + i * g ≤ x → x < j + i * g + g → acc x ≡ all-below n (inner (now (s .entry)) (now (funcs .entry)) (now (froms .entry)) (now (ends .entry)) (now (blocks .entry)) b (lane-env (now (e .entry)) u v sl fa i))) → Came acc to j k (r .found) (r .at) (r .left)))))) ⌝ }
 {
     if to - j < lanes * g {

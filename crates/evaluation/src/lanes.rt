@@ -3,24 +3,30 @@ ghost use mathlib.Core.Path.{_≡_};
 ghost use Prim.Native.Nat.{ℕ, _+_, _-_, _*_, _≤_, _<_};
 ghost use lib.ListN.{length, getD};
 ghost use Rattle.evaluation.specs.Run.{operator-code, operator-worth};
-ghost use Rattle.evaluation.specs.Rows.{lane, RowPut, Putting, Marked};
+ghost use Rattle.evaluation.specs.Rows.{lane-count, row-count, row-room, mark-room, lane, RowPut, Putting, Marked};
 use crate::operator_worth;
 use crate::row;
 use elements::peek;
 use elements::wide;
 
+// The most lanes of a row.
 pub const LANES: usize = 128;
 
 // Rows of values, as many as a term of 31 nodes needs; behind them stand three rows of zeros.
 pub const ROWS: usize = 17;
+
+// All rows, and a mark for each.
+pub const ROW_ROOM: usize = 2560;
+
+pub const MARK_ROOM: usize = 20;
 
 // So many lanes are looked up in one go.
 const PART: usize = 16;
 
 // Row d is b.
 pub fn fill(rows: &mut [u8], d: usize, b: u8)
-    requires { ⌜ (d < 17) × (2560 ≤ length (now rows)) ⌝ }
-    ensures { λ _. ⌜ RowPut 128 (now (rows .entry)) d (λ i. b) (now (rows .exit)) ⌝ }
+    requires { ⌜ (d < row-count) × (row-room ≤ length (now rows)) ⌝ }
+    ensures { λ _. ⌜ RowPut lane-count (now (rows .entry)) d (λ i. b) (now (rows .exit)) ⌝ }
 {
     let r = d * LANES;
     let mut i: usize = 0;
@@ -32,8 +38,8 @@ pub fn fill(rows: &mut [u8], d: usize, b: u8)
 
 // Row d is what each lane has for a variable.
 pub fn copy(from: &[u8], rows: &mut [u8], d: usize)
-    requires { ⌜ (128 ≤ length (now from)) × ((d < 17) × (2560 ≤ length (now rows))) ⌝ }
-    ensures { λ _. ⌜ RowPut 128 (now (rows .entry)) d (λ i. getD (now (from .entry)) i 0) (now (rows .exit)) ⌝ }
+    requires { ⌜ (lane-count ≤ length (now from)) × ((d < row-count) × (row-room ≤ length (now rows))) ⌝ }
+    ensures { λ _. ⌜ RowPut lane-count (now (rows .entry)) d (λ i. getD (now (from .entry)) i 0) (now (rows .exit)) ⌝ }
 {
     let r = d * LANES;
     let mut i: usize = 0;
@@ -51,8 +57,8 @@ pub fn higher(a: u8, b: u8) -> u8
 
 // No lane of row t is higher.
 pub fn highest(rows: &[u8], t: usize) -> u8
-    requires { ⌜ (t ≤ 19) × (2560 ≤ length (now rows)) ⌝ }
-    ensures { λ r. ⌜ ((i : ℕ) → i < 128 → lane (now (rows .entry)) t i ≤ r) ⌝ }
+    requires { ⌜ (t ≤ 19) × (row-room ≤ length (now rows)) ⌝ }
+    ensures { λ r. ⌜ ((i : ℕ) → i < lane-count → lane (now (rows .entry)) t i ≤ r) ⌝ }
 {
     let x = t * LANES;
     let mut m: u8 = 0;
@@ -66,7 +72,7 @@ pub fn highest(rows: &[u8], t: usize) -> u8
 
 // Row d is what a function of one argument, whose values stand from q on, makes of row t.
 fn one(s: &[u8], q: usize, rows: &mut [u8], t: usize, d: usize, n: usize)
-    requires { ⌜ (q < 262144) × ((t ≤ 18) × ((d < 17) × ((2560 ≤ length (now rows)) × (n ≤ 128)))) ⌝ }
+    requires { ⌜ (q < 262144) × ((t ≤ 18) × ((d < row-count) × ((row-room ≤ length (now rows)) × (n ≤ lane-count)))) ⌝ }
     ensures { λ _. ⌜ RowPut n (now (rows .entry)) d (λ i. getD (now (s .entry)) (q + lane (now (rows .entry)) t i) 0) (now (rows .exit)) ⌝ }
 {
     let x = t * LANES;
@@ -80,7 +86,7 @@ fn one(s: &[u8], q: usize, rows: &mut [u8], t: usize, d: usize, n: usize)
 
 // The same where all places that the row names are in the stream.
 pub fn one_inside(s: &[u8], q: usize, rows: &mut [u8], t: usize, d: usize, n: usize)
-    requires { ⌜ ((i : ℕ) → i < 128 → q + lane (now rows) t i < length (now s)) × ((q < 262144) × ((t ≤ 18) × ((d < 17) × ((2560 ≤ length (now rows)) × (n ≤ 128))))) ⌝ }
+    requires { ⌜ ((i : ℕ) → i < lane-count → q + lane (now rows) t i < length (now s)) × ((q < 262144) × ((t ≤ 18) × ((d < row-count) × ((row-room ≤ length (now rows)) × (n ≤ lane-count))))) ⌝ }
     ensures { λ _. ⌜ RowPut n (now (rows .entry)) d (λ i. getD (now (s .entry)) (q + lane (now (rows .entry)) t i) 0) (now (rows .exit)) ⌝ }
 {
     let x = t * LANES;
@@ -94,7 +100,7 @@ pub fn one_inside(s: &[u8], q: usize, rows: &mut [u8], t: usize, d: usize, n: us
 
 // Row d is what a function of two arguments makes of rows t and t + 1: its values stand in rows of the given length.
 fn two(s: &[u8], q: usize, width: u8, rows: &mut [u8], t: usize, d: usize, n: usize)
-    requires { ⌜ (q < 131072) × ((t ≤ 17) × ((d < 17) × ((2560 ≤ length (now rows)) × (n ≤ 128)))) ⌝ }
+    requires { ⌜ (q < 131072) × ((t ≤ row-count) × ((d < row-count) × ((row-room ≤ length (now rows)) × (n ≤ lane-count)))) ⌝ }
     ensures { λ _. ⌜ RowPut n (now (rows .entry)) d (λ i. getD (now (s .entry)) (q + (lane (now (rows .entry)) t i * width + lane (now (rows .entry)) (t + 1) i)) 0) (now (rows .exit)) ⌝ }
 {
     let x = t * LANES;
@@ -109,7 +115,7 @@ fn two(s: &[u8], q: usize, width: u8, rows: &mut [u8], t: usize, d: usize, n: us
 
 // The same for the lanes from k on where all places are in the stream; the places first, so that the compiler makes them 8 at a time.
 fn two_part(s: &[u8], q: usize, width: u8, rows: &mut [u8], t: usize, d: usize, k: usize)
-    requires { ⌜ ((i : ℕ) → k ≤ i → i < k + 16 → q + (lane (now rows) t i * width + lane (now rows) (t + 1) i) < length (now s)) × ((k + 16 ≤ 128) × ((q < 131072) × ((t ≤ 17) × ((d < 17) × (2560 ≤ length (now rows)))))) ⌝ }
+    requires { ⌜ ((i : ℕ) → k ≤ i → i < k + 16 → q + (lane (now rows) t i * width + lane (now rows) (t + 1) i) < length (now s)) × ((k + 16 ≤ lane-count) × ((q < 131072) × ((t ≤ row-count) × ((d < row-count) × (row-room ≤ length (now rows)))))) ⌝ }
     ensures { λ _. ⌜ Putting (now (rows .entry)) d (λ i. getD (now (s .entry)) (q + (lane (now (rows .entry)) t i * width + lane (now (rows .entry)) (t + 1) i)) 0) k (k + 16) (now (rows .exit)) ⌝ }
 {
     let x = t * LANES + k;
@@ -130,7 +136,7 @@ fn two_part(s: &[u8], q: usize, width: u8, rows: &mut [u8], t: usize, d: usize, 
 
 // The same for all lanes.
 fn two_inside(s: &[u8], q: usize, width: u8, rows: &mut [u8], t: usize, d: usize, n: usize)
-    requires { ⌜ ((i : ℕ) → i < 128 → q + (lane (now rows) t i * width + lane (now rows) (t + 1) i) < length (now s)) × ((q < 131072) × ((t ≤ 17) × ((d < 17) × ((2560 ≤ length (now rows)) × (n ≤ 128))))) ⌝ }
+    requires { ⌜ ((i : ℕ) → i < lane-count → q + (lane (now rows) t i * width + lane (now rows) (t + 1) i) < length (now s)) × ((q < 131072) × ((t ≤ row-count) × ((d < row-count) × ((row-room ≤ length (now rows)) × (n ≤ lane-count))))) ⌝ }
     ensures { λ _. ⌜ RowPut n (now (rows .entry)) d (λ i. getD (now (s .entry)) (q + (lane (now (rows .entry)) t i * width + lane (now (rows .entry)) (t + 1) i)) 0) (now (rows .exit)) ⌝ }
 {
     let mut i: usize = 0;
@@ -142,8 +148,8 @@ fn two_inside(s: &[u8], q: usize, width: u8, rows: &mut [u8], t: usize, d: usize
 
 // Row d is what an operator makes of the rows from t on.
 pub fn operator(c: usize, rows: &mut [u8], t: usize, d: usize)
-    requires { ⌜ (operator-code ≤ c) × ((t ≤ 17) × ((d < 17) × (2560 ≤ length (now rows)))) ⌝ }
-    ensures { λ _. ⌜ RowPut 128 (now (rows .entry)) d (λ i. operator-worth (c - operator-code) (lane (now (rows .entry)) t i) (lane (now (rows .entry)) (t + 1) i) (lane (now (rows .entry)) (t + 2) i)) (now (rows .exit)) ⌝ }
+    requires { ⌜ (operator-code ≤ c) × ((t ≤ row-count) × ((d < row-count) × (row-room ≤ length (now rows)))) ⌝ }
+    ensures { λ _. ⌜ RowPut lane-count (now (rows .entry)) d (λ i. operator-worth (c - operator-code) (lane (now (rows .entry)) t i) (lane (now (rows .entry)) (t + 1) i) (lane (now (rows .entry)) (t + 2) i)) (now (rows .exit)) ⌝ }
 {
     let x = t * LANES;
     let y = x + LANES;
@@ -158,7 +164,7 @@ pub fn operator(c: usize, rows: &mut [u8], t: usize, d: usize)
 
 // The same as `one`, with one value where all of row t are the same.
 pub fn unary(s: &[u8], q: usize, rows: &mut [u8], marks: &mut [u8], t: usize, d: usize, n: usize)
-    requires { ⌜ (q < 262144) × ((t ≤ 18) × ((d < 17) × ((2560 ≤ length (now rows)) × ((20 ≤ length (now marks)) × (n ≤ 128))))) ⌝ }
+    requires { ⌜ (q < 262144) × ((t ≤ 18) × ((d < row-count) × ((row-room ≤ length (now rows)) × ((mark-room ≤ length (now marks)) × (n ≤ lane-count))))) ⌝ }
     ensures { λ _. ⌜ (Marked (now (rows .entry)) (now (marks .entry)) → RowPut n (now (rows .entry)) d (λ i. getD (now (s .entry)) (q + lane (now (rows .entry)) t i) 0) (now (rows .exit)) × Marked (now (rows .exit)) (now (marks .exit))) ⌝ }
 {
     if marks[t] == 0 {
@@ -186,7 +192,7 @@ pub fn binary(
     d: usize,
     n: usize,
 )
-    requires { ⌜ (q < 65541) × ((t ≤ 17) × ((d < 17) × ((2560 ≤ length (now rows)) × ((20 ≤ length (now marks)) × (n ≤ 128))))) ⌝ }
+    requires { ⌜ (q < 65541) × ((t ≤ row-count) × ((d < row-count) × ((row-room ≤ length (now rows)) × ((mark-room ≤ length (now marks)) × (n ≤ lane-count))))) ⌝ }
     ensures { λ _. ⌜ (Marked (now (rows .entry)) (now (marks .entry)) → RowPut n (now (rows .entry)) d (λ i. getD (now (s .entry)) (q + (lane (now (rows .entry)) t i * width + lane (now (rows .entry)) (t + 1) i)) 0) (now (rows .exit)) × Marked (now (rows .exit)) (now (marks .exit))) ⌝ }
 {
     if marks[t] == 0 {

@@ -5,7 +5,7 @@ ghost use lib.Dec.{eqb};
 ghost use lib.ListN.{length, getD, take, drop};
 ghost use Rattle.pcrl.specs.Decode.{node-of};
 ghost use Rattle.evaluation.specs.Run.{pick, argument-count, worth-of, run, top};
-ghost use Rattle.evaluation.specs.Rows.{lane, RowPut, Marked, Zeros, lane-env, LanesKept};
+ghost use Rattle.evaluation.specs.Rows.{lane-count, row-count, row-room, mark-room, lane, RowPut, Marked, Zeros, lane-env, LanesKept};
 use crate::lanes::LANES;
 use crate::lanes::ROWS;
 use crate::lanes::binary;
@@ -33,8 +33,8 @@ pub const UNKNOWN: u8 = 255;
 
 // The row for a node that takes the first k rows from t on.
 fn onto(t: usize, k: usize) -> usize
-    requires { ⌜ (0 < t) × ((t ≤ 17) × (k ≤ 3)) ⌝ }
-    ensures { λ r. ⌜ (r ≡ min (t + k) 17 - 1) × (r < 17) ⌝ }
+    requires { ⌜ (0 < t) × ((t ≤ row-count) × (k ≤ 3)) ⌝ }
+    ensures { λ r. ⌜ (r ≡ min (t + k) row-count - 1) × (r < row-count) ⌝ }
 {
     smaller(t + k, ROWS) - 1
 }
@@ -54,8 +54,8 @@ fn node(
     t: usize,
     b: u8,
 ) -> usize
-    requires { ⌜ (0 < t) × ((t ≤ 17) × ((2560 ≤ length (now rows)) × ((20 ≤ length (now marks)) × ((n ≤ 128) × ((128 ≤ length (now slow)) × (128 ≤ length (now fast))))))) ⌝ }
-    ensures { λ r. ⌜ (r < 17) × ((r ≡ min (t + argument-count (now (s .entry)) (now (funcs .entry)) (node-of b)) 17 - 1) × (u < length (now (e .entry)) → v < length (now (e .entry)) → Marked (now (rows .entry)) (now (marks .entry)) → RowPut n (now (rows .entry)) r (λ i. worth-of (now (s .entry)) (now (funcs .entry)) (lane-env (now (e .entry)) u v (now (slow .entry)) (now (fast .entry)) i) (node-of b) (lane (now (rows .entry)) t i) (lane (now (rows .entry)) (t + 1) i) (lane (now (rows .entry)) (t + 2) i)) (now (rows .exit)) × Marked (now (rows .exit)) (now (marks .exit)))) ⌝ }
+    requires { ⌜ (0 < t) × ((t ≤ row-count) × ((row-room ≤ length (now rows)) × ((mark-room ≤ length (now marks)) × ((n ≤ lane-count) × ((lane-count ≤ length (now slow)) × (lane-count ≤ length (now fast))))))) ⌝ }
+    ensures { λ r. ⌜ (r < row-count) × ((r ≡ min (t + argument-count (now (s .entry)) (now (funcs .entry)) (node-of b)) row-count - 1) × (u < length (now (e .entry)) → v < length (now (e .entry)) → Marked (now (rows .entry)) (now (marks .entry)) → RowPut n (now (rows .entry)) r (λ i. worth-of (now (s .entry)) (now (funcs .entry)) (lane-env (now (e .entry)) u v (now (slow .entry)) (now (fast .entry)) i) (node-of b) (lane (now (rows .entry)) t i) (lane (now (rows .entry)) (t + 1) i) (lane (now (rows .entry)) (t + 2) i)) (now (rows .exit)) × Marked (now (rows .exit)) (now (marks .exit)))) ⌝ }
 {
     let c = wide(b);
     if c < VARIABLE {
@@ -114,8 +114,8 @@ fn term(
     rows: &mut [u8],
     marks: &mut [u8],
 ) -> usize
-    requires { ⌜ (at ≤ end) × ((end ≤ length (now s)) × ((2560 ≤ length (now rows)) × ((20 ≤ length (now marks)) × ((n ≤ 128) × ((128 ≤ length (now slow)) × (128 ≤ length (now fast))))))) ⌝ }
-    ensures { λ r. ⌜ (u < length (now (e .entry)) → v < length (now (e .entry)) → Marked (now (rows .entry)) (now (marks .entry)) → Zeros (now (rows .entry)) → Marked (now (rows .exit)) (now (marks .exit)) × (Zeros (now (rows .exit)) × (r ≤ 17 → (i : ℕ) → i < n → lane (now (rows .exit)) r i ≡ top (run (now (s .entry)) (now (funcs .entry)) (lane-env (now (e .entry)) u v (now (slow .entry)) (now (fast .entry)) i) (take (end - at) (drop at (now (s .entry)))))))) ⌝ }
+    requires { ⌜ (at ≤ end) × ((end ≤ length (now s)) × ((row-room ≤ length (now rows)) × ((mark-room ≤ length (now marks)) × ((n ≤ lane-count) × ((lane-count ≤ length (now slow)) × (lane-count ≤ length (now fast))))))) ⌝ }
+    ensures { λ r. ⌜ (u < length (now (e .entry)) → v < length (now (e .entry)) → Marked (now (rows .entry)) (now (marks .entry)) → Zeros (now (rows .entry)) → Marked (now (rows .exit)) (now (marks .exit)) × (Zeros (now (rows .exit)) × (r ≤ row-count → (i : ℕ) → i < n → lane (now (rows .exit)) r i ≡ top (run (now (s .entry)) (now (funcs .entry)) (lane-env (now (e .entry)) u v (now (slow .entry)) (now (fast .entry)) i) (take (end - at) (drop at (now (s .entry)))))))) ⌝ }
 {
     let mut t: usize = ROWS;
     let mut j = end;
@@ -142,7 +142,7 @@ fn same(x: u8, wanted: u8, m: u8) -> u8
 
 // Of the lanes that are kept, those in which row t is what is wanted; 0 only if there are none.
 fn keep(rows: &[u8], t: usize, wanted: u8, met: &mut [u8], n: usize) -> u8
-    requires { ⌜ (t ≤ 17) × ((2560 ≤ length (now rows)) × ((n ≤ 128) × (128 ≤ length (now met)))) ⌝ }
+    requires { ⌜ (t ≤ row-count) × ((row-room ≤ length (now rows)) × ((n ≤ lane-count) × (lane-count ≤ length (now met)))) ⌝ }
     ensures { λ r. ⌜ LanesKept n (lane (now (rows .entry)) t) wanted (now (met .entry)) (now (met .exit)) r ⌝ }
 {
     let mut some: u8 = 0;
@@ -175,7 +175,7 @@ pub fn row_holds(
     marks: &mut [u8],
     met: &mut [u8],
 ) -> u8
-    requires { ⌜ (2560 ≤ length (now rows)) × ((20 ≤ length (now marks)) × ((n ≤ 128) × ((128 ≤ length (now slow)) × ((128 ≤ length (now fast)) × (128 ≤ length (now met)))))) ⌝ }
+    requires { ⌜ (row-room ≤ length (now rows)) × ((mark-room ≤ length (now marks)) × ((n ≤ lane-count) × ((lane-count ≤ length (now slow)) × ((lane-count ≤ length (now fast)) × (lane-count ≤ length (now met)))))) ⌝ }
     ensures { λ r. ⌜ (at ≤ end → end ≤ length (now (s .entry)) → u < length (now (e .entry)) → v < length (now (e .entry)) → Marked (now (rows .entry)) (now (marks .entry)) → Zeros (now (rows .entry)) → Marked (now (rows .exit)) (now (marks .exit)) × (Zeros (now (rows .exit)) × ((r ≡ 255 → ⊥) → LanesKept n (λ i. top (run (now (s .entry)) (now (funcs .entry)) (lane-env (now (e .entry)) u v (now (slow .entry)) (now (fast .entry)) i) (take (end - at) (drop at (now (s .entry)))))) wanted (now (met .entry)) (now (met .exit)) r))) ⌝ }
 {
     if end < at {

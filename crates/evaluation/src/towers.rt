@@ -5,7 +5,7 @@ ghost use Prim.Native.Nat.{ℕ, _+_, _-_, _≤_, _<_};
 ghost use lib.ListN.{length, getD, take, drop};
 ghost use Rattle.pcrl.specs.Decode.{node-of};
 ghost use Rattle.evaluation.specs.Run.{operator-code, operator-worth, argument-count, worth-of};
-ghost use Rattle.evaluation.specs.Rows.{lane, RowPut};
+ghost use Rattle.evaluation.specs.Rows.{lane-count, row-count, row-room, mark-room, lane, RowPut};
 ghost use Rattle.evaluation.specs.Towers.{climbed, Singles, Exchanged};
 use crate::arguments;
 use crate::lanes::ROWS;
@@ -87,8 +87,8 @@ pub fn steep(
     marks: &[u8],
     t: usize,
 ) -> usize
-    requires { ⌜ (at ≤ j) × ((j ≤ length (now s)) × ((t ≤ 17) × ((2560 ≤ length (now rows)) × (20 ≤ length (now marks))))) ⌝ }
-    ensures { λ r. ⌜ (0 < r → (at < j) × ((argument-count (now (s .entry)) (now (funcs .entry)) (node-of (getD (now (s .entry)) (j - 1) 0)) ≡ 1) × ((t < 17) × ((getD (now (marks .entry)) t 0 ≡ 0 → ⊥) × ((r ≤ 16) × ((i : ℕ) → i < 128 → lane (now (rows .entry)) t i < r)))))) ⌝ }
+    requires { ⌜ (at ≤ j) × ((j ≤ length (now s)) × ((t ≤ row-count) × ((row-room ≤ length (now rows)) × (mark-room ≤ length (now marks))))) ⌝ }
+    ensures { λ r. ⌜ (0 < r → (at < j) × ((argument-count (now (s .entry)) (now (funcs .entry)) (node-of (getD (now (s .entry)) (j - 1) 0)) ≡ 1) × ((t < row-count) × ((getD (now (marks .entry)) t 0 ≡ 0 → ⊥) × ((r ≤ 16) × ((i : ℕ) → i < lane-count → lane (now (rows .entry)) t i < r)))))) ⌝ }
 {
     if j - at < 2 {
         return 0;
@@ -120,7 +120,7 @@ pub fn climb(
     t: usize,
     n: usize,
 ) -> usize
-    requires { ⌜ (at < j) × ((j ≤ length (now s)) × ((argument-count (now s) (now funcs) (node-of (getD (now s) (j - 1) 0)) ≡ 1) × ((m ≤ 16) × (((i : ℕ) → i < 128 → lane (now rows) t i < m) × ((t < 17) × ((2560 ≤ length (now rows)) × (n ≤ 128))))))) ⌝ }
+    requires { ⌜ (at < j) × ((j ≤ length (now s)) × ((argument-count (now s) (now funcs) (node-of (getD (now s) (j - 1) 0)) ≡ 1) × ((m ≤ 16) × (((i : ℕ) → i < lane-count → lane (now rows) t i < m) × ((t < row-count) × ((row-room ≤ length (now rows)) × (n ≤ lane-count))))))) ⌝ }
     ensures { λ r. ⌜ (at ≤ r) × (r < j) ⌝ }
     ensures { λ r. ⌜ Singles (now (s .entry)) (now (funcs .entry)) r j × RowPut n (now (rows .entry)) t (λ i. climbed (now (s .entry)) (now (funcs .entry)) (take (j - r) (drop r (now (s .entry)))) (lane (now (rows .entry)) t i)) (now (rows .exit)) ⌝ }
 {
