@@ -201,6 +201,11 @@ pub fn binary(
         return;
     }
     marks[d] = 1;
+    // in a long stream the places of any values are
+    if q + row(255, width, 255) < s.len() {
+        two_inside(s, q, width, rows, t, d, n);
+        return;
+    }
     if q + row(highest(rows, t), width, highest(rows, t + 1)) < s.len() {
         two_inside(s, q, width, rows, t, d, n);
         return;
