@@ -17,6 +17,7 @@ ghost use Rattle.stacks.specs.Lent.{frames-in, stack-bytes};
 ghost use Rattle.asking.specs.Replies.{AskIs, label-told};
 ghost use Rattle.texts.specs.Wrote.{Wrote};
 ghost use Rattle.walker.specs.Moves.{moved-by};
+use blocks::BLOCK_STREAM;
 use blocks::MAX_FILE;
 use blocks::SHORT_FILE;
 use blocks::SHORT_STREAM;
@@ -24,6 +25,7 @@ use elements::wide;
 use limits::MAX_STREAM;
 use limits::NO_ROOM;
 use stacks::BYTES;
+use stepping::ONE_FILE;
 
 // "takes step 0 up to 8 times"
 const STEPS: usize = 8;
@@ -31,7 +33,9 @@ const STEPS: usize = 8;
 // No text of a walk is longer: 8 lines of 29 bytes and a closing word.
 const TEXT_LIMIT: usize = 238;
 
-// Tables of sheets of up to so many bytes mostly fit a short file.
+// Tables of sheets of up to so many bytes mostly fit a file of one block, and a short file.
+const ONE_SHEET: usize = 64;
+
 const SHORT_SHEET: usize = 512;
 
 // "A walk holds its depth, its steps taken and its last answer."
@@ -194,6 +198,14 @@ fn walk_in(file: &[u8], stream: &mut [u8], out: &mut [u8]) -> usize
     put_walk(&stream[0..n], index, &mut frames, out)
 }
 
+fn walk_one(file: &[u8], out: &mut [u8]) -> usize
+    requires { ⌜ length (now file) ≤ 512 ⌝ }
+    ensures { λ p. ⌜ (Wrote (now (out .entry)) 0 (walk-made (table-checked (now (file .entry)))) (now (out .exit)) p) ⌝ }
+{
+    let mut stream = [0u8; BLOCK_STREAM];
+    walk_in(file, &mut stream, out)
+}
+
 fn walk_short(file: &[u8], out: &mut [u8]) -> usize
     requires { ⌜ length (now file) ≤ 4096 ⌝ }
     ensures { λ p. ⌜ (Wrote (now (out .entry)) 0 (walk-made (table-checked (now (file .entry)))) (now (out .exit)) p) ⌝ }
@@ -213,6 +225,9 @@ fn walk_long(file: &[u8], out: &mut [u8]) -> usize
 pub fn walk_table(file: &[u8], out: &mut [u8]) -> usize
     ensures { λ p. ⌜ (Wrote (now (out .entry)) 0 (walk-made (table-checked (now (file .entry)))) (now (out .exit)) p) ⌝ }
 {
+    if file.len() <= ONE_FILE {
+        return walk_one(file, out);
+    }
     if file.len() <= SHORT_FILE {
         return walk_short(file, out);
     }
@@ -243,7 +258,15 @@ fn walk_made(sheet: &[u8], file: &mut [u8], out: &mut [u8]) -> Walked
     }
 }
 
-// By a short file: to clear a long one takes longer than to walk by the table of a short sheet.
+// By a file of one block: to clear a long one takes longer than to walk by the table of a short sheet.
+fn walk_by_one(sheet: &[u8], out: &mut [u8]) -> Walked
+    ensures { λ r. ⌜ (r .done ≡ true → Wrote (now (out .entry)) 0 (walk-text (now (sheet .entry))) (now (out .exit)) (r .length)) × (r .done ≡ false → now (out .exit) ≡ now (out .entry)) ⌝ }
+{
+    let mut file = [0u8; ONE_FILE];
+    walk_made(sheet, &mut file, out)
+}
+
+// By a short file.
 fn walk_by_short(sheet: &[u8], out: &mut [u8]) -> Walked
     ensures { λ r. ⌜ (r .done ≡ true → Wrote (now (out .entry)) 0 (walk-text (now (sheet .entry))) (now (out .exit)) (r .length)) × (r .done ≡ false → now (out .exit) ≡ now (out .entry)) ⌝ }
 {
@@ -260,8 +283,8 @@ fn walk_by_long(sheet: &[u8], out: &mut [u8]) -> usize
     w.length
 }
 
-// The text of the walk of a sheet's bytes, as far as there is room for it, and how long that is.
-pub fn walk_sheet(sheet: &[u8], out: &mut [u8]) -> usize
+// The text of the walk of a sheet's bytes, as far as there is room for it, and how long that is; by a short file first, if the sheet is short.
+fn walk_by_two(sheet: &[u8], out: &mut [u8]) -> usize
     ensures { λ p. ⌜ Wrote (now (out .entry)) 0 (walk-text (now (sheet .entry))) (now (out .exit)) p ⌝ }
 {
     if SHORT_SHEET < sheet.len() {
@@ -272,6 +295,20 @@ pub fn walk_sheet(sheet: &[u8], out: &mut [u8]) -> usize
         return w.length;
     }
     walk_by_long(sheet, out)
+}
+
+// The same, for a very short sheet by a file of one block first.
+pub fn walk_sheet(sheet: &[u8], out: &mut [u8]) -> usize
+    ensures { λ p. ⌜ Wrote (now (out .entry)) 0 (walk-text (now (sheet .entry))) (now (out .exit)) p ⌝ }
+{
+    if ONE_SHEET < sheet.len() {
+        return walk_by_two(sheet, out);
+    }
+    let w = walk_by_one(sheet, out);
+    if w.done {
+        return w.length;
+    }
+    walk_by_two(sheet, out)
 }
 
 // The whole text of the walk of a sheet's bytes.
