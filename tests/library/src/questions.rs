@@ -73,16 +73,20 @@ fn all_four() -> String {
     four_sums_with("t", |_| data.clone())
 }
 
-/// Eight conditions that hold where all four variables are even, joined two by two.
-fn joined(join: fn(String, String) -> String) -> String {
-    let pair = |left, right| join(format!("even({left})"), format!("even({right})"));
-    let test = join(pair("p", "q"), pair("r", "s"));
+/// A process with four sums around eight conditions that are all this test.
+fn eight_times(test: &str) -> String {
     let tests = format!("<|{test}|>delta)").repeat(8);
     format!(
         "proc Y=sum(u:D,sum(v:D,sum(w:D,sum(x:D,Z(u,v,w,x)))));\
          proc Z(p:D,q:D,r:D,s:D)={}a(p,s){tests};",
         "(".repeat(8)
     )
+}
+
+/// Eight conditions that hold where all four variables are even, joined two by two.
+fn joined(join: fn(String, String) -> String) -> String {
+    let pair = |left, right| join(format!("even({left})"), format!("even({right})"));
+    eight_times(&join(pair("p", "q"), pair("r", "s")))
 }
 
 fn file(body: &str, more: &str) -> Vec<u8> {
@@ -195,16 +199,15 @@ fn mixed(variables: &str) -> String {
     tree(29, "p").chars().map(named).collect()
 }
 
-/// A process with four sums around eight conditions of 31 nodes, whose tests are towers of `!`.
+/// Eight conditions of 31 nodes, whose tests are towers of `!`.
 fn negated() -> String {
     let test = format!("{}even(f(f(p,q),f(r,s)))", "!".repeat(23));
-    let tests = format!("<|{test}|>delta)").repeat(8);
-    format!(
-        "proc Y=sum(u:D,sum(v:D,sum(w:D,sum(x:D,Z(u,v,w,x)))));\
-         proc Z(p:D,q:D,r:D,s:D)={}a(p,s){tests};",
-        "(".repeat(8)
-    )
+    eight_times(&test)
 }
+
+/// Functions of one argument between those of two, each alone: the dearest that `--bin hardest` finds are of this kind.
+const BETWEEN: &str =
+    "t(f(f(g(f(f(f(r,g(s)),f(g(s),q)),f(s,g(s)))),f(q,f(f(g(s),g(r)),f(q,g(r))))),p))";
 
 /// The same with towers of a function of one argument, put together by calls.
 fn towers() -> String {
@@ -234,7 +237,19 @@ pub fn dearest_tables() -> Vec<Question> {
         table("the same, mostly on the last two", over("rsrsrsrsrsrsrpq")),
         table("the same, towers of !", negated()),
         table("the same, towers of a function of one argument", towers()),
+        table(
+            "the same, functions of one argument between those of two",
+            eight_times(BETWEEN),
+        ),
     ]
+}
+
+/// So many summands with eight conditions that are all this test, on parameters p, q, r and s, if there is such a table.
+pub fn tested(test: &str, summands: usize) -> Option<Question> {
+    let calls = vec!["Y"; summands].join("+");
+    let sheet = format!("{}proc X={calls};{}init X;", declared(), eight_times(test));
+    let file = reader::make_table(sheet.as_bytes()).ok()?;
+    Some(question("conditions that are tried", file, u64::MAX))
 }
 
 /// Whether a stack has a run of so many steps.
