@@ -174,6 +174,11 @@ pub fn unary(s: &[u8], q: usize, rows: &mut [u8], marks: &mut [u8], t: usize, d:
         return;
     }
     marks[d] = 1;
+    // in a long stream the places of any values are
+    if q + 255 < s.len() {
+        one_inside(s, q, rows, t, d, n);
+        return;
+    }
     if q + wide(highest(rows, t)) < s.len() {
         one_inside(s, q, rows, t, d, n);
         return;
