@@ -9,15 +9,16 @@ use lib.Seq.{drop-cons, drop-length}
 use Rattle.pcrl.specs.Tests.{Every}
 use Rattle.pcrl.specs.Blocks.{crc-byte, crc-from, crc}
 use Rattle.codec.specs.Crc.{crc-byte-below}
+use Rattle.blocks.specs.Halves.{halves}
 use Rattle.blocks.proofs.Register.{shifted, shifted-below, top, top-small, crc-byte-shifted, below, below-small, crc-bytes-shifted, shifts, shifts-xor, ahead, crc-run}
 use Rattle.blocks.proofs.Shifted.{once, once-entry, twice, twice-entry, thrice, thrice-entry, four, four-entry, five, five-entry, six, six-entry, seven, seven-entry, eight, eight-entry}
 
 -- by the tables
 abbrev pub one-byte : ℕ → ℕ → ℕ
-one-byte x b = bitXor (x % 256 * 256) (getD once (bitXor (x / 256) b) 0)
+one-byte x b = bitXor (x % 256 * 256) (halves once (bitXor (x / 256) b))
 
 abbrev pub eight-bytes : ℕ → ℕ → ℕ → ℕ → ℕ → ℕ → ℕ → ℕ → ℕ → ℕ
-eight-bytes x b₀ b₁ b₂ b₃ b₄ b₅ b₆ b₇ = bitXor (bitXor (getD eight (bitXor (x / 256) b₀) 0) (getD seven (bitXor (x % 256) b₁) 0)) (bitXor (getD six b₂ 0) (bitXor (getD five b₃ 0) (bitXor (getD four b₄ 0) (bitXor (getD thrice b₅ 0) (bitXor (getD twice b₆ 0) (getD once b₇ 0))))))
+eight-bytes x b₀ b₁ b₂ b₃ b₄ b₅ b₆ b₇ = bitXor (bitXor (halves eight (bitXor (x / 256) b₀)) (halves seven (bitXor (x % 256) b₁))) (bitXor (halves six b₂) (bitXor (halves five b₃) (bitXor (halves four b₄) (bitXor (halves thrice b₅) (bitXor (halves twice b₆) (halves once b₇))))))
 
 module _ (x b : ℕ) (h : x < 65536) (k : b < 256) where
   one-byte-is : one-byte x b ≡ crc-byte x b
@@ -29,7 +30,7 @@ module _ (x b : ℕ) (h : x < 65536) (k : b < 256) where
 
 module _ (x : ℕ) (h : x < 65536) (b₀ : ℕ) (k₀ : b₀ < 256) (b₁ : ℕ) (k₁ : b₁ < 256) (b₂ : ℕ) (k₂ : b₂ < 256) (b₃ : ℕ) (k₃ : b₃ < 256) (b₄ : ℕ) (k₄ : b₄ < 256) (b₅ : ℕ) (k₅ : b₅ < 256) (b₆ : ℕ) (k₆ : b₆ < 256) (b₇ : ℕ) (k₇ : b₇ < 256) where
   -- the six bytes that wait for nothing
-  behind-is : bitXor (getD six b₂ 0) (bitXor (getD five b₃ 0) (bitXor (getD four b₄ 0) (bitXor (getD thrice b₅ 0) (bitXor (getD twice b₆ 0) (getD once b₇ 0))))) ≡ ahead (b₂ ∷ b₃ ∷ b₄ ∷ b₅ ∷ b₆ ∷ b₇ ∷ [])
+  behind-is : bitXor (halves six b₂) (bitXor (halves five b₃) (bitXor (halves four b₄) (bitXor (halves thrice b₅) (bitXor (halves twice b₆) (halves once b₇))))) ≡ ahead (b₂ ∷ b₃ ∷ b₄ ∷ b₅ ∷ b₆ ∷ b₇ ∷ [])
   unfolding ahead
   behind-is =
       ap₂ bitXor (six-entry b₂ k₂) (ap₂ bitXor (five-entry b₃ k₃) (ap₂ bitXor (four-entry b₄ k₄) (ap₂ bitXor (thrice-entry b₅ k₅) (ap₂ bitXor (twice-entry b₆ k₆) (once-entry b₇ k₇ ∙ sym (xor-zero-r (shifts 1 (b₇ * 256))))))))
@@ -42,7 +43,7 @@ module _ (x : ℕ) (h : x < 65536) (b₀ : ℕ) (k₀ : b₀ < 256) (b₁ : ℕ)
       let t-small = top-small x b₀ h k₀ in
       let u-small = below-small x b₀ h k₀ b₁ k₁ in
       let y : ℕ = crc-byte (crc-byte x b₀) b₁ in
-      let first : shifts 6 y ≡ bitXor (getD eight t 0) (getD seven u 0) =
+      let first : shifts 6 y ≡ bitXor (halves eight t) (halves seven u) =
       ap (shifts 6) (crc-bytes-shifted x b₀ h k₀ b₁ k₁)
       ∙ shifts-xor 6 (shifted (shifted (t * 256))) (shifted (u * 256)) (shifted-below (shifted (t * 256)) (shifted-below (t * 256) (omega arith))) (shifted-below (u * 256) (omega arith))
       ∙ ap₂ bitXor (sym (eight-entry t t-small)) (sym (seven-entry u u-small)) in
@@ -54,7 +55,7 @@ module _ (x : ℕ) (h : x < 65536) (b₀ : ℕ) (k₀ : b₀ < 256) (b₁ : ℕ)
   unfolding crc-from
   eight-bytes-below = rw eight-bytes-is (crc-byte-below _ b₇ (crc-byte-below _ b₆ (crc-byte-below _ b₅ (crc-byte-below _ b₄ (crc-byte-below _ b₃ (crc-byte-below _ b₂ (crc-byte-below _ b₁ (crc-byte-below _ b₀ h k₀) k₁) k₂) k₃) k₄) k₅) k₆) k₇)
 
-crc-from-cons : (x : ℕ) (s : List ℕ) (i j : ℕ) → j ≡ suc i → i < length s → crc-from x (drop i s) ≡ crc-from (crc-byte x (getD s i 0)) (drop j s)
+pub crc-from-cons : (x : ℕ) (s : List ℕ) (i j : ℕ) → j ≡ suc i → i < length s → crc-from x (drop i s) ≡ crc-from (crc-byte x (getD s i 0)) (drop j s)
 unfolding crc-from
 crc-from-cons x s i j e h = rw (e, drop-cons s i 0)
 

@@ -1,7 +1,9 @@
 pub mod Xor
 pub mod Register
 pub mod Shifted
+pub mod ZeroTables
 pub mod Check
+pub mod PassingZeros
 pub mod Fronts
 pub mod Joined
 pub mod Block

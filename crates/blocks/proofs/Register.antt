@@ -89,7 +89,7 @@ shifted-xor a c h k =
 up : {x y : ℕ} → y ≡ x → x < 0x8000 → crc-bit y ≡ x * 2
 up {x} e h = ap crc-bit e ∙ crc-bit-low x h
 
-shifted-low : (x : ℕ) → x < 256 → shifted x ≡ x * 256
+pub shifted-low : (x : ℕ) → x < 256 → shifted x ≡ x * 256
 shifted-low x h =
     let e : x * 2 * 2 * 2 * 2 * 2 * 2 * 2 * 2 ≡ x * 256 = omega arith in
     up (up (up (up (up (up (up (up refl (omega arith)) (omega arith)) (omega arith)) (omega arith)) (omega arith)) (omega arith)) (omega arith)) (omega arith) ∙ e
@@ -149,7 +149,7 @@ unfoldable pub shifts : ℕ → ℕ → ℕ
 shifts zero x = x
 shifts (suc n) x = shifted (shifts n x)
 
-shifts-below : (n x : ℕ) → x < 65536 → shifts n x < 65536
+pub shifts-below : (n x : ℕ) → x < 65536 → shifts n x < 65536
 unfolding shifts
 shifts-below zero x h = h
 shifts-below (suc n) x h = shifted-below (shifts n x) (shifts-below n x h)
@@ -159,7 +159,7 @@ unfolding shifts
 shifts-xor zero a c h k = refl
 shifts-xor (suc n) a c h k = ap shifted (shifts-xor n a c h k) ∙ shifted-xor (shifts n a) (shifts n c) (shifts-below n a h) (shifts-below n c k)
 
-shifts-first : (n x : ℕ) → shifts n (shifted x) ≡ shifts (suc n) x
+pub shifts-first : (n x : ℕ) → shifts n (shifted x) ≡ shifts (suc n) x
 unfolding shifts
 shifts-first zero x = refl
 shifts-first (suc n) x = ap shifted (shifts-first n x)

@@ -1,6 +1,5 @@
 // A stream written to blocks of 512 bytes, and a file's blocks checked and its stream handed on: questions 11 to 13.
 pub mod crc;
-mod far_shifts;
 mod shifts;
 
 ghost use mathlib.Core.Path.{_≡_};
