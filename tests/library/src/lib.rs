@@ -21,6 +21,7 @@ pub mod reached;
 pub mod sheets;
 pub mod stepping;
 pub mod timing;
+pub mod words;
 
 extern "C" {
     fn wizbratel_check_sheet(sheet: *const u8, length: usize) -> u8;

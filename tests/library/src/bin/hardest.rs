@@ -7,6 +7,7 @@ use library::common::random::Random;
 use library::questions::{tested, Question};
 use library::stepping::{ask, Answer};
 use library::timing::least;
+use library::words::number;
 
 /// So many of the dearest are kept.
 const KEPT: usize = 12;
@@ -134,11 +135,6 @@ fn again(kept: &[Priced], calls: u32) -> Vec<Priced> {
 }
 
 fn main() {
-    let words: Vec<String> = std::env::args().skip(1).collect();
-    let number = |place: usize, otherwise| match words.get(place) {
-        Some(word) => word.parse().expect("a number"),
-        None => otherwise,
-    };
     let (seconds, mut random) = (number(0, 60), Random::new(number(1, 1)));
     let mut kept = Vec::new();
     for _ in 0..10 * KEPT {

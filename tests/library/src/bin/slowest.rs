@@ -7,6 +7,7 @@ use library::common::random::Random;
 use library::common::{mutate, slow, worst};
 use library::painted::used;
 use library::timing::least;
+use library::words::{number, word};
 use library::{make_table, sheets};
 use reader::limits::{FILE_BYTES, SHEET_BYTES};
 
@@ -113,13 +114,8 @@ fn changed(random: &mut Random, kept: &[Priced]) -> Vec<u8> {
 }
 
 fn main() {
-    let words: Vec<String> = std::env::args().skip(1).collect();
-    let number = |place: usize, otherwise| match words.get(place) {
-        Some(word) => word.parse().expect("a number"),
-        None => otherwise,
-    };
     let (seconds, mut random) = (number(0, 60), Random::new(number(1, 1)));
-    let by_stack = words.get(2).is_some_and(|word| word == "stack");
+    let by_stack = word(2).is_some_and(|word| word == "stack");
     let (price, unit): (Price, &str) = if by_stack {
         (stack, "bytes")
     } else {
