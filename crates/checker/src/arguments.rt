@@ -253,5 +253,8 @@ pub fn arguments_right(
     if !each_fits(cells, given, row, start, scope, sizes, funcs, n) {
         return false;
     }
+    if given.count == 0 {
+        return true;
+    }
     all_fit(cells, given, scope, sizes, funcs, n)
 }
