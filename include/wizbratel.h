@@ -97,7 +97,7 @@ typedef struct {
  * Answers  0 if its table can be made, else 1 to 10. No bytes at all: 5.
  * Leaves   Nothing is written.
  * Time     Not more than make_table.
- * Stack    At most 128 KiB; usual sheets 19 to 109 KB. */
+ * Stack    At most 128 KiB; usual sheets 17 to 109 KB. */
 uint8_t wizbratel_check_sheet(const uint8_t *sheet, size_t length);
 
 /* Make the table file of a sheet.
@@ -106,8 +106,8 @@ uint8_t wizbratel_check_sheet(const uint8_t *sheet, size_t length);
  *          no output (`out` NULL, `room` 0) gets 11.
  * Leaves   After 0 the file over the front of `out` and its length in `*written`; what is behind it in
  *          `out` is untouched. One sheet gives the same bytes every time.
- * Time     1.1 us for 25 bytes, 9 us for 500, 0.1 ms for 4,096; the dearest sheets found 0.3 ms.
- * Stack    At most 128 KiB; usual sheets 19 to 109 KB. */
+ * Time     0.8 us for 25 bytes, 9 us for 500, 0.1 ms for 4,096; the dearest sheets found 0.3 ms.
+ * Stack    At most 128 KiB; usual sheets 17 to 109 KB. */
 uint8_t wizbratel_make_table(const uint8_t *sheet, size_t length, uint8_t *out, size_t room, size_t *written);
 
 /* Walk: step 0 up to 8 times, as text: a line for each step (its number, the label, the depth after it), then
@@ -116,7 +116,7 @@ uint8_t wizbratel_make_table(const uint8_t *sheet, size_t length, uint8_t *out, 
  * Answers  How many bytes were written: all of the text if `room` is WIZBRATEL_MAX_WALK or more.
  * Leaves   The text over the front of `out`, as far as there is room, not ended by a zero; what is behind it is
  *          untouched.
- * Time     As make_table, check_table and 8 questions of a list: 2 us for 25 bytes.
+ * Time     As make_table, check_table and 8 questions of a list: 1.6 us for 25 bytes.
  * Stack    130 KB more than make_table. */
 size_t wizbratel_walk(const uint8_t *sheet, size_t length, uint8_t *out, size_t room);
 
@@ -124,8 +124,8 @@ size_t wizbratel_walk(const uint8_t *sheet, size_t length, uint8_t *out, size_t 
  *
  * Answers  0 if it is exactly a file that could have been made of a right table, else 12 to 14. No bytes: 12.
  * Leaves   Nothing is written.
- * Time     0.5 us for 512 bytes, 0.17 ms for 65,536.
- * Stack    6 KB for a file of 512 bytes; at most 72 KB. */
+ * Time     0.2 to 0.5 us for 512 bytes, 0.2 ms for 65,536.
+ * Stack    3 KB for a file of 512 bytes; at most 69 KB. */
 uint8_t wizbratel_check_table(const uint8_t *file, size_t length);
 
 /* Print a table file as a sheet: sorts, functions, processes and variables are named by the letters s, f, p and v and
@@ -135,8 +135,8 @@ uint8_t wizbratel_check_table(const uint8_t *file, size_t length);
  *          than `room` bytes. 17 comes before 11. A good table with no output (`out` NULL, `room` 0) gets 11 or 17.
  * Leaves   After 0 the text over the front of `out`, not ended by a zero, and its length in `*written`; what is behind
  *          it in `out` is untouched. make_table makes exactly `table` of the text.
- * Time     0.8 us for the shortest table, 23 us for a text of 4,096 bytes; 0.5 ms for 65,536 bytes.
- * Stack    At most 84 KB. */
+ * Time     0.5 us for the shortest table, 20 us for a text of 4,096 bytes; 0.5 ms for 65,536 bytes.
+ * Stack    At most 80 KB. */
 uint8_t wizbratel_print_table(const uint8_t *table, size_t length, uint8_t *out, size_t room, size_t *written);
 
 /* Start a stack.
@@ -145,7 +145,7 @@ uint8_t wizbratel_print_table(const uint8_t *table, size_t length, uint8_t *out,
  *          not matter.
  * Leaves   After 0 the table's start in the first frame, zeros in the others, and 1 in `*depth`.
  * Time     As check_table, and half a microsecond.
- * Stack    7 KB for a file of 512 bytes; at most 72 KB. */
+ * Stack    4 KB for a file of 512 bytes; at most 69 KB. */
 uint8_t wizbratel_start(const uint8_t *file, size_t length, wizbratel_frame *frames, size_t count, size_t *depth);
 
 /* Ask for step k, from 0, and take it.
@@ -154,11 +154,11 @@ uint8_t wizbratel_start(const uint8_t *file, size_t length, wizbratel_frame *fra
  *          would get too deep. Too large a k is no refusal: the kind is then WIZBRATEL_NONE.
  * Leaves   After 0 `*answer`, all of it. If its kind is WIZBRATEL_STEP the frames hold the new stack, zeros
  *          behind it, and `*depth` is its depth; after ENDED and NONE they are as they were.
- * Time     The file is checked at each call: 0.9 us with 512 bytes, 0.17 ms with 65,536. Then the steps before
+ * Time     The file is checked at each call: 0.5 us with 512 bytes, 0.2 ms with 65,536. Then the steps before
  *          k are counted: 0.04 to 0.2 us for usual tables. The dearest table found, 230 summands with four
- *          sums of 16 values and eight long conditions, each on all of them, takes 1.1 s if k is too large. So
+ *          sums of 16 values and eight long conditions, each on all of them, takes 1 s if k is too large. So
  *          look at a table of unknown origin in a thread that may wait.
- * Stack    8 KB for a file of 512 bytes; at most 73 KB. */
+ * Stack    5 KB for a file of 512 bytes; at most 73 KB. */
 uint8_t wizbratel_ask(const uint8_t *file, size_t length, wizbratel_frame *frames, size_t count, size_t *depth, uint64_t k,
                       wizbratel_answer *answer);
 
@@ -172,7 +172,7 @@ uint8_t wizbratel_ask(const uint8_t *file, size_t length, wizbratel_frame *frame
  *          answers, and what is behind the last answer is untouched. With no questions, or no room, the
  *          stack is only checked.
  * Time     As check_table once, then 0.04 to 0.2 us a question for usual tables; at the worst as ask.
- * Stack    8 KB for a file of 512 bytes; at most 73 KB. */
+ * Stack    5 KB for a file of 512 bytes; at most 73 KB. */
 uint8_t wizbratel_ask_all(const uint8_t *file, size_t length, wizbratel_frame *frames, size_t count, size_t *depth,
                           const uint64_t *questions, size_t question_count, wizbratel_answer *answers, size_t bytes);
 
