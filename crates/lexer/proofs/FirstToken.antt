@@ -1,53 +1,45 @@
--- The token that bytes begin with, by the class of the first byte. What a class says of a byte is a test that antt computes over all bytes.
-use mathlib.Core.Path.{_≡_, refl, sym, ap, _∙_, subst, subst⁻¹}
+-- The token that bytes begin with, by what the first byte is: a letter, a digit, a mark by itself, the first byte of a longer one, or none of these.
+use mathlib.Core.Path.{_≡_, refl, sym, ap, _∙_, subst⁻¹}
 use mathlib.Core.Logic.{⊎-elim}
 use mathlib.Core.Bool.{Bool, true, false}
 use mathlib.Core.List.{List, [], _∷_}
-use mathlib.Core.Option.{Option, none, some}
+use mathlib.Core.Option.{Option, some}
 use Prim.Native.Nat.{ℕ, _+_, _<_, _≤_}
 use native.Mathlib.Nat.{add-zero}
 use native.Mathlib.Omega.{arith}
 use lib.Dec.{T, leb, eqb, leb→le, eqb→eq}
 use lib.ListN.{length, drop, getD, List·getD-eq-default}
 use lib.Seq.{getD-drop}
-use borrow.Author.Tests.{eq-eqb, leb-true, leb-false}
+use borrow.Author.Tests.{eqb-true, leb-true, leb-false}
 use Rattle.pcrl.specs.Tests.{and, or, negated, Every}
 use Rattle.pcrl.specs.Bytes.{letter, digit, name-byte}
 use Rattle.pcrl.specs.Tokens.{sign, marks, front, Lexeme, name-of, numeral-of, mark-of, first-token}
-use Rattle.lexer.specs.Classes.{class-of, one-of, sign-cell}
+use Rattle.lexer.specs.Classes.{one-of, alone-bytes, alone, lead-bytes, leads, sign-cell}
 use Rattle.lexer.specs.Cells.{first-long-mark, long-marks, cell-token, Reads, Fits}
-use Rattle.lexer.proofs.Match.{all-from, from-all, or-no}
+use Rattle.lexer.proofs.Match.{and-left, and-right, or-no, all-of, at-key}
 use Rattle.lexer.proofs.Runs.{drop-at}
-use Rattle.lexer.proofs.Signs.{sign-cell-none, starting, no-sign-starting, Found, Missing, look-up, unlike, lone, no-mark, lone-mark, pair-mark, no-pair-mark, no-pair-end}
+use Rattle.lexer.proofs.Signs.{never, sign-cell-none, starting, no-sign-starting, Found, Missing, look-up, unlike, lone, no-mark, lone-mark, pair-mark, no-pair-mark, no-pair-end}
 use Rattle.lexer.proofs.Cells.{cell-mark, cell-long-mark}
 use Rattle.lexer.proofs.Reading.{reads-none, reads-some}
 
--- ---- what a class says of its bytes
-by-class : (k : ℕ) (p : ℕ → Bool) → T (all-from (λ b. or (negated (eqb (class-of b) k)) (p b)) 0 256) → (b : ℕ) → b < 256 → class-of b ≡ k → T (p b)
-by-class k p t b h e =
-    or-no (negated (eqb (class-of b) k)) (p b) (λ n. subst (λ (x : Bool). T (negated x)) (eq-eqb (class-of b) k e) n)
-    (from-all (λ b. or (negated (eqb (class-of b) k)) (p b)) 0 256 t b (omega arith) (omega arith))
+-- what holds of each of some bytes holds of one of them
+one-of-step : (p : ℕ → Bool) (k : ℕ) (ks : List ℕ) (b : ℕ) (x : Bool) → eqb b k ≡ x → T (and (p k) (all-of p ks)) → (T (all-of p ks) → one-of ks b ≡ true → T (p b)) → or x (one-of ks b) ≡ true → T (p b)
+one-of-step p k ks b true e t ih o = at-key p k b (and-left (p k) (all-of p ks) t) (eqb-true b k e)
+one-of-step p k ks b false e t ih o = ih (and-right (p k) (all-of p ks) t) o
+
+one-of-test : (p : ℕ → Bool) (ks : List ℕ) → T (all-of p ks) → (b : ℕ) → one-of ks b ≡ true → T (p b)
+one-of-test p [] t b o = never o
+one-of-test p (k ∷ ks) t b o = one-of-step p k ks b (eqb b k) refl t (λ u. one-of-test p ks u b) o
 
 -- no letter and no digit, and a test besides
-abbrev neither : (ℕ → Bool) → ℕ → Bool
+abbrev pub neither : (ℕ → Bool) → ℕ → Bool
 neither p b = and (negated (letter b)) (and (negated (digit b)) (p b))
-
-as-true : (t : Bool) → T t → t ≡ true
-as-true true h = refl
-as-true false h = absurd h
-
-none-of : (k : ℕ) → (k ≡ 3 → ⊥) → (k ≡ 2 → ⊥) → (k ≡ 5 → ⊥) → (k ≡ 6 → ⊥) → T (one-of (3 ∷ 2 ∷ 5 ∷ 6 ∷ []) k) → ⊥
-none-of k n₃ n₂ n₅ n₆ t =
-    or-no (eqb k 6) false (λ u. n₆ (eqb→eq k 6 u))
-    (or-no (eqb k 5) (one-of (6 ∷ []) k) (λ u. n₅ (eqb→eq k 5 u))
-    (or-no (eqb k 2) (one-of (5 ∷ 6 ∷ []) k) (λ u. n₂ (eqb→eq k 2 u))
-    (or-no (eqb k 3) (one-of (2 ∷ 5 ∷ 6 ∷ []) k) (λ u. n₃ (eqb→eq k 3 u)) t)))
 
 -- ---- the definition's cases
 module _ (b : ℕ) (l : List ℕ) where
-  of-letter : T (letter b) → first-token b l ≡ name-of (front name-byte (b ∷ l))
+  of-letter : letter b ≡ true → first-token b l ≡ name-of (front name-byte (b ∷ l))
   unfolding first-token
-  of-letter h = rw (as-true (letter b) h, first-token)
+  of-letter h = rw (h, first-token)
 
   digit-step : (x y : Bool) → letter b ≡ x → digit b ≡ y → T (and (negated x) y) → first-token b l ≡ numeral-of (front digit (b ∷ l))
   unfolding first-token
@@ -64,43 +56,34 @@ module _ (b : ℕ) (l : List ℕ) where
   of-mark : (p : ℕ → Bool) → T (neither p b) → (first-token b l ≡ mark-of marks (b ∷ l)) × T (p b)
   of-mark p h = mark-step (letter b) (digit b) (p b) refl refl h
 
-module _ (s : List ℕ) (at : ℕ) (h : at < length s) (byte : getD s at 0 < 256) where
+module _ (s : List ℕ) (at : ℕ) (h : at < length s) where
   here : (x : Option Lexeme) (f : List ℕ → Option Lexeme) → x ≡ f (getD s at 0 ∷ drop (at + 1) s) → x ≡ f (drop at s)
   here x f e = e ∙ ap f (sym (drop-at s at h))
 
-  pub of-name : class-of (getD s at 0) ≡ 3 → first-token (getD s at 0) (drop (at + 1) s) ≡ name-of (front name-byte (drop at s))
-  unfolding class-of
-  of-name e = here _ (λ w. name-of (front name-byte w)) (of-letter (getD s at 0) (drop (at + 1) s) (by-class 3 letter tt (getD s at 0) byte e))
+  pub of-name : letter (getD s at 0) ≡ true → first-token (getD s at 0) (drop (at + 1) s) ≡ name-of (front name-byte (drop at s))
+  of-name e = here _ (λ w. name-of (front name-byte w)) (of-letter (getD s at 0) (drop (at + 1) s) e)
 
-  pub of-numeral : class-of (getD s at 0) ≡ 2 → first-token (getD s at 0) (drop (at + 1) s) ≡ numeral-of (front digit (drop at s))
-  unfolding class-of
-  of-numeral e =
-      here _ (λ w. numeral-of (front digit w))
-      (digit-step (getD s at 0) (drop (at + 1) s) (letter (getD s at 0)) (digit (getD s at 0)) refl refl (by-class 2 (λ b. and (negated (letter b)) (digit b)) tt (getD s at 0) byte e))
+  pub of-numeral : T (and (negated (letter (getD s at 0))) (digit (getD s at 0))) → first-token (getD s at 0) (drop (at + 1) s) ≡ numeral-of (front digit (drop at s))
+  of-numeral t = here _ (λ w. numeral-of (front digit w)) (digit-step (getD s at 0) (drop (at + 1) s) (letter (getD s at 0)) (digit (getD s at 0)) refl refl t)
 
-  pub of-long-mark : class-of (getD s at 0) ≡ 6 → first-token (getD s at 0) (drop (at + 1) s) ≡ mark-of marks (drop at s)
-  unfolding class-of
-  of-long-mark e = here _ (mark-of marks) (of-mark (getD s at 0) (drop (at + 1) s) (λ b. true) (by-class 6 (neither (λ b. true)) tt (getD s at 0) byte e) .0)
+  pub of-long-mark : leads (getD s at 0) ≡ true → first-token (getD s at 0) (drop (at + 1) s) ≡ mark-of marks (drop at s)
+  of-long-mark e = here _ (mark-of marks) (of-mark (getD s at 0) (drop (at + 1) s) (λ b. true) (one-of-test (neither (λ b. true)) lead-bytes tt (getD s at 0) e) .0)
 
-  pub reads-mark : class-of (getD s at 0) ≡ 5 → Reads s (first-token (getD s at 0) (drop (at + 1) s)) (record { cell = getD s at 0; len = 1 })
-  unfolding class-of marks
+  pub reads-mark : alone (getD s at 0) ≡ true → Reads s (first-token (getD s at 0) (drop (at + 1) s)) (record { cell = getD s at 0; len = 1 })
+  unfolding marks
   reads-mark e =
-      let low = leb→le 1 (getD s at 0) (by-class 5 (leb 1) tt (getD s at 0) byte e) in
-      let high = leb→le (getD s at 0) 127 (by-class 5 (λ b. leb b 127) tt (getD s at 0) byte e) in
-      let (f, t) = of-mark (getD s at 0) (drop (at + 1) s) (λ b. lone b marks) (by-class 5 (neither (λ b. lone b marks)) tt (getD s at 0) byte e) in
+      let low = leb→le 1 (getD s at 0) (one-of-test (leb 1) alone-bytes tt (getD s at 0) e) in
+      let high = leb→le (getD s at 0) 127 (one-of-test (λ b. leb b 127) alone-bytes tt (getD s at 0) e) in
+      let (f, t) = of-mark (getD s at 0) (drop (at + 1) s) (λ b. lone b marks) (one-of-test (neither (λ b. lone b marks)) alone-bytes tt (getD s at 0) e) in
       reads-some s (first-token (getD s at 0) (drop (at + 1) s)) (record { cell = getD s at 0; len = 1 }) (sign (getD s at 0 ∷ [])) 1
       (f ∙ lone-mark (getD s at 0) (drop (at + 1) s) marks t)
       (λ z. omega arith)
       (cell-mark s (getD s at 0) (omega arith))
       refl
 
-  pub reads-other : (class-of (getD s at 0) ≡ 3 → ⊥) → (class-of (getD s at 0) ≡ 2 → ⊥) → (class-of (getD s at 0) ≡ 5 → ⊥) → (class-of (getD s at 0) ≡ 6 → ⊥)
-      → Reads s (first-token (getD s at 0) (drop (at + 1) s)) (record { cell = 0; len = 1 })
-  unfolding class-of marks
-  reads-other n₃ n₂ n₅ n₆ =
-      let all = from-all (λ b. or (one-of (3 ∷ 2 ∷ 5 ∷ 6 ∷ []) (class-of b)) (neither (λ b. unlike b marks) b)) 0 256 tt (getD s at 0) (omega arith) (omega arith) in
-      let (f, t) = of-mark (getD s at 0) (drop (at + 1) s) (λ b. unlike b marks)
-      (or-no (one-of (3 ∷ 2 ∷ 5 ∷ 6 ∷ []) (class-of (getD s at 0))) (neither (λ b. unlike b marks) (getD s at 0)) (none-of (class-of (getD s at 0)) n₃ n₂ n₅ n₆) all) in
+  pub reads-other : T (neither (λ b. unlike b marks) (getD s at 0)) → Reads s (first-token (getD s at 0) (drop (at + 1) s)) (record { cell = 0; len = 1 })
+  reads-other n =
+      let (f, t) = of-mark (getD s at 0) (drop (at + 1) s) (λ b. unlike b marks) n in
       reads-none s (first-token (getD s at 0) (drop (at + 1) s)) (record { cell = 0; len = 1 }) (f ∙ no-mark (getD s at 0) (drop (at + 1) s) marks t) refl
 
 -- ---- marks of two bytes
@@ -154,11 +137,11 @@ module _ (s : List ℕ) (at m : ℕ) (h : at < length s) (f : m ≡ sign-cell fi
         (λ q. at-place _ (pair-missing (getD s at 0) (drop (at + 1) s) q))
         (look-up first-long-mark long-marks (getD s at 0 ∷ getD (drop (at + 1) s) 0 0 ∷ []))
 
-    pub reads-no-pair : getD s at 0 < 256 → class-of (getD s at 0) ≡ 6 → (getD s at 0 ≡ 61 → ⊥) → Reads s (mark-of marks (drop at s)) (record { cell = 0; len = 1 })
-    unfolding class-of marks
-    reads-no-pair byte e n =
+    pub reads-no-pair : leads (getD s at 0) ≡ true → (getD s at 0 ≡ 61 → ⊥) → Reads s (mark-of marks (drop at s)) (record { cell = 0; len = 1 })
+    unfolding marks
+    reads-no-pair e n =
         let other : T (unlike (getD s at 0) short-marks) = or-no (eqb (getD s at 0) 61) (unlike (getD s at 0) short-marks) (λ t. n (eqb→eq (getD s at 0) 61 t))
-        (by-class 6 (λ b. or (eqb b 61) (unlike b short-marks)) tt (getD s at 0) byte e) in
+        (one-of-test (λ b. or (eqb b 61) (unlike b short-marks)) lead-bytes tt (getD s at 0) e) in
         reads-none s (mark-of marks (drop at s)) (record { cell = 0; len = 1 }) (one-byte ∙ no-mark (getD s at 0) (drop (at + 1) s) short-marks other) refl
 
     pub reads-equals : getD s at 0 ≡ 61 → Reads s (mark-of marks (drop at s)) (record { cell = 61; len = 1 })

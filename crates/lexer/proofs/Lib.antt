@@ -1,6 +1,5 @@
 pub mod Match
 pub mod Runs
-mod ClassTable
 mod EachByte
 mod Signs
 pub mod Cells

@@ -1,6 +1,7 @@
 -- What a `match` on a number knows in an arm, turned into an equation with a function of that number by a test that antt computes:
--- `keyed` where the number is one of an arm's keys, `ranged` where it lies in a range and is none of the keys; `from-all` for any test on a range.
-use mathlib.Core.Path.{_≡_, subst}
+-- `keyed` where the number is one of an arm's keys, `ranged` where it lies in a range and is none of the keys. For a test in place of an equation:
+-- `keyed-test`, `ranged-test`, and `from-all` where a range has no key.
+use mathlib.Core.Path.{_≡_, subst, subst⁻¹}
 use mathlib.Core.Bool.{Bool, true, false}
 use mathlib.Core.List.{List, [], _∷_}
 use mathlib.Core.Logic.{inl, inr, ⊎-elim}
@@ -24,19 +25,23 @@ pub or-no : (a b : Bool) → (T a → ⊥) → T (or a b) → T b
 or-no true b n t = absurd (n tt)
 or-no false b n t = t
 
-module _ (f : ℕ → ℕ) (v : ℕ) where
-  abbrev pub at-all : List ℕ → Bool
-  at-all [] = true
-  at-all (k ∷ ks) = and (eqb v (f k)) (at-all ks)
+module _ (p : ℕ → Bool) where
+  abbrev pub all-of : List ℕ → Bool
+  all-of [] = true
+  all-of (k ∷ ks) = and (p k) (all-of ks)
 
-  at-key : (k b : ℕ) → T (eqb v (f k)) → b ≡ k → v ≡ f b
-  at-key k b t e = rw e (eqb→eq v (f k) t)
+  pub at-key : (k b : ℕ) → T (p k) → b ≡ k → T (p b)
+  at-key k b t e = subst⁻¹ (λ (x : ℕ). T (p x)) e t
 
-  pub keyed : (ks : List ℕ) → T (at-all ks) → (b : ℕ) → OneOf ks b → v ≡ f b
-  keyed [] t b o = absurd o
-  keyed (k ∷ []) t b o = at-key k b (and-left (eqb v (f k)) true t) o
-  keyed (k ∷ k′ ∷ ks) t b (inl e) = at-key k b (and-left (eqb v (f k)) (at-all (k′ ∷ ks)) t) e
-  keyed (k ∷ k′ ∷ ks) t b (inr o) = keyed (k′ ∷ ks) (and-right (eqb v (f k)) (at-all (k′ ∷ ks)) t) b o
+  -- a test that passes at each of an arm's keys
+  pub keyed-test : (ks : List ℕ) → T (all-of ks) → (b : ℕ) → OneOf ks b → T (p b)
+  keyed-test [] t b o = absurd o
+  keyed-test (k ∷ []) t b o = at-key k b (and-left (p k) true t) o
+  keyed-test (k ∷ k′ ∷ ks) t b (inl e) = at-key k b (and-left (p k) (all-of (k′ ∷ ks)) t) e
+  keyed-test (k ∷ k′ ∷ ks) t b (inr o) = keyed-test (k′ ∷ ks) (and-right (p k) (all-of (k′ ∷ ks)) t) b o
+
+pub keyed : (f : ℕ → ℕ) (v : ℕ) (ks : List ℕ) → T (all-of (λ b. eqb v (f b)) ks) → (b : ℕ) → OneOf ks b → v ≡ f b
+keyed f v ks t b o = eqb→eq v (f b) (keyed-test (λ b. eqb v (f b)) ks t b o)
 
 -- b is none of the keys of the arms with keys, the last arm first
 abbrev pub Rest : List (List ℕ) → ℕ → Type 0

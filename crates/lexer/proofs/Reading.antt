@@ -13,12 +13,12 @@ use borrow.Author.Tests.{le-leb, lt-leb, eq-eqb, ne-eqb, lt-ltb, le-ltb, leb-tru
 use Rattle.pcrl.specs.Text.{byte}
 use Rattle.pcrl.specs.Limits.{max-name, max-numeral}
 use Rattle.pcrl.specs.Tests.{or, among}
-use Rattle.pcrl.specs.Bytes.{digit, name-byte}
+use Rattle.pcrl.specs.Bytes.{letter, digit, name-byte}
 use Rattle.pcrl.specs.Tokens.{Token, name, numeral, sign, words, run, front, Lexeme, name-of, value-of, numeral-of}
-use Rattle.lexer.specs.Classes.{class-of, in-classes, sign-cell, capped}
+use Rattle.lexer.specs.Classes.{in-classes, sign-cell, capped}
 use Rattle.lexer.specs.Cells.{first-word, first-numeral, first-name, cell-token, Reads, Fits}
 use Rattle.lexer.specs.declared.Taken.{Taken}
-use Rattle.lexer.proofs.Runs.{drop-at, run-same, run-fits, run-more, length-front, is-digit, is-name-byte, within-both}
+use Rattle.lexer.proofs.Runs.{drop-at, run-same, run-fits, run-more, length-front, is-digit, is-name-byte}
 use Rattle.lexer.proofs.Signs.{Found, Missing, look-up}
 use Rattle.lexer.proofs.Cells.{cell-word, cell-numeral, cell-name}
 
@@ -43,27 +43,31 @@ name-new : (w : List ℕ) → length w ≤ max-name → among w words ≡ false 
 unfolding name-of
 name-new w h e = rw (le-leb _ _ h, e, name-of)
 
+pub letter-name : (b : ℕ) → letter b ≡ true → name-byte b ≡ true
+letter-name b e = rw e
+
 -- behind a letter the run goes on
-pub letter-run : (s : List ℕ) (at n : ℕ) → at < length s → class-of (getD s at 0) ≡ 3 → n ≡ min max-name (run (in-classes 2 4) (drop (at + 1) s))
-    → 1 + n ≡ min (suc max-name) (run (in-classes 2 4) (drop at s))
-letter-run s at n h k e = omega (arith, run-more (in-classes 2 4) s at h (within-both 2 4 (class-of (getD s at 0)) (omega arith) (omega arith)))
+pub letter-run : (s : List ℕ) (at n : ℕ) → at < length s → letter (getD s at 0) ≡ true → n ≡ min max-name (run (in-classes 2 4) (drop (at + 1) s))
+    → 1 + n ≡ min (suc max-name) (run name-byte (drop at s))
+letter-run s at n h k e =
+    omega (arith, run-more name-byte s at h (letter-name (getD s at 0) k), run-same (in-classes 2 4) name-byte is-name-byte (drop (at + 1) s))
+
+pub digit-run : (s : List ℕ) (at m n : ℕ) → n ≡ min m (run (in-classes 2 2) (drop at s)) → n ≡ min m (run digit (drop at s))
+digit-run s at m n e = omega (arith, run-same (in-classes 2 2) digit is-digit (drop at s))
 
 -- a run that goes past the most is none, of which only the first n bytes were looked at
-pub reads-long : (s : List ℕ) (at n : ℕ) → n ≤ run (in-classes 2 4) (drop at s) → max-name < n → Reads s (name-of (front name-byte (drop at s))) (record { cell = 0; len = n })
+pub reads-long : (s : List ℕ) (at n : ℕ) → n ≤ run name-byte (drop at s) → max-name < n → Reads s (name-of (front name-byte (drop at s))) (record { cell = 0; len = n })
 reads-long s at n e h =
     reads-none s (name-of (front name-byte (drop at s))) (record { cell = 0; len = n })
-    (name-long (front name-byte (drop at s)) (omega (arith, length-front name-byte (drop at s), run-same (in-classes 2 4) name-byte is-name-byte (drop at s))))
+    (name-long (front name-byte (drop at s)) (omega (arith, length-front name-byte (drop at s))))
     refl
 
-module _ (s : List ℕ) (at n : ℕ) (e : n ≡ run (in-classes 2 4) (drop at s)) where
-  name-run : n ≡ run name-byte (drop at s)
-  name-run = e ∙ run-same (in-classes 2 4) name-byte is-name-byte (drop at s)
-
+module _ (s : List ℕ) (at n : ℕ) (e : n ≡ run name-byte (drop at s)) where
   width : length (front name-byte (drop at s)) ≡ n
-  width = length-front name-byte (drop at s) ∙ sym name-run
+  width = length-front name-byte (drop at s) ∙ sym e
 
   part : take (at + n - at) (drop at s) ≡ front name-byte (drop at s)
-  part = ap (λ (k : ℕ). take k (drop at s)) (add-sub-cancel-left at n ∙ name-run)
+  part = ap (λ (k : ℕ). take k (drop at s)) (add-sub-cancel-left at n ∙ e)
 
   module _ (h : n ≤ max-name) (w : ℕ) (f : w ≡ sign-cell first-word words (take (at + n - at) (drop at s))) where
     cell-is : w ≡ sign-cell first-word words (front name-byte (drop at s))
@@ -94,11 +98,11 @@ module _ (s : List ℕ) (at n : ℕ) (e : n ≡ run (in-classes 2 4) (drop at s)
         ⊎-elim (λ q. absurd (let c = q .cell in let i = cell-is in omega arith)) (λ q. reads-missing q) (look-up first-word words (front name-byte (drop at s)))
 
 -- what was looked at of the run of a byte that starts one has a byte at least, and no more than there are
-pub run-fit : (lo hi : ℕ) (s : List ℕ) (at n c : ℕ) → n ≤ run (in-classes lo hi) (drop at s) → (1 ≤ run (in-classes lo hi) (drop at s) → 1 ≤ n)
-    → at < length s → lo ≤ class-of (getD s at 0) → class-of (getD s at 0) ≤ hi → Fits (length s) at (record { cell = c; len = n })
-run-fit lo hi s at n c e p h l u =
-    let m = run-more (in-classes lo hi) s at h (within-both lo hi (class-of (getD s at 0)) l u) in
-    let f = run-fits (in-classes lo hi) s at in
+pub run-fit : (test : ℕ → Bool) (s : List ℕ) (at n c : ℕ) → n ≤ run test (drop at s) → (1 ≤ run test (drop at s) → 1 ≤ n)
+    → at < length s → test (getD s at 0) ≡ true → Fits (length s) at (record { cell = c; len = n })
+run-fit test s at n c e p h t =
+    let m = run-more test s at h t in
+    let f = run-fits test s at in
     record { least = p (omega arith); most = omega arith }
 
 -- ---- numerals
@@ -196,18 +200,17 @@ numeral-long t h = go (ltb (byte "0") (getD t 0 0)) refl
     go false e = numeral-zero t (λ q. omega arith) (ltb-false (byte "0") (getD t 0 0) e)
 
 -- of so many digits only the first n were looked at
-pub reads-many : (s : List ℕ) (at n : ℕ) → n ≤ run (in-classes 2 2) (drop at s) → 3 < n → Reads s (numeral-of (front digit (drop at s))) (record { cell = 0; len = n })
+pub reads-many : (s : List ℕ) (at n : ℕ) → n ≤ run digit (drop at s) → 3 < n → Reads s (numeral-of (front digit (drop at s))) (record { cell = 0; len = n })
 reads-many s at n e h =
     reads-none s (numeral-of (front digit (drop at s))) (record { cell = 0; len = n })
-    (numeral-long (front digit (drop at s)) (omega (arith, length-front digit (drop at s), run-same (in-classes 2 2) digit is-digit (drop at s))))
+    (numeral-long (front digit (drop at s)) (omega (arith, length-front digit (drop at s))))
     refl
 
 -- what is read of the digits at a place is read of their run
-pub reads-digits : (s : List ℕ) (at n c : ℕ) → n ≡ run (in-classes 2 2) (drop at s)
+pub reads-digits : (s : List ℕ) (at n c : ℕ) → n ≡ run digit (drop at s)
     → Reads s (numeral-of (take (at + n - at) (drop at s))) (record { cell = c; len = length (take (at + n - at) (drop at s)) })
     → Reads s (numeral-of (front digit (drop at s))) (record { cell = c; len = n })
 reads-digits s at n c e r =
-    let d : n ≡ run digit (drop at s) = e ∙ run-same (in-classes 2 2) digit is-digit (drop at s) in
-    let p : take (at + n - at) (drop at s) ≡ front digit (drop at s) = ap (λ (k : ℕ). take k (drop at s)) (add-sub-cancel-left at n ∙ d) in
-    subst (λ (k : ℕ). Reads s (numeral-of (front digit (drop at s))) (record { cell = c; len = k })) (length-front digit (drop at s) ∙ sym d)
+    let p : take (at + n - at) (drop at s) ≡ front digit (drop at s) = ap (λ (k : ℕ). take k (drop at s)) (add-sub-cancel-left at n ∙ e) in
+    subst (λ (k : ℕ). Reads s (numeral-of (front digit (drop at s))) (record { cell = c; len = k })) (length-front digit (drop at s) ∙ sym e)
     (subst (λ (w : List ℕ). Reads s (numeral-of w) (record { cell = c; len = length w })) p r)

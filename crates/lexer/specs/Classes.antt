@@ -1,10 +1,8 @@
 -- Classes of bytes, and what the functions of this crate decide. The bytes of a name have classes one after another, 2 to 4.
-use mathlib.Core.Path.{_≡_}
 use mathlib.Core.List.{List, [], _∷_}
 use mathlib.Core.Bool.{Bool, true, false}
-use Prim.Native.Nat.{ℕ, suc, _<_}
+use Prim.Native.Nat.{ℕ, suc}
 use lib.Dec.{eqb, leb}
-use lib.ListN.{length, getD}
 use Rattle.pcrl.specs.Text.{byte}
 use Rattle.pcrl.specs.Limits.{max-numeral}
 use Rattle.pcrl.specs.Tests.{or, within, same?}
@@ -16,12 +14,18 @@ one-of [] b = false
 one-of (k ∷ ks) b = or (eqb b k) (one-of ks b)
 
 -- a mark by itself, and the first byte of no longer one
+abbrev pub alone-bytes : List ℕ
+alone-bytes = byte "(" ∷ byte ")" ∷ byte "," ∷ byte ";" ∷ byte ":" ∷ byte "#" ∷ byte "+" ∷ byte "." ∷ byte "!" ∷ []
+
 abbrev pub alone : ℕ → Bool
-alone = one-of (byte "(" ∷ byte ")" ∷ byte "," ∷ byte ";" ∷ byte ":" ∷ byte "#" ∷ byte "+" ∷ byte "." ∷ byte "!" ∷ [])
+alone = one-of alone-bytes
 
 -- the first byte of a mark of two; `=` is a mark by itself too
+abbrev pub lead-bytes : List ℕ
+lead-bytes = byte "-" ∷ byte "<" ∷ byte "|" ∷ byte "=" ∷ byte "/" ∷ byte "\\" ∷ []
+
 abbrev pub leads : ℕ → Bool
-leads = one-of (byte "-" ∷ byte "<" ∷ byte "|" ∷ byte "=" ∷ byte "/" ∷ byte "\\" ∷ [])
+leads = one-of lead-bytes
 
 -- the class by the first test that passes: 1 separator, 2 digit, 3 letter, 4 underscore, 5 a mark, 6 the first byte of a mark of two, 0 none of these
 abbrev pub class-by : Bool → Bool → Bool → Bool → Bool → Bool → ℕ
@@ -35,11 +39,6 @@ class-by false false false false false false = 0
 
 unfoldable pub class-of : ℕ → ℕ
 class-of b = class-by (separator b) (digit b) (letter b) (eqb b (byte "_")) (alone b) (leads b)
-
--- a table that has the class of each byte at its place
-pub record Classed (t : List ℕ) : Type 0 where
-  pub size : length t ≡ 256
-  pub entry : (b : ℕ) → b < 256 → getD t b 0 ≡ class-of b
 
 -- Is the byte's class lo to hi?
 abbrev pub in-classes : ℕ → ℕ → ℕ → Bool

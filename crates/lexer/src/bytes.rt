@@ -7,7 +7,7 @@ ghost use Rattle.pcrl.specs.Limits.{max-bytes};
 ghost use Rattle.pcrl.specs.Bytes as B;
 ghost use Rattle.pcrl.specs.Tokens as T;
 ghost use Rattle.laws.specs.Says.{Says};
-ghost use Rattle.lexer.specs.Classes.{class-of, in-classes, Classed};
+ghost use Rattle.lexer.specs.Classes.{class-of, in-classes};
 use elements::both;
 use elements::smaller;
 
@@ -49,33 +49,16 @@ pub fn name_byte(b: u8) -> bool
     }
 }
 
-// How many bytes from `at` on have a class from lo to hi, one after another.
-pub fn run(s: &[u8], at: usize, lo: u8, hi: u8) -> usize
-    ensures { λ r. ⌜ r ≡ T.run (in-classes lo hi) (drop at (now (s .entry))) ⌝ }
-{
-    let mut end = at;
-    while end < s.len() {
-        let k = class(s[end]);
-        if k < lo {
-            return end - at;
-        }
-        if hi < k {
-            return end - at;
-        }
-        end += 1;
-    }
-    end - at
-}
-
-// The same by a table of the classes, and no more than `most` of them: what stands further on is not looked at.
-pub fn run_within(classes: &[u8], s: &[u8], at: usize, most: usize, lo: u8, hi: u8) -> usize
-    requires { ⌜ Classed (now classes) × (at ≤ length (now s)) ⌝ }
+// How many bytes from `at` on have a class from lo to hi, one after another, and no more than `most` of them: what stands further on is
+// not looked at.
+pub fn run_within(s: &[u8], at: usize, most: usize, lo: u8, hi: u8) -> usize
+    requires { ⌜ at ≤ length (now s) ⌝ }
     ensures { λ r. ⌜ r ≡ min most (T.run (in-classes lo hi) (drop at (now (s .entry)))) ⌝ }
 {
     let end = at + smaller(s.len() - at, most);
     let mut i = at;
     while i < end {
-        let k = classes[s[i] as usize];
+        let k = class(s[i]);
         if k < lo {
             return i - at;
         }
@@ -85,6 +68,16 @@ pub fn run_within(classes: &[u8], s: &[u8], at: usize, most: usize, lo: u8, hi: 
         i += 1;
     }
     i - at
+}
+
+// The same, however many they are.
+pub fn run(s: &[u8], at: usize, lo: u8, hi: u8) -> usize
+    ensures { λ r. ⌜ r ≡ T.run (in-classes lo hi) (drop at (now (s .entry))) ⌝ }
+{
+    if s.len() <= at {
+        return 0;
+    }
+    run_within(s, at, s.len() - at, lo, hi)
 }
 
 // "Blanks (hex 20) and line feeds (hex 0A) separate tokens"

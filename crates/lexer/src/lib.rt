@@ -6,14 +6,12 @@ ghost use Rattle.pcrl.specs.Answers.{tokens-read};
 ghost use Rattle.lexer.specs.Cells.{Lexes};
 
 pub mod bytes; // bytes and their classes
-pub mod classes; // their table
 pub mod token; // one token
 pub mod tokens; // the tokens
 pub mod brackets; // brackets that are open
 
 use brackets::shallow;
 use bytes::all_printable;
-use classes::CLASSES;
 use limits::MAX_BYTES;
 use limits::NOT_TEXT;
 use limits::TOO_LONG;
@@ -107,8 +105,7 @@ pub fn lex(sheet: &[u8], out: &mut [u16]) -> Lexed
             count: 0,
         };
     }
-    let classes = CLASSES;
-    let r = tokens(&classes, sheet, out);
+    let r = tokens(sheet, out);
     if r.refused != 0 {
         return r;
     }

@@ -1,4 +1,5 @@
-// One token, by the class of its first byte.
+// One token, by its first byte.
+ghost use mathlib.Core.Bool.{true};
 ghost use mathlib.Core.Path.{_≡_};
 ghost use mathlib.Core.Logic.{_≢_};
 ghost use mathlib.Core.List.{List, [], _∷_};
@@ -8,7 +9,7 @@ ghost use Rattle.pcrl.specs.Text.{byte};
 ghost use Rattle.pcrl.specs.Limits.{max-bytes};
 ghost use Rattle.pcrl.specs.Bytes as B;
 ghost use Rattle.pcrl.specs.Tokens as T;
-ghost use Rattle.lexer.specs.Classes.{class-of, Classed, sign-cell, capped};
+ghost use Rattle.lexer.specs.Classes.{leads, sign-cell, capped};
 ghost use Rattle.lexer.specs.Cells.{first-word, first-long-mark, long-marks, Reads, Fits};
 use crate::ACT;
 use crate::AND;
@@ -30,9 +31,6 @@ use crate::SUM;
 use crate::TAU;
 use crate::Taken;
 use crate::bytes::DIGIT;
-use crate::bytes::LEAD;
-use crate::bytes::LETTER;
-use crate::bytes::MARK;
 use crate::bytes::UNDERSCORE;
 use crate::bytes::run_within;
 use crate::bytes::same;
@@ -73,12 +71,12 @@ pub fn word(t: &[u8]) -> u16
 }
 
 // The name or word at `at`, where a letter stands.
-fn name_at(classes: &[u8], s: &[u8], at: usize) -> Taken
-    requires { ⌜ Classed (now classes) × (at < length (now s)) × (length (now s) ≤ max-bytes) × (class-of (getD (now s) at 0) ≡ 3) ⌝ }
+fn name_at(s: &[u8], at: usize) -> Taken
+    requires { ⌜ (at < length (now s)) × (length (now s) ≤ max-bytes) × (B.letter (getD (now s) at 0) ≡ true) ⌝ }
     ensures { λ r. ⌜ Fits (length (now (s .entry))) at r ⌝ }
     ensures { λ r. ⌜ Reads (now (s .entry)) (T.name-of (T.front B.name-byte (drop at (now (s .entry))))) r ⌝ }
 {
-    let n = 1 + run_within(classes, s, at + 1, MAX_NAME, DIGIT, UNDERSCORE);
+    let n = 1 + run_within(s, at + 1, MAX_NAME, DIGIT, UNDERSCORE);
     if MAX_NAME < n {
         return Taken {
             cell: NO_TOKEN,
@@ -136,12 +134,12 @@ fn numeral(t: &[u8]) -> u16
 }
 
 // The numeral at `at`, where a digit stands.
-fn numeral_at(classes: &[u8], s: &[u8], at: usize) -> Taken
-    requires { ⌜ Classed (now classes) × (at < length (now s)) × (class-of (getD (now s) at 0) ≡ 2) ⌝ }
+fn numeral_at(s: &[u8], at: usize) -> Taken
+    requires { ⌜ (at < length (now s)) × (B.digit (getD (now s) at 0) ≡ true) ⌝ }
     ensures { λ r. ⌜ Fits (length (now (s .entry))) at r ⌝ }
     ensures { λ r. ⌜ Reads (now (s .entry)) (T.numeral-of (T.front B.digit (drop at (now (s .entry))))) r ⌝ }
 {
-    let n = run_within(classes, s, at, MAX_DIGITS + 1, DIGIT, DIGIT);
+    let n = run_within(s, at, MAX_DIGITS + 1, DIGIT, DIGIT);
     if MAX_DIGITS < n {
         return Taken {
             cell: NO_TOKEN,
@@ -187,7 +185,7 @@ fn equals_at(s: &[u8], at: usize) -> Taken
 
 // The mark at `at`, where the first byte of a mark of two stands.
 fn long_mark_at(s: &[u8], at: usize) -> Taken
-    requires { ⌜ (at < length (now s)) × (class-of (getD (now s) at 0) ≡ 6) ⌝ }
+    requires { ⌜ (at < length (now s)) × (leads (getD (now s) at 0) ≡ true) ⌝ }
     ensures { λ r. ⌜ Fits (length (now (s .entry))) at r ⌝ }
     ensures { λ r. ⌜ Reads (now (s .entry)) (T.mark-of T.marks (drop at (now (s .entry)))) r ⌝ }
 {
@@ -206,33 +204,25 @@ fn long_mark_at(s: &[u8], at: usize) -> Taken
     }
 }
 
-// The token at `at`, by the class of its first byte, which a table has. Names and marks of one byte come first; a match would be
-// compiled to a jump by a table, and take longer.
-pub fn token_at(classes: &[u8], s: &[u8], at: usize) -> Taken
-    requires { ⌜ Classed (now classes) × (at < length (now s)) × (length (now s) ≤ max-bytes) ⌝ }
+// The token at `at`, by the value of its first byte: a letter, a digit, a mark of one byte, the first byte of a longer mark. Separators were
+// skipped before (`skip`), and no other byte begins a token.
+pub fn token_at(s: &[u8], at: usize) -> Taken
+    requires { ⌜ (at < length (now s)) × (length (now s) ≤ max-bytes) ⌝ }
     ensures { λ r. ⌜ Fits (length (now (s .entry))) at r ⌝ }
     ensures { λ r. ⌜ Reads (now (s .entry)) (T.first-token (getD (now (s .entry)) at 0) (drop (at + 1) (now (s .entry)))) r ⌝ }
 {
     let b = s[at];
-    let k = classes[b as usize];
-    if k == LETTER {
-        return name_at(classes, s, at);
-    }
-    if k == MARK {
-        return Taken {
+    match b {
+        b'A'..=b'Z' | b'a'..=b'z' => name_at(s, at),
+        b'0'..=b'9' => numeral_at(s, at),
+        b'(' | b')' | b',' | b';' | b':' | b'#' | b'+' | b'.' | b'!' => Taken {
             cell: cell_of(b),
             len: 1,
-        };
-    }
-    if k < LETTER {
-        if k == DIGIT {
-            return numeral_at(classes, s, at);
-        }
-    } else if k == LEAD {
-        return long_mark_at(s, at);
-    }
-    Taken {
-        cell: NO_TOKEN,
-        len: 1,
+        },
+        b'-' | b'<' | b'|' | b'=' | b'/' | b'\\' => long_mark_at(s, at),
+        _ => Taken {
+            cell: NO_TOKEN,
+            len: 1,
+        },
     }
 }

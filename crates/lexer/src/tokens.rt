@@ -4,7 +4,6 @@ ghost use lib.ListN.{length};
 ghost use Rattle.pcrl.specs.Limits.{max-bytes};
 ghost use Rattle.pcrl.specs.Result.{accepted, question-of};
 ghost use Rattle.pcrl.specs.Tokens as T;
-ghost use Rattle.lexer.specs.Classes.{Classed};
 ghost use Rattle.lexer.specs.Cells.{Lexes};
 use crate::Lexed;
 use crate::NO_TOKEN;
@@ -12,8 +11,8 @@ use crate::bytes::Cursor;
 use crate::token::token_at;
 
 // One after another, into the front of out.
-pub fn tokens(classes: &[u8], sheet: &[u8], out: &mut [u16]) -> Lexed
-    requires { ⌜ Classed (now classes) × (length (now sheet) ≤ max-bytes) × (length (now sheet) ≤ length (now out)) ⌝ }
+pub fn tokens(sheet: &[u8], out: &mut [u16]) -> Lexed
+    requires { ⌜ (length (now sheet) ≤ max-bytes) × (length (now sheet) ≤ length (now out)) ⌝ }
     ensures { λ r. ⌜ r .count ≤ length (now (sheet .entry)) ⌝ }
     ensures { λ r. ⌜ Lexes (question-of 3 (T.tokens (now (sheet .entry))) accepted) (now (sheet .entry)) r (now (out .exit)) ⌝ }
 {
@@ -28,7 +27,7 @@ pub fn tokens(classes: &[u8], sheet: &[u8], out: &mut [u16]) -> Lexed
                 count: n,
             };
         }
-        let t = token_at(classes, sheet, at);
+        let t = token_at(sheet, at);
         if t.cell == NO_TOKEN {
             return Lexed {
                 refused: limits::NO_TOKEN,

@@ -34,7 +34,7 @@ returns-2 c = let first = c .before .before .before .before in
     let a = start .args in
     let e = c .before .long-mark .ensures ∙ ap₂ (λ (x y : ℕ). sign-cell first-long-mark long-marks (x ∷ y ∷ [])) (first .peek .ensures) (c .before .before .peek2 .ensures) in (
       omega arith,
-      reads-no-pair (a .s .now) (a .at) (c .before .long-mark .result) (omega arith) e (c .if2 .taken) (omega (arith, first .before .shared-slice-known .given (a .at))) (start .pre .1)
+      reads-no-pair (a .s .now) (a .at) (c .before .long-mark .result) (omega arith) e (c .if2 .taken) (start .pre .1)
           (λ q. c .before .before .before .if1 .left (first .peek .ensures ∙ q)),
     )
 

@@ -1,8 +1,8 @@
--- `lexer::token::numeral_at`: class 2 is the digits; the part of the sheet is their run, if it is not too long.
+-- `lexer::token::numeral_at`: the part of the sheet is the run of digits, if it is not too long.
 use borrow.Author.Needs.{needs}
 use native.Mathlib.Omega.{arith}
-use Rattle.lexer.specs.Classes.{in-classes}
-use Rattle.lexer.proofs.Reading.{run-fit, reads-many, reads-digits}
+use Rattle.pcrl.specs.Bytes.{digit}
+use Rattle.lexer.proofs.Reading.{run-fit, digit-run, reads-many, reads-digits}
 use Rattle.lexer.proofs.Runs.{run-fits}
 use Rattle.lexer.proofs.token.numeral_at.Statement.{statement}
 use Rattle.lexer.proofs.token.numeral_at.Tie as tie
@@ -14,9 +14,9 @@ run-within-requires : tie.Need-run-within-requires
 run-within-requires c κs = search needs
 
 returns : tie.Need-returns
-returns c = let a = c .before .before .before .before .args in (
-  run-fit 2 2 (a .s .now) (a .at) (c .before .run-within .result) 0 (omega arith) (λ k. omega arith) (omega arith) (omega arith) (omega arith),
-  reads-many (a .s .now) (a .at) (c .before .run-within .result) (omega arith) (omega arith),
+returns c = let start = c .before .before .before in let a = start .args in let m = c .before .run-within in let k = digit-run (a .s .now) (a .at) 4 (m .result) (m .ensures) in (
+  run-fit digit (a .s .now) (a .at) (m .result) 0 (omega arith) (λ h. omega arith) (omega arith) (start .pre .1),
+  reads-many (a .s .now) (a .at) (m .result) (omega arith) (omega arith),
 )
 
 add-numeral : tie.Need-add-numeral
@@ -29,15 +29,15 @@ part-numeral-start : tie.Need-part-numeral-start
 part-numeral-start c = search needs
 
 part-numeral-end : tie.Need-part-numeral-end
-part-numeral-end c = omega (arith, run-fits (in-classes 2 2) (c .before .before .before .before .args .s .now) (c .before .before .before .before .args .at))
+part-numeral-end c = let start = c .before .before .before in let a = start .args in let m = c .before .run-within in let k = digit-run (a .s .now) (a .at) 4 (m .result) (m .ensures) in omega (arith, run-fits digit (a .s .now) (a .at))
 
 numeral-requires : tie.Need-numeral-requires
 numeral-requires c κs = search needs
 
 returns-2 : tie.Need-returns-2
-returns-2 c = let a = c .before .before .before .before .before .before .args in (
-  run-fit 2 2 (a .s .now) (a .at) (c .before .before .before .run-within .result) (c .numeral .result) (omega arith) (λ k. omega arith) (omega arith) (omega arith) (omega arith),
-  reads-digits (a .s .now) (a .at) (c .before .before .before .run-within .result) (c .numeral .result) (omega arith) (c .numeral .ensures (a .s .now)),
+returns-2 c = let start = c .before .before .before .before .before in let a = start .args in let m = c .before .before .before .run-within in let k = digit-run (a .s .now) (a .at) 4 (m .result) (m .ensures) in (
+  run-fit digit (a .s .now) (a .at) (m .result) (c .numeral .result) (omega arith) (λ h. omega arith) (omega arith) (start .pre .1),
+  reads-digits (a .s .now) (a .at) (m .result) (c .numeral .result) (omega arith) (c .numeral .ensures (a .s .now)),
 )
 
 pub numeral-at-spec : {M : Type 1} → statement M

@@ -11,14 +11,14 @@ use Rattle.lexer.proofs.tokens.tokens.Statement.{statement}
 use Rattle.lexer.proofs.tokens.tokens.Tie as tie
 
 abbrev Inv-loop : tie.InvT-loop
-Inv-loop classes sheet out₀ cursor₀ n₀ out cursor n = (n ≤ cursor .at) × (cursor .at ≤ length sheet) × (length out ≡ length out₀) × (tokens sheet ≡ glue (map (cell-token sheet) (take n out)) (from sheet (cursor .at)))
+Inv-loop sheet out₀ cursor₀ n₀ out cursor n = (n ≤ cursor .at) × (cursor .at ≤ length sheet) × (length out ≡ length out₀) × (tokens sheet ≡ glue (map (cell-token sheet) (take n out)) (from sheet (cursor .at)))
 
 abbrev μ-loop : tie.MeasureT-loop
-μ-loop classes sheet out₀ cursor₀ n₀ out cursor n = length sheet - cursor .at
+μ-loop sheet out₀ cursor₀ n₀ out cursor n = length sheet - cursor .at
 
 loop-holds : tie.Need-loop-holds Inv-loop μ-loop
 unfolding tokens
-loop-holds c = (omega arith, omega arith, refl, glue-nil (tokens (c .before .before .before .args .sheet .now)))
+loop-holds c = (omega arith, omega arith, refl, glue-nil (tokens (c .before .before .args .sheet .now)))
 
 skip-requires : tie.Need-skip-requires Inv-loop μ-loop
 skip-requires c κs = tt
@@ -27,16 +27,16 @@ same-length : tie.Need-same-length Inv-loop μ-loop
 same-length c = c .before .before .loop .inv .2
 
 returns : tie.Need-returns Inv-loop μ-loop
-returns c = (omega arith, all-written (c .before .before .before .before .before .before .args .sheet .now) (c .before .before .loop .out) (c .before .before .loop .cursor .at) (c .before .before .loop .n) (c .before .skip .result .at) (c .before .before .loop .inv .3) (c .before .skip .ensures) (omega arith) (omega arith))
+returns c = (omega arith, all-written (c .before .before .before .before .before .args .sheet .now) (c .before .before .loop .out) (c .before .before .loop .cursor .at) (c .before .before .loop .n) (c .before .skip .result .at) (c .before .before .loop .inv .3) (c .before .skip .ensures) (omega arith) (omega arith))
 
 token-at-requires : tie.Need-token-at-requires Inv-loop μ-loop
-token-at-requires c κs = (c .before .before .before .before .before .before .pre .0, omega arith, omega arith)
+token-at-requires c κs = (omega arith, omega arith)
 
 same-length-2 : tie.Need-same-length-2 Inv-loop μ-loop
 same-length-2 c = c .before .before .before .before .before .loop .inv .2
 
 returns-2 : tie.Need-returns-2 Inv-loop μ-loop
-returns-2 c = (omega arith, none-written (c .before .before .before .before .before .before .before .before .before .args .sheet .now) (c .before .before .before .before .before .loop .out) (c .before .before .before .before .before .loop .cursor .at) (c .before .before .before .before .before .loop .n) (c .before .before .before .before .skip .result .at) (c .before .before .before .before .before .loop .inv .3) (c .before .before .before .before .skip .ensures) (omega arith) (c .before .before .token-at .result) (c .before .before .token-at .ensures .1) (c .if2 .taken))
+returns-2 c = (omega arith, none-written (c .before .before .before .before .before .before .before .before .args .sheet .now) (c .before .before .before .before .before .loop .out) (c .before .before .before .before .before .loop .cursor .at) (c .before .before .before .before .before .loop .n) (c .before .before .before .before .skip .result .at) (c .before .before .before .before .before .loop .inv .3) (c .before .before .before .before .skip .ensures) (omega arith) (c .before .before .token-at .result) (c .before .before .token-at .ensures .1) (c .if2 .taken))
 
 mul-out : tie.Need-mul-out Inv-loop μ-loop
 mul-out c = omega arith
@@ -54,7 +54,7 @@ loop-less : tie.Need-loop-less Inv-loop μ-loop
 loop-less c = omega arith
 
 loop-again : tie.Need-loop-again Inv-loop μ-loop
-loop-again c = let sheet = c .before .before .before .before .before .before .before .before .before .before .args .sheet .now in let out = set (c .before .before .before .before .before .before .loop .out) (c .before .before .before .before .before .before .loop .n) (c .before .before .before .token-at .result .cell) in (
+loop-again c = let sheet = c .before .before .before .before .before .before .before .before .before .args .sheet .now in let out = set (c .before .before .before .before .before .before .loop .out) (c .before .before .before .before .before .before .loop .n) (c .before .before .before .token-at .result .cell) in (
   omega arith,
   omega arith,
   simp length-set (c .before .before .before .before .before .before .loop .inv .2),
