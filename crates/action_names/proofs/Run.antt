@@ -13,8 +13,8 @@ use borrow.Author.Tests.{eq-eqb, ne-eqb}
 use Rattle.pcrl.specs.Tests.{and, or, negated, between?, T?}
 use Rattle.pcrl.specs.Bytes.{letter, name-byte}
 use Rattle.pcrl.specs.Reader.{missing, found, one, counted}
-use Rattle.pcrl.specs.Right.{free-name}
-use Rattle.pcrl.specs.Decode.{read-name}
+use Rattle.pcrl.specs.Right.{free-name, token-name}
+use Rattle.pcrl.specs.Decode.{read-name, read-sort-name}
 use Rattle.laws.specs.Tests.{both-pass}
 use Rattle.lexer.specs.Classes.{class-of}
 use Rattle.terms.specs.Stands.{list-at}
@@ -46,6 +46,21 @@ module _ (s : List ℕ) (at : ℕ) where
     pub name-pass : free-name (list-at s at) ≡ true → rests (read-name (drop at s)) ≡ found tt ys
     unfolding read-name rests
     name-pass f = ap rests (test-pass (λ n. T? (free-name n)) (counted (between? 1 max-name) (one (λ b. T? (name-byte b)))) (drop at s) (list-at s at) ys named (holds (free-name (list-at s at)) f))
+
+-- a sort's name
+module _ (s : List ℕ) (at : ℕ) where
+  pub sort-name-fail : rests (counted (between? 1 max-name) (one (λ b. T? (name-byte b))) (drop at s)) ≡ missing → rests (read-sort-name (drop at s)) ≡ missing
+  unfolding read-sort-name
+  sort-name-fail e = test-fail (λ n. T? (token-name n)) (counted (between? 1 max-name) (one (λ b. T? (name-byte b)))) (drop at s) e
+
+  module _ (ys : List ℕ) (e : rests (counted (between? 1 max-name) (one (λ b. T? (name-byte b))) (drop at s)) ≡ found tt ys) where
+    pub sort-name-bad : token-name (list-at s at) ≡ false → rests (read-sort-name (drop at s)) ≡ missing
+    unfolding read-sort-name rests
+    sort-name-bad f = ap rests (test-bad (λ n. T? (token-name n)) (counted (between? 1 max-name) (one (λ b. T? (name-byte b)))) (drop at s) (list-at s at) ys (named s at ys e) (fails (token-name (list-at s at)) f))
+
+    pub sort-name-pass : token-name (list-at s at) ≡ true → rests (read-sort-name (drop at s)) ≡ found tt ys
+    unfolding read-sort-name rests
+    sort-name-pass f = ap rests (test-pass (λ n. T? (token-name n)) (counted (between? 1 max-name) (one (λ b. T? (name-byte b)))) (drop at s) (list-at s at) ys (named s at ys e) (holds (token-name (list-at s at)) f))
 
 pub not-negated : (a b : Bool) → a ≡ b → not a ≡ negated b
 not-negated true b e = rw (← e)

@@ -1,4 +1,4 @@
-// The names of a table's actions: valid by the token rule, no word, not Bool, distinct.
+// The names of a table's sorts and actions: valid by the token rule, no word, distinct; an action's is not Bool.
 use elements::cell;
 use elements::peek;
 use lexer::NO_TOKEN;
@@ -11,7 +11,7 @@ use terms::Next;
 ghost use mathlib.Core.Path.{_≡_};
 ghost use mathlib.Core.List.{map, _∷_};
 ghost use mathlib.Core.Bool.{true};
-ghost use Prim.Native.Nat.{_<_};
+ghost use Prim.Native.Nat.{_+_, _≤_, _<_};
 ghost use lib.ListN.{length, drop};
 ghost use Rattle.pcrl.specs.Limits.{max-name};
 ghost use Rattle.pcrl.specs.Text.{bytes};
@@ -19,8 +19,8 @@ ghost use Rattle.pcrl.specs.Tests as tests;
 ghost use Rattle.pcrl.specs.Bytes as classes;
 ghost use Rattle.pcrl.specs.Tokens.{words};
 ghost use Rattle.pcrl.specs.Reader.{one, counted};
-ghost use Rattle.pcrl.specs.Right.{free-name};
-ghost use Rattle.pcrl.specs.Decode.{read-name};
+ghost use Rattle.pcrl.specs.Right.{free-name, token-name};
+ghost use Rattle.pcrl.specs.Decode.{read-name, read-sort-name};
 ghost use Rattle.terms.specs.Stands.{list-at};
 ghost use Rattle.terms.specs.Ends.{rests, ended};
 
@@ -47,6 +47,19 @@ fn free_name(n: &[u8]) -> bool
         return false;
     }
     !reserved(n)
+}
+
+// Begins with a letter, and is no word.
+fn token_name(n: &[u8]) -> bool
+    ensures { λ r. ⌜ r ≡ token-name (now (n .entry)) ⌝ }
+{
+    if class(peek(n, 0)) != LETTER {
+        return false;
+    }
+    if word(n) == NO_TOKEN {
+        return true;
+    }
+    false
 }
 
 // A counted run of the bytes of names.
@@ -92,13 +105,28 @@ pub fn read_name(s: &[u8], at: usize) -> Next
     t
 }
 
-// Does the name stand at one of the places from the given one on?
-fn among(s: &[u8], name: &[u8], places: &[u16], from: usize) -> bool
-    ensures { λ r. ⌜ r ≡ tests.among (now (name .entry)) (map (list-at (now (s .entry))) (drop from (now (places .entry)))) ⌝ }
+// #104: "Sort names must be valid"
+pub fn read_sort_name(s: &[u8], at: usize) -> Next
+    ensures { λ r. ⌜ (rests (read-sort-name (drop at (now (s .entry)))) ≡ ended (now (s .entry)) r) × (r .ok ≡ true → at < length (now (s .entry))) ⌝ }
+{
+    let t = read_run(s, at);
+    if !t.ok {
+        return Next { ok: false, at: 0 };
+    }
+    if !token_name(terms::list_at(s, at)) {
+        return Next { ok: false, at: 0 };
+    }
+    t
+}
+
+// Does the name stand at one of the places, from the given one on? Names stand so many bytes behind their places.
+fn among(s: &[u8], name: &[u8], places: &[u16], skip: usize, from: usize) -> bool
+    requires { ⌜ skip ≤ 1 ⌝ }
+    ensures { λ r. ⌜ r ≡ tests.among (now (name .entry)) (map (λ p. list-at (now (s .entry)) (p + skip)) (drop from (now (places .entry)))) ⌝ }
 {
     let mut k = from;
     while k < places.len() {
-        let other = terms::list_at(s, cell(places, k));
+        let other = terms::list_at(s, cell(places, k) + skip);
         if same(name, other) {
             return true;
         }
@@ -107,14 +135,15 @@ fn among(s: &[u8], name: &[u8], places: &[u16], from: usize) -> bool
     false
 }
 
-// "Action names are distinct": is no name there twice, where each stands at its place?
-pub fn distinct(s: &[u8], places: &[u16]) -> bool
-    ensures { λ r. ⌜ r ≡ tests.distinct (map (list-at (now (s .entry))) (now (places .entry))) ⌝ }
+// "Action names are distinct", and by #104 sort names: is no name there twice, where each stands so many bytes behind its place?
+pub fn distinct(s: &[u8], places: &[u16], skip: usize) -> bool
+    requires { ⌜ skip ≤ 1 ⌝ }
+    ensures { λ r. ⌜ r ≡ tests.distinct (map (λ p. list-at (now (s .entry)) (p + skip)) (now (places .entry))) ⌝ }
 {
     let mut k = 0usize;
     while k < places.len() {
-        let name = terms::list_at(s, cell(places, k));
-        if among(s, name, places, k + 1) {
+        let name = terms::list_at(s, cell(places, k) + skip);
+        if among(s, name, places, skip, k + 1) {
             return false;
         }
         k += 1;

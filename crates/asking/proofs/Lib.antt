@@ -1,4 +1,5 @@
 pub mod Stepping
 pub mod Values
 pub mod EncodingLaws
+pub mod SortLaws
 pub mod InTurn

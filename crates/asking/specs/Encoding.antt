@@ -1,35 +1,20 @@
--- An answer in 24 bytes, as it is lent by a caller in C (`wizbratel_answer` of the header).
+-- An answer in 72 bytes, as it is lent by a caller in C (`wizbratel_answer` of the header).
 use mathlib.Core.List.{List, [], _∷_, _++_}
-use Prim.Native.Nat.{ℕ, zero, suc, _*_}
+use Prim.Native.Nat.{ℕ, _*_}
 use lib.ListN.{length, drop}
 use Rattle.pcrl.specs.Reader.{all}
-use Rattle.pcrl.specs.Text.{bytes}
 use Rattle.pcrl.specs.Result.{Result, refused, accepted}
-use Rattle.pcrl.specs.Label.{Label, silent, named}
+use Rattle.pcrl.specs.Records.{filled, label-record}
 use Rattle.pcrl.specs.Ask.{Answer}
 
 abbrev pub answer-bytes : ℕ
-answer-bytes = 24
+answer-bytes = 72
 
--- the first n of a list, zeros where it is shorter
-unfoldable pub filled : ℕ → List ℕ → List ℕ
-filled zero l = []
-filled (suc n) [] = 0 ∷ filled n []
-filled (suc n) (b ∷ l) = b ∷ filled n l
-
-unfoldable pub label-name : Label → List ℕ
-label-name silent = bytes "tau"
-label-name (named n vs) = n
-
-unfoldable pub label-values : Label → List ℕ
-label-values silent = []
-label-values (named n vs) = vs
-
--- the kind: 0 ended, 1 none, 2 a step, and a refusal its number; behind a step its depth, how many values, two values, the length of the name, the name
+-- the kind: 0 ended, 1 none, 2 a step, and a refusal its number; behind a step its depth and its label
 unfoldable pub answer-fields : Answer → List ℕ
 answer-fields Answer.ended = 0 ∷ []
 answer-fields Answer.nothing = 1 ∷ []
-answer-fields (Answer.stepped l d) = 2 ∷ d ∷ length (label-values l) ∷ (filled 2 (label-values l) ++ (length (label-name l) ∷ label-name l))
+answer-fields (Answer.stepped l d) = 2 ∷ d ∷ label-record l
 answer-fields (Answer.refused n) = n ∷ []
 
 -- all behind the fields are 0

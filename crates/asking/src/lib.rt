@@ -1,22 +1,30 @@
 // Step questions put to the frames of a table that is known: one, and a list of them in turn.
 ghost use mathlib.Core.Path.{_≡_};
-ghost use mathlib.Core.List.{[], _∷_};
+ghost use mathlib.Core.List.{[], _∷_, _++_, map};
 ghost use Prim.Native.Nat.{_*_, _%_, _<_, _≤_, min};
-ghost use lib.ListN.{length};
-ghost use Rattle.pcrl.specs.Limits.{frame-width, stack-limit, max-stream};
+ghost use lib.ListN.{length, getD};
+ghost use Rattle.pcrl.specs.Limits.{frame-width, stack-limit, max-stream, max-name, max-sort-name};
+ghost use Rattle.pcrl.specs.Sheet.{Sig, no-action, sort-name};
 ghost use Rattle.pcrl.specs.Table.{Table};
-ghost use Rattle.pcrl.specs.Right.{RightTable};
+ghost use Rattle.pcrl.specs.Records.{filled, name-field};
+ghost use Rattle.pcrl.specs.Right.{AreSorts, RightTable};
 ghost use Rattle.pcrl.specs.Stack.{RightFrames};
 ghost use Rattle.tables.specs.Indexed.{Indexed};
 ghost use Rattle.firing.specs.Known.{KnownTable, ActsAt};
 ghost use Rattle.stacks.specs.Lent.{frames-in, stack-bytes};
-ghost use Rattle.asking.specs.Encoding.{answer-bytes, filled, encode-answer};
+ghost use Rattle.lettering.specs.SortNames.{NamesIn};
+ghost use Rattle.asking.specs.Encoding.{answer-bytes, encode-answer};
 ghost use Rattle.asking.specs.Replies.{AskIs, AllIs, answer-told};
 use elements::cell;
 use elements::low;
+use elements::peek;
 use elements::wide;
 use firing::TAU;
+use lettering::NAME_CELL;
+use lettering::put_cell;
 use limits::MAX_CALLS;
+use limits::MAX_NAME;
+use limits::MAX_SORT_NAME;
 use limits::TOO_DEEP;
 use stacks::FRAME;
 use stacks::LIMIT;
@@ -25,7 +33,14 @@ use stacks::LIMIT;
 const MADE: usize = MAX_CALLS * FRAME;
 
 // Bytes of an answer.
-pub const ANSWER: usize = 24;
+pub const ANSWER: usize = 72;
+
+// Where the name of a step's action stands, and those of its sorts: each has a length before it, and a zero byte behind it at least.
+const NAME: usize = 5;
+
+const FIRST_SORT: usize = NAME + MAX_NAME + 2;
+
+const SECOND_SORT: usize = FIRST_SORT + MAX_SORT_NAME + 2;
 
 // What is answered where no question refuses.
 const ENDED: u8 = 0;
@@ -46,7 +61,7 @@ pub struct Told {
 
 // An answer in bytes.
 pub struct Encoded {
-    pub bytes: [u8; 24],
+    pub bytes: [u8; ANSWER],
 }
 
 // An answer with no label.
@@ -123,14 +138,25 @@ fn encode_kind(kind: u8) -> Encoded
     Encoded { bytes: bytes }
 }
 
-// A step: the new depth, how many values, two values, the name's length, the name, and zeros behind it.
-fn encode_step(depth: usize, count: u8, v: u8, w: u8, name: &[u8]) -> Encoded
-    ensures { λ e. ⌜ e .bytes ≡ filled answer-bytes (2 ∷ depth % 256 ∷ count ∷ v ∷ w ∷ length (now (name .entry)) % 256 ∷ now (name .entry)) ⌝ }
+// A step: the new depth, how many values, two values, the action's name, the names of its sorts, and zeros behind them. The last name is
+// written first, so that each stands in zeros.
+fn encode_step(
+    depth: usize,
+    count: u8,
+    v: u8,
+    w: u8,
+    name: &[u8],
+    first: &[u8],
+    second: &[u8],
+) -> Encoded
+    ensures { λ e. ⌜ (length (now (name .entry)) ≤ max-name → length (now (first .entry)) ≤ max-sort-name → length (now (second .entry)) ≤ max-sort-name → e .bytes ≡ filled answer-bytes (2 ∷ depth % 256 ∷ count ∷ v ∷ w ∷ (name-field max-name (now (name .entry)) ++ (name-field max-sort-name (now (first .entry)) ++ name-field max-sort-name (now (second .entry)))))) ⌝ }
 {
     let mut bytes = [0u8; ANSWER];
-    let head = [STEPPED, low(depth), count, v, w, low(name.len())];
-    let at = texts::put_bytes(&mut bytes, 0, &head);
-    texts::put_bytes(&mut bytes, at, name);
+    put_cell(&mut bytes, SECOND_SORT, second);
+    put_cell(&mut bytes, FIRST_SORT, first);
+    put_cell(&mut bytes, NAME, name);
+    let head = [STEPPED, low(depth), count, v, w];
+    texts::put_bytes(&mut bytes, 0, &head);
     Encoded { bytes: bytes }
 }
 
@@ -148,9 +174,31 @@ fn value(arity: u8, i: u8, v: u8) -> u8
     if i < arity { v } else { 0 }
 }
 
-// An answer in 24 bytes.
-pub fn encode(s: &[u8], acts: &[u16], actions: usize, r: Told) -> Encoded
-    ensures { λ e. ⌜ ((T : Table) → RightTable T → ActsAt (T .sig) (now (s .entry)) (now (acts .entry)) actions → r .depth ≤ stack-limit → e .bytes ≡ encode-answer (answer-told (T .sig) r)) ⌝ }
+// The sorts of an action, by where the actions stand and how many there are.
+fn sorts_of<'a>(s: &'a [u8], acts: &[u16], actions: usize, action: u8) -> &'a [u8]
+    ensures { λ r. ⌜ ((S : Sig) → ActsAt S (now (s .entry)) (now (acts .entry)) actions → now r ≡ getD (S .acts) action no-action .takes) ⌝ }
+{
+    let a = wide(action);
+    if actions <= a {
+        return &s[0..0];
+    }
+    let p = cell(acts, a);
+    terms::list_at(s, p + 1 + wide(peek(s, p)))
+}
+
+// The name of sort i of some sorts, empty where there are fewer.
+fn sort_name<'a>(names: &'a [u8], sorts: &[u8], i: usize) -> &'a [u8]
+    ensures { λ r. ⌜ ((S : Sig) → NamesIn S (now (names .entry)) → AreSorts (S .sorts) (now (sorts .entry)) → now r ≡ getD (map (sort-name S) (now (sorts .entry))) i []) ⌝ }
+{
+    if sorts.len() <= i {
+        return &names[0..0];
+    }
+    terms::list_at(names, NAME_CELL * wide(sorts[i]))
+}
+
+// An answer in 72 bytes; the names of the sorts stand in their cells.
+pub fn encode(s: &[u8], acts: &[u16], actions: usize, names: &[u8], r: Told) -> Encoded
+    ensures { λ e. ⌜ ((T : Table) → RightTable T → ActsAt (T .sig) (now (s .entry)) (now (acts .entry)) actions → NamesIn (T .sig) (now (names .entry)) → r .depth ≤ stack-limit → e .bytes ≡ encode-answer (answer-told (T .sig) r)) ⌝ }
 {
     if r.refused != 0 {
         return encode_kind(r.refused);
@@ -159,16 +207,19 @@ pub fn encode(s: &[u8], acts: &[u16], actions: usize, r: Told) -> Encoded
         return encode_kind(r.kind);
     }
     if r.action == TAU {
-        return encode_step(r.depth, 0, 0, 0, b"tau");
+        return encode_step(r.depth, 0, 0, 0, b"tau", &names[0..0], &names[0..0]);
     }
     let v = value(r.arity, 0, r.values[0]);
     let w = value(r.arity, 1, r.values[1]);
+    let sorts = sorts_of(s, acts, actions, r.action);
     encode_step(
         r.depth,
         counted(r.arity),
         v,
         w,
         texts::name(s, acts, actions, r.action),
+        sort_name(names, sorts, 0),
+        sort_name(names, sorts, 1),
     )
 }
 
@@ -189,11 +240,13 @@ pub fn ask_each(
     let params = index.params;
     let rows = index.rows;
     let actions = index.actions;
+    let named = lettering::names_of(s, index);
+    let names = named.at;
     let mut d = depth;
     let mut i = 0;
     while i < ks.len() {
         let r = ask(s, &funcs, &acts, &params, &rows, frames, d, ks[i]);
-        let e = encode(s, &acts, actions, r);
+        let e = encode(s, &acts, actions, &names, r);
         let bytes = e.bytes;
         let at = i * ANSWER;
         let end = at + ANSWER;

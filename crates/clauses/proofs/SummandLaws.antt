@@ -26,7 +26,6 @@ use Rattle.firing.proofs.Framing.{byte-at}
 use Rattle.firing.proofs.Skipping.{drop-within}
 use Rattle.texts.specs.Wrote.{Wrote}
 use Rattle.lettering.specs.Named.{Lettered}
-use Rattle.lettering.specs.declared.Letters.{Letters}
 use Rattle.clauses.specs.declared.data.TextPut.{TextPut}
 use Rattle.clauses.specs.Written.{Ground, Marks, SumsPut, CondsPut, ActionPut, CallsPut, SummandPut}
 use Rattle.clauses.proofs.Upto.{Upto, upto-start, upto-more, upto-all, wrote-then, wrote-by}
@@ -40,7 +39,7 @@ behind-vars s from b vars more e here =
     let z : b ≡ from + n = e ∙ list-end s from vars (more, here) in
     ap (λ (x : ℕ). drop x s) z ∙ sym (drop-drop n from s) ∙ ap (drop n) here ∙ drop-at (encode-numbers vars) more n refl
 
-module _ (s funcs acts params : List ℕ) (l : Letters) where
+module _ (s funcs acts params : List ℕ) (l : List ℕ) where
   pub summand-put : (from n : ℕ) (out : List ℕ) (at : ℕ) → at ≤ length out
       → (m b : ℕ) (sizes : List ℕ) (c : Conditions) (o₁ : List ℕ) (a₁ : ℕ) (o₂ : List ℕ) (a₂ : ℕ) (o₃ : List ℕ) (r₃ : TextPut) (o₄ : List ℕ) (r₄ : TextPut) (o₅ : List ℕ) (a₅ : ℕ) (o₆ : List ℕ) (r : TextPut) → m ≡ getD s from 0 → b ≡ from + 1 + getD s from 0
       → ((S : Sig) (Γ : List ℕ) (cs : List (ℕ × Data)) (rest : List ℕ) → KnownTerms S s funcs → length Γ ≤ variable-code → Every (RightCond S Γ) cs → length cs ≤ max-conditions → drop b s ≡ encode-list encode-cond cs ++ rest → Prepared s n sizes cs rest c)
@@ -73,30 +72,30 @@ no-summand = record { vars = []; conds = []; act = tau; terms = []; calls = [] }
 
 -- SUMMANDS ONE BEHIND ANOTHER: before the i-th of m, which begins at f
 
-module _ (s funcs acts params : List ℕ) (l : Letters) (row n : ℕ) (out : List ℕ) (at : ℕ) where
+module _ (s funcs acts params : List ℕ) (l : List ℕ) (row n : ℕ) (out : List ℕ) (at : ℕ) where
   abbrev pub RightPut : List ℕ → ℕ → Type 0
   RightPut out′ r =
-      (S : Sig) (Ps : List (List ℕ)) (Δ : List ℕ) (hs : List Summand) (rest : List ℕ) → KnownTerms S s funcs → KnownParts S Ps s acts params → RightSummands S Ps Δ hs → length Δ ≡ n → n ≤ frame-width → Lettered (S .acts) l → drop row s ≡ encode-list encode-summand hs ++ rest
-      → Wrote out at (right-text (S .acts) n hs) out′ r
+      (S : Sig) (Ps : List (List ℕ)) (Δ : List ℕ) (hs : List Summand) (rest : List ℕ) → KnownTerms S s funcs → KnownParts S Ps s acts params → RightSummands S Ps Δ hs → length Δ ≡ n → n ≤ frame-width → Lettered S l → drop row s ≡ encode-list encode-summand hs ++ rest
+      → Wrote out at (right-text S n hs) out′ r
 
   unfoldable pub Joining : ℕ → List ℕ → ℕ → ℕ → ℕ → Type 0
   Joining m out′ f p i =
-      (S : Sig) (Ps : List (List ℕ)) (Δ : List ℕ) (hs : List Summand) (rest : List ℕ) → KnownTerms S s funcs → KnownParts S Ps s acts params → RightSummands S Ps Δ hs → length Δ ≡ n → n ≤ frame-width → Lettered (S .acts) l → drop row s ≡ encode-list encode-summand hs ++ rest
-      → (m ≡ length hs) × ((drop f s ≡ all encode-summand (drop i hs) ++ rest) × Upto out at (right-text (S .acts) n hs) out′ p (joined-text (bytes "+") (map (summand-text (S .acts) n) (drop i hs))))
+      (S : Sig) (Ps : List (List ℕ)) (Δ : List ℕ) (hs : List Summand) (rest : List ℕ) → KnownTerms S s funcs → KnownParts S Ps s acts params → RightSummands S Ps Δ hs → length Δ ≡ n → n ≤ frame-width → Lettered S l → drop row s ≡ encode-list encode-summand hs ++ rest
+      → (m ≡ length hs) × ((drop f s ≡ all encode-summand (drop i hs) ++ rest) × Upto out at (right-text S n hs) out′ p (joined-text (bytes "+") (map (summand-text S n) (drop i hs))))
 
   module _ (m : ℕ) (em : m ≡ getD s row 0) where
     pub right-delta : (out′ : List ℕ) (r : ℕ) → m ≡ 0 → Wrote out at (bytes "delta") out′ r → RightPut out′ r
     unfolding encode-list
     right-delta out′ r z w S Ps Δ hs rest known parts right en few letters here =
         let b = byte-at s row (length hs) (all encode-summand hs ++ rest) here in
-        wrote-by (sym (right-none (S .acts) n hs (sym (b .0) ∙ sym em ∙ z))) w
+        wrote-by (sym (right-none S n hs (sym (b .0) ∙ sym em ∙ z))) w
 
     pub joining-none : at ≤ length out → (m ≡ 0 → ⊥) → Joining m out (row + 1) at 0
     unfolding Joining encode-list
     joining-none room h S Ps Δ hs rest known parts right en few letters here =
         let b = byte-at s row (length hs) (all encode-summand hs ++ rest) here in
         let e : m ≡ length hs = em ∙ b .0 in
-        (e, (b .1, upto-start room (right-some (S .acts) n hs (positive (length hs) (λ z. h (e ∙ z))))))
+        (e, (b .1, upto-start room (right-some S n hs (positive (length hs) (λ z. h (e ∙ z))))))
       where
         positive : (k : ℕ) → (k ≡ 0 → ⊥) → 0 < k
         positive k n = omega arith
@@ -107,7 +106,7 @@ module _ (s funcs acts params : List ℕ) (l : Letters) (row n : ℕ) (out : Lis
     joining-more mid f p i j o₁ r last z h ej one mark old S Ps Δ hs rest known parts right en few letters here =
         let (e, (left, u)) = old S Ps Δ hs rest known parts right en few letters here in
         let below : i < length hs = omega arith in
-        let text = summand-text (S .acts) n in
+        let text = summand-text S n in
         let t = one S Ps Δ (getD hs i no-summand) (all encode-summand (drop (i + 1) hs) ++ rest) known parts (every-at (RightSummand S Ps Δ) hs no-summand i (right .1) below) en few letters (left ∙ all-first encode-summand hs i no-summand rest below) in
         let q : joined-text (bytes "+") (map text (drop i hs)) ≡ text (getD hs i no-summand) ++ (mark-text (bytes "+") (drop j hs) ++ joined-text (bytes "+") (map text (drop j hs))) =
         joined-first (bytes "+") text hs i no-summand below ∙ ap (λ (k : ℕ). text (getD hs i no-summand) ++ (mark-text (bytes "+") (drop k hs) ++ joined-text (bytes "+") (map text (drop k hs)))) (sym ej) in
@@ -117,4 +116,4 @@ module _ (s funcs acts params : List ℕ) (l : Letters) (row n : ℕ) (out : Lis
     unfolding Joining
     joining-all out′ f p i h old S Ps Δ hs rest known parts right en few letters here =
         let (e, (left, u)) = old S Ps Δ hs rest known parts right en few letters here in
-        upto-all u (joined-none (bytes "+") (summand-text (S .acts) n) hs i (omega arith))
+        upto-all u (joined-none (bytes "+") (summand-text S n) hs i (omega arith))

@@ -11,8 +11,9 @@ use borrow.Author.Tests.{eq-eqb, ne-eqb}
 use Rattle.pcrl.specs.Text.{byte}
 use Rattle.pcrl.specs.Sheet.{Data, Sig}
 use Rattle.pcrl.specs.Stream.{variable-code, encode-data}
-use Rattle.pcrl.specs.Right.{RightTerm, action-names}
-use Rattle.pcrl.specs.Printer.{longest-run}
+use Rattle.pcrl.specs.Right.{RightTerm}
+use Rattle.pcrl.specs.Letters.{longest-run}
+use Rattle.pcrl.specs.Printer.{taken}
 use Rattle.rendering.specs.Texts.{any-data, data-text}
 use Rattle.evaluation.specs.Known.{KnownTerms}
 use Rattle.texts.specs.Wrote.{Wrote}
@@ -90,14 +91,14 @@ module _ (s funcs : List ℕ) (m n from : ℕ) (out₀ : List ℕ) (at : ℕ) wh
 
   -- THE TEXT OF A TERM
   module _ (S : Sig) (Γ : List ℕ) (D : ℕ) (d : Data) (rest : List ℕ) (known : KnownTerms S s funcs) (short : length Γ ≤ variable-code) (right : RightTerm S Γ D d)
-      (for-funcs : m ≡ suc (longest-run (byte "f") (action-names (S .acts)))) (for-vars : n ≡ suc (longest-run (byte "v") (action-names (S .acts))))
+      (for-funcs : m ≡ suc (longest-run (byte "f") (taken S))) (for-vars : n ≡ suc (longest-run (byte "v") (taken S)))
       (stands : drop from s ≡ encode-data d ++ rest) where
-    term-shown : all-shown ≡ (data-text (S .acts) d, rest)
+    term-shown : all-shown ≡ (data-text S d, rest)
     unfolding behind closing reopened next-place bits data-text
     term-shown =
         ap (λ (c : List ℕ). shown s funcs m n 0 c [] any-data) stands
         ∙ shown-data s funcs m n S known Γ short for-funcs for-vars 32 d D rest [] any-data (right .0) (omega (arith, right .1)) (omega (arith, right .1))
-        ∙ ap (λ (t : List ℕ). (t, rest)) (append-nil (data-text (S .acts) d))
+        ∙ ap (λ (t : List ℕ). (t, rest)) (append-nil (data-text S d))
 
-    pub gone-term : (i : ℕ) (out : List ℕ) (p : ℕ) → Gone i out p → Wrote out₀ at (data-text (S .acts) d) out p × (drop i s ≡ rest)
+    pub gone-term : (i : ℕ) (out : List ℕ) (p : ℕ) → Gone i out p → Wrote out₀ at (data-text S d) out p × (drop i s ≡ rest)
     gone-term i out p g = (wrote-as out₀ at _ _ out p (ap (λ (v : Shown). v .0) term-shown) (g .0), g .1 ∙ ap (λ (v : Shown). v .1) term-shown)

@@ -14,8 +14,9 @@ use Rattle.pcrl.specs.Sheet.{Data, val, var, app, Datas, nil, cons, list-of, Si
 use Rattle.pcrl.specs.Sorts.{HasSort, HaveSorts, IsOperation, IsFunc}
 use Rattle.pcrl.specs.Table.{nodes}
 use Rattle.pcrl.specs.Stream.{variable-code, function-code, codes, encode-data}
-use Rattle.pcrl.specs.Right.{RightFunc, action-names}
-use Rattle.pcrl.specs.Printer.{longest-run, letters, indexed}
+use Rattle.pcrl.specs.Right.{RightFunc}
+use Rattle.pcrl.specs.Letters.{longest-run, letters, indexed}
+use Rattle.pcrl.specs.Printer.{taken}
 use Rattle.rendering.specs.Texts.{joined-text, bracketed-text, placed, operand-text, operation-text, text-at}
 use Rattle.laws.specs.Lists.{below-some}
 use Rattle.laws.specs.Operations.{Seen, as-written, seen, right-function}
@@ -151,7 +152,7 @@ module _ (s funcs : List ℕ) (m n : ℕ) where
   some-node (app f ds) = omega arith
 
   module _ (S : Sig) (known : KnownTerms S s funcs) (Γ : List ℕ) (short : length Γ ≤ variable-code)
-      (for-funcs : m ≡ suc (longest-run (byte "f") (action-names (S .acts)))) (for-vars : n ≡ suc (longest-run (byte "v") (action-names (S .acts)))) where
+      (for-funcs : m ≡ suc (longest-run (byte "f") (taken S))) (for-vars : n ≡ suc (longest-run (byte "v") (taken S))) where
     one-sort : (d : Data) (Ds : List ℕ) → HaveSorts S (getElem? Γ) (cons d nil) Ds → (E : ℕ) × HasSort S (getElem? Γ) d E × (length Ds ≡ 1)
     unfolding HaveSorts list-of
     one-sort d [] h = absurd h
@@ -170,11 +171,11 @@ module _ (s funcs : List ℕ) (m n : ℕ) where
     arity : (f : ℕ) → f < length (S .funcs) → getD s (getD funcs f 0) 0 ≡ length (func S f .takes)
     arity f h = arity-at s (getD funcs f 0) (func S f) (known .func-at f h)
 
-    variable-text : (i : ℕ) → replicate n (byte "v") ++ decimal i ≡ indexed (S .acts) (byte "v") i
+    variable-text : (i : ℕ) → replicate n (byte "v") ++ decimal i ≡ indexed (taken S) (byte "v") i
     unfolding indexed letters
     variable-text i = ap (λ (k : ℕ). replicate k (byte "v") ++ decimal i) for-vars
 
-    function-text : (f : ℕ) → replicate m (byte "f") ++ decimal f ≡ indexed (S .acts) (byte "f") f
+    function-text : (f : ℕ) → replicate m (byte "f") ++ decimal f ≡ indexed (taken S) (byte "f") f
     unfolding indexed letters
     function-text f = ap (λ (k : ℕ). replicate k (byte "f") ++ decimal f) for-funcs
 
@@ -189,12 +190,12 @@ module _ (s funcs : List ℕ) (m n : ℕ) where
 
     -- a term's bytes, at any place, are shown as its text there
     abbrev Told : Data → Type 0
-    Told d = (c : List ℕ) (bs : Open) (p : ℕ) → bits bs + 2 * nodes d ≤ 62 → shown 0 (encode-data d ++ c) bs p ≡ ahead (text-at (S .acts) d p) (behind c bs)
+    Told d = (c : List ℕ) (bs : Open) (p : ℕ) → bits bs + 2 * nodes d ≤ 62 → shown 0 (encode-data d ++ c) bs p ≡ ahead (text-at S d p) (behind c bs)
 
     -- two operands, with a mark between
     two-told : (k : Mark) (x : Bool) (d e : Data) (c : List ℕ) (bs : Open) → Told d → Told e → bits bs + 2 * suc (nodes d + nodes e) ≤ 62
         → shown 0 ((encode-data d ++ (encode-data e ++ [])) ++ c) (mark k x ∷ bs) (first-place k)
-        ≡ ahead (text-at (S .acts) d (first-place k) ++ (mark-text k ++ (text-at (S .acts) e (number k) ++ close-bracket x))) (behind c bs)
+        ≡ ahead (text-at S d (first-place k) ++ (mark-text k ++ (text-at S e (number k) ++ close-bracket x))) (behind c bs)
     unfolding bits ended
     two-told k x d e c bs t u h =
         let q = t (encode-data e ++ c) (mark k x ∷ bs) (first-place k) (omega (arith, some-node e)) in
@@ -208,7 +209,7 @@ module _ (s funcs : List ℕ) (m n : ℕ) where
     module _ (f : ℕ) (d : Data) (c : List ℕ) (bs : Open) (p : ℕ) (t : Told d) where
       -- a function or an operator of one operand
       one-told : (o : Operation) → Seen f o → IsOperation S o → length (function S o .takes) ≡ 1 → bits bs + 2 * suc (nodes d) ≤ 62
-          → shown 0 ((codes o ++ (encode-data d ++ [])) ++ c) bs p ≡ ahead (operation-text (indexed (S .acts) (byte "f")) o ((λ q. text-at (S .acts) d q) ∷ []) p) (behind c bs)
+          → shown 0 ((codes o ++ (encode-data d ++ [])) ++ c) bs p ≡ ahead (operation-text (indexed (taken S) (byte "f")) o ((λ q. text-at S d q) ∷ []) p) (behind c bs)
       unfolding shown behind closing reopened next-place codes IsOperation function node-text tail-text turned following passed bits operation-text operand-text bracketed-text joined-text operator-mark operator-sign sign
       one-told (Operation.written g) (as-written k) i l h =
           let w = sign-function (function-code + f) (omega arith) (omega arith) in
@@ -225,14 +226,14 @@ module _ (s funcs : List ℕ) (m n : ℕ) where
       -- an operator between two operands
       joint-told : (k : Mark) (form : ℕ) → bits bs + 2 * suc (nodes d + nodes e) ≤ 62 → enclosed k p ≡ ltb form p
           → ahead (open-bracket (enclosed k p) ++ []) (shown 0 ((encode-data d ++ (encode-data e ++ [])) ++ c) (more (mark k (enclosed k p)) bs) (first-place k))
-          ≡ ahead (placed form p (text-at (S .acts) d (first-place k) ++ (mark-text k ++ text-at (S .acts) e (number k)))) (behind c bs)
+          ≡ ahead (placed form p (text-at S d (first-place k) ++ (mark-text k ++ text-at S e (number k)))) (behind c bs)
       joint-told k form h x =
           rw (append-nil (open-bracket (enclosed k p)), more-put (mark k (enclosed k p)) bs (omega (arith, some-node d)), two-told k (enclosed k p) d e c bs t u h, placed-is form p, x) (simp append-assoc)
 
       -- a function or an operator of two operands
       pair-told : (o : Operation) → Seen f o → IsOperation S o → length (function S o .takes) ≡ 2 → bits bs + 2 * suc (nodes d + nodes e) ≤ 62
           → shown 0 ((codes o ++ (encode-data d ++ (encode-data e ++ []))) ++ c) bs p
-          ≡ ahead (operation-text (indexed (S .acts) (byte "f")) o ((λ q. text-at (S .acts) d q) ∷ (λ q. text-at (S .acts) e q) ∷ []) p) (behind c bs)
+          ≡ ahead (operation-text (indexed (taken S) (byte "f")) o ((λ q. text-at S d q) ∷ (λ q. text-at S e q) ∷ []) p) (behind c bs)
       unfolding shown codes IsOperation function node-text tail-text turned following passed operation-text operand-text bracketed-text joined-text operator-mark operator-sign sign enclosed number first-place mark-text close-bracket
       pair-told (Operation.written g) (as-written k) i l h =
           let w = sign-function (function-code + f) (omega arith) (omega arith) in
@@ -246,7 +247,7 @@ module _ (s funcs : List ℕ) (m n : ℕ) where
 
     -- By induction on w, more than the nodes.
     pub shown-data : (w : ℕ) (d : Data) (D : ℕ) (c : List ℕ) (bs : Open) (p : ℕ) → HasSort S (getElem? Γ) d D → nodes d < w → bits bs + 2 * nodes d ≤ 62
-        → shown 0 (encode-data d ++ c) bs p ≡ ahead (text-at (S .acts) d p) (behind c bs)
+        → shown 0 (encode-data d ++ c) bs p ≡ ahead (text-at S d p) (behind c bs)
     unfolding shown behind encode-data text-at node-text tail-text turned following passed HasSort list-of size nodes function-at
     shown-data zero d D c bs p h k o = absurd (omega arith)
     shown-data (suc w) (val v) D c bs p h k o = rw (sign-value v (omega (arith, small-size (S .sorts) D (known .right-sizes)))) (simp append-assoc)

@@ -11,7 +11,7 @@ use lib.Seq.{drop-cons}
 use borrow.Author.Tests.{ltb-true, ltb-false}
 use Rattle.pcrl.specs.Text.{bytes}
 use Rattle.pcrl.specs.Reader.{all}
-use Rattle.pcrl.specs.Sheet.{Data, Action}
+use Rattle.pcrl.specs.Sheet.{Data, Sig}
 use Rattle.pcrl.specs.Table.{Summand}
 use Rattle.rendering.specs.Texts.{joined-text, open-text, close-text, condition-text, first-text, second-text, before-text, behind-text, sum-text, sums-text, summand-text, right-text}
 use Rattle.opening.specs.Opened.{no-cond}
@@ -89,61 +89,61 @@ unfolding close-text mark-text
 close-is [] = refl
 close-is (x ∷ xs) = refl
 
-module _ (acts : List Action) where
-  pub sums-first : (n : ℕ) (vars : List ℕ) (i : ℕ) → i < length vars → sums-text acts (n + i) (drop i vars) ≡ sum-text acts (n + i) (getD vars i 0) ++ sums-text acts (n + (i + 1)) (drop (i + 1) vars)
+module _ (S : Sig) where
+  pub sums-first : (n : ℕ) (vars : List ℕ) (i : ℕ) → i < length vars → sums-text S (n + i) (drop i vars) ≡ sum-text S (n + i) (getD vars i 0) ++ sums-text S (n + (i + 1)) (drop (i + 1) vars)
   unfolding sums-text
   sums-first n vars i h =
       let z : suc (n + i) ≡ n + (i + 1) = omega arith in
-      ap (sums-text acts (n + i)) (drop-first vars i 0 h) ∙ ap (λ (k : ℕ). sum-text acts (n + i) (getD vars i 0) ++ sums-text acts k (drop (i + 1) vars)) z
+      ap (sums-text S (n + i)) (drop-first vars i 0 h) ∙ ap (λ (k : ℕ). sum-text S (n + i) (getD vars i 0) ++ sums-text S k (drop (i + 1) vars)) z
 
-  pub sums-none : (n : ℕ) (vars : List ℕ) (i : ℕ) → length vars ≤ i → sums-text acts (n + i) (drop i vars) ≡ []
+  pub sums-none : (n : ℕ) (vars : List ℕ) (i : ℕ) → length vars ≤ i → sums-text S (n + i) (drop i vars) ≡ []
   unfolding sums-text
-  sums-none n vars i h = ap (sums-text acts (n + i)) (drop-none vars i h)
+  sums-none n vars i h = ap (sums-text S (n + i)) (drop-none vars i h)
 
   -- a condition of which nothing stands on one side, and one that stands there whole
-  pub first-none : (c : ℕ × Data) → (c .0 ≡ 0 → ⊥) → first-text acts c ≡ []
+  pub first-none : (c : ℕ × Data) → (c .0 ≡ 0 → ⊥) → first-text S c ≡ []
   unfolding first-text
   first-none (zero, d) h = absurd (h refl)
   first-none (suc w, d) h = refl
 
-  pub first-whole : (c : ℕ × Data) → c .0 ≡ 0 → first-text acts c ≡ bytes "delta" ++ condition-text acts (c .1)
+  pub first-whole : (c : ℕ × Data) → c .0 ≡ 0 → first-text S c ≡ bytes "delta" ++ condition-text S (c .1)
   unfolding first-text
   first-whole (zero, d) h = refl
   first-whole (suc w, d) h = absurd (omega arith)
 
-  pub second-none : (c : ℕ × Data) → c .0 ≡ 0 → second-text acts c ≡ []
+  pub second-none : (c : ℕ × Data) → c .0 ≡ 0 → second-text S c ≡ []
   unfolding second-text
   second-none (zero, d) h = refl
   second-none (suc w, d) h = absurd (omega arith)
 
-  pub second-whole : (c : ℕ × Data) → (c .0 ≡ 0 → ⊥) → second-text acts c ≡ condition-text acts (c .1) ++ bytes "delta"
+  pub second-whole : (c : ℕ × Data) → (c .0 ≡ 0 → ⊥) → second-text S c ≡ condition-text S (c .1) ++ bytes "delta"
   unfolding second-text
   second-whole (zero, d) h = absurd (h refl)
   second-whole (suc w, d) h = refl
 
-  pub before-first : (cs : List (ℕ × Data)) (i : ℕ) → i < length cs → before-text acts (drop i cs) ≡ first-text acts (getD cs i no-cond) ++ (mark-text (bytes "(") (drop (i + 1) cs) ++ before-text acts (drop (i + 1) cs))
+  pub before-first : (cs : List (ℕ × Data)) (i : ℕ) → i < length cs → before-text S (drop i cs) ≡ first-text S (getD cs i no-cond) ++ (mark-text (bytes "(") (drop (i + 1) cs) ++ before-text S (drop (i + 1) cs))
   unfolding before-text
-  before-first cs i h = ap (before-text acts) (drop-first cs i no-cond h) ∙ ap (λ (t : List ℕ). first-text acts (getD cs i no-cond) ++ (t ++ before-text acts (drop (i + 1) cs))) (open-is (drop (i + 1) cs))
+  before-first cs i h = ap (before-text S) (drop-first cs i no-cond h) ∙ ap (λ (t : List ℕ). first-text S (getD cs i no-cond) ++ (t ++ before-text S (drop (i + 1) cs))) (open-is (drop (i + 1) cs))
 
-  pub before-none : (cs : List (ℕ × Data)) (i : ℕ) → length cs ≤ i → before-text acts (drop i cs) ≡ []
+  pub before-none : (cs : List (ℕ × Data)) (i : ℕ) → length cs ≤ i → before-text S (drop i cs) ≡ []
   unfolding before-text
-  before-none cs i h = ap (before-text acts) (drop-none cs i h)
+  before-none cs i h = ap (before-text S) (drop-none cs i h)
 
-  pub behind-first : (cs : List (ℕ × Data)) (i : ℕ) → i < length cs → behind-text acts (drop i cs) ≡ behind-text acts (drop (i + 1) cs) ++ (mark-text (bytes ")") (drop (i + 1) cs) ++ second-text acts (getD cs i no-cond))
+  pub behind-first : (cs : List (ℕ × Data)) (i : ℕ) → i < length cs → behind-text S (drop i cs) ≡ behind-text S (drop (i + 1) cs) ++ (mark-text (bytes ")") (drop (i + 1) cs) ++ second-text S (getD cs i no-cond))
   unfolding behind-text
-  behind-first cs i h = ap (behind-text acts) (drop-first cs i no-cond h) ∙ ap (λ (t : List ℕ). behind-text acts (drop (i + 1) cs) ++ (t ++ second-text acts (getD cs i no-cond))) (close-is (drop (i + 1) cs))
+  behind-first cs i h = ap (behind-text S) (drop-first cs i no-cond h) ∙ ap (λ (t : List ℕ). behind-text S (drop (i + 1) cs) ++ (t ++ second-text S (getD cs i no-cond))) (close-is (drop (i + 1) cs))
 
-  pub behind-none : (cs : List (ℕ × Data)) (i : ℕ) → length cs ≤ i → behind-text acts (drop i cs) ≡ []
+  pub behind-none : (cs : List (ℕ × Data)) (i : ℕ) → length cs ≤ i → behind-text S (drop i cs) ≡ []
   unfolding behind-text
-  behind-none cs i h = ap (behind-text acts) (drop-none cs i h)
+  behind-none cs i h = ap (behind-text S) (drop-none cs i h)
 
   -- no summand, and some
-  pub right-none : (n : ℕ) (hs : List Summand) → length hs ≡ 0 → right-text acts n hs ≡ bytes "delta"
+  pub right-none : (n : ℕ) (hs : List Summand) → length hs ≡ 0 → right-text S n hs ≡ bytes "delta"
   unfolding right-text
   right-none n [] e = refl
   right-none n (h ∷ hs) e = absurd (omega arith)
 
-  pub right-some : (n : ℕ) (hs : List Summand) → 0 < length hs → right-text acts n hs ≡ joined-text (bytes "+") (map (summand-text acts n) hs)
+  pub right-some : (n : ℕ) (hs : List Summand) → 0 < length hs → right-text S n hs ≡ joined-text (bytes "+") (map (summand-text S n) hs)
   unfolding right-text
   right-some n [] e = absurd (omega arith)
   right-some n (h ∷ hs) e = refl

@@ -12,7 +12,7 @@ ghost use Rattle.pcrl.specs.Right.{RightTerm};
 ghost use Rattle.rendering.specs.Texts.{data-text, given-text};
 ghost use Rattle.evaluation.specs.Known.{KnownTerms};
 ghost use Rattle.texts.specs.Wrote.{Wrote};
-ghost use Rattle.lettering.specs.Named.{Lettered};
+ghost use Rattle.lettering.specs.Named.{funcs-place, vars-place, Lettered};
 ghost use Rattle.clauses.specs.Brackets.{Open, code, operator-code, sign, node-text, deeper, passed, lead, Turns};
 ghost use Rattle.clauses.specs.Terms.{Within, Puts};
 use crate::operands::ANY;
@@ -29,7 +29,8 @@ use elements::cell;
 use elements::peek;
 use elements::smaller;
 use elements::wide;
-use lettering::Letters;
+use lettering::FUNCS;
+use lettering::VARS;
 use lettering::put_name;
 use limits::EQUAL_CODE;
 use limits::FUNCTION_CODE;
@@ -59,19 +60,19 @@ fn put_operator(out: &mut [u8], at: usize, n: usize, place: u64) -> usize
 }
 
 // What stands before the operands of a node at a place: a value, a name, that of a function with its bracket.
-fn put_node(out: &mut [u8], at: usize, l: Letters, b: u8, place: u64) -> usize
+fn put_node(out: &mut [u8], at: usize, l: &[u8], b: u8, place: u64) -> usize
     requires { ⌜ at ≤ length (now out) ⌝ }
-    ensures { λ r. ⌜ Wrote (now (out .entry)) at (node-text (l .funcs) (l .vars) place (sign b)) (now (out .exit)) r ⌝ }
+    ensures { λ r. ⌜ Wrote (now (out .entry)) at (node-text (getD (now (l .entry)) funcs-place 0) (getD (now (l .entry)) vars-place 0) place (sign b)) (now (out .exit)) r ⌝ }
 {
     let n = wide(b);
     if n < VARIABLE_CODE {
         return put_decimal(out, at, n);
     }
     if n < FUNCTION_CODE {
-        return put_name(out, at, b'v', l.vars, n - VARIABLE_CODE);
+        return put_name(out, at, l, b'v', VARS, n - VARIABLE_CODE);
     }
     if n < NOT_CODE {
-        let a = put_name(out, at, b'f', l.funcs, n - FUNCTION_CODE);
+        let a = put_name(out, at, l, b'f', FUNCS, n - FUNCTION_CODE);
         return put_byte(out, a, b'(');
     }
     put_operator(out, at, n, place)
@@ -139,14 +140,14 @@ fn next_node(n: usize, i: usize, b: u8) -> usize
 pub fn put_term(
     s: &[u8],
     funcs: &[u16],
-    l: Letters,
+    l: &[u8],
     from: usize,
     out: &mut [u8],
     at: usize,
 ) -> TextPut
     requires { ⌜ (at ≤ length (now out)) × (length (now s) ≤ max-stream) ⌝ }
     ensures { λ r. ⌜ Within (now (s .entry)) (now (out .entry)) from r (now (out .exit)) ⌝ }
-    ensures { λ r. ⌜ ((S : Sig) (Γ : List ℕ) (D : ℕ) (d : Data) (rest : List ℕ) → KnownTerms S (now (s .entry)) (now (funcs .entry)) → length Γ ≤ variable-code → RightTerm S Γ D d → Lettered (S .acts) l → drop from (now (s .entry)) ≡ encode-data d ++ rest → Puts (now (s .entry)) (now (out .entry)) at (data-text (S .acts) d) rest r (now (out .exit))) ⌝ }
+    ensures { λ r. ⌜ ((S : Sig) (Γ : List ℕ) (D : ℕ) (d : Data) (rest : List ℕ) → KnownTerms S (now (s .entry)) (now (funcs .entry)) → length Γ ≤ variable-code → RightTerm S Γ D d → Lettered S (now (l .entry)) → drop from (now (s .entry)) ≡ encode-data d ++ rest → Puts (now (s .entry)) (now (out .entry)) at (data-text S d) rest r (now (out .exit))) ⌝ }
 {
     let mut i = from;
     let mut p = at;
@@ -181,7 +182,7 @@ fn led(i: usize) -> u8
 pub fn put_terms(
     s: &[u8],
     funcs: &[u16],
-    l: Letters,
+    l: &[u8],
     from: usize,
     n: usize,
     out: &mut [u8],
@@ -189,7 +190,7 @@ pub fn put_terms(
 ) -> TextPut
     requires { ⌜ (at ≤ length (now out)) × (length (now s) ≤ max-stream) ⌝ }
     ensures { λ r. ⌜ Within (now (s .entry)) (now (out .entry)) from r (now (out .exit)) ⌝ }
-    ensures { λ r. ⌜ ((S : Sig) (Γ Ds : List ℕ) (ds : List Data) (rest : List ℕ) → KnownTerms S (now (s .entry)) (now (funcs .entry)) → length Γ ≤ variable-code → Each (RightTerm S Γ) Ds ds → length ds ≡ n → Lettered (S .acts) l → drop from (now (s .entry)) ≡ all encode-data ds ++ rest → Puts (now (s .entry)) (now (out .entry)) at (given-text (S .acts) ds) rest r (now (out .exit))) ⌝ }
+    ensures { λ r. ⌜ ((S : Sig) (Γ Ds : List ℕ) (ds : List Data) (rest : List ℕ) → KnownTerms S (now (s .entry)) (now (funcs .entry)) → length Γ ≤ variable-code → Each (RightTerm S Γ) Ds ds → length ds ≡ n → Lettered S (now (l .entry)) → drop from (now (s .entry)) ≡ all encode-data ds ++ rest → Puts (now (s .entry)) (now (out .entry)) at (given-text S ds) rest r (now (out .exit))) ⌝ }
 {
     if n == 0 {
         return TextPut { from: from, at: at };

@@ -28,7 +28,8 @@ use elements::cell;
 use elements::peek;
 use elements::smaller;
 use elements::wide;
-use lettering::Letters;
+use lettering::PROCS;
+use lettering::VARS;
 use lettering::put_name;
 use lettering::put_sort;
 use limits::TAU;
@@ -36,22 +37,22 @@ use texts::put_byte;
 use texts::put_bytes;
 
 // The sum of variable i, whose sort is d, up to its comma.
-fn put_sum(out: &mut [u8], at: usize, l: Letters, i: usize, d: u8) -> usize
+fn put_sum(out: &mut [u8], at: usize, l: &[u8], i: usize, d: u8) -> usize
     requires { ⌜ at ≤ length (now out) ⌝ }
-    ensures { λ r. ⌜ Wrote (now (out .entry)) at (sum-by l i d) (now (out .exit)) r ⌝ }
+    ensures { λ r. ⌜ Wrote (now (out .entry)) at (sum-by (now (l .entry)) i d) (now (out .exit)) r ⌝ }
 {
     let a = put_bytes(out, at, b"sum(");
-    let b = put_name(out, a, b'v', l.vars, i);
+    let b = put_name(out, a, l, b'v', VARS, i);
     let c = put_byte(out, b, b':');
     let e = put_sort(out, c, l, d);
     put_byte(out, e, b',')
 }
 
 // The sums of the variables whose count stands at a place; the first of them has the number n.
-fn put_sums(s: &[u8], l: Letters, from: usize, n: usize, out: &mut [u8], at: usize) -> usize
+fn put_sums(s: &[u8], l: &[u8], from: usize, n: usize, out: &mut [u8], at: usize) -> usize
     requires { ⌜ (at ≤ length (now out)) × ((from ≤ 65536) × (n ≤ 255)) ⌝ }
     ensures { λ r. ⌜ Ends (now (out .entry)) r (now (out .exit)) ⌝ }
-    ensures { λ r. ⌜ SumsPut (now (s .entry)) l from n (now (out .entry)) at (now (out .exit)) r ⌝ }
+    ensures { λ r. ⌜ SumsPut (now (s .entry)) (now (l .entry)) from n (now (out .entry)) at (now (out .exit)) r ⌝ }
 {
     let m = wide(peek(s, from));
     let mut p = at;
@@ -90,17 +91,10 @@ fn put_mark(out: &mut [u8], at: usize, b: u8, i: usize, n: usize) -> usize
 }
 
 // The condition whose wanted value stands at a place: its term between its marks.
-fn put_condition(
-    s: &[u8],
-    funcs: &[u16],
-    l: Letters,
-    from: usize,
-    out: &mut [u8],
-    at: usize,
-) -> usize
+fn put_condition(s: &[u8], funcs: &[u16], l: &[u8], from: usize, out: &mut [u8], at: usize) -> usize
     requires { ⌜ (at ≤ length (now out)) × (length (now s) ≤ max-stream) ⌝ }
     ensures { λ r. ⌜ Ends (now (out .entry)) r (now (out .exit)) ⌝ }
-    ensures { λ r. ⌜ CondPut (now (s .entry)) (now (funcs .entry)) l (λ acts c. condition-text acts (c .1)) from (now (out .entry)) at (now (out .exit)) r ⌝ }
+    ensures { λ r. ⌜ CondPut (now (s .entry)) (now (funcs .entry)) (now (l .entry)) (λ S c. condition-text S (c .1)) from (now (out .entry)) at (now (out .exit)) r ⌝ }
 {
     let b = smaller(from, s.len()) + 1;
     let a = put_bytes(out, at, b"<|");
@@ -109,10 +103,10 @@ fn put_condition(
 }
 
 // What stands of a condition before what it guards: all of it, with delta for yes, if 0 is wanted.
-fn put_first(s: &[u8], funcs: &[u16], l: Letters, from: usize, out: &mut [u8], at: usize) -> usize
+fn put_first(s: &[u8], funcs: &[u16], l: &[u8], from: usize, out: &mut [u8], at: usize) -> usize
     requires { ⌜ (at ≤ length (now out)) × (length (now s) ≤ max-stream) ⌝ }
     ensures { λ r. ⌜ Ends (now (out .entry)) r (now (out .exit)) ⌝ }
-    ensures { λ r. ⌜ CondPut (now (s .entry)) (now (funcs .entry)) l first-text from (now (out .entry)) at (now (out .exit)) r ⌝ }
+    ensures { λ r. ⌜ CondPut (now (s .entry)) (now (funcs .entry)) (now (l .entry)) first-text from (now (out .entry)) at (now (out .exit)) r ⌝ }
 {
     if peek(s, from) != 0 {
         return at;
@@ -122,10 +116,10 @@ fn put_first(s: &[u8], funcs: &[u16], l: Letters, from: usize, out: &mut [u8], a
 }
 
 // What stands of it behind: all of it, with delta for no, if 1 is wanted.
-fn put_second(s: &[u8], funcs: &[u16], l: Letters, from: usize, out: &mut [u8], at: usize) -> usize
+fn put_second(s: &[u8], funcs: &[u16], l: &[u8], from: usize, out: &mut [u8], at: usize) -> usize
     requires { ⌜ (at ≤ length (now out)) × (length (now s) ≤ max-stream) ⌝ }
     ensures { λ r. ⌜ Ends (now (out .entry)) r (now (out .exit)) ⌝ }
-    ensures { λ r. ⌜ CondPut (now (s .entry)) (now (funcs .entry)) l second-text from (now (out .entry)) at (now (out .exit)) r ⌝ }
+    ensures { λ r. ⌜ CondPut (now (s .entry)) (now (funcs .entry)) (now (l .entry)) second-text from (now (out .entry)) at (now (out .exit)) r ⌝ }
 {
     if peek(s, from) == 0 {
         return at;
@@ -135,17 +129,10 @@ fn put_second(s: &[u8], funcs: &[u16], l: Letters, from: usize, out: &mut [u8], 
 }
 
 // What stands of the conditions before what they guard, a bracket before each that stands inside another.
-fn put_before(
-    s: &[u8],
-    funcs: &[u16],
-    l: Letters,
-    c: Conditions,
-    out: &mut [u8],
-    at: usize,
-) -> usize
+fn put_before(s: &[u8], funcs: &[u16], l: &[u8], c: Conditions, out: &mut [u8], at: usize) -> usize
     requires { ⌜ (at ≤ length (now out)) × ((length (now s) ≤ max-stream) × (c .count ≤ max-conditions)) ⌝ }
     ensures { λ r. ⌜ Ends (now (out .entry)) r (now (out .exit)) ⌝ }
-    ensures { λ r. ⌜ CondsPut (now (s .entry)) (now (funcs .entry)) l before-text (c .froms) (c .count) (now (out .entry)) at (now (out .exit)) r ⌝ }
+    ensures { λ r. ⌜ CondsPut (now (s .entry)) (now (funcs .entry)) (now (l .entry)) before-text (c .froms) (c .count) (now (out .entry)) at (now (out .exit)) r ⌝ }
 {
     let froms = c.froms;
     let n = c.count;
@@ -160,17 +147,10 @@ fn put_before(
 }
 
 // What stands of them behind, from the innermost.
-fn put_behind(
-    s: &[u8],
-    funcs: &[u16],
-    l: Letters,
-    c: Conditions,
-    out: &mut [u8],
-    at: usize,
-) -> usize
+fn put_behind(s: &[u8], funcs: &[u16], l: &[u8], c: Conditions, out: &mut [u8], at: usize) -> usize
     requires { ⌜ (at ≤ length (now out)) × ((length (now s) ≤ max-stream) × (c .count ≤ max-conditions)) ⌝ }
     ensures { λ r. ⌜ Ends (now (out .entry)) r (now (out .exit)) ⌝ }
-    ensures { λ r. ⌜ CondsPut (now (s .entry)) (now (funcs .entry)) l behind-text (c .froms) (c .count) (now (out .entry)) at (now (out .exit)) r ⌝ }
+    ensures { λ r. ⌜ CondsPut (now (s .entry)) (now (funcs .entry)) (now (l .entry)) behind-text (c .froms) (c .count) (now (out .entry)) at (now (out .exit)) r ⌝ }
 {
     let froms = c.froms;
     let n = c.count;
@@ -189,14 +169,14 @@ fn put_action(
     s: &[u8],
     funcs: &[u16],
     acts: &[u16],
-    l: Letters,
+    l: &[u8],
     from: usize,
     out: &mut [u8],
     at: usize,
 ) -> TextPut
     requires { ⌜ (at ≤ length (now out)) × ((length (now s) ≤ max-stream) × (from ≤ max-stream * 3)) ⌝ }
     ensures { λ r. ⌜ Within (now (s .entry)) (now (out .entry)) (from + 1) r (now (out .exit)) ⌝ }
-    ensures { λ r. ⌜ ActionPut (now (s .entry)) (now (funcs .entry)) l (now (acts .entry)) from (now (out .entry)) at (now (out .exit)) r ⌝ }
+    ensures { λ r. ⌜ ActionPut (now (s .entry)) (now (funcs .entry)) (now (l .entry)) (now (acts .entry)) from (now (out .entry)) at (now (out .exit)) r ⌝ }
 {
     let b = peek(s, from);
     if b == TAU {
@@ -216,18 +196,18 @@ fn put_call(
     s: &[u8],
     funcs: &[u16],
     params: &[u16],
-    l: Letters,
+    l: &[u8],
     from: usize,
     out: &mut [u8],
     at: usize,
 ) -> TextPut
     requires { ⌜ (at ≤ length (now out)) × ((length (now s) ≤ max-stream) × (from ≤ max-stream * 5)) ⌝ }
     ensures { λ r. ⌜ Within (now (s .entry)) (now (out .entry)) (from + 1) r (now (out .exit)) ⌝ }
-    ensures { λ r. ⌜ CallPut (now (s .entry)) (now (funcs .entry)) l (now (params .entry)) from (now (out .entry)) at (now (out .exit)) r ⌝ }
+    ensures { λ r. ⌜ CallPut (now (s .entry)) (now (funcs .entry)) (now (l .entry)) (now (params .entry)) from (now (out .entry)) at (now (out .exit)) r ⌝ }
 {
     let e = wide(peek(s, from));
     let a = put_byte(out, at, b'.');
-    let b = put_name(out, a, b'p', l.procs, e);
+    let b = put_name(out, a, l, b'p', PROCS, e);
     let k = wide(peek(s, cell(params, e)));
     put_terms(s, funcs, l, from + 1, k, out, b)
 }
@@ -237,14 +217,14 @@ fn put_calls(
     s: &[u8],
     funcs: &[u16],
     params: &[u16],
-    l: Letters,
+    l: &[u8],
     from: usize,
     out: &mut [u8],
     at: usize,
 ) -> TextPut
     requires { ⌜ (at ≤ length (now out)) × ((length (now s) ≤ max-stream) × (from ≤ max-stream * 4)) ⌝ }
     ensures { λ r. ⌜ Ends (now (out .entry)) (r .at) (now (out .exit)) ⌝ }
-    ensures { λ r. ⌜ CallsPut (now (s .entry)) (now (funcs .entry)) l (now (params .entry)) from (now (out .entry)) at (now (out .exit)) r ⌝ }
+    ensures { λ r. ⌜ CallsPut (now (s .entry)) (now (funcs .entry)) (now (l .entry)) (now (params .entry)) from (now (out .entry)) at (now (out .exit)) r ⌝ }
 {
     let n = wide(peek(s, from));
     let mut r = TextPut {
@@ -265,7 +245,7 @@ fn put_summand(
     funcs: &[u16],
     acts: &[u16],
     params: &[u16],
-    l: Letters,
+    l: &[u8],
     from: usize,
     n: usize,
     out: &mut [u8],
@@ -273,10 +253,10 @@ fn put_summand(
 ) -> TextPut
     requires { ⌜ (at ≤ length (now out)) × ((length (now s) ≤ max-stream) × ((from ≤ 65536) × (n ≤ 255))) ⌝ }
     ensures { λ r. ⌜ Ends (now (out .entry)) (r .at) (now (out .exit)) × (r .from ≤ length (now (s .entry))) ⌝ }
-    ensures { λ r. ⌜ SummandPut (now (s .entry)) (now (funcs .entry)) l (now (acts .entry)) (now (params .entry)) from n (now (out .entry)) at (now (out .exit)) r ⌝ }
+    ensures { λ r. ⌜ SummandPut (now (s .entry)) (now (funcs .entry)) (now (l .entry)) (now (acts .entry)) (now (params .entry)) from n (now (out .entry)) at (now (out .exit)) r ⌝ }
 {
     let m = wide(peek(s, from));
-    let c = opening::conditions(s, funcs, from + 1 + m, n, opening::sizes(s, from));
+    let c = opening::conditions(s, funcs, from + 1 + m, n, opening::sizes(s, funcs, from));
     let a = put_sums(s, l, from, n, out, at);
     let b = put_before(s, funcs, l, c, out, a);
     let d = put_action(s, funcs, acts, l, c.end, out, b);
@@ -294,7 +274,7 @@ pub fn put_right(
     funcs: &[u16],
     acts: &[u16],
     params: &[u16],
-    l: Letters,
+    l: &[u8],
     row: usize,
     n: usize,
     out: &mut [u8],
@@ -302,7 +282,7 @@ pub fn put_right(
 ) -> usize
     requires { ⌜ (at ≤ length (now out)) × ((length (now s) ≤ max-stream) × ((row < 65536) × (n ≤ 255))) ⌝ }
     ensures { λ r. ⌜ (r ≤ length (now (out .entry))) × (length (now (out .exit)) ≡ length (now (out .entry))) ⌝ }
-    ensures { λ r. ⌜ ((S : Sig) (Ps : List (List ℕ)) (Δ : List ℕ) (hs : List Summand) (rest : List ℕ) → KnownTerms S (now (s .entry)) (now (funcs .entry)) → KnownParts S Ps (now (s .entry)) (now (acts .entry)) (now (params .entry)) → RightSummands S Ps Δ hs → length Δ ≡ n → n ≤ frame-width → Lettered (S .acts) l → drop row (now (s .entry)) ≡ encode-list encode-summand hs ++ rest → Wrote (now (out .entry)) at (right-text (S .acts) n hs) (now (out .exit)) r) ⌝ }
+    ensures { λ r. ⌜ ((S : Sig) (Ps : List (List ℕ)) (Δ : List ℕ) (hs : List Summand) (rest : List ℕ) → KnownTerms S (now (s .entry)) (now (funcs .entry)) → KnownParts S Ps (now (s .entry)) (now (acts .entry)) (now (params .entry)) → RightSummands S Ps Δ hs → length Δ ≡ n → n ≤ frame-width → Lettered S (now (l .entry)) → drop row (now (s .entry)) ≡ encode-list encode-summand hs ++ rest → Wrote (now (out .entry)) at (right-text S n hs) (now (out .exit)) r) ⌝ }
 {
     let m = wide(peek(s, row));
     if m == 0 {

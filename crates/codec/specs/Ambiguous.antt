@@ -9,7 +9,7 @@ use Rattle.pcrl.specs.Text.{bytes}
 use Rattle.pcrl.specs.Result.{accepted}
 use Rattle.pcrl.specs.Reader.{found}
 use Rattle.pcrl.specs.Sheet.{Data, val, action, Sig}
-use Rattle.pcrl.specs.Table.{Summand, Equation, Table, params-of}
+use Rattle.pcrl.specs.Table.{Summand, Equation, with-names, Table, params-of}
 use Rattle.pcrl.specs.Stream.{encode-numbers, encode-list, encode-sig, encode-summand, encode-start, encode}
 use Rattle.pcrl.specs.Right.{RightTable}
 use Rattle.pcrl.specs.Decode.{decode}
@@ -22,10 +22,10 @@ unfoldable pub encode-equation : Equation → List ℕ
 encode-equation e = encode-numbers (e .params) ++ encode-list encode-summand (e .summands)
 
 unfoldable pub encode-by-equations : Table → List ℕ
-encode-by-equations T = encode-sig (T .sig) ++ (encode-list encode-equation (T .equations) ++ encode-start (T .start))
+encode-by-equations T = encode-sig (T .layout) (T .sig) ++ (encode-list encode-equation (T .equations) ++ encode-start (T .start))
 
 abbrev pub one-action : Sig
-one-action = record { sorts = 2 ∷ []; funcs = []; acts = record { name = bytes "a"; takes = [] } ∷ [] }
+one-action = record { sorts = 2 ∷ []; sort-names = bytes "Bool" ∷ []; funcs = []; acts = record { name = bytes "a"; takes = [] } ∷ [] }
 
 -- a summand of the action a
 abbrev pub says-a : List (ℕ × Data) → List (ℕ × List Data) → Summand
@@ -35,6 +35,7 @@ says-a conds calls = record { vars = []; conds = conds; act = action 0; terms = 
 unfoldable pub with-condition : Table
 with-condition =
     record {
+      layout = with-names;
       sig = one-action;
       equations = record { params = []; summands = says-a [] ((1, []) ∷ []) ∷ [] } ∷ record { params = []; summands = says-a ((0, val 0) ∷ []) [] ∷ [] } ∷ [];
       start = (0, []);
@@ -44,6 +45,7 @@ with-condition =
 unfoldable pub with-parameter : Table
 with-parameter =
     record {
+      layout = with-names;
       sig = one-action;
       equations = record { params = []; summands = says-a [] ((1, val 0 ∷ []) ∷ []) ∷ [] } ∷ record { params = 0 ∷ []; summands = says-a [] [] ∷ [] } ∷ [];
       start = (0, []);

@@ -1,15 +1,16 @@
 -- A table's file is accepted as that table, and what is accepted as a table is, byte for byte, the file that would be written for it.
 use mathlib.Core.Path.{_≡_, refl, sym, ap, subst, _∙_}
-use mathlib.Core.List.{List}
+use mathlib.Core.List.{List, _++_}
 use mathlib.Core.Option.{none, some}
 use Prim.Native.Nat.{ℕ, _≤_}
 use native.Mathlib.Omega.{arith}
-use lib.ListN.{length}
+use lib.ListN.{length, length-append}
 use Rattle.pcrl.specs.Limits.{max-stream}
 use Rattle.pcrl.specs.Result.{accepted}
 use Rattle.pcrl.specs.Reader.{Got, missing, found}
-use Rattle.pcrl.specs.Table.{Table}
-use Rattle.pcrl.specs.Stream.{encode-numbers, encode-sorts, encode-sig, encode}
+use Rattle.pcrl.specs.Sheet.{Sig}
+use Rattle.pcrl.specs.Table.{Layout, with-names, without-names, Table}
+use Rattle.pcrl.specs.Stream.{encode-numbers, encode-list, encode-sorts, encode-func, encode-action, encode-sig, encode-equations, encode-start, encode}
 use Rattle.pcrl.specs.Right.{RightTable}
 use Rattle.pcrl.specs.Decode.{decode}
 use Rattle.pcrl.specs.Blocks.{file-of, right-length?, right-blocks?, stream-of, Filled, filled?, table-in, table-read}
@@ -20,9 +21,19 @@ use Rattle.codec.specs.StreamLaws.{decode-encode, encode-decode}
 use Rattle.codec.specs.Padding.{zeros, every-zero}
 use Rattle.codec.specs.FileOfStream.{spare, right-length-file, right-blocks-file, stream-of-file, length-stream-of-file, fewest-blocks, file-is-written}
 
+sorts-begin : (L : Layout) (S : Sig) → 1 ≤ length (encode-sorts L S)
+unfolding encode-sorts encode-numbers
+sorts-begin with-names S = omega arith
+sorts-begin without-names S = omega arith
+
 pub stream-begins : (T : Table) → 1 ≤ length (encode T)
-unfolding encode encode-sig encode-sorts encode-numbers
-stream-begins T = omega arith
+unfolding encode encode-sig
+stream-begins T =
+    let sorts = encode-sorts (T .layout) (T .sig) in
+    let declared = encode-list encode-func (T .sig .funcs) ++ encode-list encode-action (T .sig .acts) in
+    let n = length-append (sorts ++ declared) (encode-equations (T .equations) ++ encode-start (T .start)) in
+    let m = length-append sorts declared in
+    omega (arith, sorts-begin (T .layout) (T .sig))
 
 stream-short : (T : Table) → RightTable T → length (encode T) ≤ max-stream
 unfolding RightTable

@@ -70,6 +70,26 @@ module _ {A : Type 0} {w : A → List ℕ} {R : A → Type 0} {r : Reader ℕ A}
           let z : r xs ≡ found (g b) rest = cc in
           l .back xs (g b) rest z
 
+  -- the same values in another dress, where Q holds of the dress
+  pub view-law-where : {B : Type 0} (f : A → B) (g : B → A) (Q : B → Type 0) → ((b : B) → Q b → f (g b) ≡ b) → ((a : A) → R a → (g (f a) ≡ a) × Q (f a)) → Lawful w R r
+      → Lawful (λ b. w (g b)) (λ b. R (g b) × Q b) (view f r)
+  unfolding view bind
+  view-law-where {B} f g Q fg gf l = record { there = λ b rest h. rw (l .there (g b) rest (h .0), fg b (h .1)); back = from }
+    where
+      from : (xs : List ℕ) (b : B) (rest : List ℕ) → view f r xs ≡ found b rest → (xs ≡ w (g b) ++ rest) × (R (g b) × Q b)
+      from xs b rest e =
+          let (a, ys, e₁, e₂) = bound (r xs) _ b rest e in
+          let q : f a ≡ b = cc in
+          let k = gf a (l .back xs a ys e₁ .1) in
+          let q′ : a ≡ g b = sym (k .0) ∙ ap g q in
+          let z : r xs ≡ found (g b) rest = cc in
+          let (u, v) = l .back xs (g b) rest z in
+          (u, (v, subst Q q (k .1)))
+
+  -- the same condition in other words
+  pub right-law : {R′ : A → Type 0} → ((a : A) → R a → R′ a) → ((a : A) → R′ a → R a) → Lawful w R r → Lawful w R′ r
+  right-law to from l = record { there = λ a rest h. l .there a rest (from a h); back = λ xs a rest q. let (x, y) = l .back xs a rest q in (x, to a y) }
+
   -- another way to write the same bytes
   pub alike-law : (w′ : A → List ℕ) → ((a : A) → w a ≡ w′ a) → Lawful w R r → Lawful w′ R r
   alike-law w′ e l =

@@ -1,3 +1,4 @@
+pub mod Together
 pub mod Lawful
 pub mod Arguments
 pub mod TermLaws
@@ -10,5 +11,7 @@ pub mod Crc
 pub mod BlockLaws
 pub mod FileOfStream
 pub mod FileLaws
+pub mod Layouts
 pub mod FileBytes
+pub mod Older
 pub mod Examples

@@ -1,4 +1,5 @@
 -- What is written for a right table are bytes: each number is below its limit, and every limit is below 256.
+use mathlib.Core.Path.{ap}
 use mathlib.Core.List.{List, [], _∷_, _++_}
 use mathlib.Core.Logic.{inl, inr}
 use Prim.Native.Nat.{ℕ, _<_, _≤_}
@@ -10,15 +11,18 @@ use Rattle.pcrl.specs.Limits.{max-sorts, max-size, max-functions, max-actions, 
 use Rattle.pcrl.specs.Tests.{or, within, Between, Every, Each}
 use Rattle.pcrl.specs.Bytes.{letter, digit, name-byte}
 use Rattle.pcrl.specs.Reader.{all}
+use Rattle.pcrl.specs.Tree.{Name}
+use Rattle.pcrl.specs.Lists.{together}
 use Rattle.pcrl.specs.Sheet.{Data, val, var, app, Datas, nil, cons, Act, tau, action, Func, Action, Operation, operation, Sig, size, function-at, takes-of}
 use Rattle.pcrl.specs.Sorts.{Bool-sort, IsOperation, IsFunc, HasSort, HaveSorts, IsAct}
-use Rattle.pcrl.specs.Table.{Summand, Equation, Table, params-of, summands-of}
-use Rattle.pcrl.specs.Stream.{variable-code, codes, encode-data, encode-datas, encode-numbers, encode-list, encode-sorts, encode-func, encode-action, encode-sig, encode-act, encode-cond, encode-call, encode-summand, encode-equations, encode-start, encode}
-use Rattle.pcrl.specs.Right.{RightSizes, AreSorts, RightFunc, RightName, RightAction, RightSig, RightSorts, RightTerm, RightCond, RightCall, RightSummand, RightSummands, RightEquations, RightStart, RightTable}
+use Rattle.pcrl.specs.Table.{Summand, Equation, Layout, with-names, without-names, Table, params-of, summands-of}
+use Rattle.pcrl.specs.Stream.{variable-code, codes, encode-data, encode-datas, encode-numbers, encode-list, encode-sort, encode-sorts, encode-func, encode-action, encode-sig, encode-act, encode-cond, encode-call, encode-summand, encode-equations, encode-start, encode}
+use Rattle.pcrl.specs.Right.{RightSizes, AreSorts, RightFunc, RightName, RightAction, RightSig, RightSortName, RightNames, RightSorts, RightTerm, RightCond, RightCall, RightSummand, RightSummands, RightEquations, RightStart, RightTable}
 use Rattle.laws.specs.Tests.{both-pass, one-passes}
 use Rattle.laws.specs.Lists.{below-some}
 use Rattle.laws.specs.Every.{every-of-all, every-append, every-weaken}
 use Rattle.laws.specs.Each.{each-with, each-every}
+use Rattle.codec.specs.Together.{firsts-together, every-pair}
 use Rattle.codec.specs.StreamLaws.{small-size, apart}
 
 abbrev pub Byte : ℕ → Type 0
@@ -89,14 +93,24 @@ module _ (sizes : List ℕ) (ok : RightSizes sizes) where
   action-bytes a h =
       every-append Byte _ _ (bytes-numbers (a .name) (omega arith) (every-weaken _ Byte name-byte-is-byte (a .name) (h .0 .0 .1))) (bytes-numbers (a .takes) (omega arith) (sorts-bytes (a .takes) (h .1 .1)))
 
-sizes-bytes : (sizes : List ℕ) → RightSizes sizes → Every Byte (encode-sorts sizes)
-unfolding RightSizes encode-sorts
-sizes-bytes sizes h = bytes-numbers sizes (omega arith) (every-weaken (Between 1 max-size) Byte (λ n k. omega arith) sizes (h .0 .1))
+-- a size and a name
+sort-bytes : (x : ℕ × Name) → Between 1 max-size (x .0) × RightSortName (x .1) → Every Byte (encode-sort x)
+unfolding encode-sort RightSortName Every
+sort-bytes x h = (omega arith, bytes-numbers (x .1) (omega arith) (every-weaken _ Byte name-byte-is-byte (x .1) (h .1 .0 .1)))
 
-sig-bytes : (S : Sig) → RightSig S → Every Byte (encode-sig S)
+all-sorts-bytes : (L : Layout) (S : Sig) → RightSizes (S .sorts) → RightNames L S → Every Byte (encode-sorts L S)
+unfolding RightSizes RightNames encode-sorts Every
+all-sorts-bytes with-names S h k =
+    let l = together (S .sorts) (S .sort-names) in
+    let n = ap length (firsts-together (S .sorts) (S .sort-names) (k .0 .0)) in
+    let m = length-map l (λ (x : ℕ × Name). x .0) in
+    (omega arith, bytes-list encode-sort sort-bytes l (omega arith) (every-pair (Between 1 max-size) RightSortName (S .sorts) (S .sort-names) (h .0 .1) (k .0 .1)))
+all-sorts-bytes without-names S h k = bytes-numbers (S .sorts) (omega arith) (every-weaken (Between 1 max-size) Byte (λ n k. omega arith) (S .sorts) (h .0 .1))
+
+sig-bytes : (L : Layout) (S : Sig) → RightSig S → RightNames L S → Every Byte (encode-sig L S)
 unfolding encode-sig RightSig
-sig-bytes S h =
-    every-append Byte _ _ (sizes-bytes (S .sorts) (h .0))
+sig-bytes L S h k =
+    every-append Byte _ _ (all-sorts-bytes L S (h .0) k)
     (every-append Byte _ _ (bytes-list encode-func (func-bytes (S .sorts) (h .0)) (S .funcs) (omega arith) (h .1 .0 .1))
     (bytes-list encode-action (action-bytes (S .sorts) (h .0)) (S .acts) (omega arith) (h .1 .1 .0 .1)))
 
@@ -199,6 +213,6 @@ few-equations S es h = omega (arith, h .0 .0 .1, length-map es (λ (e : Equation
 pub stream-bytes : (T : Table) → RightTable T → Every (λ b. b < 256) (encode T)
 unfolding encode RightTable
 stream-bytes T h =
-    every-append Byte _ _ (sig-bytes (T .sig) (h .0 .0))
+    every-append Byte _ _ (sig-bytes (T .layout) (T .sig) (h .0 .0) (h .2))
     (every-append Byte _ _ (equations-bytes (T .sig) (h .0 .0) (T .equations) (h .0 .1 .0))
     (start-bytes (T .sig) (h .0 .0) (T .equations) (few-equations (T .sig) (T .equations) (h .0 .1 .0)) (T .start) (h .0 .1 .1)))

@@ -1,24 +1,30 @@
 -- The stream of a right table is read back, and what is read is the stream of a right table: part by part, each part by the law of its reader.
-use mathlib.Core.Path.{_≡_, refl, ap, subst}
+use mathlib.Core.Path.{_≡_, refl, sym, ap, subst, _∙_}
 use mathlib.Core.List.{List, [], _∷_, _++_}
+use mathlib.Core.Option.{Option, none, some}
 use Prim.Native.Nat.{ℕ, _≤_}
 use native.Mathlib.Omega.{arith}
 use native.Mathlib.Decide.{ℕ-discrete, decLt}
 use lib.Dec.{T}
-use lib.ListN.{length, getD, length-append}
+use lib.ListN.{length, getD, length-append, length-map}
+use Rattle.pcrl.specs.Text.{bytes}
 use Rattle.pcrl.specs.Limits.{max-name, max-sorts, max-size, max-functions, max-actions, max-arity, frame-width, max-equations, max-summands, max-variables, max-conditions, max-calls, max-stream}
-use Rattle.pcrl.specs.Tests.{Between, both?, between?, at-most?, below?, T?, distinct, Every, Each}
+use Rattle.pcrl.specs.Tests.{Between, both?, between?, at-most?, below?, T?, same?, distinct, Every, Each}
 use Rattle.pcrl.specs.Bytes.{name-byte}
-use Rattle.pcrl.specs.Reader.{found, Reader, keep, one, counted, each, all}
-use Rattle.pcrl.specs.Sheet.{Act, tau, action, Sig, size, takes-of}
+use Rattle.pcrl.specs.Reader.{Got, found, Reader, bind, keep, one, view, counted, each, all}
+use Rattle.pcrl.specs.Tree.{Name}
+use Rattle.pcrl.specs.Lists.{together, firsts, seconds}
+use Rattle.pcrl.specs.Letters.{older-names}
+use Rattle.pcrl.specs.Sheet.{Act, tau, action, Func, Action, Sig, size, takes-of}
 use Rattle.pcrl.specs.Sorts.{Bool-sort, IsAct, volume}
-use Rattle.pcrl.specs.Table.{Summand, Equation, Table, params-of, summands-of, summand-count}
-use Rattle.pcrl.specs.Stream.{variable-code, tau-code, encode-data, encode-numbers, encode-list, encode-sorts, encode-func, encode-action, encode-sig, encode-act, encode-cond, encode-call, encode-summand, encode-equations, encode-start, encode}
-use Rattle.pcrl.specs.Right.{RightSizes, RightFunc, free-name, RightName, RightAction, action-names, RightSig, RightSorts, RightTerm, RightCond, RightCall, RightSummand, RightSummands, RightEquations, RightStart, RightTable}
-use Rattle.pcrl.specs.Decode.{read-term, read-sorts, read-sizes, to-func, read-func, to-action, read-name, read-action, to-sig, read-sig, to-summand, zip, to-equations, read-act, read-cond, read-call, read-summand, read-summands, read-equations, read-start, to-table, decode}
+use Rattle.pcrl.specs.Table.{Summand, Equation, Layout, with-names, without-names, Table, params-of, summands-of, summand-count}
+use Rattle.pcrl.specs.Stream.{variable-code, tau-code, encode-data, encode-numbers, encode-list, names-code, encode-sort, encode-sorts, encode-func, encode-action, encode-sig, encode-act, encode-cond, encode-call, encode-summand, encode-equations, encode-start, encode}
+use Rattle.pcrl.specs.Right.{RightSizes, RightFunc, free-name, RightName, RightAction, action-names, RightSig, token-name, RightSortName, RightNames, RightSorts, RightTerm, RightCond, RightCall, RightSummand, RightSummands, RightEquations, RightStart, RightTable}
+use Rattle.pcrl.specs.Decode.{read-term, read-sorts, read-sizes, to-func, read-func, to-action, read-name, read-action, read-sort-name, read-sort, read-named-sorts, SortsRead, named-sorts, unnamed-sorts, read-all-sorts, layout-by, names-by, to-sig, read-sig, to-summand, zip, to-equations, read-act, read-cond, read-call, read-summand, read-summands, read-equations, read-start, to-table, decode}
 use Rattle.laws.specs.Every.{every-of-all, every-getD, every-weaken}
-use Rattle.laws.specs.Readers.{never, kept, keeps}
-use Rattle.codec.specs.Lawful.{Lawful, one-law, test-law, pair-law, view-law, alike-law, times-law, counted-law, each-law}
+use Rattle.laws.specs.Readers.{never, bound, kept, keeps}
+use Rattle.codec.specs.Together.{firsts-together, seconds-together, together-parts, length-parts, every-pair, every-first, every-second}
+use Rattle.codec.specs.Lawful.{Lawful, one-law, test-law, pair-law, view-law, view-law-where, right-law, alike-law, times-law, counted-law, each-law}
 use Rattle.codec.specs.TermLaws.{Apart, term-law}
 
 -- LISTS
@@ -41,8 +47,8 @@ list-law p l = counted-law p l
 
 -- THE SIGNATURE
 
-pub sizes-law : Lawful encode-sorts RightSizes read-sizes
-unfolding encode-sorts RightSizes read-sizes
+pub sizes-law : Lawful encode-numbers RightSizes read-sizes
+unfolding RightSizes read-sizes
 sizes-law = test-law (λ l. ℕ-discrete (getD l 0 0) 2) (numbers-law (between? 1 max-sorts) (between? 1 max-size))
 
 pub func-law : (sizes : List ℕ) → Lawful encode-func (RightFunc sizes) (read-func sizes)
@@ -63,13 +69,146 @@ action-law sizes =
     view-law to-action (λ a. (a .name, a .takes)) (λ b. refl) (λ a h. refl)
     (pair-law name-law (λ n h. numbers-law (at-most? max-arity) (below? (length sizes))))
 
-pub sig-law : Lawful encode-sig RightSig read-sig
-unfolding encode-sig RightSig read-sig to-sig
+-- #104: a size and a name
+pub sort-law : Lawful encode-sort (λ x. Between 1 max-size (x .0) × RightSortName (x .1)) read-sort
+unfolding encode-sort RightSortName read-sort read-sort-name
+sort-law = pair-law (one-law (between? 1 max-size)) (λ n h. test-law (λ n. T? (token-name n)) (numbers-law (between? 1 max-name) (λ b. T? (name-byte b))))
+
+-- sizes and names in pairs: they are right by themselves
+abbrev NamedSorts : List (ℕ × Name) → Type 0
+NamedSorts l =
+    (Between 1 max-sorts (length l) × Every (λ (x : ℕ × Name). Between 1 max-size (x .0) × RightSortName (x .1)) l)
+    × ((getD (firsts l) 0 0 ≡ 2) × (T (distinct (seconds l)) × (getD (seconds l) 0 [] ≡ bytes "Bool")))
+
+pub named-sorts-law : Lawful (encode-list encode-sort) NamedSorts read-named-sorts
+unfolding read-named-sorts
+named-sorts-law = test-law (λ l. both? (ℕ-discrete (getD (firsts l) 0 0) 2) (both? (T? (distinct (seconds l))) (same? (getD (seconds l) 0 []) (bytes "Bool")))) (list-law (between? 1 max-sorts) sort-law)
+
+-- what stands in the stream of the sorts, by their names where these are given, and what is asked of the names
+unfoldable pub written-sorts : List ℕ → Option (List Name) → List ℕ
+written-sorts sizes none = encode-numbers sizes
+written-sorts sizes (some names) = names-code ∷ encode-list encode-sort (together sizes names)
+
+unfoldable pub GivenNames : List ℕ → Option (List Name) → Type 0
+GivenNames sizes none = Unit {0}
+GivenNames sizes (some names) = ((length names ≡ length sizes) × Every RightSortName names) × (T (distinct names) × (getD names 0 [] ≡ bytes "Bool"))
+
+in-pairs : (sizes : List ℕ) (names : List Name) → RightSizes sizes → GivenNames sizes (some names) → NamedSorts (together sizes names)
+unfolding RightSizes GivenNames
+in-pairs sizes names h k =
+    let e = k .0 .0 in
+    let f = firsts-together sizes names e in
+    let g = seconds-together sizes names e in
+    let n = length-map (together sizes names) (λ (x : ℕ × Name). x .0) in
+    let m = ap length f in (
+      ((omega arith, omega arith), every-pair (Between 1 max-size) RightSortName sizes names (h .0 .1) (k .0 .1)),
+      (ap (λ (l : List ℕ). getD l 0 0) f ∙ h .1, (subst (λ (l : List Name). T (distinct l)) (sym g) (k .1 .0), ap (λ (l : List Name). getD l 0 []) g ∙ k .1 .1)),
+    )
+
+from-pairs : (l : List (ℕ × Name)) → NamedSorts l → RightSizes (firsts l) × GivenNames (firsts l) (some (seconds l))
+unfolding RightSizes GivenNames
+from-pairs l h =
+    let n = length-map l (λ (x : ℕ × Name). x .0) in (
+      (((omega arith, omega arith), every-first (Between 1 max-size) RightSortName l (h .0 .1)), h .1 .0),
+      ((length-parts l, every-second (Between 1 max-size) RightSortName l (h .0 .1)), h .1 .1),
+    )
+
+few-sorts : (sizes : List ℕ) → RightSizes sizes → length sizes ≤ max-sorts
+unfolding RightSizes
+few-sorts sizes h = h .0 .0 .1
+
+-- The first byte tells the layouts apart: there are at most 8 sorts.
+pub all-sorts-law : Lawful (λ (x : SortsRead). written-sorts (x .0) (x .1)) (λ x. RightSizes (x .0) × GivenNames (x .0) (x .1)) read-all-sorts
+unfolding read-all-sorts written-sorts GivenNames named-sorts unnamed-sorts view bind encode-numbers ℕ-discrete
+all-sorts-law = record { there = λ x rest h. to (x .0) (x .1) rest h; back = from }
+  where
+    to : (sizes : List ℕ) (o : Option (List Name)) (rest : List ℕ) → RightSizes sizes × GivenNames sizes o → read-all-sorts (written-sorts sizes o ++ rest) ≡ found (sizes, o) rest
+    to sizes none rest h = go (ℕ-discrete (length sizes) names-code)
+      where
+        go : (d : Dec (length sizes ≡ names-code))
+            → _≡_ {A = Got ℕ SortsRead} (elim d [ yes e ↦ view named-sorts read-named-sorts (sizes ++ rest) | no h ↦ view unnamed-sorts read-sizes (length sizes ∷ (sizes ++ rest)) ]) (found (sizes, none) rest)
+        go (yes e) = absurd (omega (arith, few-sorts sizes (h .0)))
+        go (no k) = rw (sizes-law .there sizes rest (h .0))
+    to sizes (some names) rest h =
+        rw (named-sorts-law .there (together sizes names) rest (in-pairs sizes names (h .0) (h .1)), firsts-together sizes names (h .1 .0 .0), seconds-together sizes names (h .1 .0 .0))
+
+    from : (xs : List ℕ) (x : SortsRead) (rest : List ℕ) → read-all-sorts xs ≡ found x rest → (xs ≡ written-sorts (x .0) (x .1) ++ rest) × (RightSizes (x .0) × GivenNames (x .0) (x .1))
+    from [] x rest e = never x rest e
+    from (b ∷ xs) x rest e = go (ℕ-discrete b names-code) e
+      where
+        go : (d : Dec (b ≡ names-code))
+            → _≡_ {A = Got ℕ SortsRead} (elim d [ yes e ↦ view named-sorts read-named-sorts xs | no h ↦ view unnamed-sorts read-sizes (b ∷ xs) ]) (found x rest)
+            → (b ∷ xs ≡ written-sorts (x .0) (x .1) ++ rest) × (RightSizes (x .0) × GivenNames (x .0) (x .1))
+        go (yes k) e =
+            let (l, ys, e₁, e₂) = bound (read-named-sorts xs) _ x rest e in
+            let (f, g) = named-sorts-law .back xs l ys e₁ in
+            let q : named-sorts l ≡ x = cc in
+            let z : ys ≡ rest = cc in
+            let t : b ∷ xs ≡ names-code ∷ (encode-list encode-sort (together (firsts l) (seconds l)) ++ rest) = rw (together-parts l) (cc) in
+            subst (λ (y : SortsRead). (b ∷ xs ≡ written-sorts (y .0) (y .1) ++ rest) × (RightSizes (y .0) × GivenNames (y .0) (y .1))) q (t, from-pairs l g)
+        go (no k) e =
+            let (l, ys, e₁, e₂) = bound (read-sizes (b ∷ xs)) _ x rest e in
+            let (f, g) = sizes-law .back (b ∷ xs) l ys e₁ in
+            let q : unnamed-sorts l ≡ x = cc in
+            let z : ys ≡ rest = cc in
+            let t : b ∷ xs ≡ encode-numbers l ++ rest = cc in
+            subst (λ (y : SortsRead). (b ∷ xs ≡ written-sorts (y .0) (y .1) ++ rest) × (RightSizes (y .0) × GivenNames (y .0) (y .1))) q (t, (g, tt))
+
+-- the names that stand in the stream
+names-in : Layout → Sig → Option (List Name)
+names-in with-names S = some (S .sort-names)
+names-in without-names S = none
+
+-- those that do not stand there are the printer's
+NamesKnown : Layout → Sig → Type 0
+NamesKnown with-names S = Unit {0}
+NamesKnown without-names S = S .sort-names ≡ older-names (action-names (S .acts)) (length (S .sorts))
+
+-- functions and actions
+DeclaredRight : Sig → Type 0
+DeclaredRight S =
+    ((length (S .funcs) ≤ max-functions) × Every (RightFunc (S .sorts)) (S .funcs))
+    × (((length (S .acts) ≤ max-actions) × Every (RightAction (S .sorts)) (S .acts)) × T (distinct (action-names (S .acts))))
+
+writes : (L : Layout) (S : Sig) → written-sorts (S .sorts) (names-in L S) ≡ encode-sorts L S
+unfolding written-sorts names-in encode-sorts
+writes with-names S = refl
+writes without-names S = refl
+
+right-to : (L : Layout) (S : Sig) → ((RightSizes (S .sorts) × GivenNames (S .sorts) (names-in L S)) × DeclaredRight S) × NamesKnown L S → RightSig S × RightNames L S
+unfolding RightSig RightNames DeclaredRight GivenNames names-in NamesKnown
+right-to with-names S h = ((h .0 .0 .0, h .0 .1), h .0 .0 .1)
+right-to without-names S h = ((h .0 .0 .0, h .0 .1), h .1)
+
+right-from : (L : Layout) (S : Sig) → RightSig S × RightNames L S → ((RightSizes (S .sorts) × GivenNames (S .sorts) (names-in L S)) × DeclaredRight S) × NamesKnown L S
+unfolding RightSig RightNames DeclaredRight GivenNames names-in NamesKnown
+right-from with-names S h = (((h .0 .0, h .1), h .0 .1), tt)
+right-from without-names S h = (((h .0 .0, tt), h .0 .1), h .1)
+
+-- what is read of a signature, taken apart
+abbrev parts-in : Layout × Sig → SortsRead × (List Func × List Action)
+parts-in x = ((x .1 .sorts, names-in (x .0) (x .1)), (x .1 .funcs, x .1 .acts))
+
+sig-again : (L : Layout) (S : Sig) → NamesKnown L S → to-sig (parts-in (L, S)) ≡ (L, S)
+unfolding to-sig layout-by names-by names-in NamesKnown
+sig-again with-names S h = refl
+sig-again without-names S h = ap (λ (l : List Name). (without-names, record { sorts = S .sorts; sort-names = l; funcs = S .funcs; acts = S .acts })) (sym h)
+
+parts-again : (sizes : List ℕ) (o : Option (List Name)) (fs : List Func) (acts : List Action)
+    → (parts-in (to-sig ((sizes, o), (fs, acts))) ≡ ((sizes, o), (fs, acts))) × NamesKnown (to-sig ((sizes, o), (fs, acts)) .0) (to-sig ((sizes, o), (fs, acts)) .1)
+unfolding to-sig layout-by names-by names-in NamesKnown
+parts-again sizes none fs acts = (refl, refl)
+parts-again sizes (some names) fs acts = (refl, tt)
+
+pub sig-law : Lawful (λ x. encode-sig (x .0) (x .1)) (λ x. RightSig (x .1) × RightNames (x .0) (x .1)) read-sig
+unfolding encode-sig read-sig DeclaredRight
 sig-law =
-    view-law to-sig (λ S. (S .sorts, (S .funcs, S .acts))) (λ b. refl) (λ a h. refl)
-    (pair-law sizes-law (λ l h.
-    pair-law (list-law (at-most? max-functions) (func-law l)) (λ fs k.
-    test-law (λ acts. T? (distinct (action-names acts))) (list-law (at-most? max-actions) (action-law l)))))
+    alike-law _ (λ x. ap (λ (l : List ℕ). l ++ (encode-list encode-func (x .1 .funcs) ++ encode-list encode-action (x .1 .acts))) (writes (x .0) (x .1)))
+    (right-law (λ x h. right-to (x .0) (x .1) h) (λ x h. right-from (x .0) (x .1) h)
+    (view-law-where to-sig parts-in (λ x. NamesKnown (x .0) (x .1)) (λ x h. sig-again (x .0) (x .1) h) (λ a h. parts-again (a .0 .0) (a .0 .1) (a .1 .0) (a .1 .1))
+    (pair-law all-sorts-law (λ x h.
+    pair-law (list-law (at-most? max-functions) (func-law (x .0))) (λ fs k.
+    test-law (λ acts. T? (distinct (action-names acts))) (list-law (at-most? max-actions) (action-law (x .0))))))))
 
 -- WHAT A RIGHT SIGNATURE HAS
 
@@ -174,9 +313,10 @@ module _ (S : Sig) (ok : RightSig S) where
 pub table-law : Lawful encode RightTable decode
 unfolding encode RightTable decode to-table
 table-law =
-    test-law (λ T. both? (at-most? max-summands (summand-count (T .equations))) (at-most? max-stream (length (encode T))))
-    (view-law to-table (λ T. (T .sig, (T .equations, T .start))) (λ b. refl) (λ a h. refl)
-    (pair-law sig-law (λ S h. pair-law (equations-law S h) (λ es k. start-law S h es))))
+    right-law (λ T h. ((h .0 .0 .0, h .0 .1), h .1, h .0 .0 .1)) (λ T h. (((h .0 .0, h .2), h .0 .1), h .1))
+    (test-law (λ T. both? (at-most? max-summands (summand-count (T .equations))) (at-most? max-stream (length (encode T))))
+    (view-law to-table (λ T. ((T .layout, T .sig), (T .equations, T .start))) (λ b. refl) (λ a h. refl)
+    (pair-law sig-law (λ x h. pair-law (equations-law (x .1) (h .0)) (λ es k. start-law (x .1) (h .0) es)))))
 
 -- A right table's stream is read as that table, whatever stands behind it.
 pub decode-encode : (T : Table) (rest : List ℕ) → RightTable T → decode (encode T ++ rest) ≡ found T rest

@@ -1,7 +1,7 @@
 -- A function that stands in the stream: its sorts, its result and its values; how many values it has.
-use mathlib.Core.Path.{_≡_, refl, sym, ap, ap₂, subst, _∙_}
+use mathlib.Core.Path.{_≡_, sym, ap, ap₂, subst, _∙_}
 use mathlib.Core.List.{List, [], _∷_, _++_}
-use Prim.Native.Nat.{ℕ, zero, suc, _+_, _-_, _*_, _≤_, _<_, min}
+use Prim.Native.Nat.{ℕ, _+_, _-_, _*_, _≤_, _<_, min}
 use native.Mathlib.Omega.{arith}
 use native.Mathlib.Decide.{decLe}
 use lib.ListN.{length, getD, take, drop, length-append, length-drop}
@@ -11,8 +11,8 @@ use Rattle.pcrl.specs.Sheet.{Func, Sig, size}
 use Rattle.pcrl.specs.Sorts.{volume}
 use Rattle.pcrl.specs.Stream.{encode-numbers, encode-func}
 use Rattle.pcrl.specs.Right.{RightFunc}
-use Rattle.terms.specs.Stands.{Stands, list-at}
-use Rattle.terms.proofs.Places.{behind, before, list-is, list-end, arity-at, gives-at}
+use Rattle.terms.specs.Stands.{Stands, list-at, size-in}
+use Rattle.terms.proofs.Places.{behind, before, list-is, arity-at, gives-at}
 use Rattle.evaluation.specs.Known.{KnownTerms}
 use Rattle.declarations.proofs.Chains.{empty-of}
 
@@ -53,17 +53,17 @@ module _ (s : List ℕ) (p : ℕ) (g : Func) (h : Stands s p (encode-func g)) wh
 
 module _ (S : Sig) (s funcs : List ℕ) (known : KnownTerms S s funcs) (g : Func) (right : RightFunc (S .sorts) g) where
   -- the size of a sort that is there
-  size-there : (D : ℕ) → D < length (S .sorts) → getD s (1 + D) 0 ≡ getD (S .sorts) D 0
+  size-there : (D : ℕ) → D < length (S .sorts) → size-in funcs D ≡ getD (S .sorts) D 0
   unfolding size
   size-there D h = known .size-at D h
 
-  by-takes : (l : List ℕ) → Every (λ D. D < length (S .sorts)) l → length l ≡ 1 → getD s (1 + getD l 0 0) 0 ≡ volume (S .sorts) l
+  by-takes : (l : List ℕ) → Every (λ D. D < length (S .sorts)) l → length l ≡ 1 → size-in funcs (getD l 0 0) ≡ volume (S .sorts) l
   unfolding volume Every
   by-takes [] e h = absurd (omega arith)
   by-takes (D ∷ []) e h = let z = size-there D (e .0) in omega arith
   by-takes (D ∷ E ∷ l) e h = absurd (omega arith)
 
-  by-two : (l : List ℕ) → Every (λ D. D < length (S .sorts)) l → length l ≡ 2 → getD s (1 + getD l 0 0) 0 * getD s (1 + getD l 1 0) 0 ≡ volume (S .sorts) l
+  by-two : (l : List ℕ) → Every (λ D. D < length (S .sorts)) l → length l ≡ 2 → size-in funcs (getD l 0 0) * size-in funcs (getD l 1 0) ≡ volume (S .sorts) l
   unfolding volume Every
   by-two [] e h = absurd (omega arith)
   by-two (D ∷ []) e h = absurd (omega arith)
@@ -72,14 +72,14 @@ module _ (S : Sig) (s funcs : List ℕ) (known : KnownTerms S s funcs) (g : Func
       ap₂ (λ (a b : ℕ). a * b) (size-there D (e .0)) (size-there E (e .1 .0)) ∙ ap (λ (b : ℕ). getD (S .sorts) D 0 * b) (sym one)
   by-two (D ∷ E ∷ F ∷ l) e h = absurd (omega arith)
 
-  pub one-sort : (l : List ℕ) → l ≡ g .takes → length l < 2 → getD s (1 + getD l 0 0) 0 ≡ length (g .values)
+  pub one-sort : (l : List ℕ) → l ≡ g .takes → length l < 2 → size-in funcs (getD l 0 0) ≡ length (g .values)
   unfolding RightFunc
   one-sort l e h =
       let n = ap length e in
       let few = right .0 .0 in
       by-takes l (subst (Every (λ D. D < length (S .sorts))) (sym e) (right .0 .1)) (omega arith) ∙ ap (volume (S .sorts)) e ∙ sym (right .1 .1 .0)
 
-  pub two-sorts : (l : List ℕ) → l ≡ g .takes → 2 ≤ length l → getD s (1 + getD l 0 0) 0 * getD s (1 + getD l 1 0) 0 ≡ length (g .values)
+  pub two-sorts : (l : List ℕ) → l ≡ g .takes → 2 ≤ length l → size-in funcs (getD l 0 0) * size-in funcs (getD l 1 0) ≡ length (g .values)
   unfolding RightFunc
   two-sorts l e h =
       let n = ap length e in

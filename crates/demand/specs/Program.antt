@@ -8,27 +8,28 @@ use native.Mathlib.Decide.{ℕ-discrete}
 use lib.ListN.{length, take, drop}
 use Rattle.pcrl.specs.Limits.{frame-width, stack-limit}
 use Rattle.pcrl.specs.Tests.{Each}
-use Rattle.pcrl.specs.Result.{Result, accepted, question, after, refusal}
+use Rattle.pcrl.specs.Result.{Result, refused, accepted, question, after, refusal}
 use Rattle.pcrl.specs.Table.{Table}
 use Rattle.pcrl.specs.Heads.{table-of}
 use Rattle.pcrl.specs.Stack as pcrl
 use Rattle.pcrl.specs.Stack.{RightFrames}
-use Rattle.pcrl.specs.Ask.{Answer}
+use Rattle.pcrl.specs.Ask.{Answer, ask}
 use Rattle.pcrl.specs.Equality.{Equal}
 use Rattle.pcrl.specs.States.{State, RightState, stands-for}
-use Rattle.pcrl.specs.Answers.{file-made, table-checked, Reply, reply, start-stack, started-in, started, asked, asked-all}
+use Rattle.pcrl.specs.Answers.{file-made, table-checked, Reply, reply, start-stack, started-in, started, stack-read, one-answer, asked-in, asked, asked-all}
 use Rattle.codec.specs.FileLaws.{written-read}
 use Rattle.theory.specs.Lending.{frames-right}
 use Rattle.theory.specs.StepRight.{start-stack-right}
 use Rattle.theory.specs.Written.{written-for}
-use Rattle.theory.specs.InTurn.{as-answer}
+use Rattle.theory.specs.InTurn.{as-answer, alone}
 use Rattle.theory.specs.Calls.{CallIs, Calls, no-call, call-then, call-of-asked}
 use Rattle.theory.specs.Demand.{AcceptedSheet, states, Answered, first-sentence-holds, last-sentence-holds, at-once-holds}
 use Rattle.asking.specs.Encoding.{answer-after, answers-after}
-use Rattle.stepping.specs.Promises.{Replied, put-questions}
+use Rattle.stepping.specs.Promises.{put-questions}
 use Rattle.frames.specs.declared.Frame.{Frame}
 use Rattle.frames.specs.Lists.{frames-of}
 use Rattle.wizbratel.specs.Tables.{MakePromise}
+use Rattle.wizbratel.specs.Promises.{StartPromise, AskPromise, AskAllPromise}
 use Rattle.wizbratel.specs.Made.{file-written}
 
 -- AN ACCEPTED SHEET: `wizbratel_make_table` answered 0 for it, and kept its promise.
@@ -73,7 +74,7 @@ unfolding started-in after
 started-by m fs d =
     ap (λ (x : Result Table). reply frame-width stack-limit fs d (after x (λ T. question 15 (ℕ-discrete (length fs) stack-limit) (λ _. accepted (tt, start-stack frame-width T))))) (ap table-checked (blocks-are m) ∙ sheet-of m .checked)
 
-pub started-right : (m : Made) (fs : List Frame) (d r : ℕ) (fs′ : List Frame) (d′ : ℕ) → Replied (started (blocks m) (frames-of fs) d) r (frames-of fs′) d′ → r ≡ 0 → RightFrames frame-width stack-limit (sheet-of m .table) (frames-of fs′) d′
+pub started-right : (m : Made) (fs : List Frame) (d r : ℕ) (fs′ : List Frame) (d′ : ℕ) → StartPromise (blocks m) fs d r fs′ d′ → r ≡ 0 → RightFrames frame-width stack-limit (sheet-of m .table) (frames-of fs′) d′
 unfolding reply question refusal start-stack
 started-right m fs d r fs′ d′ p z = go (ℕ-discrete (length (frames-of fs)) stack-limit) (started-by m (frames-of fs) d)
   where
@@ -93,14 +94,32 @@ pub record Call : Type 0 where
 
 -- its promise, on a file and the frames and depth lent to it
 abbrev pub Kept : List ℕ → List Frame → ℕ → ℕ → Call → List Frame → ℕ → Type 0
-Kept file fs d k c fs′ d′ = (Replied (asked file (frames-of fs) d k) (c .r) (frames-of fs′) d′) × (c .after ≡ answer-after (asked file (frames-of fs) d k .answer) (c .before))
+Kept file fs d k c fs′ d′ = AskPromise file fs d k (c .before) (c .r) fs′ d′ (c .after)
 
--- what a caller reads off it: the answer a, "those answered ended, none or 16 included"
+-- What a caller reads off it, "those answered ended, none or 16 included": for 16 the number alone, and the bytes as they were; for every
+-- other answer 0, and that answer's bytes, which no other answer has (asking, answer-tells).
 pub record Tells (c : Call) (a : Answer) : Type 0 where
-  pub result : Result Answer
-  pub number : c .r ≡ refusal result
-  pub bytes : c .after ≡ answer-after result (c .before)
-  pub answer : a ≡ as-answer result
+  pub number : c .r ≡ refusal (alone a)
+  pub bytes : c .after ≡ answer-after (alone a) (c .before)
+
+-- "A refusal returns its number alone."
+asked-alone : (file : List ℕ) (fs : List pcrl.Frame) (d k : ℕ) → asked file fs d k .answer ≡ alone (as-answer (asked file fs d k .answer))
+unfolding asked-in reply after one-answer alone as-answer
+asked-alone file fs d k = go (stack-read frame-width stack-limit file fs d)
+  where
+    one : (a : Answer) (s : pcrl.Stack) → reply frame-width stack-limit fs d (one-answer frame-width stack-limit (record { answer = a; stack = s })) .answer
+        ≡ alone (as-answer (reply frame-width stack-limit fs d (one-answer frame-width stack-limit (record { answer = a; stack = s })) .answer))
+    one Answer.ended s = refl
+    one Answer.nothing s = refl
+    one (Answer.stepped l n) s = refl
+    one (Answer.refused n) s = refl
+
+    answered : Result (Table × pcrl.Stack) → Result Answer
+    answered x = reply frame-width stack-limit fs d (after x (λ y. one-answer frame-width stack-limit (ask frame-width stack-limit (y .0) k (y .1)))) .answer
+
+    go : (x : Result (Table × pcrl.Stack)) → answered x ≡ alone (as-answer (answered x))
+    go (refused n) = refl
+    go (accepted y) = one (ask frame-width stack-limit (y .0) k (y .1) .answer) (ask frame-width stack-limit (y .0) k (y .1) .stack)
 
 -- "put in turn to the stepping program": each call on the frames and depth that the last one left
 pub data Asking (file : List ℕ) : List Frame → ℕ → List ℕ → List Call → List Frame → ℕ → Type 0 where
@@ -113,9 +132,10 @@ unfolding Each
 calls file T checked no-question = ([], tt, no-call)
 calls file T checked (question-then {fs} {fs′} {d = d} {d′} {k = k} {c} p more) =
     let (l, each, rest) = calls file T checked more in
-    let R = asked file (frames-of fs) d k in (
+    let R = asked file (frames-of fs) d k in
+    let is = asked-alone file (frames-of fs) d k in (
       as-answer (R .answer) ∷ l,
-      (record { result = R .answer; number = p .0 .answer; bytes = p .1; answer = refl }, each),
+      (record { number = p .0 .answer ∙ ap refusal is; bytes = p .1 ∙ ap (λ (x : Result Answer). answer-after x (c .before)) is }, each),
       call-then
           (λ right. subst₂ (λ (gs : List pcrl.Frame) (n : ℕ). CallIs frame-width stack-limit T (frames-of fs) d k (as-answer (R .answer)) gs n) (sym (p .0 .frames)) (sym (p .0 .depth)) (call-of-asked frame-width stack-limit T file checked (frames-of fs) d k R refl right))
           rest,
@@ -137,11 +157,10 @@ steps-in-turn m fs d right ks cs fs′ d′ asking =
 -- The same, the whole list by one call of `wizbratel_ask_all`, as many questions as there is room for answers.
 pub steps-at-once : (m : Made) (fs : List Frame) (d : ℕ) → RightFrames frame-width stack-limit (sheet-of m .table) (frames-of fs) d
     -- its promise, on the blocks written
-    → (ks out : List ℕ) (r : ℕ) (fs′ : List Frame) (d′ : ℕ) (out′ : List ℕ) → Replied (asked-all (blocks m) (frames-of fs) d (put-questions ks out)) r (frames-of fs′) d′
-    → out′ ≡ answers-after (asked-all (blocks m) (frames-of fs) d (put-questions ks out) .answer) out
+    → (ks out : List ℕ) (r : ℕ) (fs′ : List Frame) (d′ : ℕ) (out′ : List ℕ) → AskAllPromise (blocks m) fs d ks out r fs′ d′ out′
     → (answers : List Answer) × (r ≡ 0) × (out′ ≡ answers-after (accepted answers) out) × Answered (sheet-of m) (frames-of fs) d (put-questions ks out) answers (frames-of fs′) d′
 unfolding refusal
-steps-at-once m fs d right ks out r fs′ d′ out′ p w =
+steps-at-once m fs d right ks out r fs′ d′ out′ (p, w) =
     let A = sheet-of m in
     let (answers, gs, n, e, all) = at-once-holds A (put-questions ks out) (frames-of fs) d right in
     let q : asked-all (blocks m) (frames-of fs) d (put-questions ks out) ≡ record { answer = accepted answers; frames = gs; depth = n } = ap (λ (f : List ℕ). asked-all f (frames-of fs) d (put-questions ks out)) (blocks-are m) ∙ e in (

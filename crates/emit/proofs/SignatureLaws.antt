@@ -1,12 +1,14 @@
 -- What is put for rows, sorts, functions, names and actions, part by part.
 use mathlib.Core.Path.{_≡_, refl, sym, ap, ap₂, subst, _∙_}
 use mathlib.Core.List.{List, [], _∷_, _++_}
-use Prim.Native.Nat.{ℕ, _+_, _-_, _*_, _%_, _≤_, _<_}
+use Prim.Native.Nat.{ℕ, zero, suc, _+_, _-_, _*_, _%_, _≤_, _<_}
 use native.Mathlib.Omega.{arith}
 use lib.ListN.{length, take, drop, getD}
+use Rattle.pcrl.specs.Text.{bytes}
 use Rattle.pcrl.specs.Bytes.{name-byte}
 use Rattle.pcrl.specs.Tokens.{run, front}
 use Rattle.pcrl.specs.Tree.{Name}
+use Rattle.pcrl.specs.Lists.{tabulate}
 use Rattle.lexer.specs.Cells.{first-name}
 use Rattle.lexer.specs.Classes.{in-classes}
 use Rattle.lexer.proofs.Runs.{run-le, run-same, length-front, is-name-byte}
@@ -14,7 +16,7 @@ use Rattle.nodes.specs.Layout.{byte-limit}
 use Rattle.nodes.specs.Held.{func-width, act-width}
 use Rattle.names.specs.NameCells.{name-at}
 use Rattle.emit.specs.Putting.{Puts}
-use Rattle.emit.specs.Bytes.{part, row-bytes, sorts-bytes, func-bytes, name-bytes, action-bytes}
+use Rattle.emit.specs.Bytes.{part, row-bytes, sort-name-at, sort-bytes, func-bytes, name-bytes, action-bytes}
 use Rattle.emit.proofs.Putting.{puts-then, puts-as}
 use Rattle.emit.proofs.Copied.{part-taken}
 
@@ -24,9 +26,21 @@ module _ (w : ℕ) (o : List ℕ) (r : ℕ) (q : List ℕ) where
   row-put row p n e h = puts-as w o r q (ap (λ (k : ℕ). part row p (k + 1)) e) h
 
   module _ (v : ℕ) (p : List ℕ) where
-    pub sorts-put : (sizes : List ℕ) (n b : ℕ) → b ≡ n % byte-limit → Puts (b ∷ []) w o v p → Puts (part sizes 0 n) v p r q → Puts (sorts-bytes sizes n) w o r q
-    unfolding sorts-bytes
-    sorts-put sizes n b e h k = puts-as w o r q (ap (λ (x : ℕ). (x ∷ []) ++ part sizes 0 n) e) (puts-then h k)
+    -- a sort's size, and behind it the name
+    sort-put : (s sizes names : List ℕ) (D b : ℕ) → b ≡ getD sizes D 0 → Puts (b ∷ []) w o v p → Puts (name-bytes (sort-name-at s names D)) v p r q → Puts (sort-bytes s sizes names D) w o r q
+    unfolding sort-bytes
+    sort-put s sizes names D b e h k = puts-as w o r q (ap (λ (x : ℕ). (x ∷ []) ++ name-bytes (sort-name-at s names D)) e) (puts-then h k)
+
+    pub bool-put : (s sizes names : List ℕ) (D b : ℕ) → D ≡ 0 → b ≡ getD sizes D 0 → Puts (b ∷ []) w o v p → Puts (row-bytes (4 ∷ bytes "Bool") 0) v p r q → Puts (sort-bytes s sizes names D) w o r q
+    unfolding sort-name-at name-bytes row-bytes part tabulate
+    bool-put s sizes names D b z e h k = sort-put s sizes names D b e h (subst (λ (x : ℕ). Puts (name-bytes (sort-name-at s names x)) v p r q) (sym z) k)
+
+    pub other-put : (s sizes names : List ℕ) (D b c : ℕ) → 0 < D → b ≡ getD sizes D 0 → c ≡ getD names (D - 1) 0 → Puts (b ∷ []) w o v p → Puts (name-bytes (name-at s c)) v p r q → Puts (sort-bytes s sizes names D) w o r q
+    unfolding sort-name-at
+    other-put s sizes names zero b c l e f h k = absurd (omega arith)
+    other-put s sizes names (suc D) b c l e f h k =
+        let z : suc D - 1 ≡ D = omega arith in
+        sort-put s sizes names (suc D) b e h (subst (λ (x : ℕ). Puts (name-bytes (name-at s x)) v p r q) (f ∙ ap (λ (x : ℕ). getD names x 0) z) k)
 
     pub func-put : (funcs values places : List ℕ) (i b a m : ℕ) (u : ℕ) (t : List ℕ) → b ≡ getD funcs (func-width * i + 3) 0 → a ≡ getD places i 0 → m ≡ getD places (i + 1) 0 - getD places i 0
         → Puts (row-bytes funcs (func-width * i)) w o v p → Puts (b ∷ []) v p u t → Puts (part values a m) u t r q → Puts (func-bytes funcs values places i) w o r q

@@ -4,23 +4,27 @@ use mathlib.Core.List.{List, [], _∷_, _++_}
 use Prim.Native.Nat.{ℕ, zero, suc, _+_, _-_, _*_, _%_, _≤_, _<_}
 use native.Mathlib.Nat.{mod-eq-of-lt}
 use native.Mathlib.Omega.{arith}
-use lib.ListN.{length, take, drop, getD, length-append, List·getD-append}
+use lib.ListN.{length, take, drop, getD, length-append, length-map, List·getD-append}
 use lib.Seq.{getD-drop}
 use Rattle.pcrl.specs.Limits.{max-name}
 use Rattle.pcrl.specs.Tests.{Every}
 use Rattle.pcrl.specs.Reader.{all}
-use Rattle.pcrl.specs.Lists.{tabulate}
+use Rattle.pcrl.specs.Tree.{Name}
+use Rattle.pcrl.specs.Lists.{tabulate, together}
 use Rattle.pcrl.specs.Blocks.{joined}
 use Rattle.pcrl.specs.Sheet.{Func, Action, Sig, no-func, no-action, func}
-use Rattle.pcrl.specs.Stream.{encode-numbers, encode-list, encode-sorts, encode-func, encode-action, encode-sig}
+use Rattle.pcrl.specs.Table.{with-names}
+use Rattle.pcrl.specs.Stream.{names-code, encode-numbers, encode-list, encode-sort, encode-sorts, encode-func, encode-action, encode-sig}
+use Rattle.pcrl.specs.Right.{RightSortName, RightNames}
 use Rattle.laws.specs.Every.{every-at}
 use Rattle.codec.specs.Cut.{joined-zero, joined-suc, joined-alike}
+use Rattle.codec.specs.Together.{firsts-together}
 use Rattle.nodes.specs.declared.Outline.{Outline}
 use Rattle.nodes.specs.Layout.{byte-limit}
 use Rattle.nodes.specs.Held.{func-width, act-width, SortsAt, FuncAt, ActAt, HeldSig}
 use Rattle.names.specs.NameCells.{name-at}
 use Rattle.emit.specs.Putting.{Puts}
-use Rattle.emit.specs.Bytes.{part, row-bytes, sorts-bytes, func-bytes, name-bytes, action-bytes, counted-bytes, NamesAt, ShortNames, PutsSig}
+use Rattle.emit.specs.Bytes.{part, row-bytes, sort-name-at, sort-bytes, sorts-bytes, func-bytes, name-bytes, action-bytes, counted-bytes, NamesAt, ShortNames, SortNamesAt, PutsSig}
 use Rattle.emit.proofs.Putting.{puts-then, puts-as}
 use Rattle.emit.proofs.Copied.{part-is}
 
@@ -45,11 +49,41 @@ unfolding counted-bytes encode-list
 counted-is w d l n f e h k =
     ap₂ (λ (x : ℕ) (m : List ℕ). (x ∷ []) ++ m) (mod-eq-of-lt h ∙ e) (joined-alike n f (λ i. w (getD l i d)) k ∙ ap (λ (m : ℕ). joined m (λ i. w (getD l i d))) e ∙ joined-all w d l)
 
-sorts-is : (sizes l : List ℕ) (n : ℕ) → n ≡ length l → n < byte-limit → ((D : ℕ) → D < n → getD sizes D 0 ≡ getD l D 0) → sorts-bytes sizes n ≡ encode-sorts l
-unfolding sorts-bytes encode-sorts encode-numbers
-sorts-is sizes l n e h k =
-    ap₂ (λ (x : ℕ) (m : List ℕ). (x ∷ []) ++ m) (mod-eq-of-lt h ∙ e)
-    (part-is sizes 0 n l (sym e) (λ i m. let z : 0 + i ≡ i = omega arith in ap (λ (x : ℕ). getD sizes x 0) z ∙ k i m))
+-- two lists side by side
+length-together : {A B : Type 0} (as′ : List A) (bs : List B) → length bs ≡ length as′ → length (together as′ bs) ≡ length as′
+length-together {A} {B} as′ bs e = sym (length-map (together as′ bs) (λ (x : A × B). x .0)) ∙ ap length (firsts-together as′ bs e)
+
+getD-together : {A B : Type 0} (a : A) (b : B) (as′ : List A) (bs : List B) → length bs ≡ length as′ → (i : ℕ) → i < length as′ → getD (together as′ bs) i (a, b) ≡ (getD as′ i a, getD bs i b)
+unfolding together
+getD-together a b [] bs e i h = absurd (omega arith)
+getD-together a b (x ∷ as′) [] e i h = absurd (omega arith)
+getD-together a b (x ∷ as′) (y ∷ bs) e zero h = refl
+getD-together a b (x ∷ as′) (y ∷ bs) e (suc i) h = getD-together a b as′ bs (omega arith) i (omega arith)
+
+name-is : (x y : Name) → x ≡ y → length y ≤ max-name → name-bytes x ≡ encode-numbers y
+unfolding name-bytes encode-numbers
+name-is x y e h = ap name-bytes e ∙ ap (λ (k : ℕ). (k ∷ []) ++ y) (mod-eq-of-lt (omega arith))
+
+sort-name-is : (S : Sig) (s names : List ℕ) → SortNamesAt s names (S .sort-names) → RightNames with-names S → (D : ℕ) → D < length (S .sort-names) → sort-name-at s names D ≡ getD (S .sort-names) D []
+unfolding sort-name-at RightNames
+sort-name-is S s names named right zero h = sym (right .1 .1)
+sort-name-is S s names named right (suc D) h = named D h
+
+short-name : (n : Name) → RightSortName n → length n ≤ max-name
+unfolding RightSortName
+short-name n h = h .0 .0 .1
+
+sorts-is : (S : Sig) (s sizes names : List ℕ) (n : ℕ) → n ≡ length (S .sorts) → n < byte-limit → ((D : ℕ) → D < n → getD sizes D 0 ≡ getD (S .sorts) D 0) → SortNamesAt s names (S .sort-names) → RightNames with-names S
+    → sorts-bytes s sizes names n ≡ encode-sorts with-names S
+unfolding sorts-bytes sort-bytes encode-sorts encode-sort RightNames
+sorts-is S s sizes names n e h k named right =
+    let many = right .0 .0 in
+    let each : (D : ℕ) → D < n → sort-bytes s sizes names D ≡ encode-sort (getD (together (S .sorts) (S .sort-names)) D (0, [])) =
+    λ D m. let there : D < length (S .sort-names) = omega arith in
+    ap₂ (λ (x : ℕ) (l : List ℕ). (x ∷ []) ++ l) (k D m)
+    (name-is (sort-name-at s names D) (getD (S .sort-names) D []) (sort-name-is S s names named right D there) (short-name _ (every-at RightSortName (S .sort-names) [] D (right .0 .1) there)))
+    ∙ sym (ap encode-sort (getD-together 0 [] (S .sorts) (S .sort-names) many D (omega arith))) in
+    ap (_∷_ names-code) (counted-is encode-sort (0, []) (together (S .sorts) (S .sort-names)) n (sort-bytes s sizes names) (e ∙ sym (length-together (S .sorts) (S .sort-names) many)) h each)
 
 func-is : (g : Func) (funcs values places : List ℕ) (i : ℕ) → FuncAt g funcs values places i → func-bytes funcs values places i ≡ encode-func g
 unfolding func-bytes encode-func
@@ -64,23 +98,20 @@ func-is g funcs values places i h =
     (ap₂ (λ (x : ℕ) (l : List ℕ). (x ∷ []) ++ l) (h .gives) (ap (part values (getD places i 0)) many ∙ vals))
 
 action-is : (a : Action) (s acts names : List ℕ) (b i : ℕ) → ActAt a acts i → name-at s (getD names (b + i) 0) ≡ a .name → length (a .name) ≤ max-name → action-bytes s acts names b i ≡ encode-action a
-unfolding action-bytes name-bytes encode-action encode-numbers
-action-is a s acts names b i h e k =
-    ap₂ (λ (x y : List ℕ). x ++ y)
-    (ap name-bytes e ∙ ap (λ (x : ℕ). (x ∷ []) ++ a .name) (mod-eq-of-lt (omega arith)))
-    (row-is (a .takes) acts (act-width * i) (h .takes))
+unfolding action-bytes encode-action
+action-is a s acts names b i h e k = ap₂ (λ (x y : List ℕ). x ++ y) (name-is _ (a .name) e k) (row-is (a .takes) acts (act-width * i) (h .takes))
 
 -- THE SIGNATURE
 pub signature-put : (s sizes funcs values places acts names : List ℕ) (b : ℕ) (n : Outline) (w : ℕ) (o : List ℕ) (x : ℕ) (p : List ℕ) (y : ℕ) (q : List ℕ) (r : ℕ) (t : List ℕ)
-    → Puts (sorts-bytes sizes (n .sorts)) w o x p → Puts (counted-bytes (n .funcs) (func-bytes funcs values places)) x p y q
+    → Puts (sorts-bytes s sizes names (n .sorts)) w o x p → Puts (counted-bytes (n .funcs) (func-bytes funcs values places)) x p y q
     → Puts (counted-bytes (n .acts) (action-bytes s acts names b)) y q r t → PutsSig s sizes funcs values places acts names b n w o r t
 unfolding encode-sig func
-signature-put s sizes funcs values places acts names b n w o x p y q r t f g h S held named short =
+signature-put s sizes funcs values places acts names b n w o x p y q r t f g h S held named short sorts-named right =
     let sl = held .few-sorts in
     let fl = held .few-funcs in
     let al = held .few-acts in
     puts-as w o r t
-    (ap₂ (λ (k l : List ℕ). k ++ l) (sorts-is sizes (S .sorts) (n .sorts) (held .sort-count) (omega arith) (held .size-at))
+    (ap₂ (λ (k l : List ℕ). k ++ l) (sorts-is S s sizes names (n .sorts) (held .sort-count) (omega arith) (held .size-at) sorts-named right)
     (ap₂ (λ (k l : List ℕ). k ++ l)
     (counted-is encode-func no-func (S .funcs) (n .funcs) (func-bytes funcs values places) (held .func-count) (omega arith) (λ i k. func-is (func S i) funcs values places i (held .func-at i k)))
     (counted-is encode-action no-action (S .acts) (n .acts) (action-bytes s acts names b) (held .act-count) (omega arith)

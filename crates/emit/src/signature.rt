@@ -1,4 +1,4 @@
-// "count and sizes of sorts, Bool's 2 first; count of functions, each arity, sorts, result, values; count of actions, each name length, name, arity, sorts"
+// #104: hex F2, "count and sizes of sorts, Bool's 2 first", and "each sort a name length and name after its size"; "count of functions, each arity, sorts, result, values; count of actions, each name length, name, arity, sorts"
 ghost use mathlib.Core.Path.{_≡_};
 ghost use Prim.Native.Nat.{_-_, _<_};
 ghost use lib.ListN.{length, getD};
@@ -6,7 +6,7 @@ ghost use Rattle.lexer.specs.Cells.{first-name};
 ghost use Rattle.nodes.specs.Layout.{cell-limit};
 ghost use Rattle.names.specs.NameCells.{name-at};
 ghost use Rattle.emit.specs.Putting.{Puts};
-ghost use Rattle.emit.specs.Bytes.{sorts-bytes, func-bytes, name-bytes, action-bytes, counted-bytes, PutsSig};
+ghost use Rattle.emit.specs.Bytes.{sort-bytes, sorts-bytes, func-bytes, name-bytes, action-bytes, counted-bytes, PutsSig};
 use crate::bytes::copy;
 use crate::bytes::minus;
 use crate::bytes::put;
@@ -18,17 +18,46 @@ use elements::peek_cell;
 use lexer::bytes::DIGIT;
 use lexer::bytes::UNDERSCORE;
 use lexer::bytes::run;
+use limits::BOOL;
+use limits::NAMES_CODE;
 use names::find::first_byte;
 use nodes::ACT_ROW;
 use nodes::FUNC_ROW;
 use nodes::GIVES;
 use nodes::Outline;
 
-fn put_sorts(sizes: &[u8], n: usize, out: &mut [u8], w: usize) -> usize
-    ensures { λ r. ⌜ Puts (sorts-bytes (now (sizes .entry)) n) w (now (out .entry)) r (now (out .exit)) ⌝ }
+// A name, by its cell.
+fn put_name(s: &[u8], c: u16, out: &mut [u8], w: usize) -> usize
+    ensures { λ r. ⌜ Puts (name-bytes (name-at (now (s .entry)) c)) w (now (out .entry)) r (now (out .exit)) ⌝ }
 {
+    let p = first_byte(c);
+    let n = run(s, p, DIGIT, UNDERSCORE);
     let v = put(out, w, low(n));
-    copy(sizes, 0, n, out, v)
+    copy(s, p, n, out, v)
+}
+
+// A sort: its size and its name. "Bool first"; the cells of the others' names stand before all others in `names`.
+fn put_sort(s: &[u8], sizes: &[u8], names: &[u16], d: usize, out: &mut [u8], w: usize) -> usize
+    ensures { λ r. ⌜ Puts (sort-bytes (now (s .entry)) (now (sizes .entry)) (now (names .entry)) d) w (now (out .entry)) r (now (out .exit)) ⌝ }
+{
+    let v = put(out, w, peek(sizes, d));
+    if d == BOOL {
+        return put_row(b"\x04Bool", 0, out, v);
+    }
+    put_name(s, peek_cell(names, d - 1), out, v)
+}
+
+fn put_sorts(s: &[u8], sizes: &[u8], names: &[u16], n: usize, out: &mut [u8], w: usize) -> usize
+    ensures { λ r. ⌜ Puts (sorts-bytes (now (s .entry)) (now (sizes .entry)) (now (names .entry)) n) w (now (out .entry)) r (now (out .exit)) ⌝ }
+{
+    let a = put(out, w, NAMES_CODE);
+    let mut v = put(out, a, low(n));
+    let mut d: usize = 0;
+    while d < n {
+        v = put_sort(s, sizes, names, d, out, v);
+        d += 1;
+    }
+    v
 }
 
 fn put_func(
@@ -69,16 +98,6 @@ fn put_funcs(
     v
 }
 
-// A name, by its cell.
-fn put_name(s: &[u8], c: u16, out: &mut [u8], w: usize) -> usize
-    ensures { λ r. ⌜ Puts (name-bytes (name-at (now (s .entry)) c)) w (now (out .entry)) r (now (out .exit)) ⌝ }
-{
-    let p = first_byte(c);
-    let n = run(s, p, DIGIT, UNDERSCORE);
-    let v = put(out, w, low(n));
-    copy(s, p, n, out, v)
-}
-
 fn put_action(
     s: &[u8],
     acts: &[u8],
@@ -116,7 +135,7 @@ fn put_actions(
     v
 }
 
-// The whole signature; the cells of the actions' names begin at place b of `names`.
+// The whole signature; the cells of the sorts' names begin at place 0 of `names`, those of the actions' at place b.
 pub fn put_signature(
     s: &[u8],
     sizes: &[u8],
@@ -133,7 +152,7 @@ pub fn put_signature(
     requires { ⌜ (b < cell-limit) × (n .funcs < cell-limit) × (n .acts < cell-limit) ⌝ }
     ensures { λ r. ⌜ PutsSig (now (s .entry)) (now (sizes .entry)) (now (funcs .entry)) (now (values .entry)) (now (places .entry)) (now (acts .entry)) (now (names .entry)) b n w (now (out .entry)) r (now (out .exit)) ⌝ }
 {
-    let x = put_sorts(sizes, n.sorts, out, w);
+    let x = put_sorts(s, sizes, names, n.sorts, out, w);
     let y = put_funcs(funcs, values, places, n.funcs, out, x);
     put_actions(s, acts, names, b, n.acts, out, y)
 }

@@ -14,6 +14,7 @@ use Rattle.pcrl.specs.Sheet.{not-number}
 use Rattle.pcrl.specs.Stream.{variable-code, function-code}
 use Rattle.pcrl.specs.Decode.{Node, value, variable, function, node-of}
 use Rattle.codec.specs.TermLaws.{node-value, node-variable, node-function}
+use Rattle.terms.specs.Stands.{size-in}
 use Rattle.terms.proofs.Stack.{push-at}
 use Rattle.evaluation.specs.Run.{pick, operator-code, operator-count, operator-worth, argument-count, extent, worth-of, run, named, peak, lowered, foot}
 
@@ -104,7 +105,7 @@ module _ (s funcs : List ℕ) where
       unfolding worth-of
       worth-one p h l q k = rw (is-function b h, lt-ltb (b - function-code) not-number (omega arith), ← q, eq-eqb (getD s p 0) 1 k) refl
 
-      pub worth-two : (p i : ℕ) → function-code ≤ b → b < operator-code → p ≡ getD funcs (b - function-code) 0 → (getD s p 0 ≡ 1 → ⊥) → i ≡ x * getD s (1 + getD s (p + 2) 0) 0 + y
+      pub worth-two : (p i : ℕ) → function-code ≤ b → b < operator-code → p ≡ getD funcs (b - function-code) 0 → (getD s p 0 ≡ 1 → ⊥) → i ≡ x * size-in funcs (getD s (p + 2) 0) + y
           → getD s (p + 4 + i) 0 ≡ worth-of s funcs e (node-of b) x y z
       unfolding worth-of
       worth-two p i h l q k j = rw (is-function b h, lt-ltb (b - function-code) not-number (omega arith), ← q, ne-eqb (getD s p 0) 1 k, j) refl

@@ -11,6 +11,7 @@ use lib.Seq.{getD-drop, getD-set-same, getD-set-other}
 use borrow.Author.Tests.{ltb-true, ltb-false, eqb-true, eqb-false}
 use Rattle.pcrl.specs.Stream.{variable-code, function-code}
 use Rattle.pcrl.specs.Decode.{node-of}
+use Rattle.terms.specs.Stands.{size-in}
 use Rattle.evaluation.specs.Run.{pick, operator-code, operator-worth, argument-count, worth-of, run}
 use Rattle.evaluation.specs.Rows.{lane, lane-env, Putting, RowPut, Marked, Zeros, LanesKept}
 use Rattle.evaluation.proofs.Bytes.{worth-value, worth-variable, worth-one, worth-two, worth-operator, run-none, run-more}
@@ -109,7 +110,7 @@ module _ (lanes : ℕ) (s funcs : List ℕ) (env : ℕ → List ℕ) (b n t : �
     pub put-one : getD s a 0 ≡ 1 → RowPut lanes rows d (λ i. getD s (a + 3 + lane rows t i) 0) rows′ → PutWorth
     put-one h p = put-as lanes rows d _ _ rows′ (λ i k. worth-one s funcs (env i) b (lane rows t i) (lane rows (t + 1) i) (lane rows (t + 2) i) a (omega arith) (omega arith) place-is h) p
 
-    pub put-two : (width : ℕ) → (getD s a 0 ≡ 1 → ⊥) → width ≡ getD s (1 + getD s (a + 2) 0) 0 → RowPut lanes rows d (λ i. getD s (a + 4 + (lane rows t i * width + lane rows (t + 1) i)) 0) rows′ → PutWorth
+    pub put-two : (width : ℕ) → (getD s a 0 ≡ 1 → ⊥) → width ≡ size-in funcs (getD s (a + 2) 0) → RowPut lanes rows d (λ i. getD s (a + 4 + (lane rows t i * width + lane rows (t + 1) i)) 0) rows′ → PutWorth
     put-two width h w p =
         put-as lanes rows d _ _ rows′ (λ i k. worth-two s funcs (env i) b (lane rows t i) (lane rows (t + 1) i) (lane rows (t + 2) i) a (lane rows t i * width + lane rows (t + 1) i) (omega arith) (omega arith) place-is h (ap (λ (x : ℕ). lane rows t i * x + lane rows (t + 1) i) w)) p
 

@@ -15,6 +15,7 @@ use Rattle.pcrl.specs.Sheet.{not-number}
 use Rattle.pcrl.specs.Stream.{function-code}
 use Rattle.pcrl.specs.Decode.{Node, value, variable, function, node-of}
 use Rattle.laws.specs.Lists.{getD-tabulate}
+use Rattle.terms.specs.Stands.{size-in}
 use Rattle.evaluation.specs.Run.{pick, operator-code, operator-count, operator-worth, argument-count, worth-of, run}
 use Rattle.evaluation.specs.Rows.{lane, RowPut, Marked, Zeros}
 use Rattle.evaluation.specs.Towers.{climbed, Singles, Exchanged}
@@ -80,8 +81,8 @@ module _ (s funcs : List ℕ) where
         p = getD funcs f 0
 
         go : (t u : Bool) (m : ℕ) → pick t (pick u 1 2) (operator-count m) ≡ 1
-            → pick t (pick u (getD s (p + 3 + x) 0) (getD s (p + 4 + (x * getD s (1 + getD s (p + 2) 0) 0 + y)) 0)) (operator-worth m x y z)
-            ≡ pick t (pick u (getD s (p + 3 + x) 0) (getD s (p + 4 + (x * getD s (1 + getD s (p + 2) 0) 0 + 0)) 0)) (operator-worth m x 0 0)
+            → pick t (pick u (getD s (p + 3 + x) 0) (getD s (p + 4 + (x * size-in funcs (getD s (p + 2) 0) + y)) 0)) (operator-worth m x y z)
+            ≡ pick t (pick u (getD s (p + 3 + x) 0) (getD s (p + 4 + (x * size-in funcs (getD s (p + 2) 0) + 0)) 0)) (operator-worth m x 0 0)
         go true true m h = refl
         go true false m h = absurd (omega arith)
         go false u zero h = refl

@@ -1,16 +1,16 @@
 -- What is known of a table's data by where it stands in the stream, place by place: arrays of places may be longer than what is there.
 use mathlib.Core.Path.{_≡_}
 use mathlib.Core.List.{List}
-use Prim.Native.Nat.{ℕ, _+_, _<_}
+use Prim.Native.Nat.{ℕ, _<_}
 use lib.ListN.{length, getD}
 use Rattle.pcrl.specs.Tests.{Every}
 use Rattle.pcrl.specs.Sheet.{Sig, size, func}
 use Rattle.pcrl.specs.Stream.{encode-func}
 use Rattle.pcrl.specs.Right.{RightSizes, RightFunc}
-use Rattle.terms.specs.Stands.{Stands}
+use Rattle.terms.specs.Stands.{Stands, size-in}
 
 pub record KnownTerms (S : Sig) (s funcs : List ℕ) : Type 0 where
-  pub size-at : (D : ℕ) → D < length (S .sorts) → getD s (1 + D) 0 ≡ size S D
+  pub size-at : (D : ℕ) → D < length (S .sorts) → size-in funcs D ≡ size S D
   pub func-at : (f : ℕ) → f < length (S .funcs) → Stands s (getD funcs f 0) (encode-func (func S f))
   pub right-sizes : RightSizes (S .sorts)
   pub right-funcs : Every (RightFunc (S .sorts)) (S .funcs)

@@ -8,6 +8,7 @@ use lib.Dec.{eqb, ltb}
 use lib.ListN.{getD, drop}
 use Rattle.pcrl.specs.Sheet.{not-number}
 use Rattle.pcrl.specs.Decode.{Node, value, variable, function, node-of}
+use Rattle.terms.specs.Stands.{size-in}
 use Rattle.theory.specs.OperatorValues.{not-of, and-of, or-of, same-of}
 
 abbrev pub pick : {A : Type 0} → Bool → A → A → A
@@ -44,9 +45,9 @@ module _ (s funcs : List ℕ) where
   argument-count (variable i) = 0
   argument-count (function f) = pick (ltb f not-number) (pick (eqb (getD s (getD funcs f 0) 0) 1) 1 2) (operator-count (f - not-number))
 
-  -- the value of the function that stands at p, "last argument fastest"; the sizes of the sorts stand behind their count
+  -- the value of the function that stands at p, "last argument fastest"; the sizes of the sorts stand behind the places of the functions
   abbrev pub looked-up : ℕ → ℕ → ℕ → ℕ
-  looked-up p x y = pick (eqb (getD s p 0) 1) (getD s (p + 3 + x) 0) (getD s (p + 4 + (x * getD s (1 + getD s (p + 2) 0) 0 + y)) 0)
+  looked-up p x y = pick (eqb (getD s p 0) 1) (getD s (p + 3 + x) 0) (getD s (p + 4 + (x * size-in funcs (getD s (p + 2) 0) + y)) 0)
 
   -- how many bytes n terms take
   unfoldable pub extent : List ℕ → ℕ → ℕ

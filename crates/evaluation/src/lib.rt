@@ -21,6 +21,7 @@ use terms::EQUAL;
 use terms::FUNCTION;
 use terms::NOT;
 use terms::VARIABLE;
+use terms::size_of;
 
 // The most bytes of a term, `max-term` of crate laws.
 const TERM: usize = 46;
@@ -103,9 +104,9 @@ fn worth(s: &[u8], funcs: &[u16], e: &[u8], stack: &[u8], t: usize, b: u8, x: u8
         if peek(s, p) == 1 {
             return peek(s, p + 3 + wide(x));
         }
-        let d = wide(peek(s, p + 2));
+        let d = peek(s, p + 2);
         let y = peek(stack, t);
-        let i = row(x, peek(s, 1 + d), y);
+        let i = row(x, size_of(funcs, d), y);
         return peek(s, p + 4 + i);
     }
     operator_worth(n, x, peek(stack, t), peek(stack, t + 1))

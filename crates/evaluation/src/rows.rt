@@ -24,6 +24,7 @@ use elements::wide;
 use terms::FUNCTION;
 use terms::NOT;
 use terms::VARIABLE;
+use terms::size_of;
 
 // A term needs more rows.
 const TOO_DEEP: usize = 18;
@@ -89,7 +90,7 @@ fn node(
             return d;
         }
         let d = onto(t, 2);
-        let width = peek(s, 1 + wide(peek(s, p + 2)));
+        let width = size_of(funcs, peek(s, p + 2));
         binary(s, p + 4, width, rows, marks, t, d, n);
         return d;
     }

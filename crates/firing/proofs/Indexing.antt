@@ -4,20 +4,20 @@ use mathlib.Core.List.{List, [], _++_}
 use Prim.Native.Nat.{ℕ, _+_, _<_, _≤_}
 use native.Mathlib.Omega.{arith}
 use lib.ListN.{length, getD, take, drop, length-map, List·getD-map}
-use lib.Seq.{getD-take, length-take-le, ext-getD}
-use Rattle.pcrl.specs.Limits.{frame-width, max-arity}
-use Rattle.pcrl.specs.Tests.{Every}
+use lib.Seq.{getD-take, getD-drop, length-take-le, ext-getD}
+use Rattle.pcrl.specs.Limits.{frame-width, max-arity, max-functions}
+use Rattle.pcrl.specs.Tests.{Between, Every}
 use Rattle.pcrl.specs.Sheet.{no-func, Sig, Action, no-action, size, func}
 use Rattle.pcrl.specs.Table.{Summand, Equation, Table, no-equation, equation, params-of, summands-of}
 use Rattle.pcrl.specs.Stack.{InSorts}
-use Rattle.pcrl.specs.Stream.{encode-numbers, encode-list, encode-sorts, encode-func, encode-action, encode-summand}
-use Rattle.pcrl.specs.Right.{RightAction, RightSig, RightSorts, RightEquations, RightTable}
+use Rattle.pcrl.specs.Stream.{encode-numbers, encode-list, encode-func, encode-action, encode-summand}
+use Rattle.pcrl.specs.Right.{RightAction, RightSizes, RightSig, RightSorts, RightEquations, RightTable}
 use Rattle.laws.specs.Each.{each-length}
 use Rattle.laws.specs.Every.{every-at, every-weaken}
 use Rattle.theory.specs.TableRight.{params-length, params-at}
 use Rattle.theory.specs.StepRight.{summands-right}
-use Rattle.terms.specs.Stands.{Stands, Standing, list-at}
-use Rattle.terms.proofs.Places.{stands-there, item-at, list-is}
+use Rattle.terms.specs.Stands.{Stands, Standing, list-at, size-in}
+use Rattle.terms.proofs.Places.{stands-there, list-is}
 use Rattle.evaluation.specs.Known.{KnownTerms}
 use Rattle.tables.specs.Indexed.{Indexed}
 use Rattle.tables.specs.declared.Index.{Index}
@@ -32,11 +32,21 @@ module _ (T : Table) (s : List ℕ) (index : Index) (indexed : Indexed T s index
   unfolding RightTable
   right-sig = right .0 .0
 
+  -- a size is at most 16, so its byte is the whole of it
+  size-known : (D : ℕ) → D < length (T .sig .sorts) → size-in (index .funcs) D ≡ size (T .sig) D
+  unfolding RightSig RightSizes size
+  size-known D h =
+      let n = indexed .sorts-are in
+      let b = every-at (Between 1 16) (T .sig .sorts) 0 D (right-sig .0 .0 .1) h in
+      let e : getD (index .funcs) (max-functions + D) 0 ≡ getD (T .sig .sorts) D 0 =
+      sym (getD-take (index .«sort_count») (drop max-functions (index .funcs)) D 0 (omega arith) ∙ getD-drop max-functions (index .funcs) D 0) ∙ ap (λ (l : List ℕ). getD l D 0) (indexed .parts .sizes-are) in
+      omega arith
+
   pub terms-known : KnownTerms (T .sig) s (index .funcs)
-  unfolding RightSig size func encode-sorts
+  unfolding RightSig func
   terms-known =
       record {
-        size-at = λ D h. let z : 1 + D ≡ 0 + 1 + D = omega arith in ap (λ (x : ℕ). getD s x 0) z ∙ item-at s 0 (T .sig .sorts) (indexed .parts .sorts-stand) D h;
+        size-at = size-known;
         func-at = λ f h. there encode-func s (T .sig .funcs) (index .funcs) (index .functions) no-func (indexed .functions-are) (indexed .parts .funcs-stand) f h;
         right-sizes = right-sig .0;
         right-funcs = right-sig .1 .0 .1;

@@ -190,7 +190,7 @@ module _ (s funcs acts params first : List ℕ) (p row k n : ℕ) where
       subst (λ (x : Option (Label × List Frame)). Fires S x (length (all (fired frame-width S vs) hs)) r before before) (sym o) (nf, (np ∙ omega arith, refl))
 
   module _ (at left i : ℕ) (below : i < n) (w : Rowing s funcs acts params first p row k n at left i) (sizes : List ℕ) (b : ℕ) (eb : b ≡ at + 1 + getD s at 0)
-      (sized : (S : Sig) (funcs vars : List ℕ) → KnownTerms S s funcs → Stands s at (encode-numbers vars) → AreSorts (S .sorts) vars → length vars ≤ max-variables → sizes ≡ sizes-of S vars) (o : Sought) (seeks : Seeks s funcs first p sizes b left o) where
+      (sized : (S : Sig) (vars : List ℕ) → KnownTerms S s funcs → Stands s at (encode-numbers vars) → AreSorts (S .sorts) vars → length vars ≤ max-variables → sizes ≡ sizes-of S vars) (o : Sought) (seeks : Seeks s funcs first p sizes b left o) where
     pub row-more : (end : ℕ) → o .found ≡ false
         → ((S : Sig) (Ps : List (List ℕ)) (Γ : List ℕ) (a : Act) (ts : List Data) (cs : List (ℕ × List Data)) (rest : List ℕ) → KnownTerms S s funcs → length Γ ≤ variable-code → KnownParts S Ps s acts params → IsAct S a → Each (RightTerm S Γ) (takes-of S a) ts → Every (RightCall S Ps Γ) cs → length cs ≤ max-calls → drop (o .end) s ≡ encode-act a ++ (all encode-data ts ++ (encode-list encode-call cs ++ rest)) → drop end s ≡ rest)
         → Rowing s funcs acts params first p row k n end (o .left) (i + 1)
@@ -202,7 +202,7 @@ module _ (s funcs acts params first : List ℕ) (p row k n : ℕ) where
         let right : RightSummand S Ps Δ h = every-at (RightSummand S Ps Δ) hs no-summand i (there .right) in-list in
         let more : List ℕ = all encode-summand (drop (i + 1) hs) ++ rest in
         let this : drop at s ≡ encode-summand h ++ more = left-here ∙ all-first encode-summand hs i no-summand rest in-list in
-        let ez : sizes ≡ sizes-of S (h .vars) = sized S funcs (h .vars) (there .known) (vars-stand S Ps s funcs acts params Δ vs h (there .known) (there .parts) (there .few) (there .in-sorts) right at more this) (sorts S Ps s funcs acts params Δ vs h (there .known) (there .parts) (there .few) (there .in-sorts) right at more this) (few-vars S Ps s funcs acts params Δ vs h (there .known) (there .parts) (there .few) (there .in-sorts) right at more this) in
+        let ez : sizes ≡ sizes-of S (h .vars) = sized S (h .vars) (there .known) (vars-stand S Ps s funcs acts params Δ vs h (there .known) (there .parts) (there .few) (there .in-sorts) right at more this) (sorts S Ps s funcs acts params Δ vs h (there .known) (there .parts) (there .few) (there .in-sorts) right at more this) (few-vars S Ps s funcs acts params Δ vs h (there .known) (there .parts) (there .few) (there .in-sorts) right at more this) in
         let gone-by : left ≡ o .left + length (fired frame-width S vs h) = passed S Ps s funcs acts params Δ vs h (there .known) (there .parts) (there .few) (there .in-sorts) right at more this p first e sizes ez b eb left o seeks nf in
         let split : all (fired frame-width S vs) (drop i hs) ≡ fired frame-width S vs h ++ all (fired frame-width S vs) (drop (i + 1) hs) = all-cons (fired frame-width S vs) hs i no-summand in-list in
         let len : length (all (fired frame-width S vs) (drop i hs)) ≡ length (fired frame-width S vs h) + length (all (fired frame-width S vs) (drop (i + 1) hs)) = ap length split ∙ length-append (fired frame-width S vs h) (all (fired frame-width S vs) (drop (i + 1) hs)) in (
@@ -228,7 +228,7 @@ module _ (s funcs acts params first : List ℕ) (p row k n : ℕ) where
         let right : RightSummand S Ps Δ h = every-at (RightSummand S Ps Δ) hs no-summand i (there .right) in-list in
         let more : List ℕ = all encode-summand (drop (i + 1) hs) ++ rest in
         let this : drop at s ≡ encode-summand h ++ more = left-here ∙ all-first encode-summand hs i no-summand rest in-list in
-        let ez : sizes ≡ sizes-of S (h .vars) = sized S funcs (h .vars) (there .known) (vars-stand S Ps s funcs acts params Δ vs h (there .known) (there .parts) (there .few) (there .in-sorts) right at more this) (sorts S Ps s funcs acts params Δ vs h (there .known) (there .parts) (there .few) (there .in-sorts) right at more this) (few-vars S Ps s funcs acts params Δ vs h (there .known) (there .parts) (there .few) (there .in-sorts) right at more this) in
+        let ez : sizes ≡ sizes-of S (h .vars) = sized S (h .vars) (there .known) (vars-stand S Ps s funcs acts params Δ vs h (there .known) (there .parts) (there .few) (there .in-sorts) right at more this) (sorts S Ps s funcs acts params Δ vs h (there .known) (there .parts) (there .few) (there .in-sorts) right at more this) (few-vars S Ps s funcs acts params Δ vs h (there .known) (there .parts) (there .few) (there .in-sorts) right at more this) in
         let at-k = hit S Ps s funcs acts params Δ vs h (there .known) (there .parts) (there .few) (there .in-sorts) right at more this p first e sizes ez b eb left o seeks yes-found in
         let split : all (fired frame-width S vs) (drop i hs) ≡ fired frame-width S vs h ++ all (fired frame-width S vs) (drop (i + 1) hs) = all-cons (fired frame-width S vs) hs i no-summand in-list in
         let at-left = g ∙ ap (λ (l : List (Label × List Frame)). getElem? l left) split ∙ some-append (fired frame-width S vs h) (all (fired frame-width S vs) (drop (i + 1) hs)) left _ at-k in

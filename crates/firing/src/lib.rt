@@ -262,7 +262,7 @@ fn fire_rows(
     let mut left = k;
     let mut i: usize = 0;
     while i < n {
-        let z = opening::sizes(s, at);
+        let z = opening::sizes(s, funcs, at);
         let f = seek(s, funcs, first, p, at + 1 + wide(peek(s, at)), z, left);
         if f.found {
             let e = assignments::environment(first, p, assignments::values(z, f.at));

@@ -148,3 +148,33 @@ behind-valid zero (b ∷ s) = by (separator b) (λ k. behind-valid k s)
 pub tokens-valid : (s : List ℕ) (ts : List Token) → tokens s ≡ some ts → Every ValidToken ts
 unfolding tokens
 tokens-valid s ts e = of-given (subst (Given (Every ValidToken)) e (behind-valid 0 s))
+
+-- tokens, at most so many, if there are any
+abbrev AtMost : ℕ → Option (List Token) → Type 0
+AtMost n o = Given (λ (us : List Token). length us ≤ n) o
+
+-- NO TEXT HAS MORE TOKENS THAN BYTES.
+pub tokens-few : (s : List ℕ) (ts : List Token) → tokens s ≡ some ts → length ts ≤ length s
+unfolding tokens tokens-behind followed before
+tokens-few s ts e = of-given (subst (AtMost (length s)) e (behind 0 s))
+  where
+    more : (n : ℕ) (o : Option (List Token)) → AtMost n o → AtMost (suc n) o
+    more n none g = nothing
+    more n (some us) (just h) = just {a = us} (omega arith)
+
+    next : (n : ℕ) (o : Option Lexeme) (rest : ℕ → Option (List Token)) → ((m : ℕ) → AtMost n (rest m)) → AtMost (suc n) (followed o rest)
+    next n none rest k = nothing
+    next n (some l) rest k = by (rest (l .1)) (k (l .1))
+      where
+        by : (o : Option (List Token)) → AtMost n o → AtMost (suc n) (before (l .0) o)
+        by none g = nothing
+        by (some us) (just h) = just {a = l .0 ∷ us} (omega arith)
+
+    behind : (k : ℕ) (s : List ℕ) → AtMost (length s) (tokens-behind k s)
+    behind k [] = just {a = []} (omega arith)
+    behind (suc k) (b ∷ s) = more (length s) (tokens-behind k s) (behind k s)
+    behind zero (b ∷ s) = by (separator b) (λ k. behind k s)
+      where
+        by : (t : Bool) → ((k : ℕ) → AtMost (length s) (tokens-behind k s)) → AtMost (suc (length s)) (elim t [ true ↦ tokens-behind zero s | false ↦ followed (first-token b s) (λ n. tokens-behind (pred n) s) ])
+        by true h = more (length s) (tokens-behind zero s) (h zero)
+        by false h = next (length s) (first-token b s) (λ n. tokens-behind (pred n) s) (λ n. h (pred n))

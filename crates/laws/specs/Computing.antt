@@ -30,6 +30,8 @@ use Rattle.pcrl.specs.Steps
 use Rattle.pcrl.specs.Ask
 use Rattle.pcrl.specs.Terms
 use Rattle.pcrl.specs.States
+use Rattle.pcrl.specs.Records
+use Rattle.pcrl.specs.Letters
 use Rattle.pcrl.specs.Printer
 use Rattle.pcrl.specs.Answers
 use Rattle.pcrl.specs.Walk
@@ -43,11 +45,11 @@ unfolding Tokens.words Tokens.marks Tokens.run Tokens.name-of Tokens.value-of To
 in-reading = 0
 
 unfoldable pub in-printing : ℕ
-unfolding Text.digits Text.decimal Print.bracketed Print.joined Print.print-data Print.print-given Print.print-choice Print.line Print.print-sorts Print.print-values Print.print-sort Print.print-func Print.print-takes Print.print-act Print.print-param Print.print-params Print.print-proc Print.print-init Print.print-sheet Render.write Render.goes-on Render.between Render.render Printer.longest-run Printer.numbered Printer.as-data Printer.as-negation Printer.as-comparison Printer.as-conjunction Printer.or-behind Printer.and-behind Printer.listed Printer.in-brackets Printer.applied Printer.operand Printer.shown-by Printer.shown Printer.side Printer.wanting Printer.choice-of Printer.right-of Printer.letters Printer.indexed Printer.sort-name Printer.raw-data Printer.raw-act Printer.raw-call Printer.raw-sequence Printer.raw-conditional Printer.raw-sums Printer.raw-summand Printer.sort-line-of Printer.func-line-of Printer.act-line-of Printer.param-of Printer.proc-line-of Printer.init-line-of Printer.printed Printer.table-text
+unfolding Text.digits Text.decimal Print.bracketed Print.joined Print.print-data Print.print-given Print.print-choice Print.line Print.print-sorts Print.print-values Print.print-sort Print.print-func Print.print-takes Print.print-act Print.print-param Print.print-params Print.print-proc Print.print-init Print.print-sheet Render.write Render.goes-on Render.between Render.render Letters.longest-run Letters.letters Letters.indexed Letters.older-name Letters.older-names Printer.numbered Printer.as-data Printer.as-negation Printer.as-comparison Printer.as-conjunction Printer.or-behind Printer.and-behind Printer.listed Printer.in-brackets Printer.applied Printer.operand Printer.shown-by Printer.shown Printer.side Printer.wanting Printer.choice-of Printer.right-of Printer.taken Printer.raw-data Printer.raw-act Printer.raw-call Printer.raw-sequence Printer.raw-conditional Printer.raw-sums Printer.raw-summand Printer.sort-line-of Printer.func-line-of Printer.act-line-of Printer.param-of Printer.proc-line-of Printer.init-line-of Printer.printed Printer.table-text
 in-printing = 0
 
 unfoldable pub in-tables : ℕ
-unfolding Lists.tabulate Sheet.list-of Sheet.operator Sheet.operation Sheet.size Sheet.func Sheet.same-at Sheet.function Sheet.function-at Sheet.takes-of Sheet.params Sheet.right Values.place Values.apply Values.eval Values.put-data Values.except Values.put Values.or-var Values.these Values.only Parts.in-data Parts.in-list Parts.in-proc Parts.marks Parts.count Parts.marked Parts.as-params Parts.if-after Parts.new-parts Parts.new-count Parts.all-new-parts Parts.first-new Parts.kind-new Parts.kind-in Parts.kind Table.equation Table.params-of Table.summands-of Table.summand-count Table.nodes Heads.with-var Heads.with-cond Heads.with-calls Heads.look Heads.new-call Heads.calls-of Heads.heads-by Heads.heads Heads.fuel Heads.equation-of Heads.table-of Stream.codes Stream.encode-data Stream.encode-numbers Stream.encode-list Stream.encode-sorts Stream.encode-func Stream.encode-action Stream.encode-sig Stream.encode-act Stream.encode-cond Stream.encode-call Stream.encode-summand Stream.encode-equations Stream.encode-start Stream.encode Right.SummandWithin Right.EquationWithin Right.Within Right.summand-within? Right.equation-within? Right.within? Right.RightSizes Right.RightFunc Right.free-name Right.RightName Right.RightAction Right.action-names Right.RightSig Right.RightSorts Right.RightCond Right.RightCall Right.RightSummand Right.RightSummands Right.RightEquations Right.RightStart Right.RightTable Decode.node-of Decode.sorted-equal Decode.read-node Decode.arguments-of Decode.guard Decode.Fits Decode.fits? Decode.wants Decode.build Decode.read-terms Decode.first Decode.read-term Decode.read-sorts Decode.read-sizes Decode.to-func Decode.read-func Decode.to-action Decode.read-name Decode.read-action Decode.to-sig Decode.read-sig Decode.to-summand Decode.zip Decode.to-equations Decode.read-act Decode.read-cond Decode.read-call Decode.read-summand Decode.read-summands Decode.read-equations Decode.read-start Decode.to-table Decode.decode
+unfolding Lists.tabulate Lists.together Sheet.list-of Sheet.operator Sheet.operation Sheet.size Sheet.sort-name Sheet.func Sheet.same-at Sheet.function Sheet.function-at Sheet.takes-of Sheet.params Sheet.right Values.place Values.apply Values.eval Values.put-data Values.except Values.put Values.or-var Values.these Values.only Parts.in-data Parts.in-list Parts.in-proc Parts.marks Parts.count Parts.marked Parts.as-params Parts.if-after Parts.new-parts Parts.new-count Parts.all-new-parts Parts.first-new Parts.kind-new Parts.kind-in Parts.kind Table.renewed Table.equation Table.params-of Table.summands-of Table.summand-count Table.nodes Heads.with-var Heads.with-cond Heads.with-calls Heads.look Heads.new-call Heads.calls-of Heads.heads-by Heads.heads Heads.fuel Heads.equation-of Heads.table-of Stream.codes Stream.encode-data Stream.encode-numbers Stream.encode-list Stream.encode-sort Stream.encode-sorts Stream.encode-func Stream.encode-action Stream.encode-sig Stream.encode-act Stream.encode-cond Stream.encode-call Stream.encode-summand Stream.encode-equations Stream.encode-start Stream.encode Right.SummandWithin Right.EquationWithin Right.Within Right.summand-within? Right.equation-within? Right.within? Right.RightSizes Right.RightFunc Right.free-name Right.RightName Right.RightAction Right.action-names Right.RightSig Right.token-name Right.RightSortName Right.RightNames Right.RightSorts Right.RightCond Right.RightCall Right.RightSummand Right.RightSummands Right.RightEquations Right.RightStart Right.RightTable Decode.node-of Decode.sorted-equal Decode.read-node Decode.arguments-of Decode.guard Decode.Fits Decode.fits? Decode.wants Decode.build Decode.read-terms Decode.first Decode.read-term Decode.read-sorts Decode.read-sizes Decode.to-func Decode.read-func Decode.to-action Decode.read-name Decode.read-action Decode.read-sort-name Decode.read-sort Decode.read-named-sorts Decode.named-sorts Decode.unnamed-sorts Decode.read-all-sorts Decode.layout-by Decode.names-by Decode.to-sig Decode.read-sig Decode.to-summand Decode.zip Decode.to-equations Decode.read-act Decode.read-cond Decode.read-call Decode.read-summand Decode.read-summands Decode.read-equations Decode.read-start Decode.to-table Decode.decode
 in-tables = 0
 
 unfoldable pub in-files : ℕ
@@ -55,7 +57,7 @@ unfolding Blocks.crc-bit Blocks.crc-byte Blocks.crc-from Blocks.crc Blocks.block
 in-files = 0
 
 unfoldable pub in-stacks : ℕ
-unfolding Stack.InSorts Stack.in-sorts? Stack.used Stack.padded Stack.zero-frame Stack.RightFrame Stack.right-frame? Stack.RightStack Stack.IsZero Stack.is-zero? Stack.RightFrames Stack.right-frames? Stack.frames-of Stack.stack-of Label.label Steps.Meets Steps.meets? Steps.values-of Steps.if-met Steps.call-frame Steps.outcome Steps.StackStep Steps.fired Steps.steps Ask.step-to Ask.chosen Ask.ask Ask.ask-all Ask.labels Terms.ClosedTerm States.Ended States.StateStep States.RightState States.frame-term States.term-of-frame States.term-of-stack States.stands-for
+unfolding Stack.InSorts Stack.in-sorts? Stack.used Stack.padded Stack.zero-frame Stack.RightFrame Stack.right-frame? Stack.RightStack Stack.IsZero Stack.is-zero? Stack.RightFrames Stack.right-frames? Stack.frames-of Stack.stack-of Label.label Records.filled Records.name-field Records.label-name Records.label-sorts Records.label-values Records.label-record Steps.Meets Steps.meets? Steps.values-of Steps.if-met Steps.call-frame Steps.outcome Steps.StackStep Steps.fired Steps.steps Ask.step-to Ask.chosen Ask.ask Ask.ask-all Ask.labels Terms.ClosedTerm States.Ended States.StateStep States.RightState States.frame-term States.term-of-frame States.term-of-stack States.stands-for
 in-stacks = 0
 
 unfoldable pub in-answers : ℕ

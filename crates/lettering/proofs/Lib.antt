@@ -1,2 +1,4 @@
 pub mod Runs
+pub mod Cells
+pub mod Given
 pub mod Laws

@@ -5,20 +5,16 @@ use mathlib.Core.Bool.{Bool, true, false}
 use Prim.Native.Nat.{ℕ, zero, suc, _+_, _≤_, _<_, max}
 use native.Mathlib.Omega.{arith}
 use native.Mathlib.Numerals.{add-one}
-use lib.ListN.{length, getD, drop, length-take, length-drop, length-map, List·getD-map, replicate}
+use lib.ListN.{length, getD, drop, length-take, length-drop, replicate}
 use lib.Seq.{drop-cons}
 use lib.Dec.{eqb}
-use Rattle.pcrl.specs.Text.{bytes, byte}
 use Rattle.pcrl.specs.Tokens.{run}
-use Rattle.pcrl.specs.Sheet.{Action, no-action, Sig}
-use Rattle.pcrl.specs.Right.{action-names}
-use Rattle.pcrl.specs.Printer.{longest-run}
+use Rattle.pcrl.specs.Letters.{longest-run}
+use Rattle.laws.specs.Lists.{length-tabulate, getD-tabulate}
 use Rattle.terms.specs.Stands.{list-at}
-use Rattle.terms.proofs.Places.{name-stands, list-is}
-use Rattle.firing.specs.Known.{KnownParts}
-use Rattle.lettering.specs.Named.{named-by, sort-by}
+use Rattle.lettering.specs.Named.{names-at}
 
-run-cons : (p : ℕ → Bool) (b : ℕ) (l : List ℕ) (t : Bool) → p b ≡ t → run p (b ∷ l) ≡ elim t as (λ _. ℕ) [ true ↦ suc (run p l) | false ↦ 0 ]
+pub run-cons : (p : ℕ → Bool) (b : ℕ) (l : List ℕ) (t : Bool) → p b ≡ t → run p (b ∷ l) ≡ elim t as (λ _. ℕ) [ true ↦ suc (run p l) | false ↦ 0 ]
 unfolding run
 run-cons p b l t e = ap (λ (t : Bool). elim t as (λ _. ℕ) [ true ↦ suc (run p l) | false ↦ 0 ]) e
 
@@ -62,25 +58,14 @@ longest-ends b ns i h = by (drop i ns) (omega (arith, length-drop i ns))
 pub list-short : (s : List ℕ) (p : ℕ) → length (list-at s p) ≤ length s
 list-short s p = omega (arith, length-take (getD s p 0) (drop (p + 1) s), length-drop (p + 1) s)
 
--- the name of action i, where it stands
-module _ (S : Sig) (Ps : List (List ℕ)) (s acts params : List ℕ) (known : KnownParts S Ps s acts params) where
-  pub name-at : (i : ℕ) → i < length (S .acts) → list-at s (getD acts i 0) ≡ getD (action-names (S .acts)) i []
-  unfolding action-names
-  name-at i h =
-      let a = getD (S .acts) i no-action in
-      list-is s (getD acts i 0) (a .name) (name-stands s (getD acts i 0) a (known .act-at i h)) ∙ sym (List·getD-map (λ (a : Action). a .name) (S .acts) i no-action)
+-- names that stand at places
+pub name-at : (s places : List ℕ) (n i : ℕ) → i < n → getD (names-at s places n) i [] ≡ list-at s (getD places i 0)
+unfolding names-at
+name-at s places n i h = getD-tabulate n (λ i. list-at s (getD places i 0)) i [] h
 
-  pub names-count : length (action-names (S .acts)) ≡ length (S .acts)
-  unfolding action-names
-  names-count = length-map (S .acts) (λ (a : Action). a .name)
-
--- the name of a sort by its number
-pub sort-zero : (n d : ℕ) → d ≡ 0 → bytes "Bool" ≡ sort-by n d
-sort-zero n d e = sym (ap (sort-by n) e)
-
-pub sort-more : (n d : ℕ) → (d ≡ 0 → ⊥) → named-by (byte "s") n d ≡ sort-by n d
-sort-more n zero h = absurd (h refl)
-sort-more n (suc d) h = refl
+pub names-many : (s places : List ℕ) (n : ℕ) → length (names-at s places n) ≡ n
+unfolding names-at
+names-many s places n = length-tabulate n (λ i. list-at s (getD places i 0))
 
 -- the loop over the names: one more
 pub longest-step : (b : ℕ) (ns : List (List ℕ)) (i most r next : ℕ) → i < length ns → r ≡ run (eqb b) (getD ns i []) → next ≡ max most r → longest-run b ns ≡ max most (longest-run b (drop i ns)) → longest-run b ns ≡ max next (longest-run b (drop (i + 1) ns))

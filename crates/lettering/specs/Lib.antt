@@ -1,1 +1,2 @@
+pub mod SortNames
 pub mod Named

@@ -56,6 +56,12 @@ pub const BOOL_SIZE: usize = 2;
 // "action (hex FF for tau)"
 pub const TAU: u8 = 0xFF;
 
+// #104: the stream "starts with hex F2".
+pub const NAMES_CODE: u8 = 0xF2;
+
+// The most bytes of a sort's name: in a table without hex F2 a run of 17 letters and an index of one digit.
+pub const MAX_SORT_NAME: usize = 18;
+
 // Data in a stream: "value v is v; variable i is 20 + i, parameters first; function i is 40 + i", and by #102 60 to 63.
 pub const VARIABLE_CODE: usize = 0x20;
 

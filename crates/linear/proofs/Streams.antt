@@ -14,7 +14,7 @@ use Rattle.pcrl.specs.Values.{eval}
 use Rattle.pcrl.specs.Lists.{tabulate}
 use Rattle.pcrl.specs.Parts.{NewPart, all-new-parts, count, marked, marks, in-proc}
 use Rattle.laws.specs.Lists.{length-tabulate}
-use Rattle.pcrl.specs.Table.{Equation, Table, equation, no-equation, params-of, summands-of, summand-count}
+use Rattle.pcrl.specs.Table.{Equation, with-names, Table, equation, no-equation, params-of, summands-of, summand-count}
 use Rattle.pcrl.specs.Heads.{table-of}
 use Rattle.pcrl.specs.Stream.{encode-sig, encode-list, encode-numbers, encode-summand, encode-equations, encode-start, encode}
 use Rattle.pcrl.specs.Right.{SummandWithin, EquationWithin, Within, RightName, RightAction, RightSig, RightSizes}
@@ -138,23 +138,23 @@ module _ (H : Sheet) where
   count-within t e h = (omega arith, omega (arith, equation-count H))
 
   -- THE WHOLE STREAM
-  pub stream-put : (w : ℕ) (o : List ℕ) (a : ℕ) (p : List ℕ) (b : ℕ) (q : List ℕ) (c : ℕ) (r : List ℕ) (d : ℕ) (t : List ℕ) → Puts (encode-sig (H .sig)) w o a p → Puts (encode-list encode-numbers (params-of es)) a p b q
+  pub stream-put : (w : ℕ) (o : List ℕ) (a : ℕ) (p : List ℕ) (b : ℕ) (q : List ℕ) (c : ℕ) (r : List ℕ) (d : ℕ) (t : List ℕ) → Puts (encode-sig with-names (H .sig)) w o a p → Puts (encode-list encode-numbers (params-of es)) a p b q
       → Puts (summands-bytes es) b q c r → Puts (encode-start (H .start .0, map (eval (H .sig) []) (H .start .1))) c r d t → Puts (encode (table-of H)) w o d t
   unfolding encode encode-equations summands-bytes table-of
   stream-put w o a p b q c r d t f g h i = puts-then f (puts-then (puts-then g h) i)
 
   -- the summands alone are no longer than the stream
-  pub summands-shorter : length (encode-sig (H .sig)) + (length (encode-list encode-numbers (params-of es)) + length (summands-bytes es)) ≤ length (encode (table-of H))
+  pub summands-shorter : length (encode-sig with-names (H .sig)) + (length (encode-list encode-numbers (params-of es)) + length (summands-bytes es)) ≤ length (encode (table-of H))
   unfolding encode encode-equations summands-bytes table-of
   summands-shorter = simp length-append (omega arith)
 
 -- the summands had no room
-no-room : (H : Sheet) (o : List ℕ) (a : ℕ) (p : List ℕ) (b : ℕ) (q : List ℕ) → length p ≡ length o → length q ≡ length p → Puts (encode-sig (H .sig) ++ encode-list encode-numbers (params-of (es H))) 0 o b q
+no-room : (H : Sheet) (o : List ℕ) (a : ℕ) (p : List ℕ) (b : ℕ) (q : List ℕ) → length p ≡ length o → length q ≡ length p → Puts (encode-sig with-names (H .sig) ++ encode-list encode-numbers (params-of (es H))) 0 o b q
     → length q < b + length (summands-bytes (es H)) → length o < length (encode (table-of H))
 no-room H o a p b q e₁ e₂ put h =
     let shorter = summands-shorter H in
-    let size = length-append (encode-sig (H .sig)) (encode-list encode-numbers (params-of (es H))) in
-    elim (decLe (0 + length (encode-sig (H .sig) ++ encode-list encode-numbers (params-of (es H)))) (length o)) [
+    let size = length-append (encode-sig with-names (H .sig)) (encode-list encode-numbers (params-of (es H))) in
+    elim (decLe (0 + length (encode-sig with-names (H .sig) ++ encode-list encode-numbers (params-of (es H)))) (length o)) [
       | yes k ↦ let z = put .fits k .0 in omega arith
       | no k ↦ omega arith
     ]
@@ -181,7 +181,7 @@ module _ (s : List ℕ) (A : Arrays) (names : List ℕ) (n : Outline) (o o′ : 
         → PutsSummands (A .procs) (A .cells) (A .starts) n rows′ (x .count) (x .w) q d q′ → d .ok ≡ false → f .length ≡ d .w → WritesStream s A names n o f o′
     out-summands d q′ sig sums short-of end H r =
         let y = put-params H r in
-        let g = sig (H .sig) (r .held .signature) (r .named) (short-names (H .sig) (r .standing .signature)) in
+        let g = sig (H .sig) (r .held .signature) (r .named) (short-names (H .sig) (r .standing .signature)) (r .sorts-named) (r .standing .sort-names) in
         let l = sums H (r .standing) (ready-placed H s A names n r) (y .count-is) (y .rows-of) in
         no-table H o o′ f bad λ w.
         let z = l .failed short-of (within-summands H (r .standing) w) in
@@ -202,7 +202,7 @@ module _ (s : List ℕ) (A : Arrays) (names : List ℕ) (n : Outline) (o : List 
   whole H r =
       let placed = ready-placed H s A names n r in
       let y = params H placed (count-within H t (counts H placed) few .0) few room in
-      let g = sig (H .sig) (r .held .signature) (r .named) (short-names (H .sig) (r .standing .signature)) in
+      let g = sig (H .sig) (r .held .signature) (r .named) (short-names (H .sig) (r .standing .signature)) (r .sorts-named) (r .standing .sort-names) in
       let l = sums H (r .standing) placed (y .count-is) (y .rows-of) .listed good in
       let z = start H (ready-known H s A names n r) (omega (arith, r .standing .few-processes)) (r .standing .start) (r .held .processes .init-at) in
       record { rows-of = y .rows-of; count-is = y .count-is; within = l .0; puts = stream-put H 0 o a p (x .w) q (d .w) q′ e o′ g (y .puts) (l .1) z }

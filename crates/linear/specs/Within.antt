@@ -15,7 +15,7 @@ use Rattle.theory.specs.Standing.{Standing}
 use Rattle.nodes.specs.Layout.{cell-limit}
 use Rattle.nodes.specs.declared.Outline.{Outline}
 use Rattle.nodes.specs.Held.{Arrays, Held}
-use Rattle.emit.specs.Bytes.{NamesAt}
+use Rattle.emit.specs.Bytes.{NamesAt, SortNamesAt}
 use Rattle.nodes.specs.Scoped.{max-scope}
 use Rattle.marking.specs.Marks.{bits}
 use Rattle.sheets.specs.declared.SheetRows.{SheetRows}
@@ -37,6 +37,7 @@ pub record ReadyIn (H : Sheet) (s : List ℕ) (A : Arrays) (names : List ℕ) (n
   pub standing : Standing H
   pub held : Held H A n
   pub named : NamesAt s names (n .sorts - 1 + n .funcs) (H .sig .acts)
+  pub sorts-named : SortNamesAt s names (H .sig .sort-names)
   pub cells-few : length (A .cells) < cell-limit
 
 abbrev pub WritesStream : (s : List ℕ) → Arrays → (names : List ℕ) → Outline → List ℕ → Written → List ℕ → Type 0

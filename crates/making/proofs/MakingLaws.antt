@@ -57,7 +57,7 @@ module _ (s : List ℕ) (a : Answer) (values cells : List ℕ) (reads : Reads (s
 
     wrote : TableWritten (found .sheet) o w o′
     unfolding arrays
-    wrote = writes (found .sheet) (record { standing = accepted-standing s (found .sheet) (found .read); held = found .held; named = found .named; cells-few = few })
+    wrote = writes (found .sheet) (record { standing = accepted-standing s (found .sheet) (found .read); held = found .held; named = found .named .actions; sorts-named = found .named .sorts; cells-few = few })
 
     table-is : table-made s ≡ question 10 (within? (table-of (found .sheet))) (λ _. accepted (table-of (found .sheet)))
     unfolding table-made after

@@ -83,7 +83,7 @@ pub signature-held : (R : RawSheet) (fs : List Func) (as′ : List Action) (size
     → n .sorts ≡ length (R .sorts) + 1 → n .funcs ≡ length (R .funcs) → n .acts ≡ length (R .acts) → n .sorts ≤ max-sorts → n .funcs ≤ max-functions → n .acts ≤ max-actions
     → take (n .sorts) sizes ≡ sizes-of R → for-each (resolve-func (names-of R)) (R .funcs) ≡ some fs → for-each (resolve-act (names-of R)) (R .acts) ≡ some as′
     → InRows no-func (λ g i. FuncAt g funcs values places i) fs → InRows no-action (λ a i. ActAt a acts i) as′
-    → HeldSig (record { sorts = sizes-of R; funcs = fs; acts = as′ }) sizes funcs values places acts n
+    → HeldSig (record { sorts = sizes-of R; sort-names = names-of R .sorts; funcs = fs; acts = as′ }) sizes funcs values places acts n
 unfolding func sizes-of
 signature-held R fs as′ sizes funcs values places acts n sn fn an sl fl al se fe ae fr ar =
     let fm = as-many (resolve-func (names-of R)) (R .funcs) fs fe in

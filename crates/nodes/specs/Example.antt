@@ -19,6 +19,7 @@ abbrev pub sheet : Sheet
 sheet = record {
   sig = record {
     sorts = 2 ∷ 3 ∷ [];
+    sort-names = (66 ∷ 111 ∷ 111 ∷ 108 ∷ []) ∷ (68 ∷ []) ∷ [];
     funcs = record { takes = 1 ∷ []; gives = 0; values = 0 ∷ 1 ∷ 1 ∷ [] } ∷ [];
     acts = record { name = 97 ∷ []; takes = 1 ∷ [] } ∷ [];
   };

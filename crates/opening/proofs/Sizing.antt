@@ -1,4 +1,4 @@
--- The sizes of the sorts of a summand's variables, read in the stream.
+-- The sizes of the sorts of a summand's variables, whose sorts stand in the stream.
 use mathlib.Core.Path.{_≡_, refl, sym, ap, subst, _∙_}
 use mathlib.Core.List.{List, [], _∷_, _++_, map}
 use Prim.Native.Nat.{ℕ, zero, suc, _+_, _-_, _≤_, _<_}
@@ -12,7 +12,7 @@ use Rattle.pcrl.specs.Stream.{encode-numbers}
 use Rattle.pcrl.specs.Right.{RightSizes, AreSorts}
 use Rattle.laws.specs.Every.{every-at}
 use Rattle.laws.specs.Lists.{getD-map}
-use Rattle.terms.specs.Stands.{Stands}
+use Rattle.terms.specs.Stands.{Stands, size-in}
 use Rattle.terms.proofs.Places.{count-at, item-at}
 use Rattle.evaluation.specs.Known.{KnownTerms}
 use Rattle.opening.specs.Opened.{sizes-of}
@@ -44,7 +44,7 @@ module _ (S : Sig) (s funcs vars : List ℕ) (at i : ℕ) (known : KnownTerms S 
       sym (ap (λ (k : ℕ). getD (map (size S) vars ++ replicate (max-variables - length vars) 1) k 0) z ∙ getD-append-add (map (size S) vars) (replicate (max-variables - length vars) 1) (i - length vars) 0
       ∙ alike-at 1 (max-variables - length vars) (i - length vars) (omega arith))
 
-  module _ (z : ℕ) (is : z ≡ getD s (1 + getD s (at + 1 + i) 0) 0) (there : i < getD s at 0) where
+  module _ (z : ℕ) (is : z ≡ size-in funcs (getD s (at + 1 + i) 0)) (there : i < getD s at 0) where
     in-list : i < length vars
     in-list = let n = count-at s at vars st in omega arith
 
@@ -55,7 +55,7 @@ module _ (S : Sig) (s funcs vars : List ℕ) (at i : ℕ) (known : KnownTerms S 
     declared = every-at (λ D. D < length (S .sorts)) vars 0 i sorts in-list
 
     size-is : z ≡ size S (getD vars i 0)
-    size-is = is ∙ ap (λ (D : ℕ). getD s (1 + D) 0) sort ∙ known .size-at (getD vars i 0) declared
+    size-is = is ∙ ap (size-in funcs) sort ∙ known .size-at (getD vars i 0) declared
 
     pub size-some : z ≡ getD (sizes-of S vars) i 0
     unfolding sizes-of

@@ -6,6 +6,7 @@ use elements::peek;
 use elements::smaller;
 use elements::wide;
 use limits::MAX_CONDITIONS;
+use terms::size_of;
 ghost use mathlib.Core.Path.{_≡_};
 ghost use mathlib.Core.List.{List, _++_};
 ghost use Prim.Native.Nat.{ℕ, _+_, _≤_, _<_};
@@ -26,14 +27,14 @@ const VARIABLES: usize = limits::FRAME_WIDTH + limits::MAX_VARIABLES;
 const SIZE: u8 = limits::MAX_SIZE as u8;
 
 // The size of the sort of variable i of the summand at a place, 1 where there is no variable.
-fn size_at(s: &[u8], at: usize, i: usize) -> u8
+fn size_at(s: &[u8], funcs: &[u16], at: usize, i: usize) -> u8
     requires { ⌜ (at ≤ max-stream + max-stream) × (i < max-variables) ⌝ }
-    ensures { λ r. ⌜ (0 < r) × ((r ≤ max-size) × ((S : Sig) (funcs vars : List ℕ) → KnownTerms S (now (s .entry)) funcs → Stands (now (s .entry)) at (encode-numbers vars) → AreSorts (S .sorts) vars → length vars ≤ max-variables → r ≡ getD (sizes-of S vars) i 0)) ⌝ }
+    ensures { λ r. ⌜ (0 < r) × ((r ≤ max-size) × ((S : Sig) (vars : List ℕ) → KnownTerms S (now (s .entry)) (now (funcs .entry)) → Stands (now (s .entry)) at (encode-numbers vars) → AreSorts (S .sorts) vars → length vars ≤ max-variables → r ≡ getD (sizes-of S vars) i 0)) ⌝ }
 {
     if wide(peek(s, at)) <= i {
         return 1;
     }
-    let z = peek(s, 1 + wide(peek(s, at + 1 + i)));
+    let z = size_of(funcs, peek(s, at + 1 + i));
     if z == 0 {
         return 1;
     }
@@ -44,15 +45,15 @@ fn size_at(s: &[u8], at: usize, i: usize) -> u8
 }
 
 // The sizes of the sorts of the variables.
-pub fn sizes(s: &[u8], at: usize) -> Four
+pub fn sizes(s: &[u8], funcs: &[u16], at: usize) -> Four
     requires { ⌜ at ≤ max-stream + max-stream ⌝ }
-    ensures { λ r. ⌜ Sizes (r .at) × ((S : Sig) (funcs vars : List ℕ) → KnownTerms S (now (s .entry)) funcs → Stands (now (s .entry)) at (encode-numbers vars) → AreSorts (S .sorts) vars → length vars ≤ max-variables → r .at ≡ sizes-of S vars) ⌝ }
+    ensures { λ r. ⌜ Sizes (r .at) × ((S : Sig) (vars : List ℕ) → KnownTerms S (now (s .entry)) (now (funcs .entry)) → Stands (now (s .entry)) at (encode-numbers vars) → AreSorts (S .sorts) vars → length vars ≤ max-variables → r .at ≡ sizes-of S vars) ⌝ }
 {
     let v = [
-        size_at(s, at, 0),
-        size_at(s, at, 1),
-        size_at(s, at, 2),
-        size_at(s, at, 3),
+        size_at(s, funcs, at, 0),
+        size_at(s, funcs, at, 1),
+        size_at(s, funcs, at, 2),
+        size_at(s, funcs, at, 3),
     ];
     Four { at: v }
 }

@@ -2,20 +2,24 @@
 -- exactly where the stream begins with that table's bytes and the table is right.
 use mathlib.Core.Path.{_≡_}
 use mathlib.Core.List.{List, [], _∷_, _++_}
-use mathlib.Core.Option.{Option}
+use mathlib.Core.Option.{Option, none, some}
 use Prim.Native.Nat.{ℕ, zero, suc, _+_, _-_, _<_}
 use native.Mathlib.Decide.{ℕ-discrete, decLt}
 use lib.Dec.{T}
 use lib.ListN.{length, getD, getElem?, drop}
 use Rattle.pcrl.specs.Limits.{max-name, max-sorts, max-size, max-functions, max-actions, max-arity, frame-width, max-equations, max-summands, max-variables, max-conditions, max-calls, max-nodes, max-stream}
-use Rattle.pcrl.specs.Tests.{both?, between?, at-most?, below?, T?, some?, distinct}
+use Rattle.pcrl.specs.Text.{bytes}
+use Rattle.pcrl.specs.Tests.{both?, between?, at-most?, below?, T?, same?, some?, distinct}
 use Rattle.pcrl.specs.Bytes.{name-byte}
 use Rattle.pcrl.specs.Reader.{Got, missing, found, Reader, bind, keep, one, test, pair, view, times, counted, each}
+use Rattle.pcrl.specs.Tree.{Name}
+use Rattle.pcrl.specs.Lists.{firsts, seconds}
+use Rattle.pcrl.specs.Letters.{older-names}
 use Rattle.pcrl.specs.Sheet.{Data, val, var, app, Datas, nil, cons, Act, tau, action, Func, Action, Sig, first-equal, size, function-at, takes-of}
 use Rattle.pcrl.specs.Sorts.{Bool-sort, IsFunc, is-func?, volume}
-use Rattle.pcrl.specs.Table.{Summand, Equation, Table, params-of, summand-count}
-use Rattle.pcrl.specs.Stream.{variable-code, function-code, tau-code, encode}
-use Rattle.pcrl.specs.Right.{free-name, action-names}
+use Rattle.pcrl.specs.Table.{Summand, Equation, Layout, with-names, without-names, Table, params-of, summand-count}
+use Rattle.pcrl.specs.Stream.{variable-code, function-code, tau-code, names-code, encode}
+use Rattle.pcrl.specs.Right.{free-name, token-name, action-names}
 
 -- a node of a term
 pub data Node : Type 0 where
@@ -114,14 +118,51 @@ read-name = test (λ n. T? (free-name n)) (counted (between? 1 max-name) (one (�
 unfoldable pub read-action : List ℕ → Reader ℕ Action
 read-action sizes = view to-action (pair read-name (λ n. read-sorts sizes max-arity))
 
-unfoldable pub to-sig : List ℕ × (List Func × List Action) → Sig
-to-sig x = record { sorts = x .0; funcs = x .1 .0; acts = x .1 .1 }
+-- #104: "The stream gives each sort a name length and name after its size"; "Sort names must be valid .."
+unfoldable pub read-sort-name : Reader ℕ Name
+read-sort-name = test (λ n. T? (token-name n)) (counted (between? 1 max-name) (one (λ b. T? (name-byte b))))
 
-unfoldable pub read-sig : Reader ℕ Sig
+unfoldable pub read-sort : Reader ℕ (ℕ × Name)
+read-sort = pair (one (between? 1 max-size)) (λ n. read-sort-name)
+
+-- ".. and distinct, Bool first"
+unfoldable pub read-named-sorts : Reader ℕ (List (ℕ × Name))
+read-named-sorts =
+    test (λ l. both? (ℕ-discrete (getD (firsts l) 0 0) 2) (both? (T? (distinct (seconds l))) (same? (getD (seconds l) 0 []) (bytes "Bool"))))
+    (counted (between? 1 max-sorts) read-sort)
+
+-- the sizes of the sorts, and their names where these stand in the stream
+abbrev pub SortsRead : Type 0
+SortsRead = List ℕ × Option (List Name)
+
+unfoldable pub named-sorts : List (ℕ × Name) → SortsRead
+named-sorts l = (firsts l, some (seconds l))
+
+unfoldable pub unnamed-sorts : List ℕ → SortsRead
+unnamed-sorts l = (l, none)
+
+-- "starts with hex F2"; "Tables without hex F2 are still read"
+unfoldable pub read-all-sorts : Reader ℕ SortsRead
+read-all-sorts [] = missing
+read-all-sorts (b ∷ xs) = elim (ℕ-discrete b names-code) [ yes e ↦ view named-sorts read-named-sorts xs | no h ↦ view unnamed-sorts read-sizes (b ∷ xs) ]
+
+unfoldable pub layout-by : Option (List Name) → Layout
+layout-by none = without-names
+layout-by (some names) = with-names
+
+-- "their sorts are taken as named as the printer named them"
+unfoldable pub names-by : Option (List Name) → List ℕ → List Action → List Name
+names-by none sizes acts = older-names (action-names acts) (length sizes)
+names-by (some names) sizes acts = names
+
+unfoldable pub to-sig : SortsRead × (List Func × List Action) → Layout × Sig
+to-sig x = (layout-by (x .0 .1), record { sorts = x .0 .0; sort-names = names-by (x .0 .1) (x .0 .0) (x .1 .1); funcs = x .1 .0; acts = x .1 .1 })
+
+unfoldable pub read-sig : Reader ℕ (Layout × Sig)
 read-sig =
-    view to-sig (pair read-sizes (λ l.
-    pair (counted (at-most? max-functions) (read-func l)) (λ fs.
-    test (λ acts. T? (distinct (action-names acts))) (counted (at-most? max-actions) (read-action l)))))
+    view to-sig (pair read-all-sorts (λ x.
+    pair (counted (at-most? max-functions) (read-func (x .0))) (λ fs.
+    test (λ acts. T? (distinct (action-names acts))) (counted (at-most? max-actions) (read-action (x .0))))))
 
 unfoldable pub to-summand : List ℕ × (List (ℕ × Data) × (Act × (List Data × List (ℕ × List Data)))) → Summand
 to-summand x = record { vars = x .0; conds = x .1 .0; act = x .1 .1 .0; terms = x .1 .1 .1 .0; calls = x .1 .1 .1 .1 }
@@ -162,10 +203,10 @@ module _ (S : Sig) where
   unfoldable pub read-start : List Equation → Reader ℕ (ℕ × List ℕ)
   read-start es = pair (one (below? (length es))) (λ e. each (λ D. one (below? (size S D))) (getD (params-of es) e []))
 
-unfoldable pub to-table : Sig × (List Equation × (ℕ × List ℕ)) → Table
-to-table x = record { sig = x .0; equations = x .1 .0; start = x .1 .1 }
+unfoldable pub to-table : (Layout × Sig) × (List Equation × (ℕ × List ℕ)) → Table
+to-table x = record { layout = x .0 .0; sig = x .0 .1; equations = x .1 .0; start = x .1 .1 }
 
 unfoldable pub decode : Reader ℕ Table
 decode =
     test (λ T. both? (at-most? max-summands (summand-count (T .equations))) (at-most? max-stream (length (encode T))))
-    (view to-table (pair read-sig (λ S. pair (read-equations S) (λ es. read-start S es))))
+    (view to-table (pair read-sig (λ x. pair (read-equations (x .1)) (λ es. read-start (x .1) es))))

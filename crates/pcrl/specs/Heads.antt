@@ -7,7 +7,7 @@ use Rattle.pcrl.specs.Sheet.{Data, val, var, Proc, delta, atom, alt, con
 use Rattle.pcrl.specs.Values.{eval, put-data}
 use Rattle.pcrl.specs.Lists.{tabulate}
 use Rattle.pcrl.specs.Parts.{marks, count, marked, as-params, new-count, all-new-parts, first-new, Kind, absent, written, part, kind}
-use Rattle.pcrl.specs.Table.{Summand, Equation, Table, no-equation}
+use Rattle.pcrl.specs.Table.{Summand, Equation, Table, with-names, no-equation}
 
 -- "d put before their variables"
 unfoldable pub with-var : ℕ → Summand → Summand
@@ -81,6 +81,7 @@ module _ (H : Sheet) where
 
   unfoldable pub table-of : Table
   table-of = record {
+    layout = with-names;
     sig = H .sig;
     equations = tabulate (length (H .procs) + length (all-new-parts (H .procs))) (λ e. equation-of (kind H e) e);
     start = (H .start .0, map (eval (H .sig) []) (H .start .1));

@@ -11,6 +11,7 @@ pub mod Grammar
 pub mod Print
 pub mod Render
 pub mod Counts
+pub mod Letters
 pub mod Sheet
 pub mod Maybe
 pub mod Names
@@ -26,6 +27,7 @@ pub mod Decode
 pub mod Blocks
 pub mod Stack
 pub mod Label
+pub mod Records
 pub mod Steps
 pub mod Ask
 pub mod Terms

@@ -13,6 +13,10 @@ max-name = 16
 abbrev pub max-numeral : ℕ
 max-numeral = 255
 
+-- The most bytes of a sort's name: in a table without hex F2 (#104) a run of 17 letters and an index of one digit.
+abbrev pub max-sort-name : ℕ
+max-sort-name = 18
+
 -- "Never more than 16 round brackets open"
 abbrev pub max-open : ℕ
 max-open = 16

@@ -226,4 +226,4 @@ resolve R = do
   provided (distinct (declared (names-of R)))
   fs ← for-each (resolve-func (names-of R)) (R .funcs)
   as′ ← for-each (resolve-act (names-of R)) (R .acts)
-  resolve-terms R (record { sorts = sizes-of R; funcs = fs; acts = as′ })
+  resolve-terms R (record { sorts = sizes-of R; sort-names = names-of R .sorts; funcs = fs; acts = as′ })

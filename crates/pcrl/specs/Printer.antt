@@ -1,22 +1,16 @@
 -- Change request #101: "Benches that receive only a table want text: a printer makes a sheet from it."
 use mathlib.Core.List.{List, [], _∷_, _++_, map}
 use mathlib.Core.Option.{Option, none, some}
-use Prim.Native.Nat.{ℕ, zero, suc, max}
-use lib.Dec.{eqb}
-use lib.ListN.{length, drop, getD, replicate}
-use Rattle.pcrl.specs.Text.{bytes, byte, decimal}
-use Rattle.pcrl.specs.Tokens.{run}
+use Prim.Native.Nat.{ℕ, zero, suc}
+use lib.ListN.{length, drop, getD}
+use Rattle.pcrl.specs.Text.{byte}
+use Rattle.pcrl.specs.Letters.{indexed}
 use Rattle.pcrl.specs.Tree.{Name, RawData, Conjunction, Comparison, Negation, Atom, RawDatas, Choice, Conditional, Sequence, Part, SortLine, FuncLine, ActLine, ProcLine, InitLine, RawSheet}
-use Rattle.pcrl.specs.Sheet.{Data, val, var, app, Datas, nil, cons, Act, tau, action, Func, Action, no-action, Operation, operation}
+use Rattle.pcrl.specs.Sheet.{Data, val, var, app, Datas, nil, cons, Act, tau, action, Func, Action, Sig, no-action, Operation, operation, sort-name}
 use Rattle.pcrl.specs.Table.{Summand, Equation, Table}
 use Rattle.pcrl.specs.Right.{action-names}
 use Rattle.pcrl.specs.Print.{print-sheet}
 use Rattle.pcrl.specs.Render.{render}
-
--- the longest run of a letter with which one of the names begins
-unfoldable pub longest-run : ℕ → List Name → ℕ
-longest-run b [] = 0
-longest-run b (n ∷ ns) = max (run (eqb b) n) (longest-run b ns)
 
 -- what is made of each element of a list and its number, counted from i on
 unfoldable pub numbered : {A B : Type 0} → (ℕ → A → B) → ℕ → List A → List B
@@ -129,27 +123,20 @@ unfoldable pub right-of : List Conditional → Choice
 right-of [] = Choice.only (Conditional.plain (Sequence.last Part.delta))
 right-of (c ∷ cs) = choice-of c cs
 
-module _ (acts : List Action) where
-  -- "the letters s, f, p, v and their index, the letter repeated as few times as leave no action name beginning with that run"
-  unfoldable pub letters : ℕ → Name
-  letters b = replicate (suc (longest-run b (action-names acts))) b
+module _ (S : Sig) where
+  -- #104: "The printer uses these names instead of s and an index, and the other letters avoid them too."
+  unfoldable pub taken : List Name
+  taken = S .sort-names ++ action-names (S .acts)
 
-  unfoldable pub indexed : ℕ → ℕ → Name
-  indexed b i = letters b ++ decimal i
-
-  -- "Sorts but Bool, functions, processes and variables"
-  unfoldable pub sort-name : ℕ → Name
-  sort-name zero = bytes "Bool"
-  sort-name (suc D) = indexed (byte "s") (suc D)
-
+  -- "functions, processes and variables get the letters .. f, p, v and their index"
   abbrev pub func-name : ℕ → Name
-  func-name f = indexed (byte "f") f
+  func-name f = indexed taken (byte "f") f
 
   abbrev pub proc-name : ℕ → Name
-  proc-name e = indexed (byte "p") e
+  proc-name e = indexed taken (byte "p") e
 
   abbrev pub var-name : ℕ → Name
-  var-name i = indexed (byte "v") i
+  var-name i = indexed taken (byte "v") i
 
   unfoldable mutual
     pub shown : Data → Shown
@@ -169,7 +156,7 @@ module _ (acts : List Action) where
 
   unfoldable pub raw-act : Act → List Data → Part
   raw-act tau ds = Part.tau
-  raw-act (action a) ds = Part.named (getD acts a no-action .name) (raw-given ds)
+  raw-act (action a) ds = Part.named (getD (S .acts) a no-action .name) (raw-given ds)
 
   unfoldable pub raw-call : ℕ × List Data → Part
   raw-call c = Part.named (proc-name (c .0)) (raw-given (c .1))
@@ -187,23 +174,23 @@ module _ (acts : List Action) where
   -- "Sums come outermost in order": their variables are numbered from n on
   unfoldable pub raw-sums : ℕ → List ℕ → Conditional → Conditional
   raw-sums n [] c = c
-  raw-sums n (D ∷ Ds) c = Conditional.plain (Sequence.last (Part.sum (var-name n) (sort-name D) (Choice.only (raw-sums (suc n) Ds c))))
+  raw-sums n (D ∷ Ds) c = Conditional.plain (Sequence.last (Part.sum (var-name n) (sort-name S D) (Choice.only (raw-sums (suc n) Ds c))))
 
   -- a summand, behind n parameters
   unfoldable pub raw-summand : ℕ → Summand → Conditional
   raw-summand n h = raw-sums n (h .vars) (raw-conditional (h .conds) (raw-sequence (raw-act (h .act) (h .terms)) (h .calls)))
 
   unfoldable pub sort-line-of : ℕ → ℕ → SortLine
-  sort-line-of D n = record { name = sort-name D; size = n }
+  sort-line-of D n = record { name = sort-name S D; size = n }
 
   unfoldable pub func-line-of : ℕ → Func → FuncLine
-  func-line-of f g = record { name = func-name f; takes = map sort-name (g .takes); gives = sort-name (g .gives); values = g .values }
+  func-line-of f g = record { name = func-name f; takes = map (sort-name S) (g .takes); gives = sort-name S (g .gives); values = g .values }
 
   unfoldable pub act-line-of : Action → ActLine
-  act-line-of a = record { name = a .name; takes = map sort-name (a .takes) }
+  act-line-of a = record { name = a .name; takes = map (sort-name S) (a .takes) }
 
   unfoldable pub param-of : ℕ → ℕ → Name × Name
-  param-of i D = (var-name i, sort-name D)
+  param-of i D = (var-name i, sort-name S D)
 
   unfoldable pub proc-line-of : ℕ → Equation → ProcLine
   proc-line-of e q = record {
@@ -218,13 +205,13 @@ module _ (acts : List Action) where
 -- the tree of the printed sheet
 unfoldable pub printed : Table → RawSheet
 printed T =
-    let acts = T .sig .acts in
+    let S = T .sig in
     record {
-      sorts = numbered (sort-line-of acts) 1 (drop 1 (T .sig .sorts));
-      funcs = numbered (func-line-of acts) 0 (T .sig .funcs);
-      acts = map (act-line-of acts) acts;
-      procs = numbered (proc-line-of acts) 0 (T .equations);
-      start = init-line-of acts (T .start);
+      sorts = numbered (sort-line-of S) 1 (drop 1 (S .sorts));
+      funcs = numbered (func-line-of S) 0 (S .funcs);
+      acts = map (act-line-of S) (S .acts);
+      procs = numbered (proc-line-of S) 0 (T .equations);
+      start = init-line-of S (T .start);
     }
 
 -- the text of a table

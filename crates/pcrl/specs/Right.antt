@@ -10,9 +10,10 @@ use Rattle.pcrl.specs.Limits.{max-name, max-sorts, max-size, max-functio
 use Rattle.pcrl.specs.Tests.{and, negated, among, distinct, Between, both?, at-most?, Every, every?, Each}
 use Rattle.pcrl.specs.Bytes.{letter, name-byte}
 use Rattle.pcrl.specs.Tokens.{words}
+use Rattle.pcrl.specs.Letters.{older-names}
 use Rattle.pcrl.specs.Sheet.{Data, Func, Action, Sig, size, takes-of}
 use Rattle.pcrl.specs.Sorts.{Bool-sort, HasSort, IsAct, volume}
-use Rattle.pcrl.specs.Table.{Summand, Equation, Table, params-of, summands-of, summand-count, nodes}
+use Rattle.pcrl.specs.Table.{Summand, Equation, Layout, with-names, without-names, Table, params-of, summands-of, summand-count, nodes}
 use Rattle.pcrl.specs.Stream.{encode}
 
 -- THE LIMITS OF A SHEET'S TABLE
@@ -104,6 +105,20 @@ RightSig S =
     × (((length (S .funcs) ≤ max-functions) × Every (RightFunc (S .sorts)) (S .funcs))
     × (((length (S .acts) ≤ max-actions) × Every (RightAction (S .sorts)) (S .acts)) × T (distinct (action-names (S .acts)))))
 
+-- "valid by the token rule": begins with a letter, and is no word
+unfoldable pub token-name : List ℕ → Bool
+token-name n = and (letter (getD n 0 0)) (negated (among n words))
+
+unfoldable pub RightSortName : List ℕ → Type 0
+RightSortName n = (Between 1 max-name (length n) × Every (λ b. T (name-byte b)) n) × T (token-name n)
+
+-- #104: "Sort names must be valid and distinct, Bool first." Without hex F2 "their sorts are taken as named as the printer named them".
+unfoldable pub RightNames : Layout → Sig → Type 0
+RightNames with-names S =
+    ((length (S .sort-names) ≡ length (S .sorts)) × Every RightSortName (S .sort-names))
+    × (T (distinct (S .sort-names)) × (getD (S .sort-names) 0 [] ≡ bytes "Bool"))
+RightNames without-names S = S .sort-names ≡ older-names (action-names (S .acts)) (length (S .sorts))
+
 -- at most so many sorts, of parameters or of sum variables
 unfoldable pub RightSorts : Sig → ℕ → List ℕ → Type 0
 RightSorts S most Ds = (length Ds ≤ most) × AreSorts (S .sorts) Ds
@@ -145,3 +160,4 @@ unfoldable pub RightTable : Table → Type 0
 RightTable T =
     (RightSig (T .sig) × (RightEquations (T .sig) (T .equations) × RightStart (T .sig) (T .equations) (T .start)))
     × ((summand-count (T .equations) ≤ max-summands) × (length (encode T) ≤ max-stream))
+    × RightNames (T .layout) (T .sig)

@@ -4,6 +4,7 @@ use mathlib.Core.Bool.{true, false}
 use Prim.Native.Nat.{ℕ, zero, suc, _*_, _-_, _/_, _%_}
 use lib.Dec.{eqb, ltb}
 use lib.ListN.{getD}
+use Rattle.pcrl.specs.Tree.{Name}
 use Rattle.pcrl.specs.Lists.{tabulate}
 
 -- a value, a variable by its number, a function applied to data
@@ -45,9 +46,10 @@ pub record Action : Type 0 where
   pub name : List ℕ
   pub takes : List ℕ
 
--- sizes of the sorts, functions and actions: what data and labels mean
+-- sizes and names of the sorts, functions and actions: what data and labels mean
 pub record Sig : Type 0 where
   pub sorts : List ℕ
+  pub sort-names : List Name
   pub funcs : List Func
   pub acts : List Action
 
@@ -112,6 +114,9 @@ no-process = record { params = []; right = delta }
 module _ (S : Sig) where
   unfoldable pub size : ℕ → ℕ
   size D = getD (S .sorts) D 0
+
+  unfoldable pub sort-name : ℕ → Name
+  sort-name D = getD (S .sort-names) D []
 
   -- written function f
   unfoldable pub func : ℕ → Func

@@ -5,8 +5,10 @@ use mathlib.Core.List.{List, [], _∷_, _++_}
 use Prim.Native.Nat.{ℕ, _+_}
 use lib.ListN.{length}
 use Rattle.pcrl.specs.Reader.{all}
+use Rattle.pcrl.specs.Tree.{Name}
 use Rattle.pcrl.specs.Sheet.{Data, val, var, app, Datas, nil, cons, Act, tau, action, Func, Action, Sig, Operation, operation}
-use Rattle.pcrl.specs.Table.{Summand, Equation, Table, params-of, summands-of}
+use Rattle.pcrl.specs.Lists.{together}
+use Rattle.pcrl.specs.Table.{Summand, Equation, Layout, with-names, without-names, Table, params-of, summands-of}
 
 -- "value v is v; variable i is 20 + i, parameters first; function i is 40 + i"
 abbrev pub variable-code : ℕ
@@ -47,9 +49,18 @@ encode-numbers l = length l ∷ l
 unfoldable pub encode-list : {A : Type 0} → (A → List ℕ) → List A → List ℕ
 encode-list w l = length l ∷ all w l
 
+-- #104: "starts with hex F2"
+abbrev pub names-code : ℕ
+names-code = 0xF2
+
+-- "The stream gives each sort a name length and name after its size"
+unfoldable pub encode-sort : ℕ × Name → List ℕ
+encode-sort x = (x .0 ∷ []) ++ encode-numbers (x .1)
+
 -- "count and sizes of sorts, Bool's 2 first"
-unfoldable pub encode-sorts : List ℕ → List ℕ
-encode-sorts sizes = encode-numbers sizes
+unfoldable pub encode-sorts : Layout → Sig → List ℕ
+encode-sorts with-names S = names-code ∷ encode-list encode-sort (together (S .sorts) (S .sort-names))
+encode-sorts without-names S = encode-numbers (S .sorts)
 
 -- "each arity, sorts, result, values"
 unfoldable pub encode-func : Func → List ℕ
@@ -60,8 +71,8 @@ unfoldable pub encode-action : Action → List ℕ
 encode-action a = encode-numbers (a .name) ++ encode-numbers (a .takes)
 
 -- "count of functions .. count of actions"
-unfoldable pub encode-sig : Sig → List ℕ
-encode-sig S = encode-sorts (S .sorts) ++ (encode-list encode-func (S .funcs) ++ encode-list encode-action (S .acts))
+unfoldable pub encode-sig : Layout → Sig → List ℕ
+encode-sig L S = encode-sorts L S ++ (encode-list encode-func (S .funcs) ++ encode-list encode-action (S .acts))
 
 unfoldable pub encode-act : Act → List ℕ
 encode-act tau = tau-code ∷ []
@@ -89,4 +100,4 @@ unfoldable pub encode-start : ℕ × List ℕ → List ℕ
 encode-start s = (s .0 ∷ []) ++ s .1
 
 unfoldable pub encode : Table → List ℕ
-encode T = encode-sig (T .sig) ++ (encode-equations (T .equations) ++ encode-start (T .start))
+encode T = encode-sig (T .layout) (T .sig) ++ (encode-equations (T .equations) ++ encode-start (T .start))

@@ -20,11 +20,20 @@ pub record Equation : Type 0 where
   pub params : List ℕ
   pub summands : List Summand
 
+-- #104: "The layout, with hex F2 or without": do the sorts' names stand in the stream?
+pub data Layout : Type 0 where
+  with-names without-names : Layout
+
 pub record Table : Type 0 where
+  pub layout : Layout
   pub sig : Sig
   pub equations : List Equation
   -- "start equation, its data evaluated"
   pub start : ℕ × List ℕ
+
+-- the table with its sorts' names in the stream: its stream is "its hex F2 bytes"
+unfoldable pub renewed : Table → Table
+renewed T = record { layout = with-names; sig = T .sig; equations = T .equations; start = T .start }
 
 abbrev pub no-equation : Equation
 no-equation = record { params = []; summands = [] }

@@ -25,8 +25,8 @@ values-text (v ∷ (w ∷ vs)) = decimal v ++ (bytes "," ++ values-text (w ∷ v
 -- "label (name, bracketed values by commas, no blanks; tau as `tau`)"
 unfoldable pub label-text : Label → List ℕ
 label-text silent = bytes "tau"
-label-text (named n []) = n
-label-text (named n (v ∷ vs)) = n ++ (bytes "(" ++ (values-text (v ∷ vs) ++ bytes ")"))
+label-text (named n Ds []) = n
+label-text (named n Ds (v ∷ vs)) = n ++ (bytes "(" ++ (values-text (v ∷ vs) ++ bytes ")"))
 
 -- "a line feed ends each line"
 unfoldable pub line : List ℕ → List ℕ

@@ -1,20 +1,20 @@
 -- What is known of a right table by where its parts stand: the start, and an equation's sorts and summands.
-use mathlib.Core.Path.{_≡_, refl, sym, ap, subst, _∙_}
-use mathlib.Core.List.{List, [], _∷_, _++_}
-use Prim.Native.Nat.{ℕ, zero, suc, _+_, _≤_, _<_, min}
+use mathlib.Core.Path.{_≡_, ap, subst, _∙_}
+use mathlib.Core.List.{List, [], _∷_}
+use Prim.Native.Nat.{ℕ, _+_, _≤_, _<_, min}
 use native.Mathlib.Omega.{arith}
-use lib.ListN.{length, getD, take, drop, length-append, length-drop, length-map, List·getD-map}
+use lib.ListN.{length, getD, length-append, length-drop, List·getD-map}
 use Rattle.pcrl.specs.Limits.{frame-width, max-summands}
-use Rattle.pcrl.specs.Tests.{Every, Each}
+use Rattle.pcrl.specs.Tests.{Every}
 use Rattle.pcrl.specs.Table.{Summand, Equation, Table, equation, no-equation, params-of, summands-of}
-use Rattle.pcrl.specs.Stream.{encode-numbers, encode-list, encode-summand, encode-start}
-use Rattle.pcrl.specs.Right.{RightSizes, RightSorts, RightSummands, RightEquations, RightStart, RightTable}
-use Rattle.laws.specs.Every.{every-at, every-weaken}
+use Rattle.pcrl.specs.Stream.{encode-start}
+use Rattle.pcrl.specs.Right.{RightSorts, RightSummands, RightEquations, RightStart, RightTable}
+use Rattle.laws.specs.Every.{every-at}
 use Rattle.laws.specs.Each.{each-length, each-at}
 use Rattle.theory.specs.TableRight.{params-length, params-at}
 use Rattle.theory.specs.StepRight.{summands-right}
 use Rattle.terms.specs.Stands.{Stands, list-at}
-use Rattle.terms.proofs.Places.{number-at, behind, count-at, list-is}
+use Rattle.terms.proofs.Places.{number-at, behind, count-at}
 use Rattle.firing.specs.Known.{KnownTable}
 use Rattle.firing.proofs.Indexing.{sorts-there}
 
@@ -61,9 +61,9 @@ module _ (T : Table) (s funcs acts params rows : List ℕ) (known : KnownTable T
     unfolding RightSorts
     few-sorts = right-sorts .0
 
-    pub small-sorts : Every (λ D. D < 256) (equation T e .params)
-    unfolding RightSorts RightSizes
-    small-sorts = every-weaken _ _ (λ D b. let few = known .terms .right-sizes .0 .0 .1 in omega arith) (equation T e .params) (right-sorts .1)
+    pub small-sorts : Every (λ D. D < length (T .sig .sorts)) (equation T e .params)
+    unfolding RightSorts
+    small-sorts = right-sorts .1
 
     pub right-summands : RightSummands (T .sig) (params-of (T .equations)) (equation T e .params) (equation T e .summands)
     unfolding RightTable RightEquations RightSummands summands-of equation

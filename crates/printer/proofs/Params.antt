@@ -1,22 +1,20 @@
 -- Parameters in brackets, one more at a time; lines of processes and the start from their pieces.
-use mathlib.Core.Path.{_≡_, refl, sym, ap, ap₂, subst, _∙_}
+use mathlib.Core.Path.{_≡_, refl, sym, ap, ap₂, _∙_}
 use mathlib.Core.List.{List, [], _∷_, _++_, map, append-assoc, append-nil}
-use Prim.Native.Nat.{ℕ, zero, suc, _+_, _≤_, _<_}
+use Prim.Native.Nat.{ℕ, suc, _+_, _≤_, _<_}
 use native.Mathlib.Omega.{arith}
 use lib.ListN.{length, getD, take, drop, length-drop}
 use lib.Seq.{take-all, getD-drop}
 use Rattle.pcrl.specs.Text.{bytes, byte, decimal}
 use Rattle.pcrl.specs.Tests.{Every}
 use Rattle.pcrl.specs.Reader.{all}
-use Rattle.pcrl.specs.Sheet.{Action}
+use Rattle.pcrl.specs.Sheet.{Sig}
 use Rattle.pcrl.specs.Table.{Equation}
-use Rattle.pcrl.specs.Printer.{numbered, sort-name, proc-name}
-use Rattle.rendering.specs.Texts.{joined-text, bracketed-text, concat, right-text, sort-line-text, param-text, proc-line-text, init-line-text}
+use Rattle.pcrl.specs.Printer.{numbered}
+use Rattle.rendering.specs.Texts.{joined-text, bracketed-text, concat, right-text, param-text, proc-line-text, init-line-text}
 use Rattle.rendering.specs.TextLaws.{numbered-more}
-use Rattle.lettering.specs.declared.Letters.{Letters}
-use Rattle.lettering.specs.Named.{named-by, sort-by, Lettered}
-use Rattle.lettering.proofs.Laws.{name-is, proc-is, var-is, sort-is}
-use Rattle.declarations.specs.Lines.{sort-line-by}
+use Rattle.lettering.specs.Named.{procs-place, lettered-by, Lettered}
+use Rattle.lettering.proofs.Laws.{proc-is, var-is, sort-is}
 use Rattle.printer.specs.Lines.{param-by, proc-head-by}
 
 -- texts by number with a mark between any two: the first, and each of the others behind a mark
@@ -61,37 +59,29 @@ unfolding bracketed-text
 values-some [] h = absurd (h refl)
 values-some (a ∷ l) h = refl
 
-module _ (acts : List Action) (l : Letters) (known : Lettered acts l) where
-  param-is : (i D : ℕ) → i < 256 → D < 256 → param-by l i D ≡ param-text acts i D
+module _ (S : Sig) (l : List ℕ) (known : Lettered S l) where
+  param-is : (i D : ℕ) → i < 256 → D < length (S .sorts) → param-by l i D ≡ param-text S i D
   unfolding param-text
-  param-is i D h k = ap₂ (λ (v d : List ℕ). v ++ (bytes ":" ++ d)) (var-is acts l known i h) (sort-is acts l known D k)
+  param-is i D h k = ap₂ (λ (v d : List ℕ). v ++ (bytes ":" ++ d)) (var-is S l known i h) (sort-is S l known D k)
 
-  params-are : (n : ℕ) (Ds : List ℕ) → n + length Ds ≤ 256 → Every (λ D. D < 256) Ds → numbered (param-by l) n Ds ≡ numbered (param-text acts) n Ds
+  params-are : (n : ℕ) (Ds : List ℕ) → n + length Ds ≤ 256 → Every (λ D. D < length (S .sorts)) Ds → numbered (param-by l) n Ds ≡ numbered (param-text S) n Ds
   unfolding numbered Every
   params-are n [] h e = refl
   params-are n (D ∷ Ds) h e = ap₂ (λ (t : List ℕ) (ts : List (List ℕ)). t ∷ ts) (param-is n D (omega arith) (e .0)) (params-are (suc n) Ds (omega arith) (e .1))
 
   -- the line of a process
-  pub proc-line : (e : ℕ) (q : Equation) (sorts : List ℕ) (n : ℕ) → e < 256 → sorts ≡ q .params → n ≡ length (q .params) → length (q .params) ≤ 4 → Every (λ D. D < 256) (q .params) →
-      proc-head-by l e sorts ++ (right-text acts n (q .summands) ++ bytes ";") ≡ proc-line-text acts e q
+  pub proc-line : (e : ℕ) (q : Equation) (sorts : List ℕ) (n : ℕ) → e < 256 → sorts ≡ q .params → n ≡ length (q .params) → length (q .params) ≤ 4 → Every (λ D. D < length (S .sorts)) (q .params) →
+      proc-head-by l e sorts ++ (right-text S n (q .summands) ++ bytes ";") ≡ proc-line-text S e q
   unfolding proc-line-text
   proc-line e q sorts n h a b few ks =
-      ap₂ (λ (Ds : List ℕ) (m : ℕ). proc-head-by l e Ds ++ (right-text acts m (q .summands) ++ bytes ";")) a b
-      ∙ ap₂ (λ (p : List ℕ) (ts : List (List ℕ)). (bytes "proc " ++ (p ++ (bracketed-text ts ++ bytes "="))) ++ (right-text acts (length (q .params)) (q .summands) ++ bytes ";")) (proc-is acts l known e h) (params-are 0 (q .params) (omega arith) ks)
+      ap₂ (λ (Ds : List ℕ) (m : ℕ). proc-head-by l e Ds ++ (right-text S m (q .summands) ++ bytes ";")) a b
+      ∙ ap₂ (λ (p : List ℕ) (ts : List (List ℕ)). (bytes "proc " ++ (p ++ (bracketed-text ts ++ bytes "="))) ++ (right-text S (length (q .params)) (q .summands) ++ bytes ";")) (proc-is S l known e h) (params-are 0 (q .params) (omega arith) ks)
       ∙ simp append-assoc
 
   -- the line of init
   pub init-line : (s : ℕ × List ℕ) (e : ℕ) (vs : List ℕ) → s .0 < 256 → e ≡ s .0 → vs ≡ s .1 →
-      bytes "init " ++ (named-by (byte "p") (l .procs) e ++ (bracketed-text (map decimal vs) ++ bytes ";")) ≡ init-line-text acts s
+      bytes "init " ++ (lettered-by l (byte "p") procs-place e ++ (bracketed-text (map decimal vs) ++ bytes ";")) ≡ init-line-text S s
   unfolding init-line-text
   init-line s e vs h a b =
-      ap₂ (λ (n : ℕ) (ws : List ℕ). bytes "init " ++ (named-by (byte "p") (l .procs) n ++ (bracketed-text (map decimal ws) ++ bytes ";"))) a b
-      ∙ ap (λ (n : List ℕ). bytes "init " ++ (n ++ (bracketed-text (map decimal (s .1)) ++ bytes ";"))) (proc-is acts l known (s .0) h)
-
-  -- the lines of sorts
-  pub sort-lines : (n : ℕ) (sizes : List ℕ) → 1 ≤ n → n + length sizes ≤ 256 → concat (numbered (sort-line-by (l .sorts)) n sizes) ≡ concat (numbered (sort-line-text acts) n sizes)
-  unfolding numbered concat all sort-line-text sort-name
-  sort-lines n [] h k = refl
-  sort-lines zero (x ∷ sizes) h k = absurd (omega arith)
-  sort-lines (suc D) (x ∷ sizes) h k =
-      ap₂ (λ (t u : List ℕ). (bytes "sort " ++ (t ++ (bytes " " ++ (decimal x ++ bytes ";")))) ++ u) (name-is acts (byte "s") (l .sorts) (suc D) (known .sorts-are) (omega arith)) (sort-lines (suc (suc D)) sizes (omega arith) (omega arith))
+      ap₂ (λ (n : ℕ) (ws : List ℕ). bytes "init " ++ (lettered-by l (byte "p") procs-place n ++ (bracketed-text (map decimal ws) ++ bytes ";"))) a b
+      ∙ ap (λ (n : List ℕ). bytes "init " ++ (n ++ (bracketed-text (map decimal (s .1)) ++ bytes ";"))) (proc-is S l known (s .0) h)

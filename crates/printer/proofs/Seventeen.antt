@@ -1,21 +1,21 @@
 -- Questions 17 and 11 on a text of which only so much is at hand as a sheet may have and one byte more.
 use mathlib.Core.Path.{_≡_, refl, sym, ap, subst, _∙_}
-use mathlib.Core.List.{List, [], _∷_, _++_}
-use mathlib.Core.Option.{Option, none, some}
+use mathlib.Core.List.{List, [], _++_}
+use mathlib.Core.Option.{Option}
 use Prim.Native.Nat.{ℕ, _+_, _≤_, _<_, min}
 use native.Mathlib.Omega.{arith}
+use lib.Dec.{T}
 use lib.ListN.{length, take, drop, length-take, take-append-drop}
 use lib.Seq.{take-all}
 use Rattle.pcrl.specs.Limits.{max-bytes, max-processes}
 use Rattle.pcrl.specs.Result.{Result, refused, accepted, question, question-of, after, passed}
-use Rattle.pcrl.specs.Bytes.{Short}
-use Rattle.pcrl.specs.Tokens.{Token}
 use Rattle.pcrl.specs.Sheet.{Sheet}
 use Rattle.pcrl.specs.Table.{Table}
 use Rattle.pcrl.specs.Right.{RightTable}
 use Rattle.pcrl.specs.Blocks.{Room, room?}
-use Rattle.pcrl.specs.Printer.{table-text}
-use Rattle.pcrl.specs.Answers.{tokens-read, sorted-read, output-after, text-printed, table-checked, table-printed}
+use Rattle.pcrl.specs.Tests.{distinct}
+use Rattle.pcrl.specs.Printer.{taken, table-text}
+use Rattle.pcrl.specs.Answers.{sorted-read, output-after, text-printed, table-checked, table-printed}
 use Rattle.laws.specs.Questions.{question-passes, question-fails, question-of-passes}
 use Rattle.texts.specs.Wrote.{Wrote}
 use Rattle.printing.specs.Linear.{linear-sheet}
@@ -72,8 +72,11 @@ module _ (U : Table) (right : RightTable U) (room : ℕ) where
     pub not-apart : length text ≤ max-bytes → ¬ (TokensApart text) → text-printed U room ≡ refused 17
     not-apart h lacks = unfit (λ fits. lacks (subst TokensApart (sym (whole h)) (fits-tokens U right fits)))
 
-    pub fit : length text ≤ max-bytes → TokensApart text → length (U .equations) ≤ max-processes → Fits U
-    fit h has few = let (ts, both) = subst TokensApart (whole h) has in tokens-fit U right ts (both .0) (both .1) few
+    pub not-free : ¬ (T (distinct (taken (U .sig)))) → text-printed U room ≡ refused 17
+    not-free lacks = unfit (λ fits. lacks (fits .free))
+
+    pub fit : length text ≤ max-bytes → TokensApart text → length (U .equations) ≤ max-processes → T (distinct (taken (U .sig))) → Fits U
+    fit h has few free = let (ts, both) = subst TokensApart (whole h) has in tokens-fit U right ts (both .0) (both .1) few free
 
 -- the whole operation, from the table's own
 pub printed-refused : (file : List ℕ) (room n : ℕ) → table-checked file ≡ refused n → table-printed file room ≡ refused n

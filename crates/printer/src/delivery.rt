@@ -1,12 +1,14 @@
 // Print a table, from any bytes: questions 12 to 14, 17 and 11.
 ghost use mathlib.Core.Path.{_≡_};
 ghost use Prim.Native.Nat.{_*_, _/_, _≤_, min};
+ghost use lib.Dec.{T};
 ghost use lib.ListN.{length, take};
 ghost use Rattle.pcrl.specs.Limits.{max-stream};
+ghost use Rattle.pcrl.specs.Tests.{distinct};
 ghost use Rattle.pcrl.specs.Table.{Table};
 ghost use Rattle.pcrl.specs.Right.{RightTable};
 ghost use Rattle.pcrl.specs.Blocks.{block-bytes, block-stream};
-ghost use Rattle.pcrl.specs.Printer.{table-text};
+ghost use Rattle.pcrl.specs.Printer.{taken, table-text};
 ghost use Rattle.pcrl.specs.Answers.{output-after, text-printed, table-printed};
 ghost use Rattle.laws.specs.Says.{Says};
 ghost use Rattle.printer.specs.Printing.{text-room, TokensApart, printed-answer};
@@ -52,16 +54,19 @@ fn tokens_apart(text: &[u8]) -> bool
 }
 
 // Questions 17 and 11 on the text of a table with n equations, of which so much was written as there is room for one byte more than a
-// sheet has. (Of questions 1 to 8 only 1, 3, 4, 6 for the count of processes and 8 for `==` over two values can fail on such a text:
-// printing, TextFits.)
-fn deliver(text: &[u8], n: usize, out: &mut [u8]) -> Printed
-    ensures { λ r. ⌜ ((U : Table) → RightTable U → now (text .entry) ≡ take text-room (table-text U) → n ≡ length (U .equations) → (r ≡ printed-answer (text-printed U (length (now (out .entry))))) × (now (out .exit) ≡ output-after (text-printed U (length (now (out .entry)))) (now (out .entry)))) ⌝ }
+// sheet has. (Of questions 1 to 8 only 1, 3, 4, 6 for the count of processes, 7 for a sort with an action's name and 8 for `==` over two
+// values can fail on such a text: printing, TextFits.)
+fn deliver(text: &[u8], n: usize, free: bool, out: &mut [u8]) -> Printed
+    ensures { λ r. ⌜ ((U : Table) → RightTable U → now (text .entry) ≡ take text-room (table-text U) → n ≡ length (U .equations) → Says free (T (distinct (taken (U .sig)))) → (r ≡ printed-answer (text-printed U (length (now (out .entry))))) × (now (out .exit) ≡ output-after (text-printed U (length (now (out .entry)))) (now (out .entry)))) ⌝ }
 {
     let m = text.len();
     if MAX_BYTES < m {
         return refuse(NO_TEXT);
     }
     if MAX_PROCESSES < n {
+        return refuse(NO_TEXT);
+    }
+    if !free {
         return refuse(NO_TEXT);
     }
     if !tokens_apart(text) {
@@ -88,8 +93,9 @@ fn print_in(file: &[u8], stream: &mut [u8], out: &mut [u8]) -> Printed
     let n = f.count;
     let index = f.index;
     let mut text = [0u8; TEXT];
-    let m = put_sheet(&stream[0..n], index, &mut text);
-    deliver(&text[0..m], index.equations, out)
+    let p = put_sheet(&stream[0..n], index, &mut text);
+    let m = p.at;
+    deliver(&text[0..m], index.equations, p.free, out)
 }
 
 fn print_short(file: &[u8], out: &mut [u8]) -> Printed

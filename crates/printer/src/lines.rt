@@ -1,6 +1,6 @@
 // The lines of processes and init as text, read from the stream.
 ghost use mathlib.Core.Path.{_≡_};
-ghost use mathlib.Core.List.{List, _++_, map};
+ghost use mathlib.Core.List.{List, map};
 ghost use Prim.Native.Nat.{ℕ, _≤_, _<_};
 ghost use lib.ListN.{length};
 ghost use Rattle.pcrl.specs.Limits.{max-stream};
@@ -21,26 +21,27 @@ use elements::cell;
 use elements::peek;
 use elements::smaller;
 use elements::wide;
-use lettering::Letters;
+use lettering::PROCS;
+use lettering::VARS;
 use lettering::put_name;
 use lettering::put_sort;
 use texts::put_byte;
 use texts::put_bytes;
 
 // "`v:sort`"
-fn put_param(out: &mut [u8], at: usize, l: Letters, i: usize, d: u8) -> usize
+fn put_param(out: &mut [u8], at: usize, l: &[u8], i: usize, d: u8) -> usize
     requires { ⌜ at ≤ length (now out) ⌝ }
-    ensures { λ r. ⌜ Wrote (now (out .entry)) at (param-by l i d) (now (out .exit)) r ⌝ }
+    ensures { λ r. ⌜ Wrote (now (out .entry)) at (param-by (now (l .entry)) i d) (now (out .exit)) r ⌝ }
 {
-    let a = put_name(out, at, b'v', l.vars, i);
+    let a = put_name(out, at, l, b'v', VARS, i);
     let b = put_byte(out, a, b':');
     put_sort(out, b, l, d)
 }
 
 // Nothing, or "bracketed `v:sort` by commas".
-fn put_params(sorts: &[u8], l: Letters, out: &mut [u8], at: usize) -> usize
+fn put_params(sorts: &[u8], l: &[u8], out: &mut [u8], at: usize) -> usize
     requires { ⌜ at ≤ length (now out) ⌝ }
-    ensures { λ r. ⌜ Wrote (now (out .entry)) at (bracketed-text (numbered (param-by l) 0 (now (sorts .entry)))) (now (out .exit)) r ⌝ }
+    ensures { λ r. ⌜ Wrote (now (out .entry)) at (bracketed-text (numbered (param-by (now (l .entry))) 0 (now (sorts .entry)))) (now (out .exit)) r ⌝ }
 {
     if sorts.len() == 0 {
         return at;
@@ -57,12 +58,12 @@ fn put_params(sorts: &[u8], l: Letters, out: &mut [u8], at: usize) -> usize
 }
 
 // "`proc` name, or name with bracketed `v:sort` by commas, `=`"
-fn put_proc_head(sorts: &[u8], e: usize, l: Letters, out: &mut [u8], at: usize) -> usize
+fn put_proc_head(sorts: &[u8], e: usize, l: &[u8], out: &mut [u8], at: usize) -> usize
     requires { ⌜ at ≤ length (now out) ⌝ }
-    ensures { λ r. ⌜ Wrote (now (out .entry)) at (proc-head-by l e (now (sorts .entry))) (now (out .exit)) r ⌝ }
+    ensures { λ r. ⌜ Wrote (now (out .entry)) at (proc-head-by (now (l .entry)) e (now (sorts .entry))) (now (out .exit)) r ⌝ }
 {
     let a = put_bytes(out, at, b"proc ");
-    let b = put_name(out, a, b'p', l.procs, e);
+    let b = put_name(out, a, l, b'p', PROCS, e);
     let c = put_params(sorts, l, out, b);
     put_byte(out, c, b'=')
 }
@@ -75,13 +76,13 @@ fn put_proc(
     params: &[u16],
     rows: &[u16],
     e: usize,
-    l: Letters,
+    l: &[u8],
     out: &mut [u8],
     at: usize,
 ) -> usize
     requires { ⌜ (at ≤ length (now out)) × (length (now s) ≤ max-stream) ⌝ }
     ensures { λ r. ⌜ (r ≤ length (now (out .entry))) × (length (now (out .exit)) ≡ length (now (out .entry))) ⌝ }
-    ensures { λ r. ⌜ ((T : Table) → KnownTable T (now (s .entry)) (now (funcs .entry)) (now (acts .entry)) (now (params .entry)) (now (rows .entry)) → Lettered (T .sig .acts) l → e < length (T .equations) → Wrote (now (out .entry)) at (proc-line-text (T .sig .acts) e (equation T e)) (now (out .exit)) r) ⌝ }
+    ensures { λ r. ⌜ ((T : Table) → KnownTable T (now (s .entry)) (now (funcs .entry)) (now (acts .entry)) (now (params .entry)) (now (rows .entry)) → Lettered (T .sig) (now (l .entry)) → e < length (T .equations) → Wrote (now (out .entry)) at (proc-line-text (T .sig) e (equation T e)) (now (out .exit)) r) ⌝ }
 {
     let sorts = terms::list_at(s, cell(params, e));
     let n = smaller(sorts.len(), 255);
@@ -97,13 +98,13 @@ pub fn put_procs(
     params: &[u16],
     rows: &[u16],
     n: usize,
-    l: Letters,
+    l: &[u8],
     out: &mut [u8],
     at: usize,
 ) -> usize
     requires { ⌜ (at ≤ length (now out)) × (length (now s) ≤ max-stream) ⌝ }
     ensures { λ r. ⌜ (r ≤ length (now (out .entry))) × (length (now (out .exit)) ≡ length (now (out .entry))) ⌝ }
-    ensures { λ r. ⌜ ((T : Table) → KnownTable T (now (s .entry)) (now (funcs .entry)) (now (acts .entry)) (now (params .entry)) (now (rows .entry)) → Lettered (T .sig .acts) l → n ≡ length (T .equations) → Wrote (now (out .entry)) at (concat (numbered (proc-line-text (T .sig .acts)) 0 (T .equations))) (now (out .exit)) r) ⌝ }
+    ensures { λ r. ⌜ ((T : Table) → KnownTable T (now (s .entry)) (now (funcs .entry)) (now (acts .entry)) (now (params .entry)) (now (rows .entry)) → Lettered (T .sig) (now (l .entry)) → n ≡ length (T .equations) → Wrote (now (out .entry)) at (concat (numbered (proc-line-text (T .sig)) 0 (T .equations))) (now (out .exit)) r) ⌝ }
 {
     let mut p = at;
     let mut e: usize = 0;
@@ -128,23 +129,16 @@ fn put_bracketed(vs: &[u8], out: &mut [u8], at: usize) -> usize
 }
 
 // "`init` a call": the start that stands at a place.
-pub fn put_init(
-    s: &[u8],
-    params: &[u16],
-    from: usize,
-    l: Letters,
-    out: &mut [u8],
-    at: usize,
-) -> usize
+pub fn put_init(s: &[u8], params: &[u16], from: usize, l: &[u8], out: &mut [u8], at: usize) -> usize
     requires { ⌜ (at ≤ length (now out)) × ((length (now s) ≤ max-stream) × (from ≤ max-stream)) ⌝ }
     ensures { λ r. ⌜ (r ≤ length (now (out .entry))) × (length (now (out .exit)) ≡ length (now (out .entry))) ⌝ }
-    ensures { λ r. ⌜ ((T : Table) (funcs acts rows : List ℕ) → KnownTable T (now (s .entry)) funcs acts (now (params .entry)) rows → Lettered (T .sig .acts) l → Stands (now (s .entry)) from (encode-start (T .start)) → Wrote (now (out .entry)) at (init-line-text (T .sig .acts) (T .start)) (now (out .exit)) r) ⌝ }
+    ensures { λ r. ⌜ ((T : Table) (funcs acts rows : List ℕ) → KnownTable T (now (s .entry)) funcs acts (now (params .entry)) rows → Lettered (T .sig) (now (l .entry)) → Stands (now (s .entry)) from (encode-start (T .start)) → Wrote (now (out .entry)) at (init-line-text (T .sig) (T .start)) (now (out .exit)) r) ⌝ }
 {
     let e = wide(peek(s, from));
     let n = wide(peek(s, cell(params, e)));
     let vs = bytes_at(s, from + 1, n);
     let a = put_bytes(out, at, b"init ");
-    let b = put_name(out, a, b'p', l.procs, e);
+    let b = put_name(out, a, l, b'p', PROCS, e);
     let c = put_bracketed(vs, out, b);
     put_byte(out, c, b';')
 }

@@ -8,7 +8,7 @@ use native.Mathlib.Omega.{arith}
 use lib.ListN.{length, length-map}
 use Rattle.pcrl.specs.Limits.{max-numeral}
 use Rattle.pcrl.specs.Tree.{Name, RawData, Conjunction, Comparison, Negation, Atom, RawDatas, FuncLine}
-use Rattle.pcrl.specs.Sheet.{Data, val, var, app, Datas, nil, cons, Action, Sig, not-number, and-number, or-number, operation, operator}
+use Rattle.pcrl.specs.Sheet.{Data, val, var, app, Datas, nil, cons, Sig, not-number, and-number, or-number, operation, operator}
 use Rattle.pcrl.specs.Names.{Names, names-of, number-of, sort-of, equal-at, two, resolve-data, resolve-ors, resolve-conjunction, resolve-ands, resolve-comparison, resolve-negation, resolve-atom, resolve-datas}
 use Rattle.pcrl.specs.Table.{Table}
 use Rattle.pcrl.specs.Right.{RightSig}
@@ -91,31 +91,31 @@ unfolding applied data-brackets given-brackets
 applied-brackets x none = refl
 applied-brackets x (some ds) = refl
 
-module _ (acts : List Action) where
+module _ (S : Sig) where
   -- the brackets of data at each place
   anywhere : Data → ℕ
-  anywhere d = data-brackets (as-data (shown acts d))
+  anywhere d = data-brackets (as-data (shown S d))
 
   in-conjunction : Data → ℕ
-  in-conjunction d = conjunction-brackets (as-conjunction (shown acts d))
+  in-conjunction d = conjunction-brackets (as-conjunction (shown S d))
 
   in-comparison : Data → ℕ
-  in-comparison d = comparison-brackets (as-comparison (shown acts d))
+  in-comparison d = comparison-brackets (as-comparison (shown S d))
 
   in-negation : Data → ℕ
-  in-negation d = negation-brackets (as-negation (shown acts d))
+  in-negation d = negation-brackets (as-negation (shown S d))
 
   tighter : (d : Data) → (anywhere d ≤ in-conjunction d) × ((in-conjunction d ≤ in-comparison d) × ((in-comparison d ≤ in-negation d) × (in-negation d ≤ suc (anywhere d))))
   unfolding anywhere in-conjunction in-comparison in-negation
-  tighter d = let p = placed (shown acts d) in (p .a-conjunction, (p .a-comparison, (p .a-negation, p .one-more)))
+  tighter d = let p = placed (shown S d) in (p .a-conjunction, (p .a-comparison, (p .a-negation, p .one-more)))
 
   -- the arguments of a function
   arguments : Datas → ℕ
-  arguments ds = given-brackets (in-brackets (map as-data (all-shown acts ds)))
+  arguments ds = given-brackets (in-brackets (map as-data (all-shown S ds)))
 
   arguments-cons : (d : Data) (ds : Datas) → arguments (cons d ds) ≡ anywhere d + arguments ds
   unfolding arguments anywhere shown in-brackets given-brackets
-  arguments-cons d ds = listed-brackets (as-data (shown acts d)) (map as-data (all-shown acts ds))
+  arguments-cons d ds = listed-brackets (as-data (shown S d)) (map as-data (all-shown S ds))
 
   arguments-none : arguments nil ≡ 0
   unfolding arguments shown in-brackets given-brackets
@@ -131,9 +131,9 @@ module _ (acts : List Action) where
 
   written-brackets : (f : ℕ) (ds : Datas) → f < not-number → in-negation (app f ds) ≡ arguments ds
   unfolding in-negation arguments shown shown-by as-negation data-brackets
-  written-brackets f ds h = rw (written-number f h) (applied-brackets (func-name acts f) (in-brackets (map as-data (all-shown acts ds))))
+  written-brackets f ds h = rw (written-number f h) (applied-brackets (func-name S f) (in-brackets (map as-data (all-shown S ds))))
 
-  module _ (N : Names) (S : Sig) where
+  module _ (N : Names) where
     not-brackets : (x : Data) → in-negation (app not-number (cons x nil)) ≡ in-negation x
     unfolding in-negation shown shown-by operation operator operand as-negation data-brackets
     not-brackets x = refl
@@ -142,15 +142,15 @@ module _ (acts : List Action) where
     unfolding in-comparison in-negation equal-at shown shown-by operation operator operand as-comparison data-brackets
     equal-brackets (some D) p x y = rw (equal-number D) (omega arith)
     equal-brackets none (some D) x y = rw (equal-number D) (omega arith)
-    equal-brackets none none x y = let t = placed (shown acts x) .a-negation in omega arith
+    equal-brackets none none x y = let t = placed (shown S x) .a-negation in omega arith
 
     and-brackets : (x y : Data) → in-conjunction (two N S and-number x y) ≡ in-conjunction x + in-comparison y
     unfolding in-conjunction in-comparison shown shown-by operation operator operand as-conjunction data-brackets
-    and-brackets x y = and-behind-brackets (as-conjunction (shown acts x)) (as-comparison (shown acts y))
+    and-brackets x y = and-behind-brackets (as-conjunction (shown S x)) (as-comparison (shown S y))
 
     or-brackets : (x y : Data) → anywhere (two N S or-number x y) ≡ anywhere x + in-conjunction y
     unfolding anywhere in-conjunction shown shown-by operation operator operand as-data data-brackets
-    or-brackets x y = or-behind-brackets (as-data (shown acts x)) (as-conjunction (shown acts y))
+    or-brackets x y = or-behind-brackets (as-data (shown S x)) (as-conjunction (shown S y))
 
     -- WHAT IS READ AS THE DATA
 
@@ -259,18 +259,18 @@ module _ (acts : List Action) where
             subst (λ (w : Datas). arguments w ≤ data-brackets r + datas-brackets rs) z (omega arith)))
 
       -- WHATEVER IS READ AS THE DATA HAS AT LEAST AS MANY BRACKETS AS THE PRINTER WRITES.
-      pub fewest-brackets : (r : RawData) (d : Data) → resolve-data N S scope Γ r ≡ some d → data-brackets (raw-data acts d) ≤ data-brackets r
+      pub fewest-brackets : (r : RawData) (d : Data) → resolve-data N S scope Γ r ≡ some d → data-brackets (raw-data S d) ≤ data-brackets r
       unfolding raw-data anywhere
       fewest-brackets r d e = data-fewest r d e
 
 -- So in a printed table: what is read like the text of a term has no fewer brackets than that text.
 pub printed-fewest : (U : Table) (plain : PlainTable U) (Γ : List ℕ) → length Γ ≤ max-numeral → (d : Data) → PlainTerm U Γ d → Sided d → (r : RawData)
-    → resolve-data (N U plain) (U .sig) (variables U plain (length Γ)) Γ r ≡ resolve-data (N U plain) (U .sig) (variables U plain (length Γ)) Γ (raw-data (U .sig .acts) d)
-    → data-brackets (raw-data (U .sig .acts) d) ≤ data-brackets r
+    → resolve-data (N U plain) (U .sig) (variables U plain (length Γ)) Γ r ≡ resolve-data (N U plain) (U .sig) (variables U plain (length Γ)) Γ (raw-data (U .sig) d)
+    → data-brackets (raw-data (U .sig) d) ≤ data-brackets r
 unfolding names-of printed RightSig
 printed-fewest U plain Γ few d p sided r e =
-    let acts = U .sig .acts in
+    let S = U .sig in
     let many = plain .signature .1 .0 .0 in
-    let a = length-map (numbered (func-line-of acts) 0 (U .sig .funcs)) (λ (l : FuncLine). l .name) in
-    let b = length-numbered (func-line-of acts) 0 (U .sig .funcs) in
-    fewest-brackets acts (N U plain) (U .sig) (omega arith) (variables U plain (length Γ)) Γ r d (e ∙ data-becomes U plain Γ few d p ∙ ap some (sided-retold d sided))
+    let a = length-map (numbered (func-line-of S) 0 (U .sig .funcs)) (λ (l : FuncLine). l .name) in
+    let b = length-numbered (func-line-of S) 0 (U .sig .funcs) in
+    fewest-brackets S (N U plain) (omega arith) (variables U plain (length Γ)) Γ r d (e ∙ data-becomes U plain Γ few d p ∙ ap some (sided-retold d sided))

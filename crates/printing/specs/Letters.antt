@@ -1,5 +1,5 @@
--- The letters before an index: no action name begins with them, and every shorter run of the letter begins one. So it is repeated as few times as
--- can be.
+-- The letters before an index: no name that is taken begins with them, and every shorter run of the letter begins one. So it is repeated as few
+-- times as can be.
 use mathlib.Core.Path.{_≡_, refl, ap₂, sym, subst}
 use mathlib.Core.List.{List, [], _∷_}
 use mathlib.Core.Bool.{Bool, true, false}
@@ -11,10 +11,8 @@ use lib.ListN.{length, take, replicate, length-replicate}
 use Rattle.pcrl.specs.Tests.{Every}
 use Rattle.pcrl.specs.Tokens.{run}
 use Rattle.pcrl.specs.Tree.{Name}
-use Rattle.pcrl.specs.Sheet.{Action}
-use Rattle.pcrl.specs.Right.{action-names}
 use Rattle.pcrl.specs.Steps.{Any, here, there}
-use Rattle.pcrl.specs.Printer.{longest-run, letters}
+use Rattle.pcrl.specs.Letters.{longest-run, letters}
 use Rattle.laws.specs.Tests.{eqb-self, eqb-true}
 use Rattle.laws.specs.Every.{every-weaken}
 
@@ -63,16 +61,16 @@ unfolding longest-run
 one-has b k [] h l = absurd (omega arith)
 one-has b k (n ∷ ns) h l = elim (decLe k (run (eqb b) n)) [ yes g ↦ here (begins-replicate b k n g) | no g ↦ there (one-has b k ns h (omega arith)) ]
 
-module _ (acts : List Action) (b : ℕ) where
-  -- NO ACTION NAME BEGINS WITH THE LETTERS,
-  pub letters-free : Every (λ n. ¬ (Begins (letters acts b) n)) (action-names acts)
+module _ (names : List Name) (b : ℕ) where
+  -- NONE OF THE NAMES BEGINS WITH THE LETTERS,
+  pub letters-free : Every (λ n. ¬ (Begins (letters names b) n)) names
   unfolding letters
   letters-free =
-      let longest = longest-run b (action-names acts) in
-      every-weaken _ _ (λ n h e. let k = begun-replicate b (suc longest) n e in omega arith) (action-names acts)
-      (none-longer b (action-names acts))
+      let longest = longest-run b names in
+      every-weaken _ _ (λ n h e. let k = begun-replicate b (suc longest) n e in omega arith) names
+      (none-longer b names)
 
-  -- AND SOME ACTION NAME BEGINS WITH EVERY SHORTER RUN of one letter or more.
-  pub letters-least : (k : ℕ) → 1 ≤ k → k < length (letters acts b) → Any (Begins (replicate k b)) (action-names acts)
+  -- AND ONE BEGINS WITH EVERY SHORTER RUN of one letter or more.
+  pub letters-least : (k : ℕ) → 1 ≤ k → k < length (letters names b) → Any (Begins (replicate k b)) names
   unfolding letters
-  letters-least k h l = one-has b k (action-names acts) h (let z = length-replicate (suc (longest-run b (action-names acts))) b in omega arith)
+  letters-least k h l = one-has b k names h (let z = length-replicate (suc (longest-run b names)) b in omega arith)

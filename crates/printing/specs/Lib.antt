@@ -1,13 +1,14 @@
 pub mod Letters
 pub mod Indexed
 pub mod SpelledTokens
+pub mod Lookups
+pub mod SortNames
 pub mod Plain
 pub mod NumberedLaws
 pub mod ShownLaws
 pub mod PrintedTokens
 pub mod PrintedSpelled
 pub mod PrintedFormed
-pub mod Lookups
 pub mod PrintedNames
 pub mod Sided
 pub mod Linear
@@ -19,6 +20,7 @@ pub mod LinearForms
 pub mod LinearTable
 pub mod RightWithin
 pub mod SortedSided
+pub mod StreamShort
 pub mod ReadBack
 pub mod Seventeen
 pub mod LinearSorted

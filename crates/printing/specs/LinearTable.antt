@@ -1,4 +1,4 @@
--- The table of the linear sheet of a table is that table, and no circle is in that sheet.
+-- The table of the linear sheet of a table is that table, with the names of its sorts, and no circle is in that sheet.
 use mathlib.Core.Path.{_≡_, refl, ap, ap₂, _∙_}
 use mathlib.Core.List.{List, [], _∷_, _++_, map, map-id}
 use Prim.Native.Nat.{ℕ, suc, _+_, _<_}
@@ -11,7 +11,7 @@ use Rattle.pcrl.specs.Sorts.{RightlySorted}
 use Rattle.pcrl.specs.Circles.{at-head, Member, direct, further, NoCircle, guarded}
 use Rattle.pcrl.specs.Lists.{tabulate}
 use Rattle.pcrl.specs.Parts.{NewPart, all-new-parts, first-new, Kind, written, kind}
-use Rattle.pcrl.specs.Table.{Summand, Equation, Table, no-equation}
+use Rattle.pcrl.specs.Table.{Summand, Equation, with-names, Table, renewed, no-equation}
 use Rattle.pcrl.specs.Heads.{heads, fuel, equation-of, table-of}
 use Rattle.laws.specs.Lists.{map-twice, getD-map}
 use Rattle.laws.specs.Every.{every-at, every-getD, every-of-all, every-map}
@@ -64,11 +64,11 @@ module _ (U : Table) (plain : PlainTable U) where
       ap (λ (k : Kind). equation-of H k e) (kind-written H e (let l = length-map (U .equations) linear-process in omega arith)) ∙ equation-back e w))
 
   -- THE TABLE OF THE LINEAR SHEET IS THE TABLE.
-  pub linear-table : table-of H ≡ U
-  unfolding table-of linear-sheet eval
+  pub linear-table : table-of H ≡ renewed U
+  unfolding table-of renewed linear-sheet eval
   linear-table =
       let vs : map (eval (U .sig) []) (map val (U .start .1)) ≡ U .start .1 = map-twice (eval (U .sig) []) val (λ v. v) (λ v. refl) (U .start .1) ∙ map-id (U .start .1) in
-      ap₂ (λ (es : List Equation) (vs : List ℕ). record { sig = U .sig; equations = es; start = (U .start .0, vs) }) all-equations vs
+      ap₂ (λ (es : List Equation) (vs : List ℕ). record { layout = with-names; sig = U .sig; equations = es; start = (U .start .0, vs) }) all-equations vs
 
 -- NO CIRCLE
 

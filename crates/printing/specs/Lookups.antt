@@ -12,7 +12,7 @@ use Rattle.pcrl.specs.Maybe.{_>>=_}
 use Rattle.pcrl.specs.Names.{number-of}
 use Rattle.pcrl.specs.Printer.{numbered}
 use Rattle.laws.specs.Tests.{both-pass, pass-both, where-yes, where-no}
-use Rattle.laws.specs.Every.{every-append, every-at}
+use Rattle.laws.specs.Every.{every-append, every-right, every-at}
 use Rattle.theory.specs.Distinct.{Unlike, unlike-each, each-unlike, distinct-first}
 
 -- LOOKING UP
@@ -50,6 +50,12 @@ distinct-append [] m t u h = u
 distinct-append (x ∷ l) m t u h =
     let k = both-pass (negated (among x l)) (distinct l) t in
     pass-both (negated (among x (l ++ m))) (distinct (l ++ m)) (each-unlike x (l ++ m) (every-append (Unlike x) l m (unlike-each x l (k .0)) (h .0))) (distinct-append l m (k .1) u (h .1))
+
+-- and if two lists together have no doubles, they have no name in common
+pub distinct-across : (l m : List Name) → T (distinct (l ++ m)) → Every (λ x. Every (Unlike x) m) l
+unfolding distinct Every
+distinct-across [] m t = tt
+distinct-across (x ∷ l) m t = (every-right (Unlike x) l m (distinct-first x (l ++ m) t), distinct-across l m (both-pass (negated (among x (l ++ m))) (distinct (l ++ m)) t .1))
 
 -- NAMES IN TURN
 

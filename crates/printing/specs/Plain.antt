@@ -17,6 +17,7 @@ use Rattle.laws.specs.Every.{every-at, every-weaken, every-of-all, map-every, e
 use Rattle.laws.specs.Each.{each-every}
 use Rattle.laws.specs.DataSorts.{have-sorts-many}
 use Rattle.codec.specs.StreamLaws.{small-size}
+use Rattle.printing.specs.SortNames.{PlainNames, right-names}
 
 -- data over the functions of S and variables of the sorts Γ
 module _ (S : Sig) (Γ : List ℕ) where
@@ -77,6 +78,7 @@ module _ (T : Table) where
 
   pub record PlainTable : Type 0 where
     pub signature : RightSig (T .sig)
+    pub sort-names : PlainNames (T .sig)
     pub some-equation : 1 ≤ length (T .equations)
     pub few-equations : length (T .equations) ≤ max-equations
     pub equations : Every PlainEquation (T .equations)
@@ -117,7 +119,7 @@ module _ (S : Sig) (ok : RightSig S) (Γ : List ℕ) where
   mutual
     unfolding Plain HasSort size RightSig function-at
 
-    plain-data : (d : Data) (D : ℕ) → HasSort S (getElem? Γ) d D → Plain S Γ d
+    pub plain-data : (d : Data) (D : ℕ) → HasSort S (getElem? Γ) d D → Plain S Γ d
     plain-data (val v) D h = omega (arith, small-size (S .sorts) D (ok .0))
     plain-data (var i) D h = below-some Γ i D h
     plain-data (app f ds) D h = (plain-use (operation f) ds (h .0) (h .1 .1), plain-datas ds (function-at S f .takes) (h .1 .1))
@@ -192,6 +194,7 @@ module _ (T : Table) (right : RightTable T) where
       let few = r .0 .0 .0 in
       record {
         signature = sig-right;
+        sort-names = right-names (T .layout) S sig-right (right .2);
         some-equation = omega arith;
         few-equations = omega arith;
         equations = plain-equations;

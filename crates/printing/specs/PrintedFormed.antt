@@ -10,9 +10,10 @@ use Rattle.pcrl.specs.Tests.{Between, Every}
 use Rattle.pcrl.specs.Tree.{RawData, Atom}
 use Rattle.pcrl.specs.Grammar.{no-variable, no-variables, none-in}
 use Rattle.pcrl.specs.Sorts.{volume}
+use Rattle.pcrl.specs.Sheet.{sort-name}
 use Rattle.pcrl.specs.Table.{Table}
 use Rattle.pcrl.specs.Right.{RightSizes, AreSorts, RightFunc, RightAction, RightSig}
-use Rattle.pcrl.specs.Printer.{atom-shown, as-data, listed, in-brackets, sort-name, func-line-of, act-line-of, proc-line-of, init-line-of, printed}
+use Rattle.pcrl.specs.Printer.{atom-shown, as-data, listed, in-brackets, func-line-of, act-line-of, proc-line-of, init-line-of, printed}
 use Rattle.laws.specs.Every.{every-at, every-map}
 use Rattle.grammar.specs.Formed.{FormedFunc, FormedAct, Formed}
 use Rattle.printing.specs.Plain.{PlainTable}
@@ -43,20 +44,20 @@ pub printed-formed : (T : Table) → PlainTable T → Formed (printed T)
 unfolding printed func-line-of act-line-of init-line-of FormedFunc FormedAct RightSig RightSizes RightFunc RightAction
 printed-formed T plain =
     let sig = plain .signature in
-    let acts = T .sig .acts in
+    let S = T .sig in
     let sorts = T .sig .sorts in
     let some-equation = plain .some-equation in
     record {
       funcs =
-          every-numbered (RightFunc sorts) FormedFunc (func-line-of acts) 0 (T .sig .funcs)
+          every-numbered (RightFunc sorts) FormedFunc (func-line-of S) 0 (T .sig .funcs)
           (λ f g w r.
-          let l = length-map (g .takes) (sort-name acts) in
+          let l = length-map (g .takes) (sort-name S) in
           let n = r .0 .0 in
           let e = r .1 .1 .0 in
           let v = some-value sorts (g .takes) (sig .0 .0 .1) (r .0 .1) in
           ((omega arith, omega arith), omega arith))
           (sig .1 .0 .1);
-      acts = every-map (RightAction sorts) FormedAct (act-line-of acts) (λ a r. let l = length-map (a .takes) (sort-name acts) in let n = r .1 .0 in omega arith) acts (sig .1 .1 .0 .1);
-      procs = let l = length-numbered (proc-line-of acts) 0 (T .equations) in omega arith;
+      acts = every-map (RightAction sorts) FormedAct (act-line-of S) (λ a r. let l = length-map (a .takes) (sort-name S) in let n = r .1 .0 in omega arith) (S .acts) (sig .1 .1 .0 .1);
+      procs = let l = length-numbered (proc-line-of S) 0 (T .equations) in omega arith;
       start = start-closed (T .start .1);
     }

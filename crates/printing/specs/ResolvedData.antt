@@ -9,7 +9,7 @@ use lib.ListN.{length, getD}
 use Rattle.pcrl.specs.Limits.{max-numeral}
 use Rattle.pcrl.specs.Tests.{and, Every, Each}
 use Rattle.pcrl.specs.Tree.{Name, RawData, Conjunction, Comparison, Atom}
-use Rattle.pcrl.specs.Sheet.{Data, val, var, app, Datas, nil, cons, list-of, Action, Sig, Operation, and-number, or-number, first-equal, operation, operator, function, function-at}
+use Rattle.pcrl.specs.Sheet.{Data, val, var, app, Datas, nil, cons, list-of, Sig, Operation, and-number, or-number, first-equal, operation, operator, function, function-at}
 use Rattle.pcrl.specs.Names.{Names, sort-of, equal-at, two, resolve-data, resolve-ors, resolve-conjunction, resolve-ands, resolve-comparison, resolve-negation, resolve-atom, resolve-datas, resolve-given}
 use Rattle.pcrl.specs.Table.{Table}
 use Rattle.pcrl.specs.Printer.{Shown, atom-shown, as-data, as-conjunction, as-comparison, or-behind, and-behind, listed, in-brackets, applied, operand, shown-by, func-name, var-name, shown, all-shown, raw-data}
@@ -119,9 +119,6 @@ module _ (names : Names) (S : Sig) (scope : List Name) (Γ : List ℕ) where
   and-becomes (Conjunction.and c d) e y z h k = first-given (resolve-comparison names S scope Γ c) _ y h (λ w h₁ h₂. rw h₁ (ands-become w d e y z h₂ k))
 
 module _ (U : Table) (plain : PlainTable U) where
-  abbrev acts : List Action
-  acts = U .sig .acts
-
   abbrev S : Sig
   S = U .sig
 
@@ -170,7 +167,7 @@ module _ (U : Table) (plain : PlainTable U) where
     given-becomes (e ∷ es) (d ∷ ds) h = rw (listed-becomes e es d ds (h .0) (h .1)) (ap some (list-of-datas (d ∷ ds)))
 
     applied-becomes : (f : ℕ) (es : List RawData) (ds : List Data) → f < length (S .funcs) → 1 ≤ length ds → Each Becomes es ds
-        → resolve-atom names S scope Γ (applied (func-name acts f) (in-brackets es)) ≡ some (app f (datas-of ds))
+        → resolve-atom names S scope Γ (applied (func-name S f) (in-brackets es)) ≡ some (app f (datas-of ds))
     unfolding in-brackets applied resolve-data Each datas-of
     applied-becomes f [] [] w l h = absurd (omega arith)
     applied-becomes f [] (d ∷ ds) w l h = absurd h
@@ -190,7 +187,7 @@ module _ (U : Table) (plain : PlainTable U) where
 
     -- an operation over data that is retold
     operation-becomes : (f : ℕ) (o : Operation) (ss : List Shown) (ds : Datas) → Seen f o → PlainUse S Γ o (list-of ds) → Each ShownBecomes ss (list-of (retold-all ds))
-        → ShownBecomes (shown-by (func-name acts) o ss) (app (told-number o (all-values ds) f) (retold-all ds))
+        → ShownBecomes (shown-by (func-name S) o ss) (app (told-number o (all-values ds) f) (retold-all ds))
     unfolding PlainUse shown-by told-number resolve-data ShownBecomes Has
     operation-becomes f (Operation.written g) ss ds (as-written w) p h =
         let es = list-of (retold-all ds) in
@@ -228,24 +225,24 @@ module _ (U : Table) (plain : PlainTable U) where
     mutual
       unfolding Plain shown retold resolve-data Each list-of ShownBecomes Has
 
-      data-shown-becomes : (d : Data) → PlainTerm U Γ d → ShownBecomes (shown acts d) (retold d)
+      data-shown-becomes : (d : Data) → PlainTerm U Γ d → ShownBecomes (shown S d) (retold d)
       data-shown-becomes (val v) h = shown-becomes (atom-shown (Atom.value v)) (val v) refl
-      data-shown-becomes (var i) h = shown-becomes (atom-shown (Atom.variable (var-name acts i))) (var i) (rw (var-found U plain (length Γ) i few h))
-      data-shown-becomes (app f ds) h = operation-becomes f (operation f) (all-shown acts ds) ds (seen f) (h .0) (datas-shown-become ds (h .1))
+      data-shown-becomes (var i) h = shown-becomes (atom-shown (Atom.variable (var-name S i))) (var i) (rw (var-found U plain (length Γ) i few h))
+      data-shown-becomes (app f ds) h = operation-becomes f (operation f) (all-shown S ds) ds (seen f) (h .0) (datas-shown-become ds (h .1))
 
-      datas-shown-become : (ds : Datas) → PlainAll S Γ ds → Each ShownBecomes (all-shown acts ds) (list-of (retold-all ds))
+      datas-shown-become : (ds : Datas) → PlainAll S Γ ds → Each ShownBecomes (all-shown S ds) (list-of (retold-all ds))
       datas-shown-become nil h = tt
       datas-shown-become (cons d ds) h = (data-shown-becomes d (h .0), datas-shown-become ds (h .1))
 
     -- PRINTED DATA RESOLVES.
-    pub data-becomes : (d : Data) → PlainTerm U Γ d → Becomes (raw-data acts d) (retold d)
+    pub data-becomes : (d : Data) → PlainTerm U Γ d → Becomes (raw-data S d) (retold d)
     unfolding raw-data ShownBecomes
     data-becomes d h = data-shown-becomes d h .anywhere
 
-    terms-become : (ds : List Data) → Every (PlainTerm U Γ) ds → Each Becomes (map (raw-data acts) ds) (map retold ds)
+    terms-become : (ds : List Data) → Every (PlainTerm U Γ) ds → Each Becomes (map (raw-data S) ds) (map retold ds)
     unfolding Every Each
     terms-become [] h = tt
     terms-become (d ∷ ds) h = (data-becomes d (h .0), terms-become ds (h .1))
 
-    pub terms-given : (ds : List Data) → Every (PlainTerm U Γ) ds → resolve-given names S scope Γ (in-brackets (map (raw-data acts) ds)) ≡ some (map retold ds)
-    terms-given ds h = given-becomes (map (raw-data acts) ds) (map retold ds) (terms-become ds h)
+    pub terms-given : (ds : List Data) → Every (PlainTerm U Γ) ds → resolve-given names S scope Γ (in-brackets (map (raw-data S) ds)) ≡ some (map retold ds)
+    terms-given ds h = given-becomes (map (raw-data S) ds) (map retold ds) (terms-become ds h)

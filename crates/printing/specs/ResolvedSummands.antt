@@ -8,7 +8,7 @@ use lib.ListN.{length, length-append}
 use Rattle.pcrl.specs.Limits.{max-numeral}
 use Rattle.pcrl.specs.Tests.{Every}
 use Rattle.pcrl.specs.Tree.{Name, Conditional, Sequence, Part}
-use Rattle.pcrl.specs.Sheet.{Data, Act, tau, action, Action, Proc, atom, Sig}
+use Rattle.pcrl.specs.Sheet.{Data, Act, tau, action, Proc, atom, Sig}
 use Rattle.pcrl.specs.Names.{Names, new-variable, named, resolve-choice, resolve-conditional, resolve-sequence, resolve-part}
 use Rattle.pcrl.specs.Table.{Summand, Table}
 use Rattle.pcrl.specs.Printer.{side, wanting, var-name, raw-data, raw-act, raw-call, raw-sequence, raw-conditional, raw-sums, raw-summand}
@@ -21,9 +21,6 @@ use Rattle.printing.specs.Linear.{calls-behind, wants, conditions, sums,
 use Rattle.printing.specs.ResolvedData.{data-becomes, terms-given}
 
 module _ (U : Table) (plain : PlainTable U) where
-  abbrev acts : List Action
-  acts = U .sig .acts
-
   abbrev S : Sig
   S = U .sig
 
@@ -37,20 +34,20 @@ module _ (U : Table) (plain : PlainTable U) where
 
     -- PARTS
 
-    act-becomes : (a : Act) (ds : List Data) → PlainAct S a ds → Every (PlainTerm U Γ) ds → resolve-part names S scope Γ (raw-act acts a ds) ≡ some (atom a (map retold ds))
+    act-becomes : (a : Act) (ds : List Data) → PlainAct S a ds → Every (PlainTerm U Γ) ds → resolve-part names S scope Γ (raw-act S a ds) ≡ some (atom a (map retold ds))
     unfolding raw-act PlainAct resolve-choice named
     act-becomes tau ds h k = ap (λ (es : List Data). some (atom tau (map retold es))) (sym h)
     act-becomes (action a) ds h k = rw (terms-given U plain Γ few ds k, act-found U plain a h)
 
-    call-becomes : (c : ℕ × List Data) → PlainCall U Γ c → resolve-part names S scope Γ (raw-call acts c) ≡ some (Proc.call (c .0) (map retold (c .1)))
+    call-becomes : (c : ℕ × List Data) → PlainCall U Γ c → resolve-part names S scope Γ (raw-call S c) ≡ some (Proc.call (c .0) (map retold (c .1)))
     unfolding raw-call resolve-choice named
     call-becomes c h = rw (terms-given U plain Γ few (c .1) (h .1), proc-no-act U plain (c .0), proc-found U plain (c .0) (h .0))
 
     sequence-becomes : (p : Part) (q : Proc) (cs : List (ℕ × List Data)) → resolve-part names S scope Γ p ≡ some q → Every (PlainCall U Γ) cs
-        → resolve-sequence names S scope Γ (raw-sequence acts p cs) ≡ some (calls-behind q (map retold-call cs))
+        → resolve-sequence names S scope Γ (raw-sequence S p cs) ≡ some (calls-behind q (map retold-call cs))
     unfolding raw-sequence calls-behind resolve-choice Every
     sequence-becomes p q [] h k = h
-    sequence-becomes p q (c ∷ cs) h k = rw (h, sequence-becomes (raw-call acts c) (Proc.call (c .0) (map retold (c .1))) cs (call-becomes c (k .0)) (k .1))
+    sequence-becomes p q (c ∷ cs) h k = rw (h, sequence-becomes (raw-call S c) (Proc.call (c .0) (map retold (c .1))) cs (call-becomes c (k .0)) (k .1))
 
     side-becomes : (c : Conditional) → resolve-sequence names S scope Γ (side c) ≡ resolve-conditional names S scope Γ c
     unfolding side resolve-choice
@@ -58,17 +55,17 @@ module _ (U : Table) (plain : PlainTable U) where
     side-becomes (Conditional.cond p c q) = refl
 
     wanting-becomes : (w : ℕ) (c : Data) (p : Sequence) (q : Proc) → PlainTerm U Γ c → resolve-sequence names S scope Γ p ≡ some q
-        → resolve-conditional names S scope Γ (wanting w (raw-data acts c) p) ≡ some (wants w (retold c) q)
+        → resolve-conditional names S scope Γ (wanting w (raw-data S c) p) ≡ some (wants w (retold c) q)
     unfolding wanting wants resolve-choice
     wanting-becomes zero c p q h k = rw (data-becomes U plain Γ few c h, k)
     wanting-becomes (suc w) c p q h k = rw (k, data-becomes U plain Γ few c h)
 
     conditional-becomes : (cs : List (ℕ × Data)) (p : Sequence) (q : Proc) → Every (PlainCond U Γ) cs
-        → resolve-sequence names S scope Γ p ≡ some q → resolve-conditional names S scope Γ (raw-conditional acts cs p) ≡ some (conditions (map retold-cond cs) q)
+        → resolve-sequence names S scope Γ p ≡ some q → resolve-conditional names S scope Γ (raw-conditional S cs p) ≡ some (conditions (map retold-cond cs) q)
     unfolding raw-conditional conditions resolve-choice Every
     conditional-becomes [] p q h k = k
     conditional-becomes (c ∷ cs) p q h k =
-        wanting-becomes (c .0) (c .1) (side (raw-conditional acts cs p)) (conditions (map retold-cond cs) q) (h .0 .1) (side-becomes (raw-conditional acts cs p) ∙ conditional-becomes cs p q (h .1) k)
+        wanting-becomes (c .0) (c .1) (side (raw-conditional S cs p)) (conditions (map retold-cond cs) q) (h .0 .1) (side-becomes (raw-conditional S cs p) ∙ conditional-becomes cs p q (h .1) k)
 
   -- SUMMANDS
 
@@ -77,7 +74,7 @@ module _ (U : Table) (plain : PlainTable U) where
   Reads n Γ c p = resolve-conditional names S (variables U plain n) Γ c ≡ some p
 
   sums-become : (n : ℕ) (Δ Ds : List ℕ) (c : Conditional) (q : Proc) → n + length Ds ≤ max-numeral → Every (λ D. D < length (S .sorts)) Ds
-      → Reads (n + length Ds) (Δ ++ Ds) c q → Reads n Δ (raw-sums acts n Ds c) (sums n Ds q)
+      → Reads (n + length Ds) (Δ ++ Ds) c q → Reads n Δ (raw-sums S n Ds c) (sums n Ds q)
   unfolding raw-sums sums resolve-choice Every
   sums-become n Δ [] c q l h k =
       let e : n + 0 ≡ n = omega arith in
@@ -88,15 +85,15 @@ module _ (U : Table) (plain : PlainTable U) where
       sums-become (suc n) (Δ ++ (D ∷ [])) Ds c q (omega arith) (h .1)
       (subst (λ (m : ℕ). Reads m ((Δ ++ (D ∷ [])) ++ Ds) c q) e (subst (λ (Γ : List ℕ). Reads (n + suc (length Ds)) Γ c q) (sym (append-assoc Δ (D ∷ []) Ds)) k)) in
       rw (
-        is-true (new-variable names (variables U plain n) (var-name acts n)) (var-new U plain n (omega arith)),
+        is-true (new-variable names (variables U plain n) (var-name S n)) (var-new U plain n (omega arith)),
         sort-found U plain D (h .0),
-        in-turn-snoc (var-name acts) 0 n n (omega arith),
+        in-turn-snoc (var-name S) 0 n n (omega arith),
         more,
-        length-in-turn (var-name acts) 0 n,
+        length-in-turn (var-name S) 0 n,
       )
 
   -- A PRINTED SUMMAND RESOLVES.
-  pub summand-becomes : (Δ : List ℕ) (h : Summand) → PlainSummand U Δ h → Reads (length Δ) Δ (raw-summand acts (length Δ) h) (linear-summand (length Δ) (retold-summand h))
+  pub summand-becomes : (Δ : List ℕ) (h : Summand) → PlainSummand U Δ h → Reads (length Δ) Δ (raw-summand S (length Δ) h) (linear-summand (length Δ) (retold-summand h))
   unfolding raw-summand linear-summand retold-summand
   summand-becomes Δ h p =
       let Γ = Δ ++ h .vars in
@@ -104,8 +101,8 @@ module _ (U : Table) (plain : PlainTable U) where
       let n : length Γ ≡ length Δ + length (h .vars) = length-append Δ (h .vars) in
       let l : length Γ ≤ max-numeral = omega arith in
       let q = conditions (map retold-cond (h .conds)) (calls-behind (atom (h .act) (map retold (h .terms))) (map retold-call (h .calls))) in
-      let c = raw-conditional acts (h .conds) (raw-sequence acts (raw-act acts (h .act) (h .terms)) (h .calls)) in
+      let c = raw-conditional S (h .conds) (raw-sequence S (raw-act S (h .act) (h .terms)) (h .calls)) in
       let inside : Reads (length Γ) Γ c q =
       conditional-becomes Γ l (h .conds) _ _ (p .conds)
-      (sequence-becomes Γ l (raw-act acts (h .act) (h .terms)) (atom (h .act) (map retold (h .terms))) (h .calls) (act-becomes Γ l (h .act) (h .terms) (p .act) (p .terms)) (p .calls)) in
+      (sequence-becomes Γ l (raw-act S (h .act) (h .terms)) (atom (h .act) (map retold (h .terms))) (h .calls) (act-becomes Γ l (h .act) (h .terms) (p .act) (p .terms)) (p .calls)) in
       sums-become (length Δ) Δ (h .vars) c q (omega arith) (p .vars) (subst (λ (m : ℕ). Reads m Γ c q) n inside)

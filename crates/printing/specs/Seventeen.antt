@@ -5,7 +5,7 @@ use mathlib.Core.Logic.{_↔_}
 use mathlib.Core.Option.{Option, none, some, Option·none-ne-some, Option·some-injective}
 use Prim.Native.Nat.{ℕ, _≤_}
 use native.Mathlib.Omega.{arith}
-use lib.ListN.{length}
+use lib.ListN.{length, getD}
 use Rattle.pcrl.specs.Result.{Result, refused, accepted, question, question-of, after, refusal, passed}
 use Rattle.pcrl.specs.Bytes.{short?, printable?}
 use Rattle.pcrl.specs.Tokens.{tokens, shallow?}
@@ -14,13 +14,15 @@ use Rattle.pcrl.specs.Counts.{counted?}
 use Rattle.pcrl.specs.Names.{resolve}
 use Rattle.pcrl.specs.Sheet.{Sheet}
 use Rattle.pcrl.specs.Sorts.{rightly-sorted?}
-use Rattle.pcrl.specs.Table.{Table}
+use Rattle.pcrl.specs.Table.{Table, renewed}
+use Rattle.pcrl.specs.Stream.{names-code}
 use Rattle.pcrl.specs.Right.{RightTable}
-use Rattle.pcrl.specs.Blocks.{room?}
+use Rattle.pcrl.specs.Blocks.{file-of, room?}
 use Rattle.pcrl.specs.Printer.{table-text}
 use Rattle.pcrl.specs.Answers.{tokens-read, tree-read, sorted-read, sheet-read, file-made, table-checked, text-printed, table-printed}
 use Rattle.laws.specs.Questions.{past-question, past-question-of, past-answer}
-use Rattle.printing.specs.ReadBack.{printed-sheet, printed-reads-back}
+use Rattle.codec.specs.Layouts.{layout-of-file}
+use Rattle.printing.specs.ReadBack.{printed-sheet, own-file, older-reads-back}
 
 -- a refusal is by a question, and questions are counted from 1
 unfoldable ByQuestion : {A : Type 0} → Result A → Type 0
@@ -80,12 +82,21 @@ unfolding passed
 accepted-passed (refused n) a e = absurd (Option·none-ne-some a e)
 accepted-passed (accepted b) a e = ap accepted (Option·some-injective b a e)
 
--- WHAT IS PRINTED IS READ BACK: a table's file, printed as a text and made a table again, is that file.
-pub print-then-make : (file : List ℕ) (room : ℕ) (text : List ℕ) → table-printed file room ≡ accepted text → (more : ℕ) → length file ≤ more → file-made text more ≡ accepted file
+-- WHAT IS PRINTED IS READ BACK: a table's file, printed as a text and made a table again, is the file of that table with the names of its sorts,
+pub print-then-make : (file : List ℕ) (room : ℕ) (text : List ℕ) → table-printed file room ≡ accepted text
+    → (U : Table) × (table-checked file ≡ accepted U) × ((more : ℕ) → length (file-of (renewed U)) ≤ more → file-made text more ≡ accepted (file-of (renewed U)))
 unfolding table-printed text-printed
-print-then-make file room text e more enough =
+print-then-make file room text e =
     past-answer (table-checked file) _ text e (λ U checked e₁.
     past-question-of 17 (passed (sorted-read (table-text U))) _ text e₁ (λ H sorted e₂.
     past-question 11 (room? (table-text U) room) _ text e₂ (λ w e₃.
     let same : table-text U ≡ text = cc in
-    subst (λ (s : List ℕ). file-made s more ≡ accepted file) same (printed-reads-back file U checked H (accepted-passed (sorted-read (table-text U)) H sorted) more enough))))
+    (U, checked, λ more enough. subst (λ (s : List ℕ). file-made s more ≡ accepted (file-of (renewed U))) same (older-reads-back file U checked H (accepted-passed (sorted-read (table-text U)) H sorted) more enough)))))
+
+-- and where the file has hex F2 it is that file.
+pub print-then-make-same : (file : List ℕ) (room : ℕ) (text : List ℕ) → table-printed file room ≡ accepted text → getD file 4 0 ≡ names-code
+    → (more : ℕ) → length file ≤ more → file-made text more ≡ accepted file
+print-then-make-same file room text e mark more enough =
+    let (U, checked, made) = print-then-make file room text e in
+    let own = own-file file U checked (layout-of-file file U checked .1 mark) in
+    subst (λ (f : List ℕ). file-made text more ≡ accepted f) own (made more (subst (λ (f : List ℕ). length f ≤ more) (sym own) enough))

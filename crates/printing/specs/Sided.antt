@@ -109,7 +109,7 @@ unfoldable pub retold-equation : Equation → Equation
 retold-equation q = record { params = q .params; summands = map retold-summand (q .summands) }
 
 unfoldable pub retold-table : Table → Table
-retold-table U = record { sig = U .sig; equations = map retold-equation (U .equations); start = U .start }
+retold-table U = record { layout = U .layout; sig = U .sig; equations = map retold-equation (U .equations); start = U .start }
 
 -- no `==` of it stands over two values
 pub record SidedSummand (h : Summand) : Type 0 where
@@ -138,5 +138,5 @@ summand-retold h s =
 pub table-retold : (U : Table) → SidedTable U → retold-table U ≡ U
 unfolding retold-table retold-equation
 table-retold U s =
-    ap (λ (es : List Equation). record { sig = U .sig; equations = es; start = U .start })
+    ap (λ (es : List Equation). record { layout = U .layout; sig = U .sig; equations = es; start = U .start })
     (map-same _ retold-equation (λ q h. ap (λ (hs : List Summand). record { params = q .params; summands = hs }) (map-same SidedSummand retold-summand summand-retold (q .summands) h)) (U .equations) s)

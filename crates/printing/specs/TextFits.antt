@@ -1,5 +1,5 @@
 -- Which tables have a text: question 17 fails exactly for those whose text is too long, has a name that is too long or too many open brackets, or
--- that have more equations than a sheet may have processes or an `==` over two values. All other questions pass.
+-- that have more equations than a sheet may have processes, a sort named like an action, or an `==` over two values. All other questions pass.
 use mathlib.Core.Path.{_≡_, refl, ap, sym, subst, _∙_}
 use mathlib.Core.List.{List}
 use mathlib.Core.Logic.{_↔_}
@@ -10,7 +10,7 @@ use lib.Dec.{T}
 use lib.ListN.{length, drop, length-drop, length-map}
 use Rattle.pcrl.specs.Limits.{max-size, max-processes}
 use Rattle.pcrl.specs.Result.{Result, refused, accepted, passed}
-use Rattle.pcrl.specs.Tests.{Between, Every}
+use Rattle.pcrl.specs.Tests.{distinct, Between, Every}
 use Rattle.pcrl.specs.Bytes.{Short, short?, printable?}
 use Rattle.pcrl.specs.Tokens.{Token, tokens, Shallow, shallow?}
 use Rattle.pcrl.specs.Counts.{Counted}
@@ -18,7 +18,7 @@ use Rattle.pcrl.specs.Sheet.{Sheet}
 use Rattle.pcrl.specs.Table.{Table}
 use Rattle.pcrl.specs.Right.{RightSizes, RightSig, RightTable}
 use Rattle.pcrl.specs.Print.{print-sheet}
-use Rattle.pcrl.specs.Printer.{sort-line-of, func-line-of, act-line-of, param-of, proc-line-of, printed, table-text}
+use Rattle.pcrl.specs.Printer.{taken, sort-line-of, func-line-of, act-line-of, param-of, proc-line-of, printed, table-text}
 use Rattle.pcrl.specs.Render.{render}
 use Rattle.pcrl.specs.Answers.{tokens-read, tree-read, sorted-read}
 use Rattle.laws.specs.Questions.{past-question, past-question-of, past-answer}
@@ -36,7 +36,7 @@ use Rattle.printing.specs.ResolvedSheet.{printed-resolves}
 use Rattle.printing.specs.Sided.{SidedTable, table-retold}
 use Rattle.printing.specs.Linear.{linear-sheet}
 use Rattle.printing.specs.LinearSorted.{linear-sorted}
-use Rattle.printing.specs.ReadBack.{text-tree, text-sided}
+use Rattle.printing.specs.ReadBack.{text-tree, text-free, text-sided}
 use Rattle.printing.specs.Watched.{apart}
 use Rattle.printing.specs.WatchedSheet.{tokens-sided}
 
@@ -50,6 +50,8 @@ pub record Fits (U : Table) : Type 0 where
   pub shallow : Shallow (print-sheet (printed U))
   -- "16 processes"
   pub few : length (U .equations) ≤ max-processes
+  -- "Every declared name new": no sort has an action's name
+  pub free : T (distinct (taken (U .sig)))
   -- "`==` .. refuses two numerals": none stands over two values
   pub no-two-values : SidedTable U
 
@@ -58,26 +60,26 @@ counted-printed : (U : Table) → PlainTable U → length (U .equations) ≤ max
 unfolding Counted printed sort-line-of proc-line-of RightSig RightSizes
 counted-printed U plain few =
     let sig = plain .signature in
-    let acts = U .sig .acts in
+    let S = U .sig in
     let sorts = U .sig .sorts in
-    let s = length-numbered (sort-line-of acts) 1 (drop 1 sorts) in
+    let s = length-numbered (sort-line-of S) 1 (drop 1 sorts) in
     let d = length-drop 1 sorts in
-    let f = length-numbered (func-line-of acts) 0 (U .sig .funcs) in
-    let a = length-map acts (act-line-of acts) in
-    let p = length-numbered (proc-line-of acts) 0 (U .equations) in
+    let f = length-numbered (func-line-of S) 0 (U .sig .funcs) in
+    let a = length-map (S .acts) (act-line-of S) in
+    let p = length-numbered (proc-line-of S) 0 (U .equations) in
     let many-sorts = sig .0 .0 .0 in
     let many-funcs = sig .1 .0 .0 in
     let many-acts = sig .1 .1 .0 .0 in (
       omega arith,
       (
-        every-numbered (Between 1 max-size) _ (sort-line-of acts) 1 (drop 1 sorts) (λ D n w h. h) (every-drop _ 1 sorts (sig .0 .0 .1)),
+        every-numbered (Between 1 max-size) _ (sort-line-of S) 1 (drop 1 sorts) (λ D n w h. h) (every-drop _ 1 sorts (sig .0 .0 .1)),
         (
           omega arith,
           (
             omega arith,
             (
               omega arith,
-              every-numbered (PlainEquation U) _ (proc-line-of acts) 0 (U .equations) (λ e q w h. let n = length-numbered (param-of acts) 0 (q .params) in let l = h .few in omega arith) (plain .equations),
+              every-numbered (PlainEquation U) _ (proc-line-of S) 0 (U .equations) (λ e q w h. let n = length-numbered (param-of S) 0 (q .params) in let l = h .few in omega arith) (plain .equations),
             ),
           ),
         ),
@@ -99,7 +101,7 @@ fits-passes U right fits =
       raw = printed U;
       form = parse-print (printed U) (printed-formed U plain);
       counted = counted-printed U plain (fits .few);
-      resolved = printed-resolves U plain ∙ ap (λ (W : Table). some (linear-sheet W)) (table-retold U (fits .no-two-values));
+      resolved = printed-resolves U plain (fits .free) ∙ ap (λ (W : Table). some (linear-sheet W)) (table-retold U (fits .no-two-values));
       rightly-sorted = linear-sorted U right;
     })
 
@@ -113,9 +115,9 @@ passes-fits U right H e =
     let valid = spelled-valid ts (r .found) (printed-spelled U plain) (r .all-tokens) in
     let same = spelled-tokens ts (r .found) (printed-spelled U plain) (r .all-tokens) in
     let c : Counted (printed U) = subst Counted (text-tree U plain H r) (r .counted) in
-    let p = length-numbered (proc-line-of (U .sig .acts)) 0 (U .equations) in
+    let p = length-numbered (proc-line-of (U .sig)) 0 (U .equations) in
     let few = c .1 .1 .1 .1 .0 in
-    record { short = r .short; names = every-weaken _ _ valid-short ts valid; shallow = subst Shallow same (r .shallow); few = omega arith; no-two-values = text-sided U plain H r }
+    record { short = r .short; names = every-weaken _ _ valid-short ts valid; shallow = subst Shallow same (r .shallow); few = omega arith; free = text-free U plain H r; no-two-values = text-sided U plain H r }
 
 -- what questions 1 to 4 say of a table's text: its tokens are those of the printed sheet
 record TokensRead (U : Table) (ts : List Token) : Type 0 where
@@ -137,12 +139,12 @@ tokens-as-printed U right ts e =
     let given : ts ≡ vs = cc in
     record { are = given ∙ same; short = h₁; names = every-weaken _ _ valid-short us (spelled-valid us vs spelled h₃); shallow = subst Shallow same h₄ }))))
 
--- A TABLE OF FEW EQUATIONS FITS WHOSE TEXT PASSES QUESTIONS 1 TO 4, WITH NO `==` BETWEEN TWO NUMERALS AMONG ITS TOKENS,
-pub tokens-fit : (U : Table) → RightTable U → (ts : List Token) → tokens-read (table-text U) ≡ accepted ts → T (apart ts) → length (U .equations) ≤ max-processes → Fits U
-tokens-fit U right ts e h few =
+-- A TABLE OF FEW EQUATIONS, WITH NO SORT NAMED LIKE AN ACTION, FITS WHOSE TEXT PASSES QUESTIONS 1 TO 4, WITH NO `==` BETWEEN TWO NUMERALS AMONG ITS TOKENS,
+pub tokens-fit : (U : Table) → RightTable U → (ts : List Token) → tokens-read (table-text U) ≡ accepted ts → T (apart ts) → length (U .equations) ≤ max-processes → T (distinct (taken (U .sig))) → Fits U
+tokens-fit U right ts e h few free =
     let r = tokens-as-printed U right ts e in
     let sided = tokens-sided U (right-plain U right) .0 (subst (λ (us : List Token). T (apart us)) (r .are) h) in
-    record { short = r .short; names = r .names; shallow = r .shallow; few = few; no-two-values = sided }
+    record { short = r .short; names = r .names; shallow = r .shallow; few = few; free = free; no-two-values = sided }
 
 -- and of one that fits they pass, and there is none.
 pub fits-tokens : (U : Table) → RightTable U → Fits U → (ts : List Token) × ((tokens-read (table-text U) ≡ accepted ts) × T (apart ts))

@@ -10,7 +10,7 @@ use lib.ListN.{length}
 use Rattle.pcrl.specs.Tests.{and, negated, same?, among, Each}
 use Rattle.pcrl.specs.Tokens.{Token, name, the}
 use Rattle.pcrl.specs.Tree.{RawData, Atom}
-use Rattle.pcrl.specs.Sheet.{Data, val, var, app, Datas, nil, cons, list-of, Action, Sig, Operation, operation}
+use Rattle.pcrl.specs.Sheet.{Data, val, var, app, Datas, nil, cons, list-of, Sig, Operation, operation}
 use Rattle.pcrl.specs.Print.{bracketed, print-data, print-conjunction, print-comparison, print-negation, print-atom, print-datas, print-given}
 use Rattle.pcrl.specs.Printer.{Shown, atom-shown, as-data, as-conjunction, as-comparison, as-negation, listed, in-brackets, applied, operand, shown-by, func-name, var-name, shown, all-shown, raw-data}
 use Rattle.grammar.specs.PrintLaws.{or-behind-prints, and-behind-prints, applied-given}
@@ -194,28 +194,28 @@ module _ (S : Sig) (Γ : List ℕ) where
       shown-told _ _ (rw (two .0, two .1) (equal-apart (print-negation (as-negation (operand 0 ss))) (print-negation (as-negation (operand 1 ss))) _ _ _ _ (value-sided (at 0 ds)) (value-sided (at 1 ds)) x y))
   operation-told f Operation.unsorted ss ds p h = absurd p
 
-module _ (acts : List Action) (S : Sig) (Γ : List ℕ) where
+module _ (S : Sig) (Γ : List ℕ) where
   as-told : (s : Shown) (f : ℕ) (ds : Datas) → Everywhere (told (sided (app f ds))) s → Told s (app f ds)
   unfolding is-value
   as-told s f ds h = record { anywhere = h .anywhere; in-conjunction = h .in-conjunction; in-comparison = h .in-comparison; in-negation = h .in-negation }
 
-  variable-told : (i : ℕ) → Told (atom-shown (Atom.variable (var-name acts i))) (var i)
+  variable-told : (i : ℕ) → Told (atom-shown (Atom.variable (var-name S i))) (var i)
   unfolding is-value sided as-data as-conjunction as-comparison as-negation print-data apart watched kind next unmet after first-side second-side
   variable-told i = record { anywhere = refl; in-conjunction = refl; in-comparison = refl; in-negation = record { first = refl; behind = refl; second = refl } }
 
   mutual
     unfolding Plain shown Each list-of sided
 
-    data-told : (d : Data) → Plain S Γ d → Told (shown acts d) d
+    data-told : (d : Data) → Plain S Γ d → Told (shown S d) d
     data-told (val v) h = value-told v
     data-told (var i) h = variable-told i
-    data-told (app f ds) h = as-told _ f ds (operation-told S Γ (func-name acts) (operation f) (all-shown acts ds) ds (h .0) (datas-told ds (h .1)))
+    data-told (app f ds) h = as-told _ f ds (operation-told S Γ (func-name S) (operation f) (all-shown S ds) ds (h .0) (datas-told ds (h .1)))
 
-    datas-told : (ds : Datas) → PlainAll S Γ ds → Each Told (all-shown acts ds) (list-of ds)
+    datas-told : (ds : Datas) → PlainAll S Γ ds → Each Told (all-shown S ds) (list-of ds)
     datas-told nil h = tt
     datas-told (cons d ds) h = (data-told d (h .0), datas-told ds (h .1))
 
   -- PRINTED DATA IS APART EXACTLY IF NO `==` IN IT STANDS OVER TWO VALUES.
-  pub data-apart : (d : Data) → Plain S Γ d → apart (print-data (raw-data acts d)) ≡ sided d
+  pub data-apart : (d : Data) → Plain S Γ d → apart (print-data (raw-data S d)) ≡ sided d
   unfolding raw-data
   data-apart d h = data-told d h .anywhere

@@ -12,10 +12,10 @@ use Rattle.pcrl.specs.Tests.{and, same?, among, Every}
 use Rattle.pcrl.specs.Reader.{all}
 use Rattle.pcrl.specs.Tokens.{Token, name, numeral, the}
 use Rattle.pcrl.specs.Tree.{Name, RawData, Atom, Conditional, Sequence, Part, SortLine, FuncLine, ActLine}
-use Rattle.pcrl.specs.Sheet.{Data, Act, tau, action, Action, no-action}
+use Rattle.pcrl.specs.Sheet.{Data, Act, tau, action, no-action, Sig, sort-name}
 use Rattle.pcrl.specs.Table.{Summand, Equation, Table}
 use Rattle.pcrl.specs.Print.{joined, print-data, print-given, print-choice, print-conditional, print-sequence, print-part, line, print-lines, print-sorts, print-values, print-sort, print-func, print-takes, print-act, print-param, print-params, print-proc, print-init, print-sheet}
-use Rattle.pcrl.specs.Printer.{numbered, atom-shown, as-data, in-brackets, side, wanting, choice-of, right-of, sort-name, proc-name, var-name, raw-data, raw-act, raw-call, raw-sequence, raw-conditional, raw-sums, raw-summand, param-of, proc-line-of, init-line-of, printed}
+use Rattle.pcrl.specs.Printer.{numbered, atom-shown, as-data, in-brackets, side, wanting, choice-of, right-of, proc-name, var-name, raw-data, raw-act, raw-call, raw-sequence, raw-conditional, raw-sums, raw-summand, param-of, proc-line-of, init-line-of, printed}
 use Rattle.laws.specs.Tests.{both-pass, pass-both}
 use Rattle.laws.specs.Every.{every-of-all}
 use Rattle.printing.specs.Plain.{PlainAct, PlainTerm, PlainCond, PlainCall, PlainSummand, PlainEquation, PlainTable}
@@ -93,29 +93,29 @@ unfolding print-choice apart watched kind next unmet among same? ℕ-discrete
 delta-apart = refl
 
 module _ (U : Table) where
-  abbrev acts : List Action
-  acts = U .sig .acts
+  abbrev S : Sig
+  S = U .sig
 
   module _ (Γ : List ℕ) where
-    terms-apart : (ds : List Data) → Every (PlainTerm U Γ) ds → apart (print-given (in-brackets (map (raw-data acts) ds))) ≡ all-pass sided ds
-    terms-apart ds h = given-apart (map (raw-data acts) ds) ∙ pass-map (PlainTerm U Γ) (λ e. apart (print-data e)) (raw-data acts) sided (data-apart acts (U .sig) Γ) ds h
+    terms-apart : (ds : List Data) → Every (PlainTerm U Γ) ds → apart (print-given (in-brackets (map (raw-data S) ds))) ≡ all-pass sided ds
+    terms-apart ds h = given-apart (map (raw-data S) ds) ∙ pass-map (PlainTerm U Γ) (λ e. apart (print-data e)) (raw-data S) sided (data-apart (U .sig) Γ) ds h
 
-    named-apart : (x : Name) (ds : List Data) → Every (PlainTerm U Γ) ds → apart (print-part (Part.named x (in-brackets (map (raw-data acts) ds)))) ≡ all-pass sided ds
+    named-apart : (x : Name) (ds : List Data) → Every (PlainTerm U Γ) ds → apart (print-part (Part.named x (in-brackets (map (raw-data S) ds)))) ≡ all-pass sided ds
     unfolding print-choice kind
-    named-apart x ds h = other-first (name x) (print-given (in-brackets (map (raw-data acts) ds))) refl ∙ terms-apart ds h
+    named-apart x ds h = other-first (name x) (print-given (in-brackets (map (raw-data S) ds))) refl ∙ terms-apart ds h
 
-    act-apart : (a : Act) (ds : List Data) → PlainAct (U .sig) a ds → Every (PlainTerm U Γ) ds → apart (print-part (raw-act acts a ds)) ≡ all-pass sided ds
+    act-apart : (a : Act) (ds : List Data) → PlainAct (U .sig) a ds → Every (PlainTerm U Γ) ds → apart (print-part (raw-act S a ds)) ≡ all-pass sided ds
     unfolding raw-act PlainAct all-pass
     act-apart tau ds h k = tau-apart ∙ ap (all-pass sided) (sym h)
-    act-apart (action a) ds h k = named-apart (getD acts a no-action .name) ds k
+    act-apart (action a) ds h k = named-apart (getD (S .acts) a no-action .name) ds k
 
     sequence-apart : (p : Part) (cs : List (ℕ × List Data)) → Every (PlainCall U Γ) cs
-        → apart (print-sequence (raw-sequence acts p cs)) ≡ and (apart (print-part p)) (all-pass (λ (c : ℕ × List Data). all-pass sided (c .1)) cs)
+        → apart (print-sequence (raw-sequence S p cs)) ≡ and (apart (print-part p)) (all-pass (λ (c : ℕ × List Data). all-pass sided (c .1)) cs)
     unfolding raw-sequence raw-call print-choice all-pass Every kind among same? ℕ-discrete
     sequence-apart p [] k = sym (and-true (apart (print-part p)))
     sequence-apart p (c ∷ cs) k =
-        then-other (print-part p) (print-sequence (raw-sequence acts (raw-call acts c) cs)) (the ".") refl
-        ∙ ap (and (apart (print-part p))) (sequence-apart (raw-call acts c) cs (k .1) ∙ ap₂ and (named-apart (proc-name acts (c .0)) (c .1) (k .0 .1)) refl)
+        then-other (print-part p) (print-sequence (raw-sequence S (raw-call S c) cs)) (the ".") refl
+        ∙ ap (and (apart (print-part p))) (sequence-apart (raw-call S c) cs (k .1) ∙ ap₂ and (named-apart (proc-name S (c .0)) (c .1) (k .0 .1)) refl)
 
     side-apart : (c : Conditional) → apart (print-sequence (side c)) ≡ apart (print-conditional c)
     unfolding side print-choice
@@ -134,32 +134,32 @@ module _ (U : Table) where
         ∙ rw delta-apart (ap (and (apart (print-sequence p))) (and-true (apart (print-data c))) ∙ and-swap (apart (print-sequence p)) (apart (print-data c)))
 
     conditional-apart : (cs : List (ℕ × Data)) (p : Sequence) → Every (PlainCond U Γ) cs
-        → apart (print-conditional (raw-conditional acts cs p)) ≡ and (all-pass (λ (c : ℕ × Data). sided (c .1)) cs) (apart (print-sequence p))
+        → apart (print-conditional (raw-conditional S cs p)) ≡ and (all-pass (λ (c : ℕ × Data). sided (c .1)) cs) (apart (print-sequence p))
     unfolding raw-conditional all-pass Every print-choice
     conditional-apart [] p h = refl
     conditional-apart (c ∷ cs) p h =
-        wanting-apart (c .0) (raw-data acts (c .1)) (side (raw-conditional acts cs p))
-        ∙ (ap₂ and (data-apart acts (U .sig) Γ (c .1) (h .0 .1)) (side-apart (raw-conditional acts cs p) ∙ conditional-apart cs p (h .1)) ∙ sym (and-regroup (sided (c .1)) _ (apart (print-sequence p))))
+        wanting-apart (c .0) (raw-data S (c .1)) (side (raw-conditional S cs p))
+        ∙ (ap₂ and (data-apart (U .sig) Γ (c .1) (h .0 .1)) (side-apart (raw-conditional S cs p) ∙ conditional-apart cs p (h .1)) ∙ sym (and-regroup (sided (c .1)) _ (apart (print-sequence p))))
 
-  sums-apart : (n : ℕ) (Ds : List ℕ) (c : Conditional) → apart (print-conditional (raw-sums acts n Ds c)) ≡ apart (print-conditional c)
+  sums-apart : (n : ℕ) (Ds : List ℕ) (c : Conditional) → apart (print-conditional (raw-sums S n Ds c)) ≡ apart (print-conditional c)
   unfolding raw-sums print-choice kind among same? ℕ-discrete
   sums-apart n [] c = refl
   sums-apart n (D ∷ Ds) c =
-      let inside = print-conditional (raw-sums acts (suc n) Ds c) in
-      let v = var-name acts n in
-      let E = sort-name acts D in
+      let inside = print-conditional (raw-sums S (suc n) Ds c) in
+      let v = var-name S n in
+      let E = sort-name S D in
       other-first (the "sum") _ refl
       ∙ (bracketed-apart (name v ∷ the ":" ∷ name E ∷ the "," ∷ inside)
       ∙ (other-first (name v) (the ":" ∷ name E ∷ the "," ∷ inside) refl
       ∙ (other-first (the ":") (name E ∷ the "," ∷ inside) refl ∙ (other-first (name E) (the "," ∷ inside) refl ∙ (other-first (the ",") inside refl ∙ sums-apart (suc n) Ds c)))))
 
-  summand-apart : (Δ : List ℕ) (h : Summand) → PlainSummand U Δ h → apart (print-conditional (raw-summand acts (length Δ) h)) ≡ sided-summand h
+  summand-apart : (Δ : List ℕ) (h : Summand) → PlainSummand U Δ h → apart (print-conditional (raw-summand S (length Δ) h)) ≡ sided-summand h
   unfolding raw-summand sided-summand
   summand-apart Δ h p =
       let Γ = Δ ++ h .vars in
-      let a = raw-act acts (h .act) (h .terms) in
+      let a = raw-act S (h .act) (h .terms) in
       sums-apart (length Δ) (h .vars) _
-      ∙ (conditional-apart Γ (h .conds) (raw-sequence acts a (h .calls)) (p .conds)
+      ∙ (conditional-apart Γ (h .conds) (raw-sequence S a (h .calls)) (p .conds)
       ∙ ap (and (all-pass (λ (c : ℕ × Data). sided (c .1)) (h .conds))) (sequence-apart Γ a (h .calls) (p .calls) ∙ ap₂ and (act-apart Γ (h .act) (h .terms) (p .act) (p .terms)) refl))
 
 -- RIGHT SIDES AND LINES
@@ -215,31 +215,31 @@ lines-apart s w e (l ∷ ls) us =
     ap apart (append-assoc (line s (w l)) (print-lines s w ls) us)
     ∙ (line-apart s (w l) (print-lines s w ls ++ us) e ∙ (ap (and (apart (w l))) (lines-apart s w e ls us) ∙ sym (and-regroup (apart (w l)) _ (apart us))))
 
-proc-apart : (U : Table) (e : ℕ) (q : Equation) → PlainEquation U q → apart (print-proc (proc-line-of (U .sig .acts) e q)) ≡ all-pass sided-summand (q .summands)
+proc-apart : (U : Table) (e : ℕ) (q : Equation) → PlainEquation U q → apart (print-proc (proc-line-of (U .sig) e q)) ≡ all-pass sided-summand (q .summands)
 unfolding print-proc proc-line-of kind among same? ℕ-discrete
 proc-apart U e q p =
-    let acts = U .sig .acts in
-    let ps = numbered (param-of acts) 0 (q .params) in
-    let cs = map (raw-summand acts (length (q .params))) (q .summands) in
-    other-first (name (proc-name acts e)) _ refl
+    let S = U .sig in
+    let ps = numbered (param-of S) 0 (q .params) in
+    let cs = map (raw-summand S (length (q .params))) (q .summands) in
+    other-first (name (proc-name S e)) _ refl
     ∙ (then-other (print-params ps) (print-choice (right-of cs)) (the "=") refl
-    ∙ rw (params-apart ps) (right-apart cs ∙ pass-map (PlainSummand U (q .params)) (λ d. apart (print-conditional d)) (raw-summand acts (length (q .params))) sided-summand (summand-apart U (q .params)) (q .summands) (p .summands)))
+    ∙ rw (params-apart ps) (right-apart cs ∙ pass-map (PlainSummand U (q .params)) (λ d. apart (print-conditional d)) (raw-summand S (length (q .params))) sided-summand (summand-apart U (q .params)) (q .summands) (p .summands)))
 
-procs-apart : (U : Table) → PlainTable U → all-pass (λ l. apart (print-proc l)) (numbered (proc-line-of (U .sig .acts)) 0 (U .equations)) ≡ sided-table U
+procs-apart : (U : Table) → PlainTable U → all-pass (λ l. apart (print-proc l)) (numbered (proc-line-of (U .sig)) 0 (U .equations)) ≡ sided-table U
 unfolding sided-table
 procs-apart U plain =
-    pass-numbered (PlainEquation U) (λ l. apart (print-proc l)) (proc-line-of (U .sig .acts)) (λ (q : Equation). all-pass sided-summand (q .summands)) (proc-apart U) 0 (U .equations) (plain .equations)
+    pass-numbered (PlainEquation U) (λ l. apart (print-proc l)) (proc-line-of (U .sig)) (λ (q : Equation). all-pass sided-summand (q .summands)) (proc-apart U) 0 (U .equations) (plain .equations)
 
 value-apart : (v : ℕ) → apart (print-data (as-data (atom-shown (Atom.value v)))) ≡ true
 unfolding as-data print-data apart watched kind next unmet
 value-apart v = refl
 
-init-apart : (U : Table) → apart (line "init" (print-init (init-line-of (U .sig .acts) (U .start)))) ≡ true
+init-apart : (U : Table) → apart (line "init" (print-init (init-line-of (U .sig) (U .start)))) ≡ true
 unfolding print-init init-line-of kind among same? ℕ-discrete
 init-apart U =
     let value-data : ℕ → RawData = λ v. as-data (atom-shown (Atom.value v)) in
     let vs = U .start .1 in
-    let x = name (proc-name (U .sig .acts) (U .start .0)) in
+    let x = name (proc-name (U .sig) (U .start .0)) in
     let given = print-given (in-brackets (map value-data vs)) in
     let values : apart given ≡ true =
     given-apart (map value-data vs)
@@ -250,7 +250,7 @@ init-apart U =
 sheet-apart : (U : Table) → PlainTable U → apart (print-sheet (printed U)) ≡ sided-table U
 unfolding print-sheet printed print-proc print-init proc-line-of init-line-of sided-table kind among same? ℕ-discrete
 sheet-apart U plain =
-    let acts = U .sig .acts in
+    let S = U .sig in
     let R = printed U in
     let init = print-init (R .start) in
     lines-apart "sort" print-sort refl (R .sorts) _

@@ -7,7 +7,7 @@ use Rattle.pcrl.specs.Text.{bytes, decimal}
 use Rattle.pcrl.specs.Tests.{same?, among, Each}
 use Rattle.pcrl.specs.Tokens.{Token, name, numeral, words}
 use Rattle.pcrl.specs.Tree.{RawData, Atom}
-use Rattle.pcrl.specs.Sheet.{Data, val, var, app, Datas, nil, cons, Action, Operation, operation}
+use Rattle.pcrl.specs.Sheet.{Data, val, var, app, Datas, nil, cons, Sig, Operation, operation}
 use Rattle.pcrl.specs.Print.{bracketed, print-data, print-conjunction, print-comparison, print-negation, print-atom, print-datas, print-given}
 use Rattle.pcrl.specs.Render.{write}
 use Rattle.pcrl.specs.Printer.{Shown, atom-shown, as-data, as-negation, as-comparison, as-conjunction, or-behind, and-behind, listed, in-brackets, applied, operand, shown-by, func-name, var-name, shown, all-shown, raw-data}
@@ -105,24 +105,24 @@ operation-renders f Operation.or ss ts h =
     record { anywhere = r; in-conjunction = bracketed-renders r; in-comparison = bracketed-renders r; in-negation = bracketed-renders r }
 operation-renders f Operation.unsorted ss ts h = operand-renders 0 ss ts h
 
-module _ (acts : List Action) where
+module _ (S : Sig) where
   mutual
     unfolding shown text-at print-data write Each
 
-    pub shown-renders : (d : Data) → ShownAs (shown acts d) (text-at acts d)
+    pub shown-renders : (d : Data) → ShownAs (shown S d) (text-at S d)
     shown-renders (val v) = atom-shown-as (Atom.value v) (decimal v) (token (numeral v) tt)
-    shown-renders (var i) = atom-shown-as (Atom.variable (var-name acts i)) (var-name acts i) (token (name (var-name acts i)) tt)
-    shown-renders (app f ds) = operation-renders (func-name acts) (operation f) (all-shown acts ds) (texts-at acts ds) (all-render ds)
+    shown-renders (var i) = atom-shown-as (Atom.variable (var-name S i)) (var-name S i) (token (name (var-name S i)) tt)
+    shown-renders (app f ds) = operation-renders (func-name S) (operation f) (all-shown S ds) (texts-at S ds) (all-render ds)
 
-    pub all-render : (ds : Datas) → Each ShownAs (all-shown acts ds) (texts-at acts ds)
+    pub all-render : (ds : Datas) → Each ShownAs (all-shown S ds) (texts-at S ds)
     all-render nil = tt
     all-render (cons d ds) = (shown-renders d, all-render ds)
 
-  pub data-renders : (d : Data) → Renders (print-data (raw-data acts d)) (data-text acts d)
+  pub data-renders : (d : Data) → Renders (print-data (raw-data S d)) (data-text S d)
   unfolding raw-data data-text
   data-renders d = shown-renders d .anywhere
 
-  pub list-renders : (ds : List Data) → AsTexts (map (raw-data acts) ds) (map (data-text acts) ds)
+  pub list-renders : (ds : List Data) → AsTexts (map (raw-data S) ds) (map (data-text S) ds)
   unfolding Each
   list-renders [] = tt
   list-renders (d ∷ ds) = (data-renders d, list-renders ds)

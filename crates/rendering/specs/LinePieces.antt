@@ -16,11 +16,12 @@ use Rattle.pcrl.specs.Bytes.{letter, digit, name-byte}
 use Rattle.pcrl.specs.Tokens.{Token, name, numeral, the, words}
 use Rattle.pcrl.specs.Reader.{all}
 use Rattle.pcrl.specs.Tree.{RawData, Atom}
-use Rattle.pcrl.specs.Sheet.{Func, Action}
+use Rattle.pcrl.specs.Sheet.{Func, Action, Sig, sort-name}
 use Rattle.pcrl.specs.Table.{Equation, Table}
 use Rattle.pcrl.specs.Print.{bracketed, joined, print-data, line, print-lines, print-sorts, print-values, print-sort, print-func, print-takes, print-act, print-param, print-params, print-proc, print-init, print-sheet}
 use Rattle.pcrl.specs.Render.{blank-byte, write, render}
-use Rattle.pcrl.specs.Printer.{numbered, atom-shown, as-data, letters, indexed, sort-name, func-name, proc-name, var-name, sort-line-of, func-line-of, act-line-of, param-of, proc-line-of, init-line-of, printed, table-text}
+use Rattle.pcrl.specs.Letters.{letters, indexed}
+use Rattle.pcrl.specs.Printer.{numbered, atom-shown, as-data, taken, func-name, proc-name, var-name, sort-line-of, func-line-of, act-line-of, param-of, proc-line-of, init-line-of, printed, table-text}
 use Rattle.laws.specs.Tests.{is-true, eqb-other}
 use Rattle.laws.specs.Every.{every-of-all, every-append, every-drop, every-getD, every-weaken}
 use Rattle.grammar.specs.Spelled.{Spelled, spelled}
@@ -64,10 +65,11 @@ unfolding line
 equation-renders s n ts us t u e k f g h = word (bytes s) n e k (equated f g h)
 
 -- lines one behind another
-pub lines-render : {A B : Type 0} (P : A → Type 0) (s : String) (w : B → List Token) (f : ℕ → A → B) (g : ℕ → A → List ℕ) → ((i : ℕ) (a : A) → P a → RendersAll (line s (w (f i a))) (g i a)) → (i : ℕ) (l : List A) → Every P l → RendersAll (print-lines s w (numbered f i l)) (concat (numbered g i l))
+pub lines-render : {A B : Type 0} (P : A → Type 0) (s : String) (w : B → List Token) (f : ℕ → A → B) (g : ℕ → A → List ℕ) (n : ℕ)
+    → ((i : ℕ) (a : A) → i < n → P a → RendersAll (line s (w (f i a))) (g i a)) → (i : ℕ) (l : List A) → i + length l ≤ n → Every P l → RendersAll (print-lines s w (numbered f i l)) (concat (numbered g i l))
 unfolding Every all numbered concat
-lines-render P s w f g h i [] e = nothing-all
-lines-render P s w f g h i (a ∷ l) e = joins-all (h i a (e .0)) (lines-render P s w f g h (suc i) l (e .1))
+lines-render P s w f g n h i [] k e = nothing-all
+lines-render P s w f g n h i (a ∷ l) k e = joins-all (h i a (omega arith) (e .0)) (lines-render P s w f g n h (suc i) l (omega arith) (e .1))
 
 pub lines-render-plain : {A B : Type 0} (P : A → Type 0) (s : String) (w : B → List Token) (f : A → B) (g : A → List ℕ) → ((a : A) → P a → RendersAll (line s (w (f a))) (g a)) → (l : List A) → Every P l → RendersAll (print-lines s w (map f l)) (all g l)
 unfolding Every all
@@ -118,24 +120,26 @@ sized-renders x n h = record {
 name-unequal : (b : ℕ) → name-byte b ≡ true → eqb b (byte "=") ≡ false
 name-unequal b e = eqb-other b (byte "=") (λ f. let z : name-byte (byte "=") ≡ true = rw f at e in let y : _≡_ {A = ℕ} 0 1 = cc in omega arith)
 
-module _ (acts : List Action) where
+module _ (S : Sig) where
   -- a letter stands first
-  letter-first : (b i : ℕ) → name-byte b ≡ true → name-byte (getD (indexed acts b i) 0 0) ≡ true
+  letter-first : (names : List (List ℕ)) (b i : ℕ) → name-byte b ≡ true → name-byte (getD (indexed names b i) 0 0) ≡ true
   unfolding indexed letters
-  letter-first b i e = e
+  letter-first names b i e = e
 
-  sort-first : (D : ℕ) → name-byte (getD (sort-name acts D) 0 0) ≡ true
-  unfolding sort-name
-  sort-first zero = refl
-  sort-first (suc D) = letter-first (byte "s") (suc D) refl
-
-  sort-line-renders : (D n : ℕ) → n ≤ max-size → RendersAll (line "sort" (print-sort (sort-line-of acts D n))) (sort-line-text acts D n)
+  sort-line-renders : (D n : ℕ) → name-byte (getD (sort-name S D) 0 0) ≡ true → n ≤ max-size → RendersAll (line "sort" (print-sort (sort-line-of S D n))) (sort-line-text S D n)
   unfolding print-sort sort-line-of sort-line-text among words same? ℕ-discrete
-  sort-line-renders D n h = all-bytes (simp append-assoc) (line-renders "sort" (sort-name acts D) _ _ refl (sort-first D) (sized-renders (sort-name acts D) n h))
+  sort-line-renders D n k h = all-bytes (simp append-assoc) (line-renders "sort" (sort-name S D) _ _ refl k (sized-renders (sort-name S D) n h))
 
-  takes-render : (Ds : List ℕ) → Renders (print-sorts (map (sort-name acts) Ds)) (takes-text acts Ds)
+  -- Bool has no line
+  sort-lines-render : (sizes : List ℕ) → ((D : ℕ) → D < length sizes → name-byte (getD (sort-name S D) 0 0) ≡ true) → Every (λ n. n ≤ max-size) sizes
+      → RendersAll (print-lines "sort" print-sort (numbered (sort-line-of S) 1 (drop 1 sizes))) (concat (numbered (sort-line-text S) 1 (drop 1 sizes)))
+  unfolding Every numbered all concat
+  sort-lines-render [] k h = nothing-all
+  sort-lines-render (n ∷ l) k h = lines-render (λ n. n ≤ max-size) "sort" print-sort (sort-line-of S) (sort-line-text S) (suc (length l)) (λ D m i b. sort-line-renders D m (k D i) b) 1 l (omega arith) (h .1)
+
+  takes-render : (Ds : List ℕ) → Renders (print-sorts (map (sort-name S) Ds)) (takes-text S Ds)
   unfolding print-sorts takes-text among words same? ℕ-discrete write
-  takes-render Ds = joined-renders "#" (λ D. name D ∷ []) refl refl (map (sort-name acts) Ds) (map (sort-name acts) Ds) (each-mapped _ (sort-name acts) (sort-name acts) (λ D. token (name (sort-name acts D)) tt) Ds)
+  takes-render Ds = joined-renders "#" (λ D. name D ∷ []) refl refl (map (sort-name S) Ds) (map (sort-name S) Ds) (each-mapped _ (sort-name S) (sort-name S) (λ D. token (name (sort-name S D)) tt) Ds)
 
   values-render : (vs : List ℕ) → Renders (print-values vs) (joined-text (bytes ",") (map decimal vs))
   unfolding print-values among words same? ℕ-discrete write Each
@@ -151,74 +155,76 @@ module _ (acts : List Action) where
   values-unequal (v ∷ []) = decimal-unequal v
   values-unequal (v ∷ w ∷ vs) = decimal-unequal v
 
-  func-line-renders : (f : ℕ) (g : Func) → RendersAll (line "func" (print-func (func-line-of acts f g))) (func-line-text acts f g)
+  func-line-renders : (f : ℕ) (g : Func) → RendersAll (line "func" (print-func (func-line-of S f g))) (func-line-text S f g)
   unfolding print-func func-line-of func-line-text among words same? ℕ-discrete Avoids write
   func-line-renders f g =
-      let front = print-sorts (map (sort-name acts) (g .takes)) in
-      let gives = the "->" ∷ name (sort-name acts (g .gives)) ∷ [] in
-      subst (λ (l : List Token). RendersAll (line "func" (name (func-name acts f) ∷ the ":" ∷ l)) (func-line-text acts f g)) (append-assoc front gives (the "=" ∷ print-values (g .values)))
+      let front = print-sorts (map (sort-name S) (g .takes)) in
+      let gives = the "->" ∷ name (sort-name S (g .gives)) ∷ [] in
+      subst (λ (l : List Token). RendersAll (line "func" (name (func-name S f) ∷ the ":" ∷ l)) (func-line-text S f g)) (append-assoc front gives (the "=" ∷ print-values (g .values)))
       (all-bytes (simp append-assoc)
-      (equation-renders "func" (func-name acts f) (the ":" ∷ (front ++ gives)) (print-values (g .values)) _ _ refl (letter-first (byte "f") f refl)
-      (joins (token (name (func-name acts f)) tt) refl (mark (bytes ":") refl (joins (takes-render (g .takes)) refl (mark (bytes "->") refl (token (name (sort-name acts (g .gives))) tt)))))
+      (equation-renders "func" (func-name S f) (the ":" ∷ (front ++ gives)) (print-values (g .values)) _ _ refl (letter-first (taken S) (byte "f") f refl)
+      (joins (token (name (func-name S f)) tt) refl (mark (bytes ":") refl (joins (takes-render (g .takes)) refl (mark (bytes "->") refl (token (name (sort-name S (g .gives))) tt)))))
       (values-render (g .values)) (values-unequal (g .values))))
 
-  taken-marked : (Ds : List ℕ) → Marked (print-takes (map (sort-name acts) Ds))
+  taken-marked : (Ds : List ℕ) → Marked (print-takes (map (sort-name S) Ds))
   unfolding print-takes Avoids write
   taken-marked [] = tt
   taken-marked (D ∷ Ds) = refl
 
-  taken-renders : (Ds : List ℕ) → Renders (print-takes (map (sort-name acts) Ds)) (taken-text acts Ds)
+  taken-renders : (Ds : List ℕ) → Renders (print-takes (map (sort-name S) Ds)) (taken-text S Ds)
   unfolding print-takes taken-text among words same? ℕ-discrete
   taken-renders [] = nothing
   taken-renders (D ∷ Ds) = mark (bytes ":") refl (takes-render (D ∷ Ds))
 
-  act-line-renders : (a : Action) → name-byte (getD (a .name) 0 0) ≡ true → RendersAll (line "act" (print-act (act-line-of acts a))) (act-line-text acts a)
+  act-line-renders : (a : Action) → name-byte (getD (a .name) 0 0) ≡ true → RendersAll (line "act" (print-act (act-line-of S a))) (act-line-text S a)
   unfolding print-act act-line-of act-line-text among words same? ℕ-discrete write
   act-line-renders a k =
       all-bytes (simp append-assoc) (line-renders "act" (a .name) _ _ refl k (joins (token (name (a .name)) tt) (taken-marked (a .takes)) (taken-renders (a .takes))))
 
-  params-render : (Ds : List ℕ) → Renders (print-params (numbered (param-of acts) 0 Ds)) (bracketed-text (numbered (param-text acts) 0 Ds))
+  params-render : (Ds : List ℕ) → Renders (print-params (numbered (param-of S) 0 Ds)) (bracketed-text (numbered (param-text S) 0 Ds))
   unfolding print-params bracketed-text numbered print-param param-of param-text among words same? ℕ-discrete Avoids write
   params-render [] = nothing
-  params-render (D ∷ Ds) = bracketed-renders (joined-renders "," print-param refl refl _ _ (each-numbered _ (param-of acts) (param-text acts) one 0 (D ∷ Ds)))
+  params-render (D ∷ Ds) = bracketed-renders (joined-renders "," print-param refl refl _ _ (each-numbered _ (param-of S) (param-text S) one 0 (D ∷ Ds)))
     where
-      one : (i D : ℕ) → Renders (print-param (param-of acts i D)) (param-text acts i D)
-      one i D = joins (token (name (var-name acts i)) tt) refl (mark (bytes ":") refl (token (name (sort-name acts D)) tt))
+      one : (i D : ℕ) → Renders (print-param (param-of S i D)) (param-text S i D)
+      one i D = joins (token (name (var-name S i)) tt) refl (mark (bytes ":") refl (token (name (sort-name S D)) tt))
 
-  params-marked : (Ds : List ℕ) → Marked (print-params (numbered (param-of acts) 0 Ds))
+  params-marked : (Ds : List ℕ) → Marked (print-params (numbered (param-of S) 0 Ds))
   unfolding print-params numbered bracketed Avoids write
   params-marked [] = tt
   params-marked (D ∷ Ds) = refl
 
-  proc-line-renders : Every (λ (a : Action). name-byte (getD (a .name) 0 0) ≡ true) acts → (e : ℕ) (q : Equation) → RendersAll (line "proc" (print-proc (proc-line-of acts e q))) (proc-line-text acts e q)
+  proc-line-renders : Every (λ (a : Action). name-byte (getD (a .name) 0 0) ≡ true) (S .acts) → (e : ℕ) (q : Equation) → RendersAll (line "proc" (print-proc (proc-line-of S e q))) (proc-line-text S e q)
   unfolding print-proc proc-line-of proc-line-text among words same? ℕ-discrete Avoids write
   proc-line-renders h e q =
       all-bytes (simp append-assoc)
-      (equation-renders "proc" (proc-name acts e) (print-params (numbered (param-of acts) 0 (q .params))) _ _ _ refl (letter-first (byte "p") e refl)
-      (joins (token (name (proc-name acts e)) tt) (params-marked (q .params)) (params-render (q .params)))
-      (right-renders acts (length (q .params)) (q .summands)) (right-unequal acts (every-weaken _ _ (λ (a : Action). name-unequal (getD (a .name) 0 0)) acts h) (length (q .params)) (q .summands)))
+      (equation-renders "proc" (proc-name S e) (print-params (numbered (param-of S) 0 (q .params))) _ _ _ refl (letter-first (taken S) (byte "p") e refl)
+      (joins (token (name (proc-name S e)) tt) (params-marked (q .params)) (params-render (q .params)))
+      (right-renders S (length (q .params)) (q .summands)) (right-unequal S (every-weaken _ _ (λ (a : Action). name-unequal (getD (a .name) 0 0)) (S .acts) h) (length (q .params)) (q .summands)))
 
-  init-line-renders : (s : ℕ × List ℕ) → RendersAll (line "init" (print-init (init-line-of acts s))) (init-line-text acts s)
+  init-line-renders : (s : ℕ × List ℕ) → RendersAll (line "init" (print-init (init-line-of S s))) (init-line-text S s)
   unfolding print-init init-line-of init-line-text among words same? ℕ-discrete as-data print-data write
   init-line-renders s =
-      all-bytes (simp append-assoc) (line-renders "init" (proc-name acts (s .0)) _ _ refl (letter-first (byte "p") (s .0) refl) (named-renders (proc-name acts (s .0)) (map value-data (s .1)) (map decimal (s .1)) (each-mapped _ value-data decimal (λ v. token (numeral v) tt) (s .1))))
+      all-bytes (simp append-assoc) (line-renders "init" (proc-name S (s .0)) _ _ refl (letter-first (taken S) (byte "p") (s .0) refl) (named-renders (proc-name S (s .0)) (map value-data (s .1)) (map decimal (s .1)) (each-mapped _ value-data decimal (λ v. token (numeral v) tt) (s .1))))
     where
       value-data : ℕ → RawData
       value-data v = as-data (atom-shown (Atom.value v))
 
--- What the text asks of a table: sizes of at most 16, and action names that begin with a letter, a digit or an underscore. A right table has it.
+-- What the text asks of a table: sizes of at most 16, and names of sorts and actions that begin with a letter, a digit or an underscore.
+-- A right table has it.
 pub record Spellable (T : Table) : Type 0 where
   pub sizes : Every (λ n. n ≤ max-size) (T .sig .sorts)
+  pub sort-names : (D : ℕ) → D < length (T .sig .sorts) → name-byte (getD (sort-name (T .sig) D) 0 0) ≡ true
   pub names : Every (λ (a : Action). name-byte (getD (a .name) 0 0) ≡ true) (T .sig .acts)
 
 -- THE TEXT OF A TABLE IS MADE OF THE PIECES.
 pub text-is : (T : Table) → Spellable T → table-text T ≡ sheet-text T
 unfolding table-text printed print-sheet sheet-text render
 text-is T h =
-    let acts = T .sig .acts in
-    let sorts = lines-render (λ n. n ≤ max-size) "sort" print-sort (sort-line-of acts) (sort-line-text acts) (sort-line-renders acts) 1 (drop 1 (T .sig .sorts)) (every-drop _ 1 (T .sig .sorts) (h .sizes)) in
-    let funcs = lines-render (λ (g : Func). Unit {0}) "func" print-func (func-line-of acts) (func-line-text acts) (λ f g _. func-line-renders acts f g) 0 (T .sig .funcs) (every-of-all _ (λ g. tt) (T .sig .funcs)) in
-    let actions = lines-render-plain (λ (a : Action). name-byte (getD (a .name) 0 0) ≡ true) "act" print-act (act-line-of acts) (act-line-text acts) (act-line-renders acts) acts (h .names) in
-    let procs = lines-render (λ (q : Equation). Unit {0}) "proc" print-proc (proc-line-of acts) (proc-line-text acts) (λ e q _. proc-line-renders acts (h .names) e q) 0 (T .equations) (every-of-all _ (λ q. tt) (T .equations)) in
-    let all-lines = joins-all sorts (joins-all funcs (joins-all actions (joins-all procs (init-line-renders acts (T .start))))) in
+    let S = T .sig in
+    let sorts = sort-lines-render S (T .sig .sorts) (h .sort-names) (h .sizes) in
+    let funcs = lines-render (λ (g : Func). Unit {0}) "func" print-func (func-line-of S) (func-line-text S) (length (T .sig .funcs)) (λ f g _ _. func-line-renders S f g) 0 (T .sig .funcs) (omega arith) (every-of-all _ (λ g. tt) (T .sig .funcs)) in
+    let actions = lines-render-plain (λ (a : Action). name-byte (getD (a .name) 0 0) ≡ true) "act" print-act (act-line-of S) (act-line-text S) (act-line-renders S) (S .acts) (h .names) in
+    let procs = lines-render (λ (q : Equation). Unit {0}) "proc" print-proc (proc-line-of S) (proc-line-text S) (length (T .equations)) (λ e q _ _. proc-line-renders S (h .names) e q) 0 (T .equations) (omega arith) (every-of-all _ (λ q. tt) (T .equations)) in
+    let all-lines = joins-all sorts (joins-all funcs (joins-all actions (joins-all procs (init-line-renders S (T .start))))) in
     ap render (sym (append-nil (print-sheet (printed T)))) ∙ all-lines .so [] ∙ append-nil (sheet-text T)

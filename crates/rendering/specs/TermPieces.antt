@@ -11,11 +11,11 @@ use Rattle.pcrl.specs.Tests.{same?, among, Every}
 use Rattle.pcrl.specs.Tokens.{name, the, words}
 use Rattle.pcrl.specs.Reader.{all}
 use Rattle.pcrl.specs.Tree.{RawData, Choice, Conditional, Sequence, Part}
-use Rattle.pcrl.specs.Sheet.{Data, Act, tau, action, Action, no-action}
+use Rattle.pcrl.specs.Sheet.{Data, Act, tau, action, Action, Sig, no-action, sort-name}
 use Rattle.pcrl.specs.Table.{Summand}
 use Rattle.pcrl.specs.Print.{bracketed, print-choice, print-conditional, print-sequence, print-part}
 use Rattle.pcrl.specs.Render.{write}
-use Rattle.pcrl.specs.Printer.{side, wanting, choice-of, right-of, sort-name, proc-name, var-name, raw-data, raw-act, raw-call, raw-sequence, raw-conditional, raw-sums, raw-summand}
+use Rattle.pcrl.specs.Printer.{side, wanting, choice-of, right-of, proc-name, var-name, raw-data, raw-act, raw-call, raw-sequence, raw-conditional, raw-sums, raw-summand}
 use Rattle.laws.specs.Every.{every-getD}
 use Rattle.rendering.specs.Rendering.{Avoids, avoids-append, Unequal}
 use Rattle.rendering.specs.Pieces.{Renders, token, joins, mark}
@@ -33,82 +33,82 @@ unfolding side wanting
 side-wanting zero c p = refl
 side-wanting (suc w) c p = refl
 
-module _ (acts : List Action) where
-  pub act-renders : (a : Act) (ds : List Data) → Renders (print-part (raw-act acts a ds)) (act-text acts a ds)
+module _ (S : Sig) where
+  pub act-renders : (a : Act) (ds : List Data) → Renders (print-part (raw-act S a ds)) (act-text S a ds)
   unfolding raw-act act-text print-choice write among same? ℕ-discrete
   act-renders tau ds = token (the "tau") refl
-  act-renders (action a) ds = named-renders (getD acts a no-action .name) (map (raw-data acts) ds) (map (data-text acts) ds) (list-renders acts ds)
+  act-renders (action a) ds = named-renders (getD (S .acts) a no-action .name) (map (raw-data S) ds) (map (data-text S) ds) (list-renders S ds)
 
-  pub sequence-renders : (p : Part) (t : List ℕ) → Renders (print-part p) t → (cs : List (ℕ × List Data)) → Renders (print-sequence (raw-sequence acts p cs)) (t ++ all (call-text acts) cs)
+  pub sequence-renders : (p : Part) (t : List ℕ) → Renders (print-part p) t → (cs : List (ℕ × List Data)) → Renders (print-sequence (raw-sequence S p cs)) (t ++ all (call-text S) cs)
   unfolding raw-sequence raw-call call-text all print-choice among words same? ℕ-discrete Avoids write
   sequence-renders p t f [] = as-bytes (sym (append-nil t)) f
   sequence-renders p t f (c ∷ cs) =
-      joins f refl (mark (bytes ".") refl (sequence-renders (raw-call acts c) (proc-name acts (c .0) ++ given-text acts (c .1)) (named-renders (proc-name acts (c .0)) (map (raw-data acts) (c .1)) (map (data-text acts) (c .1)) (list-renders acts (c .1))) cs))
+      joins f refl (mark (bytes ".") refl (sequence-renders (raw-call S c) (proc-name S (c .0) ++ given-text S (c .1)) (named-renders (proc-name S (c .0)) (map (raw-data S) (c .1)) (map (data-text S) (c .1)) (list-renders S (c .1))) cs))
 
   -- a condition that wants w, around the side q
-  wanting-renders : (w : ℕ) (d : Data) (q : Sequence) (u : List ℕ) → Renders (print-sequence q) u → Renders (print-conditional (wanting w (raw-data acts d) q)) (first-text acts (w, d) ++ (u ++ second-text acts (w, d)))
+  wanting-renders : (w : ℕ) (d : Data) (q : Sequence) (u : List ℕ) → Renders (print-sequence q) u → Renders (print-conditional (wanting w (raw-data S d) q)) (first-text S (w, d) ++ (u ++ second-text S (w, d)))
   unfolding wanting first-text second-text print-choice among words same? ℕ-discrete Avoids write
   wanting-renders zero d q u f =
-      as-bytes (simp (append-assoc, append-nil)) (joins (token (the "delta") refl) refl (mark (bytes "<|") refl (joins (data-renders acts d) refl (mark (bytes "|>") refl f))))
+      as-bytes (simp (append-assoc, append-nil)) (joins (token (the "delta") refl) refl (mark (bytes "<|") refl (joins (data-renders S d) refl (mark (bytes "|>") refl f))))
   wanting-renders (suc w) d q u f =
-      as-bytes (simp append-assoc) (joins f refl (mark (bytes "<|") refl (joins (data-renders acts d) refl (mark (bytes "|>") refl (token (the "delta") refl)))))
+      as-bytes (simp append-assoc) (joins f refl (mark (bytes "<|") refl (joins (data-renders S d) refl (mark (bytes "|>") refl (token (the "delta") refl)))))
 
   -- what the conditions cs make of a piece
   abbrev guarded-text : List (ℕ × Data) → List ℕ → List ℕ
-  guarded-text cs t = before-text acts cs ++ (t ++ behind-text acts cs)
+  guarded-text cs t = before-text S cs ++ (t ++ behind-text S cs)
 
-  side-renders : (cs : List (ℕ × Data)) (p : Sequence) (t : List ℕ) → Renders (print-conditional (raw-conditional acts cs p)) (guarded-text cs t) → Renders (print-sequence (side (raw-conditional acts cs p))) (open-text cs ++ (guarded-text cs t ++ close-text cs))
+  side-renders : (cs : List (ℕ × Data)) (p : Sequence) (t : List ℕ) → Renders (print-conditional (raw-conditional S cs p)) (guarded-text cs t) → Renders (print-sequence (side (raw-conditional S cs p))) (open-text cs ++ (guarded-text cs t ++ close-text cs))
   unfolding raw-conditional before-text behind-text open-text close-text print-choice side
   side-renders [] p t f = as-bytes (sym (append-nil (t ++ []))) f
   side-renders (c ∷ cs) p t f =
-      subst (λ (q : Sequence). Renders (print-sequence q) (bytes "(" ++ (guarded-text (c ∷ cs) t ++ bytes ")"))) (sym (side-wanting (c .0) (raw-data acts (c .1)) (side (raw-conditional acts cs p))))
+      subst (λ (q : Sequence). Renders (print-sequence q) (bytes "(" ++ (guarded-text (c ∷ cs) t ++ bytes ")"))) (sym (side-wanting (c .0) (raw-data S (c .1)) (side (raw-conditional S cs p))))
       (bracketed-renders f)
 
-  pub conditional-renders : (cs : List (ℕ × Data)) (p : Sequence) (t : List ℕ) → Renders (print-sequence p) t → Renders (print-conditional (raw-conditional acts cs p)) (guarded-text cs t)
+  pub conditional-renders : (cs : List (ℕ × Data)) (p : Sequence) (t : List ℕ) → Renders (print-sequence p) t → Renders (print-conditional (raw-conditional S cs p)) (guarded-text cs t)
   unfolding raw-conditional before-text behind-text print-choice
   conditional-renders [] p t f = as-bytes (sym (append-nil t)) f
   conditional-renders (c ∷ cs) p t f =
-      as-bytes (simp append-assoc) (wanting-renders (c .0) (c .1) (side (raw-conditional acts cs p)) (open-text cs ++ (guarded-text cs t ++ close-text cs)) (side-renders cs p t (conditional-renders cs p t f)))
+      as-bytes (simp append-assoc) (wanting-renders (c .0) (c .1) (side (raw-conditional S cs p)) (open-text cs ++ (guarded-text cs t ++ close-text cs)) (side-renders cs p t (conditional-renders cs p t f)))
 
-  pub sums-render : (n : ℕ) (Ds : List ℕ) (c : Conditional) (t : List ℕ) → Renders (print-conditional c) t → Renders (print-conditional (raw-sums acts n Ds c)) (sums-text acts n Ds ++ (t ++ replicate (length Ds) (byte ")")))
+  pub sums-render : (n : ℕ) (Ds : List ℕ) (c : Conditional) (t : List ℕ) → Renders (print-conditional c) t → Renders (print-conditional (raw-sums S n Ds c)) (sums-text S n Ds ++ (t ++ replicate (length Ds) (byte ")")))
   unfolding raw-sums sums-text sum-text print-choice among words same? ℕ-discrete Avoids write bracketed
   sums-render n [] c t f = as-bytes (sym (append-nil t)) f
   sums-render n (D ∷ Ds) c t f =
       let inner = sums-render (suc n) Ds c t f in
       let more : replicate (length Ds) (byte ")") ++ bytes ")" ≡ byte ")" ∷ replicate (length Ds) (byte ")") = closing-more (length Ds) (byte ")") in
       as-bytes (simp (append-assoc, more))
-      (joins (token (the "sum") refl) refl (bracketed-renders (joins (token (name (var-name acts n)) tt) refl (mark (bytes ":") refl (joins (token (name (sort-name acts D)) tt) refl (mark (bytes ",") refl inner))))))
+      (joins (token (the "sum") refl) refl (bracketed-renders (joins (token (name (var-name S n)) tt) refl (mark (bytes ":") refl (joins (token (name (sort-name S D)) tt) refl (mark (bytes ",") refl inner))))))
 
-  pub summand-renders : (n : ℕ) (h : Summand) → Renders (print-conditional (raw-summand acts n h)) (summand-text acts n h)
+  pub summand-renders : (n : ℕ) (h : Summand) → Renders (print-conditional (raw-summand S n h)) (summand-text S n h)
   unfolding raw-summand summand-text
   summand-renders n h =
       as-bytes (simp append-assoc)
-      (sums-render n (h .vars) _ _ (conditional-renders (h .conds) _ _ (sequence-renders (raw-act acts (h .act) (h .terms)) (act-text acts (h .act) (h .terms)) (act-renders (h .act) (h .terms)) (h .calls))))
+      (sums-render n (h .vars) _ _ (conditional-renders (h .conds) _ _ (sequence-renders (raw-act S (h .act) (h .terms)) (act-text S (h .act) (h .terms)) (act-renders (h .act) (h .terms)) (h .calls))))
 
-  choice-renders : (n : ℕ) (h : Summand) (hs : List Summand) → Renders (print-choice (choice-of (raw-summand acts n h) (map (raw-summand acts n) hs))) (joined-text (bytes "+") (map (summand-text acts n) (h ∷ hs)))
+  choice-renders : (n : ℕ) (h : Summand) (hs : List Summand) → Renders (print-choice (choice-of (raw-summand S n h) (map (raw-summand S n) hs))) (joined-text (bytes "+") (map (summand-text S n) (h ∷ hs)))
   unfolding choice-of print-choice joined-text among words same? ℕ-discrete Avoids write
   choice-renders n h [] = summand-renders n h
   choice-renders n h (g ∷ hs) = joins (summand-renders n h) refl (mark (bytes "+") refl (choice-renders n g hs))
 
-  pub right-renders : (n : ℕ) (hs : List Summand) → Renders (print-choice (right-of (map (raw-summand acts n) hs))) (right-text acts n hs)
+  pub right-renders : (n : ℕ) (hs : List Summand) → Renders (print-choice (right-of (map (raw-summand S n) hs))) (right-text S n hs)
   unfolding right-of right-text print-choice write among same? ℕ-discrete
   right-renders n [] = token (the "delta") refl
   right-renders n (h ∷ hs) = choice-renders n h hs
 
   -- A RIGHT SIDE DOES NOT BEGIN WITH `=`, where no action's name does.
 
-  module _ (named : Every (λ (a : Action). eqb (getD (a .name) 0 0) (byte "=") ≡ false) acts) where
-    act-unequal : (a : Act) (ds : List Data) → Unequal (print-part (raw-act acts a ds))
+  module _ (named : Every (λ (a : Action). eqb (getD (a .name) 0 0) (byte "=") ≡ false) (S .acts)) where
+    act-unequal : (a : Act) (ds : List Data) → Unequal (print-part (raw-act S a ds))
     unfolding raw-act print-choice Avoids write
     act-unequal tau ds = refl
-    act-unequal (action a) ds = every-getD _ acts no-action a named refl
+    act-unequal (action a) ds = every-getD _ (S .acts) no-action a named refl
 
-    sequence-unequal : (p : Part) → Unequal (print-part p) → (cs : List (ℕ × List Data)) → Unequal (print-sequence (raw-sequence acts p cs))
+    sequence-unequal : (p : Part) → Unequal (print-part p) → (cs : List (ℕ × List Data)) → Unequal (print-sequence (raw-sequence S p cs))
     unfolding raw-sequence print-choice Avoids write
     sequence-unequal p h [] = h
     sequence-unequal p h (c ∷ cs) = avoids-append _ (print-part p) _ h refl
 
-    conditional-unequal : (cs : List (ℕ × Data)) (p : Sequence) → Unequal (print-sequence p) → Unequal (print-conditional (raw-conditional acts cs p))
+    conditional-unequal : (cs : List (ℕ × Data)) (p : Sequence) → Unequal (print-sequence p) → Unequal (print-conditional (raw-conditional S cs p))
     unfolding raw-conditional wanting side print-choice bracketed Avoids write
     conditional-unequal [] p h = h
     conditional-unequal ((zero, d) ∷ cs) p h = refl
@@ -116,16 +116,16 @@ module _ (acts : List Action) where
     conditional-unequal ((suc w, d) ∷ (zero, e) ∷ cs) p h = refl
     conditional-unequal ((suc w, d) ∷ (suc v, e) ∷ cs) p h = refl
 
-    summand-unequal : (n : ℕ) (h : Summand) → Unequal (print-conditional (raw-summand acts n h))
+    summand-unequal : (n : ℕ) (h : Summand) → Unequal (print-conditional (raw-summand S n h))
     unfolding raw-summand raw-sums print-choice bracketed Avoids write
-    summand-unequal n h = by (h .vars) (raw-conditional acts (h .conds) _) (conditional-unequal (h .conds) _ (sequence-unequal _ (act-unequal (h .act) (h .terms)) (h .calls)))
+    summand-unequal n h = by (h .vars) (raw-conditional S (h .conds) _) (conditional-unequal (h .conds) _ (sequence-unequal _ (act-unequal (h .act) (h .terms)) (h .calls)))
       where
-        by : (Ds : List ℕ) (c : Conditional) → Unequal (print-conditional c) → Unequal (print-conditional (raw-sums acts n Ds c))
+        by : (Ds : List ℕ) (c : Conditional) → Unequal (print-conditional c) → Unequal (print-conditional (raw-sums S n Ds c))
         by [] c h = h
         by (D ∷ Ds) c h = refl
 
-    pub right-unequal : (n : ℕ) (hs : List Summand) → Unequal (print-choice (right-of (map (raw-summand acts n) hs)))
+    pub right-unequal : (n : ℕ) (hs : List Summand) → Unequal (print-choice (right-of (map (raw-summand S n) hs)))
     unfolding right-of choice-of print-choice Avoids write
     right-unequal n [] = refl
     right-unequal n (h ∷ []) = summand-unequal n h
-    right-unequal n (h ∷ g ∷ hs) = avoids-append _ (print-conditional (raw-summand acts n h)) _ (summand-unequal n h) refl
+    right-unequal n (h ∷ g ∷ hs) = avoids-append _ (print-conditional (raw-summand S n h)) _ (summand-unequal n h) refl

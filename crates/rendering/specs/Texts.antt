@@ -6,9 +6,9 @@ use lib.Dec.{ltb}
 use lib.ListN.{length, drop, getD, replicate}
 use Rattle.pcrl.specs.Text.{bytes, byte, decimal}
 use Rattle.pcrl.specs.Reader.{all}
-use Rattle.pcrl.specs.Sheet.{Data, val, var, app, Datas, nil, cons, Act, tau, action, Func, Action, no-action, Operation, operation}
+use Rattle.pcrl.specs.Sheet.{Data, val, var, app, Datas, nil, cons, Act, tau, action, Func, Action, Sig, no-action, sort-name, Operation, operation}
 use Rattle.pcrl.specs.Table.{Summand, Equation, Table}
-use Rattle.pcrl.specs.Printer.{numbered, sort-name, func-name, proc-name, var-name}
+use Rattle.pcrl.specs.Printer.{numbered, func-name, proc-name, var-name}
 
 -- texts with a mark between any two
 unfoldable pub joined-text : List ℕ → List (List ℕ) → List ℕ
@@ -60,13 +60,13 @@ operation-text f Operation.and ts place = placed a-conjunction place (operand-te
 operation-text f Operation.or ts place = placed any-data place (operand-text 0 ts any-data ++ (bytes "\\/" ++ operand-text 1 ts a-conjunction))
 operation-text f Operation.unsorted ts place = operand-text 0 ts place
 
-module _ (acts : List Action) where
+module _ (S : Sig) where
   -- data at a place
   unfoldable mutual
     pub text-at : Data → ℕ → List ℕ
     text-at (val v) place = decimal v
-    text-at (var i) place = var-name acts i
-    text-at (app f ds) place = operation-text (func-name acts) (operation f) (texts-at ds) place
+    text-at (var i) place = var-name S i
+    text-at (app f ds) place = operation-text (func-name S) (operation f) (texts-at ds) place
 
     pub texts-at : Datas → List (ℕ → List ℕ)
     texts-at nil = []
@@ -80,11 +80,11 @@ module _ (acts : List Action) where
 
   unfoldable pub act-text : Act → List Data → List ℕ
   act-text tau ds = bytes "tau"
-  act-text (action a) ds = getD acts a no-action .name ++ given-text ds
+  act-text (action a) ds = getD (S .acts) a no-action .name ++ given-text ds
 
   -- a call behind its point
   unfoldable pub call-text : ℕ × List Data → List ℕ
-  call-text c = bytes "." ++ (proc-name acts (c .0) ++ given-text (c .1))
+  call-text c = bytes "." ++ (proc-name S (c .0) ++ given-text (c .1))
 
   abbrev pub condition-text : Data → List ℕ
   condition-text d = bytes "<|" ++ (data-text d ++ bytes "|>")
@@ -108,7 +108,7 @@ module _ (acts : List Action) where
 
   -- the sum of variable i, of sort D, up to its comma
   unfoldable pub sum-text : ℕ → ℕ → List ℕ
-  sum-text i D = bytes "sum(" ++ (var-name acts i ++ (bytes ":" ++ (sort-name acts D ++ bytes ",")))
+  sum-text i D = bytes "sum(" ++ (var-name S i ++ (bytes ":" ++ (sort-name S D ++ bytes ",")))
 
   -- the sums of variables numbered from n on
   unfoldable pub sums-text : ℕ → List ℕ → List ℕ
@@ -129,18 +129,18 @@ module _ (acts : List Action) where
   right-text n (h ∷ hs) = joined-text (bytes "+") (map (summand-text n) (h ∷ hs))
 
   unfoldable pub takes-text : List ℕ → List ℕ
-  takes-text Ds = joined-text (bytes "#") (map (sort-name acts) Ds)
+  takes-text Ds = joined-text (bytes "#") (map (sort-name S) Ds)
 
   unfoldable pub sort-line-text : ℕ → ℕ → List ℕ
-  sort-line-text D n = bytes "sort " ++ (sort-name acts D ++ (bytes " " ++ (decimal n ++ bytes ";")))
+  sort-line-text D n = bytes "sort " ++ (sort-name S D ++ (bytes " " ++ (decimal n ++ bytes ";")))
 
   unfoldable pub func-line-text : ℕ → Func → List ℕ
   func-line-text f g =
       bytes "func "
-      ++ (func-name acts f
+      ++ (func-name S f
       ++ (bytes ":"
       ++ (takes-text (g .takes)
-      ++ (bytes "->" ++ (sort-name acts (g .gives) ++ (bytes "=" ++ (joined-text (bytes ",") (map decimal (g .values)) ++ bytes ";")))))))
+      ++ (bytes "->" ++ (sort-name S (g .gives) ++ (bytes "=" ++ (joined-text (bytes ",") (map decimal (g .values)) ++ bytes ";")))))))
 
   -- nothing, or `:` and sorts
   unfoldable pub taken-text : List ℕ → List ℕ
@@ -151,16 +151,16 @@ module _ (acts : List Action) where
   act-line-text a = bytes "act " ++ (a .name ++ (taken-text (a .takes) ++ bytes ";"))
 
   unfoldable pub param-text : ℕ → ℕ → List ℕ
-  param-text i D = var-name acts i ++ (bytes ":" ++ sort-name acts D)
+  param-text i D = var-name S i ++ (bytes ":" ++ sort-name S D)
 
   unfoldable pub proc-line-text : ℕ → Equation → List ℕ
   proc-line-text e q =
       bytes "proc "
-      ++ (proc-name acts e
+      ++ (proc-name S e
       ++ (bracketed-text (numbered param-text 0 (q .params)) ++ (bytes "=" ++ (right-text (length (q .params)) (q .summands) ++ bytes ";"))))
 
   unfoldable pub init-line-text : ℕ × List ℕ → List ℕ
-  init-line-text s = bytes "init " ++ (proc-name acts (s .0) ++ (bracketed-text (map decimal (s .1)) ++ bytes ";"))
+  init-line-text s = bytes "init " ++ (proc-name S (s .0) ++ (bracketed-text (map decimal (s .1)) ++ bytes ";"))
 
 -- texts one behind another
 unfoldable pub concat : List (List ℕ) → List ℕ
@@ -168,8 +168,8 @@ concat ts = all (λ t. t) ts
 
 unfoldable pub sheet-text : Table → List ℕ
 sheet-text T =
-    let acts = T .sig .acts in
-    concat (numbered (sort-line-text acts) 1 (drop 1 (T .sig .sorts)))
-    ++ (concat (numbered (func-line-text acts) 0 (T .sig .funcs))
-    ++ (all (act-line-text acts) acts
-    ++ (concat (numbered (proc-line-text acts) 0 (T .equations)) ++ init-line-text acts (T .start))))
+    let S = T .sig in
+    concat (numbered (sort-line-text S) 1 (drop 1 (T .sig .sorts)))
+    ++ (concat (numbered (func-line-text S) 0 (T .sig .funcs))
+    ++ (all (act-line-text S) (S .acts)
+    ++ (concat (numbered (proc-line-text S) 0 (T .equations)) ++ init-line-text S (T .start))))

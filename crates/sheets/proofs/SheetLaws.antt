@@ -3,7 +3,7 @@ use mathlib.Core.Path.{_≡_, refl, sym, _∙_, ap, subst, subst⁻¹}
 use mathlib.Core.List.{List, [], _∷_, _++_, map, append-assoc, append-nil}
 use mathlib.Core.Bool.{Bool, false}
 use mathlib.Core.Option.{Option, none, some}
-use Prim.Native.Nat.{ℕ, _+_, _-_, _*_, _≤_, _<_}
+use Prim.Native.Nat.{ℕ, suc, _+_, _-_, _*_, _≤_, _<_}
 use native.Mathlib.Omega.{arith}
 use lib.ListN.{length, take, drop, getD, length-map, length-append, length-take, List·getD-append}
 use lib.Seq.{getD-take, getD-append-add, take-length}
@@ -47,13 +47,13 @@ use Rattle.sheets.proofs.Placed.{proc-kept, written-whole, written-at}
 
 -- the signature first
 signature-then : {B : Type 0} (R : RawSheet) (k : Sig → Option B)
-    → _>>=_ (resolve-signature R) k ≡ _>>=_ (for-each (resolve-func (names-of R)) (R .funcs)) (λ fs. _>>=_ (for-each (resolve-act (names-of R)) (R .acts)) (λ as′. k (record { sorts = sizes-of R; funcs = fs; acts = as′ })))
+    → _>>=_ (resolve-signature R) k ≡ _>>=_ (for-each (resolve-func (names-of R)) (R .funcs)) (λ fs. _>>=_ (for-each (resolve-act (names-of R)) (R .acts)) (λ as′. k (record { sorts = sizes-of R; sort-names = names-of R .sorts; funcs = fs; acts = as′ })))
 unfolding resolve-signature
 signature-then {B} R k = go (for-each (resolve-func (names-of R)) (R .funcs)) (for-each (resolve-act (names-of R)) (R .acts))
   where
     go : (f : Option (List Func)) (a : Option (List Action))
-        → _>>=_ (_>>=_ f (λ fs. _>>=_ a (λ as′. some (record { sorts = sizes-of R; funcs = fs; acts = as′ })))) k
-        ≡ _>>=_ f (λ fs. _>>=_ a (λ as′. k (record { sorts = sizes-of R; funcs = fs; acts = as′ })))
+        → _>>=_ (_>>=_ f (λ fs. _>>=_ a (λ as′. some (record { sorts = sizes-of R; sort-names = names-of R .sorts; funcs = fs; acts = as′ })))) k
+        ≡ _>>=_ f (λ fs. _>>=_ a (λ as′. k (record { sorts = sizes-of R; sort-names = names-of R .sorts; funcs = fs; acts = as′ })))
     go none a = refl
     go (some fs) none = refl
     go (some fs) (some as′) = refl
@@ -84,11 +84,20 @@ unfolding resolve-signature names-of resolve-act
 signature-names R S se =
     first-given (for-each (resolve-func (names-of R)) (R .funcs)) _ S se (λ fs e₁ e₂.
     first-given (for-each (resolve-act (names-of R)) (R .acts)) _ S e₂ (λ as′ e₃ e₄.
-    let whole : _≡_ {A = Sig} (record { sorts = sizes-of R; funcs = fs; acts = as′ }) S = cc in
+    let whole : _≡_ {A = Sig} (record { sorts = sizes-of R; sort-names = names-of R .sorts; funcs = fs; acts = as′ }) S = cc in
     each-map (λ (l : ActLine) (a : Action). resolve-act (names-of R) l ≡ some a) (λ (l : ActLine). l .name) (λ (a : Action). a .name)
     (λ l a h. first-given (sorts-of (names-of R) (l .takes)) _ a h (λ Ds k m. let z : _≡_ {A = Action} (record { name = l .name; takes = Ds }) a = cc in ap (λ (b : Action). b .name) z))
     (R .acts) as′ (each-given (resolve-act (names-of R)) (R .acts) as′ e₃)
     ∙ ap (λ (T : Sig). map (λ (a : Action). a .name) (T .acts)) whole))
+
+-- and the sorts too
+signature-sorts : (R : RawSheet) (S : Sig) → resolve-signature R ≡ some S → names-of R .sorts ≡ S .sort-names
+unfolding resolve-signature
+signature-sorts R S se =
+    first-given (for-each (resolve-func (names-of R)) (R .funcs)) _ S se (λ fs e₁ e₂.
+    first-given (for-each (resolve-act (names-of R)) (R .acts)) _ S e₂ (λ as′ e₃ e₄.
+    let whole : _≡_ {A = Sig} (record { sorts = sizes-of R; sort-names = names-of R .sorts; funcs = fs; acts = as′ }) S = cc in
+    ap (λ (T : Sig). T .sort-names) whole))
 
 -- how many lines of each kind
 abbrev pub kinds-of : (sorts funcs acts procs : List ℕ) → Kinds
@@ -164,30 +173,49 @@ module _ (s raw sorts funcs acts procs : List ℕ) (R : RawSheet) (stand : Lines
         init-scoped = subst (λ (m : ℕ). Scoped m 0 (call (x .0) (x .1))) same (init-scoped (names-of R) S (R .start) (x .0) (x .1) xe);
       }
 
-  -- THE ACTIONS' NAMES stand behind those of the sorts and of the functions
-  actions-named : (names : List ℕ) (n : ℕ)
-      → scope-at s names n ≡ names-at s raw sorts (length sorts) ++ (names-at s raw funcs (length funcs) ++ (names-at s raw acts (length acts) ++ names-at s raw procs (length procs)))
-      → (S : Sig) → resolve-signature R ≡ some S → (i : ℕ) → i < length (S .acts) → name-at s (getD names (length sorts + 1 - 1 + length funcs + i) 0) ≡ getD (S .acts) i no-action .name
-  unfolding scope-at
-  actions-named names n e S se i h =
-      let named : names-at s raw acts (length acts) ≡ map (λ (a : Action). a .name) (S .acts) = sym act-names ∙ signature-names R S se in
-      let k : ℕ = length sorts + 1 - 1 + length funcs + i in
-      let a = names-many-at s raw sorts in
-      let b = names-many-at s raw funcs in
-      let d = ap length named ∙ length-map (S .acts) (λ (a : Action). a .name) in
-      let place : k ≡ length (names-at s raw sorts (length sorts)) + (length (names-at s raw funcs (length funcs)) + i) = omega arith in
-      let size : length (map (name-at s) (take n names)) ≡ length (names-at s raw sorts (length sorts)) + (length (names-at s raw funcs (length funcs)) + (length (names-at s raw acts (length acts)) + length (names-at s raw procs (length procs)))) = ap length e ∙ simp length-append in
-      let inside : k < length (take n names) = omega (arith, length-map (take n names) (name-at s)) in
-      let below : k < n = omega (arith, length-take n names) in
-      ap (name-at s) (sym (getD-take n names k 0 below))
-      ∙ sym (getD-map (name-at s) (take n names) k 0 [] inside)
-      ∙ ap (λ (l : List Name). getD l k []) e
-      ∙ ap (λ (j : ℕ). getD (names-at s raw sorts (length sorts) ++ (names-at s raw funcs (length funcs) ++ (names-at s raw acts (length acts) ++ names-at s raw procs (length procs)))) j []) place
-      ∙ getD-append-add (names-at s raw sorts (length sorts)) _ (length (names-at s raw funcs (length funcs)) + i) []
-      ∙ getD-append-add (names-at s raw funcs (length funcs)) _ i []
-      ∙ List·getD-append (names-at s raw acts (length acts)) _ [] i (omega arith)
-      ∙ ap (λ (l : List Name). getD l i []) named
-      ∙ getD-map (λ (a : Action). a .name) (S .acts) i no-action [] h
+  module _ (names : List ℕ) (n : ℕ)
+      (e : scope-at s names n ≡ names-at s raw sorts (length sorts) ++ (names-at s raw funcs (length funcs) ++ (names-at s raw acts (length acts) ++ names-at s raw procs (length procs)))) (S : Sig) (se : resolve-signature R ≡ some S) where
+    -- the name of a cell is that of its line
+    cell-named : (k : ℕ) → k < length sorts + (length funcs + length acts)
+        → name-at s (getD names k 0) ≡ getD (names-at s raw sorts (length sorts) ++ (names-at s raw funcs (length funcs) ++ (names-at s raw acts (length acts) ++ names-at s raw procs (length procs)))) k []
+    unfolding scope-at
+    cell-named k h =
+        let a = names-many-at s raw sorts in
+        let b = names-many-at s raw funcs in
+        let d = names-many-at s raw acts in
+        let size : length (map (name-at s) (take n names)) ≡ length (names-at s raw sorts (length sorts)) + (length (names-at s raw funcs (length funcs)) + (length (names-at s raw acts (length acts)) + length (names-at s raw procs (length procs)))) = ap length e ∙ simp length-append in
+        let inside : k < length (take n names) = omega (arith, length-map (take n names) (name-at s)) in
+        let below : k < n = omega (arith, length-take n names) in
+        ap (name-at s) (sym (getD-take n names k 0 below)) ∙ sym (getD-map (name-at s) (take n names) k 0 [] inside) ∙ ap (λ (l : List Name). getD l k []) e
+
+    -- THE ACTIONS' NAMES stand behind those of the sorts and of the functions
+    actions-named : (i : ℕ) → i < length (S .acts) → name-at s (getD names (length sorts + 1 - 1 + length funcs + i) 0) ≡ getD (S .acts) i no-action .name
+    actions-named i h =
+        let named : names-at s raw acts (length acts) ≡ map (λ (a : Action). a .name) (S .acts) = sym act-names ∙ signature-names R S se in
+        let k : ℕ = length sorts + 1 - 1 + length funcs + i in
+        let a = names-many-at s raw sorts in
+        let b = names-many-at s raw funcs in
+        let c = names-many-at s raw acts in
+        let d = ap length named ∙ length-map (S .acts) (λ (a : Action). a .name) in
+        let place : k ≡ length (names-at s raw sorts (length sorts)) + (length (names-at s raw funcs (length funcs)) + i) = omega arith in
+        cell-named k (omega arith)
+        ∙ ap (λ (j : ℕ). getD (names-at s raw sorts (length sorts) ++ (names-at s raw funcs (length funcs) ++ (names-at s raw acts (length acts) ++ names-at s raw procs (length procs)))) j []) place
+        ∙ getD-append-add (names-at s raw sorts (length sorts)) _ (length (names-at s raw funcs (length funcs)) + i) []
+        ∙ getD-append-add (names-at s raw funcs (length funcs)) _ i []
+        ∙ List·getD-append (names-at s raw acts (length acts)) _ [] i (omega arith)
+        ∙ ap (λ (l : List Name). getD l i []) named
+        ∙ getD-map (λ (a : Action). a .name) (S .acts) i no-action [] h
+
+    -- THE SORTS' NAMES, but Bool's, stand first
+    sorts-named : (D : ℕ) → suc D < length (S .sort-names) → name-at s (getD names D 0) ≡ getD (S .sort-names) (suc D) []
+    unfolding sorts-at
+    sorts-named D h =
+        let named : bytes "Bool" ∷ names-at s raw sorts (length sorts) ≡ S .sort-names = sym sort-names ∙ signature-sorts R S se in
+        let a = names-many-at s raw sorts in
+        let d = ap length named in
+        cell-named D (omega arith)
+        ∙ List·getD-append (names-at s raw sorts (length sorts)) _ [] D (omega arith)
+        ∙ ap (λ (l : List Name). getD l (suc D) []) named
 
 -- so many names are declared
 pub declared-many : (s raw sorts funcs acts procs names : List ℕ) (n : ℕ) → n ≤ length names
@@ -240,7 +268,7 @@ sheet-resolves s raw sorts funcs acts procs at values o o′ names listed n fres
         signature = held (rows .outline) refl refl refl;
         processes = procs-held s raw sorts funcs acts procs R stand S ps x b o o′ (3 * length (print-lines "proc" print-proc (R .procs))) (c .w) (rows .outline) refl refl few pe pheld xe w (omega arith) short;
       },
-      actions-named s raw sorts funcs acts procs R stand names n scoped S se,
+      record { actions = actions-named s raw sorts funcs acts procs R stand names n scoped S se; sorts = sorts-named s raw sorts funcs acts procs R stand names n scoped S se },
     )))))))
 
 -- THE WHOLE SHEET, by the array of declared names

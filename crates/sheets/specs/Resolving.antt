@@ -1,9 +1,9 @@
 -- What the parts of question 7 answer, for every raw sheet whose lines stand in the cells.
 use mathlib.Core.Path.{_≡_}
-use mathlib.Core.List.{List, _++_}
+use mathlib.Core.List.{List, [], _++_}
 use mathlib.Core.Bool.{Bool, true, false}
 use mathlib.Core.Option.{Option, none, some}
-use Prim.Native.Nat.{ℕ, _+_, _-_, _*_, _≤_, _<_}
+use Prim.Native.Nat.{ℕ, suc, _+_, _-_, _*_, _≤_, _<_}
 use lib.ListN.{length, take, drop, getD}
 use Rattle.pcrl.specs.Limits.{max-open, max-sorts, max-functions, max-actions, max-processes, frame-width}
 use Rattle.pcrl.specs.Tests.{Every}
@@ -62,7 +62,7 @@ unfoldable pub resolve-signature : RawSheet → Option Sig
 resolve-signature R = do
   fs ← for-each (resolve-func (names-of R)) (R .funcs)
   as′ ← for-each (resolve-act (names-of R)) (R .acts)
-  some (record { sorts = sizes-of R; funcs = fs; acts = as′ })
+  some (record { sorts = sizes-of R; sort-names = names-of R .sorts; funcs = fs; acts = as′ })
 
 -- the rows hold it, in the outline of any sheet that has so many sorts, functions and actions
 abbrev pub HoldsSignature : (sorts funcs acts values : List ℕ) → SigRows → Sig → Type 0
@@ -119,9 +119,10 @@ arrays r values cells = record {
 abbrev pub first-action : SheetRows → ℕ
 first-action r = r .outline .sorts - 1 + r .outline .funcs
 
--- the actions have the names of their cells, where s are the sheet's bytes
-abbrev pub Named : List ℕ → SheetRows → Sheet → Type 0
-Named s r H = (i : ℕ) → i < length (H .sig .acts) → name-at s (getD (r .names) (first-action r + i) 0) ≡ getD (H .sig .acts) i no-action .name
+-- actions, and sorts but Bool, have the names of their cells, where s are the sheet's bytes
+pub record Named (s : List ℕ) (r : SheetRows) (H : Sheet) : Type 0 where
+  pub actions : (i : ℕ) → i < length (H .sig .acts) → name-at s (getD (r .names) (first-action r + i) 0) ≡ getD (H .sig .acts) i no-action .name
+  pub sorts : (D : ℕ) → suc D < length (H .sig .sort-names) → name-at s (getD (r .names) D 0) ≡ getD (H .sig .sort-names) (suc D) []
 
 -- n tokens: room for their values and for the cells of their terms
 abbrev pub Resolves : (s : List ℕ) → RawSheet → (values o : List ℕ) → ResolvedRows → Type 0

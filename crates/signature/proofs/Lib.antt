@@ -1,2 +1,3 @@
 pub mod Funcs
+pub mod Sorts
 pub mod Sig

@@ -13,14 +13,14 @@ use Rattle.pcrl.specs.Tests.{Every, and}
 use Rattle.pcrl.specs.Sheet.{Sig}
 use Rattle.pcrl.specs.Table.{Table, Equation, equation, no-equation, params-of}
 use Rattle.pcrl.specs.Stack.{Frame, InSorts, used, padded, RightFrame, IsZero, RightFrames}
-use Rattle.pcrl.specs.Stream.{encode-numbers, encode-sorts}
+use Rattle.pcrl.specs.Stream.{encode-numbers}
 use Rattle.laws.specs.Says.{Says, says-as, says-eq, said-yes, said-no}
 use Rattle.laws.specs.Every.{at-every, every-at}
 use Rattle.laws.specs.Lists.{length-tabulate, getD-tabulate, getD-map}
 use Rattle.terms.specs.Stands.{Stands, KnownParams, list-at}
 use Rattle.terms.proofs.Places.{stands-there, as-many, list-is}
 use Rattle.tables.specs.declared.Index.{Index}
-use Rattle.tables.specs.Indexed.{Indexed}
+use Rattle.tables.specs.Indexed.{sizes-behind, Indexed}
 use Rattle.stacks.specs.Lent.{frame-bytes, frame-at, frames-in}
 use Rattle.stacks.specs.Fitting.{Fitting}
 use Rattle.stacks.specs.Known.{Known}
@@ -195,10 +195,9 @@ module _ (width limit : ℕ) (T : Table) (bytes : List ℕ) (depth : ℕ) where
 
 -- WHAT THE INDEX GIVES
 
-pub known : (T : Table) (s : List ℕ) (index : Index) (sizes params : List ℕ) → Indexed T s index → sizes ≡ list-at s 0 → params ≡ take (index .equations) (index .params) → Known T s sizes params
-unfolding encode-sorts
+pub known : (T : Table) (s : List ℕ) (index : Index) (sizes params : List ℕ) → Indexed T s index → sizes ≡ sizes-behind (index .«sort_count») (index .funcs) → params ≡ take (index .equations) (index .params) → Known T s sizes params
 known T s index sizes params i e p = record {
-  sizes-are = e ∙ list-is s 0 (T .sig .sorts) (i .parts .sorts-stand);
+  sizes-are = e ∙ i .parts .sizes-are;
   params-stand = subst (KnownParams (params-of (T .equations)) s) (sym p) (i .parts .params-stand);
 }
 
@@ -206,7 +205,8 @@ known T s index sizes params i e p = record {
 pub index-params : (T : Table) (s : List ℕ) (index : Index) → Indexed T s index → (e : ℕ) → e < length (T .equations) → list-at s (getD (index .params) e 0) ≡ equation T e .params
 index-params T s index i e h =
     let own = take (index .equations) (index .params) in
-    let k = known T s index (list-at s 0) own i refl refl in
-    let n = equations-are T s (list-at s 0) own k in
+    let sizes = sizes-behind (index .«sort_count») (index .funcs) in
+    let k = known T s index sizes own i refl refl in
+    let n = equations-are T s sizes own k in
     let at : getD own e 0 ≡ getD (index .params) e 0 = getD-take (index .equations) (index .params) e 0 (omega (arith, i .equations-are)) in
-    ap (list-at s) (sym at) ∙ params-at T s (list-at s 0) own k e (omega arith) .1
+    ap (list-at s) (sym at) ∙ params-at T s sizes own k e (omega arith) .1

@@ -17,6 +17,7 @@ use elements::both;
 use elements::cell;
 use elements::peek;
 use elements::wide;
+use limits::MAX_FUNCTIONS;
 use limits::STACK_LIMIT;
 
 // "A frame is an equation number and four values": its bytes.
@@ -28,16 +29,16 @@ pub const LIMIT: usize = STACK_LIMIT;
 pub const BYTES: usize = 320;
 
 // Does the value v fit at place i of a frame whose equation's parameters have these sorts?
-fn fits(sizes: &[u8], sorts: &[u8], i: usize, v: u8) -> bool
+fn fits(sizes: &[u16], sorts: &[u8], i: usize, v: u8) -> bool
     ensures { λ r. ⌜ Says r (FitsAt (now (sizes .entry)) (now (sorts .entry)) i v) ⌝ }
 {
     if i < sorts.len() {
-        return v < peek(sizes, wide(sorts[i]));
+        return wide(v) < cell(sizes, wide(sorts[i]));
     }
     v == 0
 }
 
-fn fitting(sizes: &[u8], sorts: &[u8], values: &[u8]) -> bool
+fn fitting(sizes: &[u16], sorts: &[u8], values: &[u8]) -> bool
     ensures { λ r. ⌜ Says r (Fitting (now (sizes .entry)) (now (sorts .entry)) (now (values .entry))) ⌝ }
 {
     if values.len() < sorts.len() {
@@ -54,7 +55,7 @@ fn fitting(sizes: &[u8], sorts: &[u8], values: &[u8]) -> bool
 }
 
 // "each used frame an equation with values in its sorts, all unused values .. zero"
-fn right_frame(s: &[u8], sizes: &[u8], params: &[u16], f: &[u8]) -> bool
+fn right_frame(s: &[u8], sizes: &[u16], params: &[u16], f: &[u8]) -> bool
     requires { ⌜ length (now f) ≡ frame-bytes frame-width ⌝ }
     ensures { λ r. ⌜ ((T : Table) → Known T (now (s .entry)) (now (sizes .entry)) (now (params .entry)) → Says r (RightFrame frame-width T (frame-at frame-width (now (f .entry)) 0))) ⌝ }
 {
@@ -79,14 +80,18 @@ fn zeros(s: &[u8], at: usize, end: usize) -> bool
     good
 }
 
-// The first n places.
-pub fn first(places: &[u16], n: usize) -> &[u16]
-    ensures { λ r. ⌜ now r ≡ take n (now (places .entry)) ⌝ }
+// n cells from a place on, or as many as there are.
+fn cells(s: &[u16], at: usize, n: usize) -> &[u16]
+    ensures { λ r. ⌜ now r ≡ take n (drop at (now (s .entry))) ⌝ }
 {
-    if places.len() <= n {
-        return &places[0..];
+    if s.len() <= at {
+        return &s[0..0];
     }
-    &places[0..n]
+    if s.len() - at <= n {
+        return &s[at..];
+    }
+    let end = at + n;
+    &s[at..end]
 }
 
 // Question 15.
@@ -99,9 +104,10 @@ pub fn right_frames(s: &[u8], index: tables::Index, frames: &[u8], depth: usize)
     if STACK_LIMIT < depth {
         return false;
     }
-    let sizes = terms::list_at(s, 0);
+    let funcs = index.funcs;
+    let sizes = cells(&funcs, MAX_FUNCTIONS, index.sort_count);
     let places = index.params;
-    let params = first(&places, index.equations);
+    let params = cells(&places, 0, index.equations);
     let unused = depth * FRAME;
     if !zeros(frames, unused, BYTES) {
         return false;

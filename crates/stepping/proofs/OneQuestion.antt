@@ -7,6 +7,7 @@ use lib.ListN.{length, getD, replicate}
 use Rattle.pcrl.specs.Limits.{frame-width, stack-limit}
 use Rattle.pcrl.specs.Reader.{all}
 use Rattle.pcrl.specs.Result.{Result, refused, accepted, refusal}
+use Rattle.pcrl.specs.Records.{filled}
 use Rattle.pcrl.specs.Table.{Table}
 use Rattle.pcrl.specs.Stack.{Frame, Stack, RightFrames, right-frames?, frames-of, stack-of}
 use Rattle.pcrl.specs.Ask.{Answer, ask-all}
@@ -15,7 +16,7 @@ use Rattle.theory.specs.Asked.{AnswerIs, at-end, too-large, too-deep, goes-to, 
 use Rattle.theory.specs.Lending.{passes-15}
 use Rattle.theory.specs.InTurn.{alone, asked-is, asked-all-is}
 use Rattle.stacks.specs.Lent.{frames-in}
-use Rattle.asking.specs.Encoding.{answer-bytes, filled, answer-fields, encode-answer, answer-after, answers-after}
+use Rattle.asking.specs.Encoding.{answer-bytes, answer-fields, encode-answer, answer-after, answers-after}
 use Rattle.stepping.specs.declared.Answered.{Answered}
 use Rattle.stepping.specs.Promises.{Replied}
 use Rattle.stepping.proofs.Loading.{table-number}

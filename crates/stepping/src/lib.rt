@@ -53,10 +53,13 @@ fn none(refused: u8) -> Loaded
     ensures { λ r. ⌜ r .refused ≡ refused ⌝ }
 {
     let index = tables::Index {
-        funcs: [0; 16],
+        sorts: [0; 8],
+        funcs: [0; 24],
         acts: [0; 32],
         params: [0; 64],
         rows: [0; 64],
+        sort_count: 0,
+        named: false,
         functions: 0,
         actions: 0,
         equations: 0,
@@ -292,7 +295,7 @@ pub fn ask_all(file: &[u8], frames: &mut [u8], depth: usize, ks: &[u64], out: &m
 }
 
 // The answer to a list of one question as that question's: a refusal by 16 is returned alone.
-fn told(a: Answered, bytes: [u8; 24], out: &mut [u8; 24]) -> Answered
+fn told(a: Answered, bytes: [u8; 72], out: &mut [u8; 72]) -> Answered
     ensures { λ r. ⌜ ((file : List ℕ) (fs new : List Frame) (d k : ℕ) → Replied (asked-all file fs d (k ∷ [])) (a .refused) new (a .depth) → bytes ≡ answers-after (asked-all file fs d (k ∷ []) .answer) (replicate answer-bytes 0) → (Replied (asked file fs d k) (r .refused) new (r .depth)) × (now (out .exit) ≡ answer-after (asked file fs d k .answer) (now (out .entry)))) ⌝ }
 {
     if a.refused != 0 {
@@ -306,7 +309,7 @@ fn told(a: Answered, bytes: [u8; 24], out: &mut [u8; 24]) -> Answered
 }
 
 // Ask for step k, a list of one question: questions 12 to 16.
-pub fn ask(file: &[u8], frames: &mut [u8], depth: usize, k: u64, out: &mut [u8; 24]) -> Answered
+pub fn ask(file: &[u8], frames: &mut [u8], depth: usize, k: u64, out: &mut [u8; 72]) -> Answered
     ensures { λ r. ⌜ (Replied (asked (now (file .entry)) (frames-in frame-width (now (frames .entry))) depth k) (r .refused) (frames-in frame-width (now (frames .exit))) (r .depth)) × (now (out .exit) ≡ answer-after (asked (now (file .entry)) (frames-in frame-width (now (frames .entry))) depth k .answer) (now (out .entry))) ⌝ }
 {
     let ks = [k];

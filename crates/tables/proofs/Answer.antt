@@ -1,14 +1,17 @@
 -- The answer to question 14: no table, a table whose blocks or zeros are not right, or the table and its index.
-use mathlib.Core.Path.{_≡_, refl, sym, ap, subst, _∙_}
-use mathlib.Core.List.{List, _∷_}
+use mathlib.Core.Path.{_≡_, refl, sym, ap, ap₂, subst, _∙_}
+use mathlib.Core.List.{List, _∷_, _++_}
 use mathlib.Core.Bool.{Bool, true, false}
 use mathlib.Core.Option.{Option, none, some}
 use Prim.Native.Nat.{ℕ, suc, _+_, _*_, _<_, _≤_}
 use native.Mathlib.Omega.{arith}
 use lib.Dec.{eqb}
-use lib.ListN.{length, getD, take, drop, length-append, length-drop, length-map, drop-of-length-le}
-use lib.Seq.{drop-cons, length-take-le}
+use lib.ListN.{length, getD, take, drop, length-append, length-drop, length-map, set, take-append-drop, drop-of-length-le}
+use lib.Seq.{drop-cons, length-take-le, drop-at, take-append-le, take-set-le, drop-set-add, take-all, take-take}
+use Rattle.pcrl.specs.Limits.{max-sorts, max-functions}
 use Rattle.pcrl.specs.Tests.{Every, and}
+use Rattle.pcrl.specs.Tree.{Name}
+use Rattle.signature.specs.Reading.{names-there}
 use Rattle.pcrl.specs.Reader.{found}
 use Rattle.pcrl.specs.Table.{Equation, Table, params-of}
 use Rattle.pcrl.specs.Stream.{encode-numbers, encode-func, encode-action, encode}
@@ -17,8 +20,9 @@ use Rattle.pcrl.specs.Blocks.{block-stream, blocks-for, Filled, filled?, table-
 use Rattle.laws.specs.Says.{Says, says-as, says-eq}
 use Rattle.codec.specs.StreamLaws.{encode-decode}
 use Rattle.terms.proofs.Places.{as-many}
+use Rattle.signature.proofs.Sorts.{byte-more, list-whole}
 use Rattle.tables.specs.declared.Tabled.{Tabled}
-use Rattle.tables.specs.Indexed.{PartsAt, Indexed, TableRead, Decoded}
+use Rattle.tables.specs.Indexed.{sizes-behind, PartsAt, Indexed, TableRead, Decoded}
 
 -- ZEROS
 
@@ -60,10 +64,10 @@ fewest false s end e h = λ q. h (q .1)
 -- THE ANSWER
 
 module _ (s : List ℕ) (r : Tabled) where
-  pub no-table : (ok : Bool) (end : ℕ) (funcs acts params rows : List ℕ) (start : ℕ) → Decoded ok s end funcs acts params rows start → ok ≡ false → r .ok ≡ false → TableRead (table-read s) s r
+  pub no-table : (ok : Bool) (end : ℕ) (sizes : List ℕ) (names : Option (List Name)) (funcs acts params rows : List ℕ) (start : ℕ) → Decoded ok s end sizes names funcs acts params rows start → ok ≡ false → r .ok ≡ false → TableRead (table-read s) s r
   unfolding Decoded table-read table-in TableRead
-  no-table true end funcs acts params rows start h e f = absurd (let z : _≡_ {A = ℕ} 0 1 = cc in omega arith)
-  no-table false end funcs acts params rows start h e f = rw h f
+  no-table true end sizes names funcs acts params rows start h e f = absurd (let z : _≡_ {A = ℕ} 0 1 = cc in omega arith)
+  no-table false end sizes names funcs acts params rows start h e f = rw h f
 
   module _ (T : Table) (end : ℕ) (decodes : decode s ≡ found T (drop end s)) (inside : end ≤ length s) where
     ends-there : length (encode T) ≡ end
@@ -104,22 +108,23 @@ module _ (s : List ℕ) (r : Tabled) where
     unfolding TableRead
     is-filled q e h = rw (answered ∙ by-yes (filled? s T (drop end s)) (to-filled q)) (e, h)
 
-  pub not-answered : (ok : Bool) (end : ℕ) (funcs acts params rows : List ℕ) (start : ℕ) → Decoded ok s end funcs acts params rows start → ok ≡ true → end ≤ length s
+  pub not-answered : (ok : Bool) (end : ℕ) (sizes : List ℕ) (names : Option (List Name)) (funcs acts params rows : List ℕ) (start : ℕ) → Decoded ok s end sizes names funcs acts params rows start → ok ≡ true → end ≤ length s
       → ¬ ((length s ≡ blocks-for end * block-stream) × Zeros (drop end s)) → r .ok ≡ false → TableRead (table-read s) s r
   unfolding Decoded
-  not-answered true end funcs acts params rows start h e l n f = let (T, d, p) = h in not-filled T end d l n f
-  not-answered false end funcs acts params rows start h e l n f = absurd (let z : _≡_ {A = ℕ} 0 1 = cc in omega arith)
+  not-answered true end sizes names funcs acts params rows start h e l n f = let (T, d, p) = h in not-filled T end d l n f
+  not-answered false end sizes names funcs acts params rows start h e l n f = absurd (let z : _≡_ {A = ℕ} 0 1 = cc in omega arith)
 
 -- the parts of a table that was decoded are an index
 module _ (s : List ℕ) (r : Tabled) where
   places : {A : Type 0} (encode : A → List ℕ) (xs : List A) (n : ℕ) (arr : List ℕ) → n ≤ length arr → length xs ≡ length (take n arr) → n ≡ length xs
   places encode xs n arr h e = sym (e ∙ length-take-le n arr h)
 
-  indexed : (T : Table) → PartsAt T s (take (r .index .functions) (r .index .funcs)) (take (r .index .actions) (r .index .acts)) (take (r .index .equations) (r .index .params)) (take (r .index .equations) (r .index .rows)) (r .index .start)
-      → r .index .functions ≤ length (r .index .funcs) → r .index .actions ≤ length (r .index .acts) → r .index .equations ≤ length (r .index .params) → Indexed T s (r .index)
+  indexed : (T : Table) → PartsAt T s (sizes-behind (r .index .«sort_count») (r .index .funcs)) (names-there (r .index .named) s (take (r .index .«sort_count») (r .index .sorts))) (take (r .index .functions) (r .index .funcs)) (take (r .index .actions) (r .index .acts)) (take (r .index .equations) (r .index .params)) (take (r .index .equations) (r .index .rows)) (r .index .start)
+      → r .index .«sort_count» ≤ length (drop max-functions (r .index .funcs)) → r .index .functions ≤ length (r .index .funcs) → r .index .actions ≤ length (r .index .acts) → r .index .equations ≤ length (r .index .params) → Indexed T s (r .index)
   unfolding params-of
-  indexed T p h k l =
+  indexed T p m h k l =
       record {
+        sorts-are = sym (length-take-le (r .index .«sort_count») (drop max-functions (r .index .funcs)) m) ∙ ap length (p .sizes-are);
         functions-are = places encode-func (T .sig .funcs) (r .index .functions) (r .index .funcs) h (as-many encode-func s (T .sig .funcs) (take (r .index .functions) (r .index .funcs)) (p .funcs-stand));
         actions-are = places encode-action (T .sig .acts) (r .index .actions) (r .index .acts) k (as-many encode-action s (T .sig .acts) (take (r .index .actions) (r .index .acts)) (p .acts-stand));
         equations-are =
@@ -128,10 +133,38 @@ module _ (s : List ℕ) (r : Tabled) where
         parts = p;
       }
 
-  pub table-answered : (ok : Bool) (end : ℕ)
-      → Decoded ok s end (take (r .index .functions) (r .index .funcs)) (take (r .index .actions) (r .index .acts)) (take (r .index .equations) (r .index .params)) (take (r .index .equations) (r .index .rows)) (r .index .start)
+  -- what was read into arrays apart is the index, with the sizes put behind the places of the functions
+  pub table-answered : (ok : Bool) (end : ℕ) (sizes funcs : List ℕ)
+      → Decoded ok s end (take (r .index .«sort_count») sizes) (names-there (r .index .named) s (take (r .index .«sort_count») (r .index .sorts))) (take (r .index .functions) funcs) (take (r .index .actions) (r .index .acts)) (take (r .index .equations) (r .index .params)) (take (r .index .equations) (r .index .rows)) (r .index .start)
       → ok ≡ true → end ≤ length s → (length s ≡ blocks-for end * block-stream) × Zeros (drop end s) → r .ok ≡ true
-      → r .index .functions ≤ length (r .index .funcs) → r .index .actions ≤ length (r .index .acts) → r .index .equations ≤ length (r .index .params) → TableRead (table-read s) s r
+      → r .index .funcs ≡ take max-functions funcs ++ sizes → length funcs ≡ max-functions + max-sorts → length sizes ≡ max-sorts
+      → r .index .«sort_count» ≤ max-sorts → r .index .functions ≤ max-functions → r .index .actions ≤ length (r .index .acts) → r .index .equations ≤ length (r .index .params) → TableRead (table-read s) s r
   unfolding Decoded
-  table-answered true end h e l q f a b c = let (T, d, p) = h in is-filled s r T end d l q f (indexed T p a b c)
-  table-answered false end h e l q f a b c = absurd (let z : _≡_ {A = ℕ} 0 1 = cc in omega arith)
+  table-answered true end sizes funcs h e l q f put n m few-sorts few-funcs b c =
+      let (T, d, p) = h in
+      let front : length (take max-functions funcs) ≡ max-functions = length-take-le max-functions funcs (omega arith) in
+      let behind : drop max-functions (r .index .funcs) ≡ sizes = ap (drop max-functions) put ∙ drop-at (take max-functions funcs) sizes max-functions front in
+      let same : take (r .index .functions) (r .index .funcs) ≡ take (r .index .functions) funcs =
+      ap (take (r .index .functions)) put ∙ take-append-le (r .index .functions) (take max-functions funcs) sizes (omega arith) ∙ take-take (r .index .functions) max-functions funcs few-funcs in
+      let long : length (r .index .funcs) ≡ max-functions + max-sorts = ap length put ∙ length-append (take max-functions funcs) sizes ∙ ap₂ (λ (x y : ℕ). x + y) front m in
+      is-filled s r T end d l q f
+      (indexed T (subst (λ (x : List ℕ). PartsAt T s x (names-there (r .index .named) s (take (r .index .«sort_count») (r .index .sorts))) (take (r .index .functions) (r .index .funcs)) (take (r .index .actions) (r .index .acts)) (take (r .index .equations) (r .index .params)) (take (r .index .equations) (r .index .rows)) (r .index .start)) (ap (take (r .index .«sort_count»)) (sym behind))
+      (subst (λ (x : List ℕ). PartsAt T s (take (r .index .«sort_count») sizes) (names-there (r .index .named) s (take (r .index .«sort_count») (r .index .sorts))) x (take (r .index .actions) (r .index .acts)) (take (r .index .equations) (r .index .params)) (take (r .index .equations) (r .index .rows)) (r .index .start)) (sym same) p))
+      (omega (arith, ap length behind)) (omega arith) b c)
+  table-answered false end sizes funcs h e l q f put n m few-sorts few-funcs b c = absurd (let z : _≡_ {A = ℕ} 0 1 = cc in omega arith)
+
+-- SIZES BEHIND PLACES
+
+-- one size more
+pub size-more : (sizes funcs before : List ℕ) (k k′ v : ℕ) → k < length sizes → length sizes ≤ length (drop max-functions funcs) → k′ ≡ suc k → v ≡ getD sizes k 0
+    → take max-functions funcs ≡ before → take k (drop max-functions funcs) ≡ take k sizes
+    → (take max-functions (set funcs (max-functions + k) v) ≡ before) × (take k′ (drop max-functions (set funcs (max-functions + k) v)) ≡ take k′ sizes)
+size-more sizes funcs before k k′ v h m z e b f =
+    (take-set-le max-functions funcs (max-functions + k) v (omega arith) ∙ b, ap (take k′) (drop-set-add max-functions funcs k v) ∙ byte-more sizes (drop max-functions funcs) k k′ v h m z e f)
+
+-- all of them
+pub sizes-put : (sizes funcs before : List ℕ) (k : ℕ) → length sizes ≤ k → k ≤ length sizes → length funcs ≡ max-functions + length sizes → take max-functions funcs ≡ before → take k (drop max-functions funcs) ≡ take k sizes
+    → funcs ≡ before ++ sizes
+sizes-put sizes funcs before k h m l b f =
+    sym (take-append-drop max-functions funcs)
+    ∙ ap₂ (λ (x y : List ℕ). x ++ y) b (sym (take-all (length sizes) (drop max-functions funcs) (omega (arith, length-drop max-functions funcs))) ∙ list-whole sizes (drop max-functions funcs) k h m f)

@@ -1,7 +1,7 @@
 -- What a reader of the stream has of a table that was read: it is right, and its sorts, functions, actions and parameters are known by the index.
 use mathlib.Core.Path.{_≡_, refl}
 use mathlib.Core.List.{List}
-use mathlib.Core.Option.{none, some}
+use mathlib.Core.Option.{Option, none, some}
 use Prim.Native.Nat.{ℕ}
 use native.Mathlib.Omega.{arith}
 use lib.ListN.{length}
@@ -10,14 +10,12 @@ use Rattle.pcrl.specs.Tests.{Between}
 use Rattle.pcrl.specs.Reader.{Got, missing, found}
 use Rattle.pcrl.specs.Sheet.{Func}
 use Rattle.pcrl.specs.Table.{Table}
-use Rattle.pcrl.specs.Stream.{encode-sorts}
+use Rattle.pcrl.specs.Tree.{Name}
 use Rattle.pcrl.specs.Right.{RightFunc, RightSig, RightTable}
 use Rattle.pcrl.specs.Decode.{decode}
 use Rattle.pcrl.specs.Blocks.{Filled, filled?, table-in, table-read}
 use Rattle.laws.specs.Every.{every-weaken}
 use Rattle.codec.specs.StreamLaws.{encode-decode}
-use Rattle.terms.specs.Stands.{list-at}
-use Rattle.terms.proofs.Places.{list-is}
 use Rattle.equations.specs.Reading.{KnownSig}
 use Rattle.tables.specs.Indexed.{PartsAt}
 
@@ -34,13 +32,13 @@ read-right s T e = go (decode s) refl e
     go missing f q = absurd (let z : _≡_ {A = ℕ} 0 1 = cc in omega arith)
     go (found U rest) f q = rw (taken U rest (filled? s U rest) q) at (encode-decode s U rest f .1)
 
--- The index makes the signature known, the sizes of the sorts being the list at the start.
-pub sig-by-index : (T : Table) (s funcs acts params rows : List ℕ) (start : ℕ) → PartsAt T s funcs acts params rows start → RightTable T → KnownSig (T .sig) s (list-at s 0) funcs acts
-unfolding RightTable RightSig RightFunc encode-sorts
-sig-by-index T s funcs acts params rows start p h =
+-- The index makes the signature known.
+pub sig-by-index : (T : Table) (s sizes : List ℕ) (names : Option (List Name)) (funcs acts params rows : List ℕ) (start : ℕ) → PartsAt T s sizes names funcs acts params rows start → RightTable T → KnownSig (T .sig) s sizes funcs acts
+unfolding RightTable RightSig RightFunc
+sig-by-index T s sizes names funcs acts params rows start p h =
     record {
       data-known = record {
-        sizes-are = list-is s 0 (T .sig .sorts) (p .sorts-stand);
+        sizes-are = p .sizes-are;
         stand = p .funcs-stand;
         arity = every-weaken (RightFunc (T .sig .sorts)) (λ (g : Func). Between 1 max-arity (length (g .takes))) (λ g k. k .0 .0) (T .sig .funcs) (h .0 .0 .1 .0 .1);
       };

@@ -2,60 +2,61 @@
 use mathlib.Core.Path.{_≡_, sym, ap, subst, _∙_}
 use mathlib.Core.List.{List, _++_}
 use mathlib.Core.Bool.{Bool, true, false}
+use mathlib.Core.Option.{Option}
 use Prim.Native.Nat.{ℕ, _+_, _<_, _≤_}
 use native.Mathlib.Omega.{arith}
 use lib.ListN.{length, take, drop, length-append}
 use Rattle.pcrl.specs.Limits.{max-summands, max-stream}
 use Rattle.pcrl.specs.Tests.{both?, at-most?}
 use Rattle.pcrl.specs.Reader.{missing, found, Reader, bind, pair, view, test}
+use Rattle.pcrl.specs.Tree.{Name}
 use Rattle.pcrl.specs.Sheet.{Sig}
-use Rattle.pcrl.specs.Table.{Equation, Table, summand-count}
-use Rattle.pcrl.specs.Stream.{encode-sorts, encode-list, encode-func, encode-action, encode-sig, encode-equations, encode-start, encode}
+use Rattle.pcrl.specs.Table.{Equation, Layout, Table, summand-count}
+use Rattle.pcrl.specs.Stream.{encode-sig, encode-equations, encode-start, encode}
 use Rattle.pcrl.specs.Right.{RightSig}
 use Rattle.pcrl.specs.Decode.{read-sig, read-equations, read-start, to-table, decode}
 use Rattle.codec.specs.StreamLaws.{sig-law, equations-law, start-law}
-use Rattle.terms.specs.Stands.{list-at}
 use Rattle.terms.specs.Ends.{rests}
 use Rattle.terms.proofs.Rests.{found-there, missing-there, test-bad, test-pass}
-use Rattle.terms.proofs.Places.{before}
 use Rattle.signature.specs.Reading.{SigAt, SigRead}
 use Rattle.equations.specs.Reading.{KnownSig, EquationsAt, EquationsRead}
 use Rattle.tables.specs.Indexed.{Decoded}
 
-pub not-decoded : (s : List ℕ) (ok : Bool) (end : ℕ) (funcs acts params rows : List ℕ) (start : ℕ) → ok ≡ false → decode s ≡ missing → Decoded ok s end funcs acts params rows start
+pub not-decoded : (s : List ℕ) (ok : Bool) (end : ℕ) (sizes : List ℕ) (names : Option (List Name)) (funcs acts params rows : List ℕ) (start : ℕ) → ok ≡ false → decode s ≡ missing → Decoded ok s end sizes names funcs acts params rows start
 unfolding Decoded
-not-decoded s true end funcs acts params rows start e h = absurd (let z : _≡_ {A = ℕ} 0 1 = cc in omega arith)
-not-decoded s false end funcs acts params rows start e h = h
+not-decoded s true end sizes names funcs acts params rows start e h = absurd (let z : _≡_ {A = ℕ} 0 1 = cc in omega arith)
+not-decoded s false end sizes names funcs acts params rows start e h = h
 
-pub no-sig : (s : List ℕ) (ok : Bool) (end : ℕ) (funcs acts : List ℕ) → ok ≡ false → SigRead ok s end funcs acts → decode s ≡ missing
+pub no-sig : (s : List ℕ) (ok : Bool) (o : Option (List Name)) (end : ℕ) (sizes funcs acts : List ℕ) → ok ≡ false → SigRead ok o s end sizes funcs acts → decode s ≡ missing
 unfolding SigRead decode test view pair bind
-no-sig s true end funcs acts e h = absurd (let z : _≡_ {A = ℕ} 0 1 = cc in omega arith)
-no-sig s false end funcs acts e h = rw h
+no-sig s true o end sizes funcs acts e h = absurd (let z : _≡_ {A = ℕ} 0 1 = cc in omega arith)
+no-sig s false o end sizes funcs acts e h = rw h
 
 -- the signature that was read
-pub sig-there : (s : List ℕ) (ok : Bool) (end : ℕ) (funcs acts : List ℕ) → ok ≡ true → SigRead ok s end funcs acts → (S : Sig) × SigAt S s end funcs acts × KnownSig S s (list-at s 0) funcs acts
+pub sig-there : (s : List ℕ) (ok : Bool) (o : Option (List Name)) (end : ℕ) (sizes funcs acts : List ℕ) → ok ≡ true → SigRead ok o s end sizes funcs acts → (L : Layout) × (S : Sig) × SigAt L S o s end sizes funcs acts × KnownSig S s sizes funcs acts
 unfolding SigRead
-sig-there s true end funcs acts e h =
-    let (S, at) = h in
-    (S, at, record { data-known = at .data-known; acts-known = at .acts-known; right = sig-law .back s S (drop end s) (at .reads) .1 })
-sig-there s false end funcs acts e h = absurd (let z : _≡_ {A = ℕ} 0 1 = cc in omega arith)
+sig-there s true o end sizes funcs acts e h =
+    let (L, S, at) = h in
+    (L, S, at, record { data-known = at .data-known; acts-known = at .acts-known; right = sig-law .back s (L, S) (drop end s) (at .reads) .1 .0 })
+sig-there s false o end sizes funcs acts e h = absurd (let z : _≡_ {A = ℕ} 0 1 = cc in omega arith)
 
 -- the same where the lists are the first of lent places
-pub sig-known : (s l FS AS : List ℕ) (f f′ a a′ : ℕ) (ok : Bool) (end : ℕ) → l ≡ list-at s 0 → f′ ≡ f → a′ ≡ a → ok ≡ true → SigRead ok s end (take f FS) (take a AS)
-    → (S : Sig) × SigAt S s end (take f FS) (take a AS) × KnownSig S s l (take f′ FS) (take a′ AS)
-sig-known s l FS AS f f′ a a′ ok end e y z o h =
-    let (S, at, known) = sig-there s ok end (take f FS) (take a AS) o h in (
+pub sig-known : (s ZS FS AS : List ℕ) (o : Option (List Name)) (z z′ f f′ a a′ : ℕ) (ok : Bool) (end : ℕ) → z′ ≡ z → f′ ≡ f → a′ ≡ a → ok ≡ true → SigRead ok o s end (take z ZS) (take f FS) (take a AS)
+    → (L : Layout) × (S : Sig) × SigAt L S o s end (take z ZS) (take f FS) (take a AS) × KnownSig S s (take z′ ZS) (take f′ FS) (take a′ AS)
+sig-known s ZS FS AS o z z′ f f′ a a′ ok end x y w e h =
+    let (L, S, at, known) = sig-there s ok o end (take z ZS) (take f FS) (take a AS) e h in (
+      L,
       S,
       at,
-      subst (λ (x : List ℕ). KnownSig S s x (take f′ FS) (take a′ AS)) (sym e)
-          (subst (λ (n : ℕ). KnownSig S s (list-at s 0) (take n FS) (take a′ AS)) (sym y) (subst (λ (n : ℕ). KnownSig S s (list-at s 0) (take f FS) (take n AS)) (sym z) known)),
+      subst (λ (n : ℕ). KnownSig S s (take n ZS) (take f′ FS) (take a′ AS)) (sym x)
+          (subst (λ (n : ℕ). KnownSig S s (take z ZS) (take n FS) (take a′ AS)) (sym y) (subst (λ (n : ℕ). KnownSig S s (take z ZS) (take f FS) (take n AS)) (sym w) known)),
     )
 
 -- a table without the last tests
 parts : Reader ℕ Table
-parts = view to-table (pair read-sig (λ S. pair (read-equations S) (λ es. read-start S es)))
+parts = view to-table (pair read-sig (λ x. pair (read-equations (x .1)) (λ es. read-start (x .1) es)))
 
-module _ (s : List ℕ) (S : Sig) (i : ℕ) (sig : read-sig s ≡ found S (drop i s)) where
+module _ (s : List ℕ) (L : Layout) (S : Sig) (i : ℕ) (sig : read-sig s ≡ found (L, S) (drop i s)) where
   pub no-equations : (ok : Bool) (end total : ℕ) (params rows : List ℕ) → ok ≡ false → EquationsRead ok S s i end total params rows → decode s ≡ missing
   unfolding EquationsRead decode test view pair bind
   no-equations true end total params rows e h = absurd (let z : _≡_ {A = ℕ} 0 1 = cc in omega arith)
@@ -73,7 +74,7 @@ module _ (s : List ℕ) (S : Sig) (i : ℕ) (sig : read-sig s ≡ found S (drop 
 
     module _ (k : ℕ) (given : ℕ × List ℕ) (start : read-start S es (drop j s) ≡ found given (drop k s)) where
       table : Table
-      table = to-table (S, (es, given))
+      table = to-table ((L, S), (es, given))
 
       parts-found : parts s ≡ found table (drop k s)
       unfolding parts table view pair bind
@@ -85,8 +86,8 @@ module _ (s : List ℕ) (S : Sig) (i : ℕ) (sig : read-sig s ≡ found S (drop 
           test-bad (λ T. both? (at-most? max-summands (summand-count (T .equations))) (at-most? max-stream (length (encode T)))) parts s table (drop k s) parts-found
           (λ q. let l = q .0 in let z = at .total-is in omega arith)
 
-      sig-right : (s ≡ encode-sig S ++ drop i s) × RightSig S
-      sig-right = sig-law .back s S (drop i s) sig
+      sig-right : (s ≡ encode-sig L S ++ drop i s) × RightSig S
+      sig-right = let (a, b) = sig-law .back s (L, S) (drop i s) sig in (a, b .0)
 
       start-stands : drop j s ≡ encode-start (table .start) ++ drop k s
       unfolding table to-table
@@ -95,20 +96,22 @@ module _ (s : List ℕ) (S : Sig) (i : ℕ) (sig : read-sig s ≡ found S (drop 
       short : length (encode table) ≤ length s
       unfolding table to-table encode
       short =
-          let a : length s ≡ length (encode-sig S) + length (drop i s) = ap length (sig-right .0) ∙ length-append (encode-sig S) (drop i s) in
+          let a : length s ≡ length (encode-sig L S) + length (drop i s) = ap length (sig-right .0) ∙ length-append (encode-sig L S) (drop i s) in
           let b : length (drop i s) ≡ length (encode-equations es) + length (drop j s) =
           ap length (equations-law S (sig-right .1) .back (drop i s) es (drop j s) (at .reads) .0) ∙ length-append (encode-equations es) (drop j s) in
           let c : length (drop j s) ≡ length (encode-start (table .start)) + length (drop k s) = ap length start-stands ∙ length-append (encode-start (table .start)) (drop k s) in
           simp length-append (omega arith)
 
-      whole : (funcs acts : List ℕ) → SigAt S s i funcs acts → total ≤ max-summands → length s ≤ max-stream → Decoded true s k funcs acts params rows j
+      whole : (o : Option (List Name)) (sizes funcs acts : List ℕ) → SigAt L S o s i sizes funcs acts → total ≤ max-summands → length s ≤ max-stream → Decoded true s k sizes o funcs acts params rows j
       unfolding Decoded decode parts table to-table encode-sig
-      whole funcs acts known h l = (
+      whole o sizes funcs acts known h l = (
         table,
         test-pass (λ T. both? (at-most? max-summands (summand-count (T .equations))) (at-most? max-stream (length (encode T)))) parts s table (drop k s) parts-found
             (let z = at .total-is in omega arith, let z = short in omega arith),
         record {
-          sorts-stand = before s 0 (encode-sorts (S .sorts)) (encode-list encode-func (S .funcs) ++ encode-list encode-action (S .acts)) (drop i s, sig-right .0);
+          sizes-are = known .data-known .sizes-are;
+          layout-is = known .layout-is;
+          names-are = known .names-are;
           funcs-stand = known .data-known .stand;
           acts-stand = known .acts-known;
           params-stand = at .params-known;
@@ -121,5 +124,5 @@ module _ (s : List ℕ) (S : Sig) (i : ℕ) (sig : read-sig s ≡ found S (drop 
       pub too-many : max-summands < total → decode s ≡ missing
       too-many h = let (d, e) = found-there (read-start S es (drop j s)) (drop k s) start in many k d e h
 
-      pub decoded : (funcs acts : List ℕ) → SigAt S s i funcs acts → total ≤ max-summands → length s ≤ max-stream → Decoded true s k funcs acts params rows j
-      decoded funcs acts known h l = let (d, e) = found-there (read-start S es (drop j s)) (drop k s) start in whole k d e funcs acts known h l
+      pub decoded : (o : Option (List Name)) (sizes funcs acts : List ℕ) → SigAt L S o s i sizes funcs acts → total ≤ max-summands → length s ≤ max-stream → Decoded true s k sizes o funcs acts params rows j
+      decoded o sizes funcs acts known h l = let (d, e) = found-there (read-start S es (drop j s)) (drop k s) start in whole k d e o sizes funcs acts known h l

@@ -1,9 +1,9 @@
 -- What is known of a table by where its parts stand in the stream: one notion, an encoding that stands at a place.
 use mathlib.Core.Path.{_≡_}
 use mathlib.Core.List.{List, _++_}
-use Prim.Native.Nat.{ℕ, _+_}
+use Prim.Native.Nat.{ℕ, _+_, _%_}
 use lib.ListN.{length, getD, take, drop}
-use Rattle.pcrl.specs.Limits.{max-arity}
+use Rattle.pcrl.specs.Limits.{max-arity, max-functions}
 use Rattle.pcrl.specs.Tests.{Between, Every, Each}
 use Rattle.pcrl.specs.Sheet.{Sig, Func}
 use Rattle.pcrl.specs.Stream.{encode-numbers, encode-func, encode-action}
@@ -19,6 +19,10 @@ Standing encode s xs places = Each (λ x at. Stands s at (encode x)) xs places
 -- the counted list of numbers that stands at a place
 abbrev pub list-at : List ℕ → ℕ → List ℕ
 list-at s at = take (getD s at 0) (drop (at + 1) s)
+
+-- the size of a sort in an array that has the places of the functions and, behind room for all of them, the sizes of the sorts
+abbrev pub size-in : List ℕ → ℕ → ℕ
+size-in funcs D = getD funcs (max-functions + D) 0 % 256
 
 -- the sizes of the sorts, and where the functions stand
 pub record KnownData (S : Sig) (s sizes funcs : List ℕ) : Type 0 where

@@ -8,16 +8,18 @@ ghost use Rattle.pcrl.specs.Sheet.{Sig};
 ghost use Rattle.pcrl.specs.Reader.{found, each};
 ghost use Rattle.pcrl.specs.Decode.{Node, node-of, read-node, Fits, wants, read-term};
 ghost use Rattle.laws.specs.Says.{Says};
-ghost use Rattle.terms.specs.Stands.{KnownData, list-at};
+ghost use Rattle.terms.specs.Stands.{KnownData, list-at, size-in};
 ghost use Rattle.terms.specs.Ends.{rests, ended};
 ghost use Rattle.terms.specs.Fitting.{NextFits};
 ghost use Rattle.terms.specs.Numbers.{read-list, ListEnds};
 use elements::cell;
+use elements::low;
 use elements::peek;
 use elements::wide;
 use limits::AND_CODE;
 use limits::EQUAL_CODE;
 use limits::FUNCTION_CODE;
+use limits::MAX_FUNCTIONS;
 use limits::MAX_NODES;
 use limits::NOT_CODE;
 use limits::OR_CODE;
@@ -43,6 +45,13 @@ const WANTED: usize = limits::MAX_NODES + 1;
 pub struct Next {
     pub ok: bool,
     pub at: usize,
+}
+
+// The size of a sort: the sizes stand behind the places of the functions.
+pub fn size_of(funcs: &[u16], d: u8) -> u8
+    ensures { λ r. ⌜ r ≡ size-in (now (funcs .entry)) d ⌝ }
+{
+    low(cell(funcs, MAX_FUNCTIONS + wide(d)))
 }
 
 // The numbers of the counted list that stands at p.

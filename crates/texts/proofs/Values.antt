@@ -1,6 +1,6 @@
 -- None, one or two values in brackets.
 use mathlib.Core.Path.{_≡_, refl, sym, _∙_, ap}
-use mathlib.Core.List.{List, [], _∷_, _++_, append-assoc, append-nil}
+use mathlib.Core.List.{List, [], _∷_, _++_, append-assoc, append-nil, map}
 use Prim.Native.Nat.{ℕ, zero, suc, _<_, _≤_}
 use native.Mathlib.Omega.{arith}
 use borrow.Author.Tests.{eq-eqb, ne-eqb}
@@ -9,7 +9,8 @@ use lib.Dec.{eqb}
 use lib.ListN.{length, getD, take, List·getD-eq-default}
 use lib.Seq.{take-nil}
 use Rattle.pcrl.specs.Text.{bytes, decimal}
-use Rattle.pcrl.specs.Sheet.{Sig, Act, tau, action, no-action}
+use Rattle.pcrl.specs.Tree.{Name}
+use Rattle.pcrl.specs.Sheet.{Sig, Act, tau, action, no-action, sort-name, takes-of}
 use Rattle.pcrl.specs.Label.{Label, silent, named, label}
 use Rattle.pcrl.specs.Stream.{tau-code}
 use Rattle.terms.specs.Stands.{list-at}
@@ -52,10 +53,10 @@ pub tau-text : (S : Sig) (a : ℕ) (vs : List ℕ) → a ≡ tau-code → bytes 
 unfolding label-of act-of label label-text
 tau-text S a vs e = sym (ap (λ (x : Act). label-text (label S x vs)) (where-yes {A = Act} (ℕ-discrete a tau-code) e tau (action a)))
 
-named-text : (n vs : List ℕ) → n ++ bracketed vs ≡ label-text (named n vs)
+named-text : (n : Name) (Ds : List Name) (vs : List ℕ) → n ++ bracketed vs ≡ label-text (named n Ds vs)
 unfolding bracketed label-text
-named-text n [] = append-nil n
-named-text n (v ∷ vs) = refl
+named-text n Ds [] = append-nil n
+named-text n Ds (v ∷ vs) = refl
 
 act-is : (a : ℕ) → ¬ (a ≡ tau-code) → act-of a ≡ action a
 unfolding act-of
@@ -63,7 +64,7 @@ act-is a h = where-no {A = Act} (ℕ-discrete a tau-code) h tau (action a)
 
 pub action-text : (S : Sig) (a : ℕ) (vs : List ℕ) → ¬ (a ≡ tau-code) → getD (S .acts) a no-action .name ++ bracketed vs ≡ label-text (label-of S a vs)
 unfolding label-of label
-action-text S a vs h = named-text (getD (S .acts) a no-action .name) vs ∙ sym (ap (λ (x : Act). label-text (label S x vs)) (act-is a h))
+action-text S a vs h = named-text (getD (S .acts) a no-action .name) (map (sort-name S) (takes-of S (action a))) vs ∙ sym (ap (λ (x : Act). label-text (label S x vs)) (act-is a h))
 
 -- a line from its pieces
 pub line-is : (i : ℕ) (l : Label) (d : ℕ) → ((((decimal i ++ bytes " ") ++ label-text l) ++ bytes " ") ++ decimal d) ++ bytes "\n" ≡ step-line i l d

@@ -1,33 +1,40 @@
 -- Accepted bytes are in good standing: what questions 1 to 9 have found of a sheet gives everything that the theorems ask of it.
-use mathlib.Core.Path.{_≡_, refl, ap, sym, subst}
-use mathlib.Core.List.{List, _++_, map}
+use mathlib.Core.Path.{_≡_, refl, ap, sym, subst, _∙_}
+use mathlib.Core.List.{List, [], _++_, map}
 use Prim.Native.Nat.{ℕ, suc, _<_, _≤_}
 use native.Mathlib.Omega.{arith}
+use native.Mathlib.Decide.{ℕ-discrete}
 use lib.Dec.{T}
-use lib.ListN.{length, length-map, getElem?}
+use lib.ListN.{length, length-map, getD, getElem?}
 use Rattle.pcrl.specs.Text.{bytes}
 use Rattle.pcrl.specs.Limits.{max-sorts, max-size, max-functions, max-actions, max-processes, max-arity, frame-width}
 use Rattle.pcrl.specs.Result.{accepted}
-use Rattle.pcrl.specs.Tests.{distinct, Between, Every}
+use Rattle.pcrl.specs.Tests.{same?, among, distinct, Between, Every}
+use Rattle.pcrl.specs.Tokens.{words}
 use Rattle.pcrl.specs.Tree.{SortLine, ActLine, ProcLine, RawSheet}
 use Rattle.pcrl.specs.Counts.{Counted}
 use Rattle.pcrl.specs.Sheet.{Action, Process, Sheet, size}
 use Rattle.pcrl.specs.Names.{names-of, declared, sizes-of}
 use Rattle.pcrl.specs.Sorts.{Sorted, Complete, RightlySorted}
-use Rattle.pcrl.specs.Right.{RightSizes, AreSorts, RightFunc, RightName, RightAction, action-names, RightSig}
+use Rattle.pcrl.specs.Table.{with-names}
+use Rattle.pcrl.specs.Right.{RightSizes, AreSorts, RightFunc, RightName, RightAction, action-names, RightSig, RightSortName, RightNames}
 use Rattle.pcrl.specs.Answers.{sheet-read}
 use Rattle.laws.specs.Every.{every-left, every-right, every-map, every-both, map-every}
 use Rattle.laws.specs.Each.{each-every, each-map, each-length}
 use Rattle.grammar.specs.Formed.{FormedFunc, FormedAct, Formed}
 use Rattle.grammar.specs.Parsed.{print-parse}
 use Rattle.grammar.specs.TokenLaws.{ValidName}
-use Rattle.grammar.specs.ValidNames.{names-valid, right-name}
+use Rattle.grammar.specs.ValidNames.{names-valid, sort-names-valid, right-name, right-sort-name}
 use Rattle.theory.specs.Standing.{Numbered, RightProcess, Standing}
 use Rattle.theory.specs.Distinct.{Unlike, distinct-left, distinct-right, distinct-first}
 use Rattle.theory.specs.Questions.{Accepted, accepted-all}
 use Rattle.theory.specs.Resolved.{Resolved, resolved-lines, Declared, func-from, action-from}
 use Rattle.theory.specs.Numbering.{process-from}
 use Rattle.theory.specs.Circle.{guarded-no-circle}
+
+Bool-valid : ValidName (bytes "Bool")
+unfolding ValidName Every among words same? ℕ-discrete
+Bool-valid = (((omega arith, omega arith), (tt, (tt, (tt, (tt, tt))))), (tt, refl))
 
 module _ (R : RawSheet) (H : Sheet) (r : Resolved R H) where
   sorts-count : length (names-of R .sorts) ≡ length (H .sig .sorts)
@@ -108,6 +115,23 @@ module _ (R : RawSheet) (H : Sheet) (r : Resolved R H) where
       let n₂ = each-length _ (R .acts) (H .sig .acts) (r .acts) in
       (right-sizes c, ((omega arith, right-funcs f h), ((omega arith, right-acts f v), distinct-acts)))
 
+  -- #104: "Sort names must be valid and distinct, Bool first."
+  right-names : Every (λ (l : SortLine). ValidName (l .name)) (R .sorts) → RightNames with-names (H .sig)
+  unfolding RightNames declared names-of Every
+  right-names v =
+      let N = names-of R in
+      let named = r .sort-names in
+      let e = sorts-count in (
+        (
+          ap length named ∙ e,
+          subst (Every RightSortName) (sym named) (right-sort-name (bytes "Bool") Bool-valid, every-map _ RightSortName (λ (l : SortLine). l .name) (λ l h. right-sort-name (l .name) h) (R .sorts) v),
+        ),
+        (
+          subst (λ (l : List (List ℕ)). T (distinct l)) (sym named) (distinct-left (N .sorts) (N .funcs ++ (N .acts ++ N .procs)) (r .new-names)),
+          ap (λ (l : List (List ℕ)). getD l 0 []) named,
+        ),
+      )
+
   -- "16 processes of 0 to 4 parameters"
   right-processes : Counted R → Every (λ (p : Process). Sorted H (getElem? (p .params)) (p .right)) (H .procs) → Every (RightProcess H) (H .procs)
   unfolding Counted
@@ -135,6 +159,7 @@ standing-of s H passed =
     let one = f .procs in
     record {
       signature = right-sig R H r (a .counted) f (names-valid s (a .found) R (a .all-tokens) (a .form)) (a .rightly-sorted .0);
+      sort-names = right-names R H r (sort-names-valid s (a .found) R (a .all-tokens) (a .form));
       some-process = omega arith;
       few-processes = omega arith;
       processes = right-processes R H r (a .counted) (a .rightly-sorted .1 .0);

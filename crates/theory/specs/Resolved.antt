@@ -18,6 +18,7 @@ use Rattle.laws.specs.Numbers.{number-below, sorts-declared}
 pub record Resolved (R : RawSheet) (H : Sheet) : Type 0 where
   pub new-names : T (distinct (declared (names-of R)))
   pub sizes : H .sig .sorts ≡ sizes-of R
+  pub sort-names : H .sig .sort-names ≡ names-of R .sorts
   pub funcs : Each (λ (l : FuncLine) (g : Func). resolve-func (names-of R) l ≡ some g) (R .funcs) (H .sig .funcs)
   pub acts : Each (λ (l : ActLine) (a : Action). resolve-act (names-of R) l ≡ some a) (R .acts) (H .sig .acts)
   pub procs : Each (λ (l : ProcLine) (p : Process). resolve-proc (names-of R) (H .sig) l ≡ some p) (R .procs) (H .procs)
@@ -30,7 +31,7 @@ resolved-lines R H e =
     let (t, e₁) = test-passed (distinct (declared (names-of R))) _ H e in
     first-given (for-each (resolve-func (names-of R)) (R .funcs)) _ H e₁ (λ fs h₂ e₂.
     first-given (for-each (resolve-act (names-of R)) (R .acts)) _ H e₂ (λ acts h₃ e₃.
-    let S : Sig = record { sorts = sizes-of R; funcs = fs; acts = acts } in
+    let S : Sig = record { sorts = sizes-of R; sort-names = names-of R .sorts; funcs = fs; acts = acts } in
     first-given (for-each (resolve-proc (names-of R) S) (R .procs)) _ H e₃ (λ ps h₄ e₄.
     first-given (resolve-init (names-of R) S (R .start)) _ H e₄ (λ s h₅ e₅.
     let K : Sheet = record { sig = S; procs = ps; start = s } in
@@ -38,6 +39,7 @@ resolved-lines R H e =
     subst (Resolved R) z (record {
       new-names = t;
       sizes = refl;
+      sort-names = refl;
       funcs = each-given (resolve-func (names-of R)) (R .funcs) fs h₂;
       acts = each-given (resolve-act (names-of R)) (R .acts) acts h₃;
       procs = each-given (resolve-proc (names-of R) S) (R .procs) ps h₄;

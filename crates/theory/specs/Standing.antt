@@ -7,7 +7,8 @@ use Rattle.pcrl.specs.Tests.{Every}
 use Rattle.pcrl.specs.Sheet.{Proc, delta, atom, alt, cond, sum, seq, call, Process, Sheet}
 use Rattle.pcrl.specs.Sorts.{closed, Sorted}
 use Rattle.pcrl.specs.Circles.{NoCircle}
-use Rattle.pcrl.specs.Right.{AreSorts, RightSig}
+use Rattle.pcrl.specs.Table.{with-names}
+use Rattle.pcrl.specs.Right.{AreSorts, RightSig, RightNames}
 
 -- where n variables are in scope, each sum binds the next number
 unfoldable pub Numbered : ℕ → Proc → Type 0
@@ -27,8 +28,9 @@ pub record RightProcess (H : Sheet) (p : Process) : Type 0 where
   pub sorted : Sorted H (getElem? (p .params)) (p .right)
 
 pub record Standing (H : Sheet) : Type 0 where
-  -- sorts, functions and actions within their limits, sizes from 1 on, functions complete, names valid and distinct
+  -- sorts, functions and actions within their limits, sizes from 1 on, functions complete, names valid and distinct, those of sorts too
   pub signature : RightSig (H .sig)
+  pub sort-names : RightNames with-names (H .sig)
   pub some-process : 1 ≤ length (H .procs)
   pub few-processes : length (H .procs) ≤ max-processes
   pub processes : Every (RightProcess H) (H .procs)

@@ -106,6 +106,7 @@ module _ (H : Sheet) (ok : Standing H) (within : Within (table-of H)) where
           ),
         ),
         (within .1 .0, within .1 .1 .1),
+        ok .sort-names,
       )
 
 -- THE TABLE OF A SHEET IN GOOD STANDING, WHERE IT IS WITHIN ITS LIMITS, IS RIGHT.

@@ -8,6 +8,7 @@ use lib.ListN.{length, take, length-append}
 use lib.Seq.{take-all}
 use Rattle.pcrl.specs.Limits.{max-name, max-arity, frame-width, stack-limit}
 use Rattle.pcrl.specs.Tests.{Every}
+use Rattle.pcrl.specs.Tree.{Name}
 use Rattle.pcrl.specs.Sheet.{Act, tau, action, Sig, size, takes-of, no-action}
 use Rattle.pcrl.specs.Sorts.{IsAct}
 use Rattle.pcrl.specs.Values.{eval}
@@ -56,7 +57,7 @@ two n h = elim (decLe 10 n) [
 -- a label as those of right tables
 data ShortLabel : Label → Type 0 where
   of-tau : ShortLabel silent
-  of-name : (n vs : List ℕ) → length n ≤ max-name → length vs ≤ max-arity → Every (λ v. v < 100) vs → ShortLabel (named n vs)
+  of-name : (n : Name) (Ds : List Name) (vs : List ℕ) → length n ≤ max-name → length vs ≤ max-arity → Every (λ v. v < 100) vs → ShortLabel (named n Ds vs)
 
 values-short : (vs : List ℕ) → length vs ≤ max-arity → Every (λ v. v < 100) vs → length (values-text vs) ≤ 5
 unfolding values-text Every
@@ -68,8 +69,8 @@ values-short (v ∷ (w ∷ (x ∷ vs))) l h = absurd (omega arith)
 label-short : {l : Label} → ShortLabel l → length (label-text l) ≤ 23
 unfolding label-text
 label-short of-tau = omega arith
-label-short (of-name n [] a b c) = omega arith
-label-short (of-name n (v ∷ vs) a b c) = let d = values-short (v ∷ vs) b c in simp length-append (omega arith)
+label-short (of-name n Ds [] a b c) = omega arith
+label-short (of-name n Ds (v ∷ vs) a b c) = let d = values-short (v ∷ vs) b c in simp length-append (omega arith)
 
 line-short : (i : ℕ) {l : Label} (d : ℕ) → i < 10 → ShortLabel l → d < 100 → length (step-line i l d) ≤ line-limit
 unfolding step-line line
@@ -102,7 +103,7 @@ module _ (T : Table) (right : RightTable T) where
       let r = every-at (RightAction (S .sorts)) (S .acts) no-action a acts-right w in
       let n = each-length _ _ vs i in
       let m = r .1 .0 in
-      of-name _ vs (r .0 .0 .0 .1) (omega arith) (each-every _ (λ D. D < length (S .sorts)) (λ v. v < 100) (λ D v k h. let z = sizes-short D h in omega arith) _ vs i (r .1 .1))
+      of-name _ _ vs (r .0 .0 .0 .1) (omega arith) (each-every _ (λ D. D < length (S .sorts)) (λ v. v < 100) (λ D v k h. let z = sizes-short D h in omega arith) _ vs i (r .1 .1))
 
   step-short : (s : Stack) (l : Label) (t : Stack) → RightStack frame-width T s → StackStep frame-width T s l t → ShortLabel l
   unfolding StackStep RightStack RightFrame Every RightSummand outcome

@@ -2,22 +2,21 @@
 ghost use mathlib.Core.Path.{_≡_};
 ghost use mathlib.Core.List.{List};
 ghost use lib.ListN.{length};
-ghost use Rattle.pcrl.specs.Result.{refusal};
-ghost use Rattle.pcrl.specs.Answers.{table-made, table-checked, started, asked, asked-all};
-ghost use Rattle.pcrl.specs.Walk.{walk-text};
+ghost use Rattle.pcrl.specs.Answers.{started, asked, asked-all};
 ghost use Rattle.asking.specs.Encoding.{answer-after, answers-after};
 ghost use Rattle.stepping.specs.Promises.{Replied, put-questions};
-ghost use Rattle.texts.specs.Wrote.{Wrote};
 ghost use Rattle.frames.specs.declared.Frame.{Frame};
 ghost use Rattle.frames.specs.Lists.{over, taken, frames-of};
 ghost use Rattle.wizbratel.specs.Tables.{MakePromise, PrintPromise};
+ghost use Rattle.wizbratel.specs.Promises.{CheckPromise, CheckTablePromise, StartPromise, AskPromise, AskAllPromise, WalkPromise};
+use asking::ANSWER;
 use stacks::BYTES;
 use stacks::LIMIT;
 
 // Check a sheet, questions 1 to 10: the number of the first that fails, or 0. So it is accepted exactly if its table can be made.
 #[no_mangle]
 pub extern "C" fn wizbratel_check_sheet(sheet: &[u8]) -> u8
-    ensures { λ r. ⌜ r ≡ refusal (table-made (now (sheet .entry))) ⌝ }
+    ensures { λ r. ⌜ CheckPromise (now (sheet .entry)) r ⌝ }
 {
     making::check_sheet(sheet)
 }
@@ -51,7 +50,7 @@ pub extern "C" fn wizbratel_print_table(file: &[u8], out: &mut [u8], written: &m
 // Check a table, questions 12 to 14: the number of the first that fails, or 0.
 #[no_mangle]
 pub extern "C" fn wizbratel_check_table(file: &[u8]) -> u8
-    ensures { λ r. ⌜ r ≡ refusal (table-checked (now (file .entry))) ⌝ }
+    ensures { λ r. ⌜ CheckTablePromise (now (file .entry)) r ⌝ }
 {
     files::check_file(file)
 }
@@ -64,7 +63,7 @@ pub extern "C" fn wizbratel_start(
     frames: &mut [frames::Frame],
     depth: &mut usize,
 ) -> u8
-    ensures { λ r. ⌜ Replied (started (now (file .entry)) (frames-of (now (frames .entry))) (now (depth .entry))) r (frames-of (now (frames .exit))) (now (depth .exit)) ⌝ }
+    ensures { λ r. ⌜ StartPromise (now (file .entry)) (now (frames .entry)) (now (depth .entry)) r (now (frames .exit)) (now (depth .exit)) ⌝ }
 {
     let n = frames.len();
     let p = frames::prepare(n);
@@ -82,9 +81,9 @@ pub extern "C" fn wizbratel_ask(
     frames: &mut [frames::Frame],
     depth: &mut usize,
     k: u64,
-    answer: &mut [u8; 24],
+    answer: &mut [u8; ANSWER],
 ) -> u8
-    ensures { λ r. ⌜ (Replied (asked (now (file .entry)) (frames-of (now (frames .entry))) (now (depth .entry)) k) r (frames-of (now (frames .exit))) (now (depth .exit))) × (now (answer .exit) ≡ answer-after (asked (now (file .entry)) (frames-of (now (frames .entry))) (now (depth .entry)) k .answer) (now (answer .entry))) ⌝ }
+    ensures { λ r. ⌜ AskPromise (now (file .entry)) (now (frames .entry)) (now (depth .entry)) k (now (answer .entry)) r (now (frames .exit)) (now (depth .exit)) (now (answer .exit)) ⌝ }
 {
     let n = frames.len();
     let p = frames::prepare(n);
@@ -94,7 +93,7 @@ pub extern "C" fn wizbratel_ask(
     r.refused
 }
 
-// Ask a list, questions 12 to 15 once, and then each question in turn, as many as there is room for answers of 24 bytes: the number of the
+// Ask a list, questions 12 to 15 once, and then each question in turn, as many as there is room for answers of 72 bytes: the number of the
 // first that fails, or 0. After a refusal all is as it was.
 #[no_mangle]
 pub extern "C" fn wizbratel_ask_all(
@@ -104,7 +103,7 @@ pub extern "C" fn wizbratel_ask_all(
     questions: &[u64],
     answers: &mut [u8],
 ) -> u8
-    ensures { λ r. ⌜ (Replied (asked-all (now (file .entry)) (frames-of (now (frames .entry))) (now (depth .entry)) (put-questions (now (questions .entry)) (now (answers .entry)))) r (frames-of (now (frames .exit))) (now (depth .exit))) × (now (answers .exit) ≡ answers-after (asked-all (now (file .entry)) (frames-of (now (frames .entry))) (now (depth .entry)) (put-questions (now (questions .entry)) (now (answers .entry))) .answer) (now (answers .entry))) ⌝ }
+    ensures { λ r. ⌜ AskAllPromise (now (file .entry)) (now (frames .entry)) (now (depth .entry)) (now (questions .entry)) (now (answers .entry)) r (now (frames .exit)) (now (depth .exit)) (now (answers .exit)) ⌝ }
 {
     let n = frames.len();
     let p = frames::prepare(n);
@@ -118,7 +117,7 @@ pub extern "C" fn wizbratel_ask_all(
 // them is as it was. No text is longer than 238 bytes (walker, Short).
 #[no_mangle]
 pub extern "C" fn wizbratel_walk(sheet: &[u8], out: &mut [u8]) -> usize
-    ensures { λ r. ⌜ Wrote (now (out .entry)) 0 (walk-text (now (sheet .entry))) (now (out .exit)) r ⌝ }
+    ensures { λ r. ⌜ WalkPromise (now (sheet .entry)) (now (out .entry)) r (now (out .exit)) ⌝ }
 {
     walker::walk_sheet(sheet, out)
 }
@@ -152,7 +151,7 @@ fn start_stack(depth: &mut usize, file: &[u8], n: usize, s: frames::Stack) -> fr
 // A question on frames by value, of a slice of n.
 fn ask_stack(
     depth: &mut usize,
-    out: &mut [u8; 24],
+    out: &mut [u8; ANSWER],
     file: &[u8],
     n: usize,
     k: u64,

@@ -27,7 +27,7 @@ same-length c = search needs
 returns : tie.Need-returns
 returns c = let test = c .before .before .before .before .before .if1 in let w = c .before .before .put-bytes .ensures in let e = wrote-ends w in (
   record { fits = e .fits; same = e .same; inside = omega arith },
-  tau-put _ _ _ _ _ _ _ (c .before .before .before .before .before .before .before .before .before .before .before .pre .0) (c .before .before .before .before .before .before .peek .result) (c .before .before .before .before .before .before .peek .ensures) _ _ (omega arith) refl w,
+  tau-put _ _ _ _ _ _ _ (c .before .before .before .before .before .before .before .before .before .before .before .before .pre .0) (c .before .before .before .before .before .before .peek .result) (c .before .before .before .before .before .before .peek .ensures) _ _ (omega arith) refl w,
 )
 
 wide-requires : tie.Need-wide-requires
@@ -70,9 +70,9 @@ same-length-2 : tie.Need-same-length-2
 same-length-2 c = search needs
 
 returns-2 : tie.Need-returns-2
-returns-2 c = let test = c .before .before .before .before .before .before .before .before .before .before .before .before .before .before .before .if1 in let args = c .before .before .before .before .before .before .before .before .before .before .before .before .before .before .before .before .before .before .before .before .before .args in let w = c .before .before .before .before .before .before .before .before .before .before .put-bytes2 .ensures in let t = c .before .before .put-terms .ensures in let p = c .before .before .before .before .before .before .before .before .before .before .before .before .before .cell in (
+returns-2 c = let test = c .before .before .before .before .before .before .before .before .before .before .before .before .before .before .before .if1 in let args = c .before .before .before .before .before .before .before .before .before .before .before .before .before .before .before .before .before .before .before .before .before .before .args in let w = c .before .before .before .before .before .before .before .before .before .before .put-bytes2 .ensures in let t = c .before .before .put-terms .ensures in let p = c .before .before .before .before .before .before .before .before .before .before .before .before .before .cell in (
   within-more (wrote-ends w) (t .0),
-  named-put _ _ _ _ _ _ _ (c .before .before .before .before .before .before .before .before .before .before .before .before .before .before .before .before .before .before .before .before .before .pre .0) (c .before .before .before .before .before .before .before .before .before .before .before .before .before .before .before .before .peek .result) (c .before .before .before .before .before .before .before .before .before .before .before .before .before .before .before .before .peek .ensures) (p .result) _ _ _ _ _ _ (λ e. omega arith) (p .ensures .0 ∙ ap (λ (x : ℕ). getD (args .acts .now) x 0) (c .before .before .before .before .before .before .before .before .before .before .before .before .before .before .wide .ensures .0)) (c .before .before .before .before .wide3 .ensures .0 ∙ c .before .before .before .before .before .peek3 .ensures ∙ ap (λ (x : ℕ). getD (args .s .now) (p .result + 1 + x) 0) (c .before .before .before .before .before .before .wide2 .ensures .0 ∙ c .before .before .before .before .before .before .before .peek2 .ensures)) (c .before .before .before .before .before .before .before .before .before .before .before .list-at .ensures) w (t .1),
+  named-put _ _ _ _ _ _ _ (c .before .before .before .before .before .before .before .before .before .before .before .before .before .before .before .before .before .before .before .before .before .before .pre .0) (c .before .before .before .before .before .before .before .before .before .before .before .before .before .before .before .before .peek .result) (c .before .before .before .before .before .before .before .before .before .before .before .before .before .before .before .before .peek .ensures) (p .result) _ _ _ _ _ _ (λ e. omega arith) (p .ensures .0 ∙ ap (λ (x : ℕ). getD (args .acts .now) x 0) (c .before .before .before .before .before .before .before .before .before .before .before .before .before .before .wide .ensures .0)) (c .before .before .before .before .wide3 .ensures .0 ∙ c .before .before .before .before .before .peek3 .ensures ∙ ap (λ (x : ℕ). getD (args .s .now) (p .result + 1 + x) 0) (c .before .before .before .before .before .before .wide2 .ensures .0 ∙ c .before .before .before .before .before .before .before .peek2 .ensures)) (c .before .before .before .before .before .before .before .before .before .before .before .list-at .ensures) w (t .1),
 )
 
 pub put-action-spec : {M : Type 1} → statement M

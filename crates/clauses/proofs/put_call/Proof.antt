@@ -39,9 +39,9 @@ same-length : tie.Need-same-length
 same-length c = search needs
 
 returns : tie.Need-returns
-returns c = let args = c .before .before .before .before .before .before .before .before .before .before .before .before .before .before .before .before .before .before .before .before .before .args in let point = c .before .before .before .before .before .before .before .before .before .before .before .before .before .put-byte .ensures in let name = c .before .before .before .before .before .before .before .before .before .put-name .ensures in let t = c .before .before .put-terms .ensures in (
+returns c = let args = c .before .before .before .before .before .before .before .before .before .before .before .before .before .before .before .before .before .before .before .before .before .before .args in let point = c .before .before .before .before .before .before .before .before .before .before .before .before .before .put-byte .ensures in let name = c .before .before .before .before .before .before .before .before .before .put-name .ensures in let t = c .before .before .put-terms .ensures in (
   within-more (ends-more (wrote-ends point) (wrote-ends name)) (t .0),
-  call-put _ _ _ _ _ _ _ (c .before .before .before .before .before .before .before .before .before .before .before .before .before .before .before .before .before .before .before .before .before .pre .0) (c .before .before .before .before .before .before .before .before .before .before .before .before .before .before .before .wide .result) _ _ _ _ _ _ _ (c .before .before .before .before .before .before .before .before .before .before .before .before .before .before .before .wide .ensures .0 ∙ c .before .before .before .before .before .before .before .before .before .before .before .before .before .before .before .before .peek .ensures) (c .before .before .before .before .before .before .before .before .before .before .before .before .before .before .before .wide .ensures .1) (c .before .before .before .before .wide2 .ensures .0 ∙ c .before .before .before .before .before .peek2 .ensures ∙ ap (λ (x : ℕ). getD (args .s .now) x 0) (c .before .before .before .before .before .before .cell .ensures .0)) point name (t .1),
+  call-put _ _ _ _ _ _ _ (c .before .before .before .before .before .before .before .before .before .before .before .before .before .before .before .before .before .before .before .before .before .before .pre .0) (c .before .before .before .before .before .before .before .before .before .before .before .before .before .before .before .wide .result) _ _ _ _ _ _ _ (c .before .before .before .before .before .before .before .before .before .before .before .before .before .before .before .wide .ensures .0 ∙ c .before .before .before .before .before .before .before .before .before .before .before .before .before .before .before .before .peek .ensures) (c .before .before .before .before .before .before .before .before .before .before .before .before .before .before .before .wide .ensures .1) (c .before .before .before .before .wide2 .ensures .0 ∙ c .before .before .before .before .before .peek2 .ensures ∙ ap (λ (x : ℕ). getD (args .s .now) x 0) (c .before .before .before .before .before .before .cell .ensures .0)) point name (t .1),
 )
 
 pub put-call-spec : {M : Type 1} → statement M

@@ -23,13 +23,13 @@ wide-requires : tie.Need-wide-requires Inv-loop μ-loop
 wide-requires c κs = search needs
 
 add-t12 : tie.Need-add-t12 Inv-loop μ-loop
-add-t12 c = omega (arith, c .before .before .before .before .before .before .pre .1 .1)
+add-t12 c = omega (arith, c .before .before .before .before .before .before .before .pre .1 .1)
 
 loop-holds : tie.Need-loop-holds Inv-loop μ-loop
-loop-holds c = let room = c .before .before .before .before .before .before .pre .0 in (omega arith, (omega (arith, c .before .before .before .before .before .before .pre .1 .1), (ends-none room, calling-none _ _ _ _ _ _ _ _ room (c .wide .ensures .0 ∙ c .before .peek .ensures))))
+loop-holds c = let room = c .before .before .before .before .before .before .before .pre .0 in (omega arith, (omega (arith, c .before .before .before .before .before .before .before .pre .1 .1), (ends-none room, calling-none _ _ _ _ _ _ _ _ room (c .wide .ensures .0 ∙ c .before .peek .ensures))))
 
 put-call-requires : tie.Need-put-call-requires Inv-loop μ-loop
-put-call-requires c κs = let e = c .before .before .loop .inv .1 .1 .0 in (omega (arith, e .fits, e .same), (c .before .before .before .before .before .before .before .before .before .pre .1 .0, omega (arith, c .before .before .loop .inv .1 .0, c .before .loop-test, c .before .before .before .wide .ensures .1)))
+put-call-requires c κs = let e = c .before .before .loop .inv .1 .1 .0 in (omega (arith, e .fits, e .same), (c .before .before .before .before .before .before .before .before .before .before .pre .1 .0, omega (arith, c .before .before .loop .inv .1 .0, c .before .loop-test, c .before .before .before .wide .ensures .1)))
 
 add-i : tie.Need-add-i Inv-loop μ-loop
 add-i c = omega (arith, c .before .before .before .before .before .before .wide .ensures .1, c .before .before .before .before .loop-test)
@@ -39,7 +39,7 @@ loop-less c = omega (arith, c .before .before .before .before .loop-test)
 
 loop-again : tie.Need-loop-again Inv-loop μ-loop
 loop-again c = let here = c .before .before .before .before .before .loop in let test = c .before .before .before .before .loop-test in let d = c .before .before .put-call .ensures in
-    (omega arith, (omega (arith, d .0 .inside, here .inv .1 .0, c .before .before .before .before .before .before .before .before .before .before .before .before .pre .1 .0), (ends-more (here .inv .1 .1 .0) (within-ends (d .0)), calling-more _ _ _ _ _ _ _ _ _ _ _ _ _ _ (omega arith) (d .1) (here .inv .1 .1 .1))))
+    (omega arith, (omega (arith, d .0 .inside, here .inv .1 .0, c .before .before .before .before .before .before .before .before .before .before .before .before .before .pre .1 .0), (ends-more (here .inv .1 .1 .0) (within-ends (d .0)), calling-more _ _ _ _ _ _ _ _ _ _ _ _ _ _ (omega arith) (d .1) (here .inv .1 .1 .1))))
 
 same-length : tie.Need-same-length Inv-loop μ-loop
 same-length c = c .before .loop .inv .1 .1 .0 .same

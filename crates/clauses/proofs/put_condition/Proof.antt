@@ -34,7 +34,7 @@ same-length c = search needs
 returns : tie.Need-returns
 returns c = let first = c .before .before .before .before .before .before .before .before .before .before .before .put-bytes .ensures in let term = c .before .before .before .before .before .before .before .put-term .ensures in let last = c .before .before .put-bytes2 .ensures in (
   ends-more (ends-more (wrote-ends first) (within-ends (term .0))) (wrote-ends last),
-  condition-put _ _ _ _ _ _ (c .before .before .before .before .before .before .before .before .before .before .before .before .before .before .before .before .before .before .pre .0) _ _ _ _ _ _ _ (ap (λ (x : ℕ). x + 1) (c .before .before .before .before .before .before .before .before .before .before .before .before .before .before .smaller .ensures)) first (term .1) last,
+  condition-put _ _ _ _ _ _ (c .before .before .before .before .before .before .before .before .before .before .before .before .before .before .before .before .before .before .before .pre .0) _ _ _ _ _ _ _ (ap (λ (x : ℕ). x + 1) (c .before .before .before .before .before .before .before .before .before .before .before .before .before .before .smaller .ensures)) first (term .1) last,
 )
 
 pub put-condition-spec : {M : Type 1} → statement M

@@ -10,7 +10,7 @@ peek-requires : tie.Need-peek-requires
 peek-requires c κs = search needs
 
 returns : tie.Need-returns
-returns c = let test = c .if1 in let room = c .before .before .before .before .before .pre .0 in (ends-none room, first-put-none _ _ _ _ _ _ room (c .before .peek .result) (c .before .peek .ensures) (λ e. omega arith))
+returns c = let test = c .if1 in let room = c .before .before .before .before .before .before .pre .0 in (ends-none room, first-put-none _ _ _ _ _ _ room (c .before .peek .result) (c .before .peek .ensures) (λ e. omega arith))
 
 slice-aggregate-put-bytes : tie.Need-slice-aggregate-put-bytes
 slice-aggregate-put-bytes c = search needs
@@ -25,7 +25,7 @@ same-length : tie.Need-same-length
 same-length c = search needs
 
 returns-2 : tie.Need-returns-2
-returns-2 c = let test = c .before .before .before .before .before .before .before .before .before .if1 in let w = c .before .before .before .before .before .before .put-bytes .ensures in let d = c .before .before .put-condition .ensures in (ends-more (wrote-ends w) (d .0), first-put-whole _ _ _ _ _ _ (c .before .before .before .before .before .before .before .before .before .before .before .before .before .before .pre .0) (c .before .before .before .before .before .before .before .before .before .before .peek .result) (c .before .before .before .before .before .before .before .before .before .before .peek .ensures) _ _ _ _ (omega arith) w (d .1))
+returns-2 c = let test = c .before .before .before .before .before .before .before .before .before .if1 in let w = c .before .before .before .before .before .before .put-bytes .ensures in let d = c .before .before .put-condition .ensures in (ends-more (wrote-ends w) (d .0), first-put-whole _ _ _ _ _ _ (c .before .before .before .before .before .before .before .before .before .before .before .before .before .before .before .pre .0) (c .before .before .before .before .before .before .before .before .before .before .peek .result) (c .before .before .before .before .before .before .before .before .before .before .peek .ensures) _ _ _ _ (omega arith) w (d .1))
 
 pub put-first-spec : {M : Type 1} → statement M
 put-first-spec =

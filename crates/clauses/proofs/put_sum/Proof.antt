@@ -26,7 +26,7 @@ same-length : tie.Need-same-length
 same-length c = search needs
 
 returns : tie.Need-returns
-returns c = wrote-then (c .before .before .before .before .before .before .before .before .before .before .before .before .before .before .before .before .before .before .before .before .before .before .pre) (c .before .before .before .before .before .before .before .before .before .before .before .before .before .before .before .before .before .before .put-bytes .ensures) (λ h₁. wrote-then h₁ (c .before .before .before .before .before .before .before .before .before .before .before .before .before .before .put-name .ensures) (λ h₂. wrote-then h₂ (c .before .before .before .before .before .before .before .before .before .before .put-byte .ensures) (λ h₃. wrote-then h₃ (c .before .before .before .before .before .before .put-sort .ensures) (λ h₄. c .before .before .put-byte2 .ensures))))
+returns c = wrote-then (c .before .before .before .before .before .before .before .before .before .before .before .before .before .before .before .before .before .before .before .before .before .before .before .pre) (c .before .before .before .before .before .before .before .before .before .before .before .before .before .before .before .before .before .before .put-bytes .ensures) (λ h₁. wrote-then h₁ (c .before .before .before .before .before .before .before .before .before .before .before .before .before .before .put-name .ensures) (λ h₂. wrote-then h₂ (c .before .before .before .before .before .before .before .before .before .before .put-byte .ensures) (λ h₃. wrote-then h₃ (c .before .before .before .before .before .before .put-sort .ensures) (λ h₄. c .before .before .put-byte2 .ensures))))
 
 pub put-sum-spec : {M : Type 1} → statement M
 put-sum-spec =

@@ -22,16 +22,16 @@ wide-requires : tie.Need-wide-requires Inv-loop μ-loop
 wide-requires c κs = search needs
 
 loop-holds : tie.Need-loop-holds Inv-loop μ-loop
-loop-holds c = let room = c .before .before .before .before .pre .0 in (omega arith, (ends-none room, summing-none _ _ _ _ _ _ _ room (c .wide .ensures .0 ∙ c .before .peek .ensures)))
+loop-holds c = let room = c .before .before .before .before .before .pre .0 in (omega arith, (ends-none room, summing-none _ _ _ _ _ _ _ room (c .wide .ensures .0 ∙ c .before .peek .ensures)))
 
 add-put-sum : tie.Need-add-put-sum Inv-loop μ-loop
-add-put-sum c = omega (arith, c .before .before .before .before .before .before .before .pre .1 .1, c .before .before .before .wide .ensures .1, c .before .loop-test)
+add-put-sum c = omega (arith, c .before .before .before .before .before .before .before .before .pre .1 .1, c .before .before .before .wide .ensures .1, c .before .loop-test)
 
 add-peek : tie.Need-add-peek Inv-loop μ-loop
-add-peek c = omega (arith, c .before .before .before .before .before .before .before .pre .1 .0)
+add-peek c = omega (arith, c .before .before .before .before .before .before .before .before .pre .1 .0)
 
 add-peek-2 : tie.Need-add-peek-2 Inv-loop μ-loop
-add-peek-2 c = omega (arith, c .before .before .before .before .before .before .before .pre .1 .0, c .before .before .before .wide .ensures .1, c .before .loop-test)
+add-peek-2 c = omega (arith, c .before .before .before .before .before .before .before .before .pre .1 .0, c .before .before .before .wide .ensures .1, c .before .loop-test)
 
 peek-requires-2 : tie.Need-peek-requires-2 Inv-loop μ-loop
 peek-requires-2 c κs = search needs

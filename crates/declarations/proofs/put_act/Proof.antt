@@ -1,17 +1,12 @@
 -- Five pieces; the action's parts stand in the stream.
 use borrow.Author.Needs.{needs}
 use native.Mathlib.Omega.{arith}
-use mathlib.Core.Path.{_≡_, refl, sym, ap, ap₂, subst, _∙_}
-use mathlib.Core.List.{List, [], _∷_, _++_, map, append-assoc}
-use Prim.Native.Nat.{ℕ, suc, _+_, _-_, _*_, _≤_, _<_, min}
-use lib.ListN.{length, getD, take, drop}
-use lib.Seq.{take-all}
-use Rattle.pcrl.specs.Text.{bytes, byte, decimal}
-use Rattle.texts.specs.Wrote.{Wrote}
-use Rattle.texts.proofs.Writing.{wrote-nothing, wrote-more, wrote-fits, wrote-as}
-use Rattle.pcrl.specs.Tests.{Every}
+use mathlib.Core.Path.{_≡_, sym, ap, _∙_}
+use mathlib.Core.List.{[]}
+use Prim.Native.Nat.{ℕ, _+_, _-_}
+use lib.ListN.{length, getD}
+use Rattle.texts.proofs.Writing.{wrote-fits, wrote-as}
 use Rattle.pcrl.specs.Right.{RightAction}
-use Rattle.laws.specs.Every.{every-weaken}
 use Rattle.terms.specs.Stands.{list-at}
 use Rattle.terms.proofs.Places.{name-stands, sorts-stand, list-is, count-at}
 use Rattle.declarations.proofs.Chains.{five}
@@ -55,19 +50,19 @@ same-length c = search needs
 returns : tie.Need-returns
 unfolding RightAction
 returns c =
-    let a = c .before .before .before .before .before .before .before .before .before .before .before .before .before .before .before .before .before .before .before .before .before .before .before .before .before .args in
-    let pre = c .before .before .before .before .before .before .before .before .before .before .before .before .before .before .before .before .before .before .before .before .before .before .before .before .before .pre in
+    let a = c .before .before .before .before .before .before .before .before .before .before .before .before .before .before .before .before .before .before .before .before .before .before .before .before .before .before .args in
+    let pre = c .before .before .before .before .before .before .before .before .before .before .before .before .before .before .before .before .before .before .before .before .before .before .before .before .before .before .pre in
     let all = five _ _ _ _ _ _ _ _ _ _ _ _ _ _ _ _ _ (omega (arith, pre)) (c .before .before .before .before .before .before .before .before .before .before .before .before .before .before .before .before .before .before .put-bytes .ensures) (c .before .before .before .before .before .before .before .before .before .before .before .before .before .before .put-bytes2 .ensures) (c .before .before .before .before .before .before .before .before .before .before .put-colon .ensures) (c .before .before .before .before .before .before .put-takes .ensures) (c .before .before .put-byte .ensures) in
     let fits = wrote-fits _ _ _ _ _ all in (
       (omega (arith, fits, all .same), all .same),
-      λ acts sizes x few r k h.
+      λ S x r k h.
           let s = a .s .now in
           let p = a .from in
           let name-there = name-stands s p x h in
           let name : c .before .before .before .before .before .before .before .before .before .before .before .before .before .before .before .before .before .before .before .before .before .before .list-at .result .now ≡ x .name = c .before .before .before .before .before .before .before .before .before .before .before .before .before .before .before .before .before .before .before .before .before .before .list-at .ensures ∙ list-is s p (x .name) name-there in
           let long : p + 1 + length (c .before .before .before .before .before .before .before .before .before .before .before .before .before .before .before .before .before .before .before .before .before .before .list-at .result .now) ≡ p + 1 + getD s p 0 = ap (λ (n : ℕ). p + 1 + n) (ap length name ∙ sym (count-at s p (x .name) name-there)) in
           let takes = c .before .before .before .before .before .before .before .before .before .before .before .before .before .before .before .before .before .before .before .before .before .list-at2 .ensures ∙ ap (list-at s) long ∙ list-is s (p + 1 + getD s p 0) (x .takes) (sorts-stand s p x h) in
-          wrote-as _ _ _ _ _ _ (act-line acts (a .l) k x _ _ (every-weaken _ _ (λ D b. omega arith) (x .takes) (r .1 .1)) name takes) all,
+          wrote-as _ _ _ _ _ _ (act-line S (a .l .now) k x _ _ (r .1 .1) name takes) all,
     )
 
 pub put-act-spec : {M : Type 1} → statement M

@@ -1,21 +1,18 @@
 -- The loop's invariant: the lines of the actions passed are written.
 use borrow.Author.Needs.{needs}
 use native.Mathlib.Omega.{arith}
-use mathlib.Core.Path.{_≡_, refl, sym, ap, ap₂, subst, _∙_}
-use mathlib.Core.List.{List, [], _∷_, _++_, map, append-assoc}
-use Prim.Native.Nat.{ℕ, suc, _+_, _-_, _*_, _≤_, _<_, min}
-use lib.ListN.{length, getD, take, drop}
+use mathlib.Core.Path.{_≡_, refl, sym, ap, subst, _∙_}
+use mathlib.Core.List.{List, []}
+use Prim.Native.Nat.{ℕ, _-_, _≤_, _<_}
+use lib.ListN.{length, getD, take}
 use lib.Seq.{take-all}
-use Rattle.pcrl.specs.Text.{bytes, byte, decimal}
 use Rattle.texts.specs.Wrote.{Wrote}
-use Rattle.texts.proofs.Writing.{wrote-nothing, wrote-more, wrote-fits, wrote-as}
+use Rattle.texts.proofs.Writing.{wrote-nothing, wrote-more, wrote-as}
 use Rattle.pcrl.specs.Tests.{Every}
 use Rattle.pcrl.specs.Reader.{all}
-use Rattle.pcrl.specs.Printer.{numbered}
 use Rattle.laws.specs.Every.{every-at}
-use Rattle.rendering.specs.Texts.{concat, func-line-text, act-line-text}
-use Rattle.rendering.specs.TextLaws.{numbered-more, all-more}
-use Rattle.evaluation.specs.Known.{KnownTerms}
+use Rattle.rendering.specs.Texts.{act-line-text}
+use Rattle.rendering.specs.TextLaws.{all-more}
 use Rattle.firing.specs.Known.{KnownParts}
 use Rattle.lettering.specs.Named.{Lettered}
 use Rattle.pcrl.specs.Sheet.{Action, no-action, Sig}
@@ -26,20 +23,20 @@ use Rattle.declarations.proofs.put_acts.Statement.{statement}
 use Rattle.declarations.proofs.put_acts.Tie as tie
 
 abbrev Inv-loop : tie.InvT-loop
-Inv-loop s acts n l out₀ at p₀ i₀ out p i = (i ≤ n) × (((p ≤ length out) × (length out ≡ length out₀)) × ((S : Sig) (Ps : List (List ℕ)) (params : List ℕ) → KnownParts S Ps s acts params → length (S .sorts) ≤ 256 → Every (RightAction (S .sorts)) (S .acts) → Lettered (S .acts) l → n ≡ length (S .acts) → Wrote out₀ at (all (act-line-text (S .acts)) (take i (S .acts))) out p))
+Inv-loop s acts n l out₀ at p₀ i₀ out p i = (i ≤ n) × (((p ≤ length out) × (length out ≡ length out₀)) × ((S : Sig) (Ps : List (List ℕ)) (params : List ℕ) → KnownParts S Ps s acts params → Every (RightAction (S .sorts)) (S .acts) → Lettered S l → n ≡ length (S .acts) → Wrote out₀ at (all (act-line-text S) (take i (S .acts))) out p))
 
 abbrev μ-loop : tie.MeasureT-loop
 μ-loop s acts n l out₀ at p₀ i₀ out p i = n - i
 
 loop-holds : tie.Need-loop-holds Inv-loop μ-loop
 unfolding all
-loop-holds c = (omega arith, ((omega (arith, c .before .before .before .pre), refl), λ S Ps params k few r x e. wrote-nothing _ _ (omega (arith, c .before .before .before .pre))))
+loop-holds c = (omega arith, ((omega (arith, c .before .before .before .before .pre), refl), λ S Ps params k r x e. wrote-nothing _ _ (omega (arith, c .before .before .before .before .pre))))
 
 cell-requires : tie.Need-cell-requires Inv-loop μ-loop
 cell-requires c κs = search needs
 
 put-act-requires : tie.Need-put-act-requires Inv-loop μ-loop
-put-act-requires c κs = (omega (arith, c .before .before .before .loop .inv .1 .0), (omega (arith, c .before .before .before .before .before .before .before .pre), omega (arith, c .before .cell .ensures .1)))
+put-act-requires c κs = (omega (arith, c .before .before .before .loop .inv .1 .0), (omega (arith, c .before .before .before .before .before .before .before .before .pre), omega (arith, c .before .cell .ensures .1)))
 
 add-i : tie.Need-add-i Inv-loop μ-loop
 add-i c = omega arith
@@ -49,20 +46,20 @@ loop-less c = omega arith
 
 loop-again : tie.Need-loop-again Inv-loop μ-loop
 loop-again c =
-    let a = c .before .before .before .before .before .before .before .before .before .before .args in
+    let a = c .before .before .before .before .before .before .before .before .before .before .before .args in
     let now = c .before .before .before .before .before .before .loop in
     let test = c .before .before .before .before .before .loop-test in
     let next = c .before .before .put-act .ensures in (
       omega (arith, test),
       (
         (omega (arith, next .0, now .inv .1 .0), next .0 .1 ∙ now .inv .1 .0 .1),
-        λ S Ps params k few r x e.
+        λ S Ps params k r x e.
             let inside : now .i < length (S .acts) = omega (arith, test) in
             let b = getD (S .acts) (now .i) no-action in
             let right = every-at (RightAction (S .sorts)) (S .acts) no-action (now .i) r inside in
             let there = subst (λ (q : ℕ). Stands (a .s .now) q (encode-action b)) (sym (c .before .before .before .before .cell .ensures .0)) (k .act-at (now .i) inside) in
-            wrote-as _ _ _ _ _ _ (sym (all-more (act-line-text (S .acts)) (S .acts) no-action (now .i) inside))
-            (wrote-more _ _ _ (now .out) (now .p) _ _ _ (omega (arith, c .before .before .before .before .before .before .before .before .before .before .pre)) (now .inv .1 .1 S Ps params k few r x e) (next .1 (S .acts) (S .sorts) b few right x there)),
+            wrote-as _ _ _ _ _ _ (sym (all-more (act-line-text S) (S .acts) no-action (now .i) inside))
+            (wrote-more _ _ _ (now .out) (now .p) _ _ _ (omega (arith, c .before .before .before .before .before .before .before .before .before .before .before .pre)) (now .inv .1 .1 S Ps params k r x e) (next .1 S b right x there)),
       ),
     )
 
@@ -72,7 +69,7 @@ same-length c = c .before .loop .inv .1 .0 .1
 returns : tie.Need-returns Inv-loop μ-loop
 returns c =
     let now = c .before .loop in
-    ((omega (arith, now .inv .1 .0), now .inv .1 .0 .1), λ S Ps params k few r x e. wrote-as _ _ _ _ _ _ (ap (λ (fs : List Action). all (act-line-text (S .acts)) fs) (take-all (now .i) (S .acts) (omega arith))) (now .inv .1 .1 S Ps params k few r x e))
+    ((omega (arith, now .inv .1 .0), now .inv .1 .0 .1), λ S Ps params k r x e. wrote-as _ _ _ _ _ _ (ap (λ (fs : List Action). all (act-line-text S) fs) (take-all (now .i) (S .acts) (omega arith))) (now .inv .1 .1 S Ps params k r x e))
 
 pub put-acts-spec : {M : Type 1} → statement M
 put-acts-spec =

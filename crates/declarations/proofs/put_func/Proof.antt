@@ -1,17 +1,12 @@
 -- Five pieces; the function's parts stand in the stream.
 use borrow.Author.Needs.{needs}
 use native.Mathlib.Omega.{arith}
-use mathlib.Core.Path.{_≡_, refl, sym, ap, ap₂, subst, _∙_}
-use mathlib.Core.List.{List, [], _∷_, _++_, map, append-assoc}
-use Prim.Native.Nat.{ℕ, suc, _+_, _-_, _*_, _≤_, _<_, min}
-use lib.ListN.{length, getD, take, drop}
-use lib.Seq.{take-all}
-use Rattle.pcrl.specs.Text.{bytes, byte, decimal}
-use Rattle.texts.specs.Wrote.{Wrote}
-use Rattle.texts.proofs.Writing.{wrote-nothing, wrote-more, wrote-fits, wrote-as}
-use Rattle.pcrl.specs.Tests.{Every}
-use Rattle.pcrl.specs.Right.{RightFunc, RightSizes}
-use Rattle.laws.specs.Every.{every-weaken}
+use mathlib.Core.Path.{ap, _∙_}
+use mathlib.Core.List.{[]}
+use Prim.Native.Nat.{_-_}
+use lib.ListN.{length}
+use Rattle.texts.proofs.Writing.{wrote-fits, wrote-as}
+use Rattle.pcrl.specs.Right.{RightFunc}
 use Rattle.declarations.proofs.Chains.{five}
 use Rattle.declarations.proofs.Functions.{takes-list, gives-there}
 use Rattle.declarations.proofs.Declared.{func-line}
@@ -52,18 +47,17 @@ same-length : tie.Need-same-length
 same-length c = search needs
 
 returns : tie.Need-returns
-unfolding RightFunc RightSizes
+unfolding RightFunc
 returns c =
-    let a = c .before .before .before .before .before .before .before .before .before .before .before .before .before .before .before .before .before .before .before .before .before .before .before .before .before .args in
-    let pre = c .before .before .before .before .before .before .before .before .before .before .before .before .before .before .before .before .before .before .before .before .before .before .before .before .before .pre in
+    let a = c .before .before .before .before .before .before .before .before .before .before .before .before .before .before .before .before .before .before .before .before .before .before .before .before .before .before .before .args in
+    let pre = c .before .before .before .before .before .before .before .before .before .before .before .before .before .before .before .before .before .before .before .before .before .before .before .before .before .before .before .pre in
     let all = five _ _ _ _ _ _ _ _ _ _ _ _ _ _ _ _ _ (omega (arith, pre)) (c .before .before .before .before .before .before .before .before .before .before .before .before .before .before .before .before .before .before .before .put-func-head .ensures) (c .before .before .before .before .before .before .before .before .before .before .before .before .before .before .before .put-sort .ensures) (c .before .before .before .before .before .before .before .before .before .before .before .put-byte .ensures) (c .before .before .before .before .before .before .put-values .ensures) (c .before .before .put-byte2 .ensures) in
     let fits = wrote-fits _ _ _ _ _ all in (
       (omega (arith, fits, all .same), all .same),
-      λ S funcs g k r x f h.
-          let few : length (S .sorts) ≤ 8 = k .right-sizes .0 .0 .1 in
+      λ S g k r x f h.
           let takes = c .before .before .before .before .before .before .before .before .before .before .before .before .before .before .before .before .before .before .before .before .before .before .list-at .ensures ∙ takes-list (a .s .now) (a .from) g h in
           wrote-as _ _ _ _ _ _
-          (func-line (S .acts) (a .l) x (a .f) g _ _ _ f (every-weaken _ _ (λ D b. omega arith) (g .takes) (r .0 .1)) (omega (arith, r .1 .0)) takes (c .before .before .before .before .before .before .before .before .before .before .before .before .before .before .before .before .before .before .before .before .before .peek .ensures ∙ gives-there (a .s .now) (a .from) g h _ (ap length takes)) (c .before .before .before .before .before .before .before .before .values-at .ensures S funcs g k r h))
+          (func-line S (a .l .now) x (a .f) g _ _ _ f (r .0 .1) (r .1 .0) takes (c .before .before .before .before .before .before .before .before .before .before .before .before .before .before .before .before .before .before .before .before .before .peek .ensures ∙ gives-there (a .s .now) (a .from) g h _ (ap length takes)) (c .before .before .before .before .before .before .before .before .values-at .ensures S g k r h))
           all,
     )
 

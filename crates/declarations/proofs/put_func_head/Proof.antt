@@ -1,14 +1,8 @@
 -- Five pieces, one behind another.
 use borrow.Author.Needs.{needs}
 use native.Mathlib.Omega.{arith}
-use mathlib.Core.Path.{_≡_, refl, sym, ap, ap₂, subst, _∙_}
-use mathlib.Core.List.{List, [], _∷_, _++_, map, append-assoc}
-use Prim.Native.Nat.{ℕ, suc, _+_, _-_, _*_, _≤_, _<_, min}
-use lib.ListN.{length, getD, take, drop}
-use lib.Seq.{take-all}
-use Rattle.pcrl.specs.Text.{bytes, byte, decimal}
-use Rattle.texts.specs.Wrote.{Wrote}
-use Rattle.texts.proofs.Writing.{wrote-nothing, wrote-more, wrote-fits, wrote-as}
+use mathlib.Core.List.{[]}
+use Prim.Native.Nat.{_-_}
 use Rattle.declarations.proofs.Chains.{five}
 use Rattle.declarations.proofs.put_func_head.Statement.{statement}
 use Rattle.declarations.proofs.put_func_head.Tie as tie
@@ -38,7 +32,7 @@ same-length : tie.Need-same-length
 same-length c = search needs
 
 returns : tie.Need-returns
-returns c = five _ _ _ _ _ _ _ _ _ _ _ _ _ _ _ _ _ (omega (arith, c .before .before .before .before .before .before .before .before .before .before .before .before .before .before .before .before .before .before .before .before .before .before .before .before .pre)) (c .before .before .before .before .before .before .before .before .before .before .before .before .before .before .before .before .before .before .before .put-bytes .ensures) (c .before .before .before .before .before .before .before .before .before .before .before .before .before .before .before .put-name .ensures) (c .before .before .before .before .before .before .before .before .before .before .before .put-byte .ensures) (c .before .before .before .before .before .before .before .put-takes .ensures) (c .before .before .put-bytes2 .ensures)
+returns c = five _ _ _ _ _ _ _ _ _ _ _ _ _ _ _ _ _ (omega (arith, c .before .before .before .before .before .before .before .before .before .before .before .before .before .before .before .before .before .before .before .before .before .before .before .before .before .pre)) (c .before .before .before .before .before .before .before .before .before .before .before .before .before .before .before .before .before .before .before .put-bytes .ensures) (c .before .before .before .before .before .before .before .before .before .before .before .before .before .before .before .put-name .ensures) (c .before .before .before .before .before .before .before .before .before .before .before .put-byte .ensures) (c .before .before .before .before .before .before .before .put-takes .ensures) (c .before .before .put-bytes2 .ensures)
 
 pub put-func-head-spec : {M : Type 1} → statement M
 put-func-head-spec =

@@ -1,14 +1,9 @@
 -- The part of the stream behind the sorts and the result.
 use borrow.Author.Needs.{needs}
-use native.Mathlib.Omega.{arith}
-use mathlib.Core.Path.{_≡_, refl, sym, ap, ap₂, subst, _∙_}
-use mathlib.Core.List.{List, [], _∷_, _++_, map, append-assoc}
-use Prim.Native.Nat.{ℕ, suc, _+_, _-_, _*_, _≤_, _<_, min}
-use lib.ListN.{length, getD, take, drop}
-use lib.Seq.{take-all}
-use Rattle.pcrl.specs.Text.{bytes, byte, decimal}
-use Rattle.texts.specs.Wrote.{Wrote}
-use Rattle.texts.proofs.Writing.{wrote-nothing, wrote-more, wrote-fits, wrote-as}
+use mathlib.Core.Path.{sym, ap, subst, _∙_}
+use mathlib.Core.List.{[]}
+use Prim.Native.Nat.{ℕ, _+_, _-_}
+use lib.ListN.{length}
 use Rattle.terms.specs.Stands.{Stands}
 use Rattle.declarations.proofs.Functions.{takes-list, values-stand}
 use Rattle.declarations.proofs.values_at.Statement.{statement}
@@ -30,11 +25,11 @@ bytes-at-requires : tie.Need-bytes-at-requires
 bytes-at-requires c κs = search needs
 
 returns : tie.Need-returns
-returns c = λ S funcs g k r h.
-    let a = c .before .before .before .before .args in
+returns c = λ S g k r h.
+    let a = c .before .before .before .before .before .args in
     let takes = c .before .before .list-at .ensures ∙ takes-list (a .s .now) (a .from) g h in
     let place = ap (λ (n : ℕ). a .from + 2 + n) (ap length takes) in
-    c .bytes-at .ensures (g .values) (subst (λ (q : ℕ). Stands (a .s .now) q (g .values)) (sym place) (values-stand (a .s .now) (a .from) g h)) (sym (c .before .many-values .ensures .1 S funcs g k r takes))
+    c .bytes-at .ensures (g .values) (subst (λ (q : ℕ). Stands (a .s .now) q (g .values)) (sym place) (values-stand (a .s .now) (a .from) g h)) (sym (c .before .many-values .ensures .1 S (a .s .now) g k r takes))
 
 pub values-at-spec : {M : Type 1} → statement M
 values-at-spec =

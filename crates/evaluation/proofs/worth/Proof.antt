@@ -4,6 +4,7 @@ use native.Mathlib.Omega.{arith}
 use Prim.Native.Nat.{ℕ, _+_, _-_, _*_}
 use mathlib.Core.Path.{_≡_, sym, _∙_, ap, ap₂}
 use lib.ListN.{getD}
+use Rattle.terms.specs.Stands.{size-in}
 use Rattle.evaluation.specs.Run.{operator-worth}
 use Rattle.evaluation.proofs.Bytes.{worth-value, worth-variable, worth-one, worth-two, worth-operator}
 use Rattle.evaluation.proofs.worth.Statement.{statement}
@@ -52,54 +53,47 @@ add-peek-3 c = search needs
 peek-requires-4 : tie.Need-peek-requires-4
 peek-requires-4 c κs = search needs
 
-wide-requires-3 : tie.Need-wide-requires-3
-wide-requires-3 c κs = search needs
-
 peek-requires-5 : tie.Need-peek-requires-5
 peek-requires-5 c κs = search needs
 
-add-peek-4 : tie.Need-add-peek-4
-add-peek-4 c = search needs
-
-peek-requires-6 : tie.Need-peek-requires-6
-peek-requires-6 c κs = search needs
+size-of-requires : tie.Need-size-of-requires
+size-of-requires c κs = search needs
 
 row-requires : tie.Need-row-requires
 row-requires c κs = search needs
 
+add-peek-4 : tie.Need-add-peek-4
+add-peek-4 c = search needs
+
 add-peek-5 : tie.Need-add-peek-5
 add-peek-5 c = search needs
 
-add-peek-6 : tie.Need-add-peek-6
-add-peek-6 c = search needs
+peek-requires-6 : tie.Need-peek-requires-6
+peek-requires-6 c κs = search needs
+
+returns-4 : tie.Need-returns-4
+returns-4 c = let a = c .before .before .before .before .before .before .before .before .before .before .before .before .before .before .before .before .args in let w = c .before .before .before .before .before .before .before .before .before .before .before .wide in let p = c .before .before .before .before .before .before .before .cell in let z : w .result - 64 ≡ a .b - 64 = omega (arith, w .ensures .0) in
+    let i : c .before .row .result ≡ a .x * size-in (a .funcs .now) (getD (a .s .now) (p .result + 2) 0) + getD (a .stack .now) (a .t) 0 =
+    c .before .row .ensures .0 ∙ ap₂ (λ (n y : ℕ). a .x * n + y) (c .before .before .size-of .ensures ∙ ap (size-in (a .funcs .now)) (c .before .before .before .before .peek4 .ensures)) (c .before .before .before .peek5 .ensures) in
+    c .peek6 .ensures
+    ∙ worth-two (a .s .now) (a .funcs .now) (a .e .now) (a .b) (a .x) (getD (a .stack .now) (a .t) 0) _ (p .result) (c .before .row .result) (omega (arith, w .ensures .0)) (omega (arith, w .ensures .0)) (p .ensures .0 ∙ ap (λ (i : ℕ). getD (a .funcs .now) i 0) z) (λ h. c .before .before .before .before .before .if4 .left (c .before .before .before .before .before .before .peek2 .ensures ∙ h)) i
 
 peek-requires-7 : tie.Need-peek-requires-7
 peek-requires-7 c κs = search needs
 
-returns-4 : tie.Need-returns-4
-returns-4 c = let a = c .before .before .before .before .before .before .before .before .before .before .before .before .before .before .before .before .before .args in let w = c .before .before .before .before .before .before .before .before .before .before .before .before .wide in let p = c .before .before .before .before .before .before .before .before .cell in let z : w .result - 64 ≡ a .b - 64 = omega (arith, w .ensures .0) in
-    let d : 1 + c .before .before .before .before .wide3 .result ≡ 1 + getD (a .s .now) (p .result + 2) 0 = ap (λ (x : ℕ). 1 + x) (c .before .before .before .before .wide3 .ensures .0 ∙ c .before .before .before .before .before .peek4 .ensures) in
-    let i : c .before .row .result ≡ a .x * getD (a .s .now) (1 + getD (a .s .now) (p .result + 2) 0) 0 + getD (a .stack .now) (a .t) 0 =
-    c .before .row .ensures .0 ∙ ap₂ (λ (n y : ℕ). a .x * n + y) (c .before .before .peek6 .ensures ∙ ap (λ (x : ℕ). getD (a .s .now) x 0) d) (c .before .before .before .peek5 .ensures) in
-    c .peek7 .ensures
-    ∙ worth-two (a .s .now) (a .funcs .now) (a .e .now) (a .b) (a .x) (getD (a .stack .now) (a .t) 0) _ (p .result) (c .before .row .result) (omega (arith, w .ensures .0)) (omega (arith, w .ensures .0)) (p .ensures .0 ∙ ap (λ (i : ℕ). getD (a .funcs .now) i 0) z) (λ h. c .before .before .before .before .before .before .if4 .left (c .before .before .before .before .before .before .before .peek2 .ensures ∙ h)) i
+add-peek-6 : tie.Need-add-peek-6
+add-peek-6 c = search needs
 
 peek-requires-8 : tie.Need-peek-requires-8
 peek-requires-8 c κs = search needs
-
-add-peek-7 : tie.Need-add-peek-7
-add-peek-7 c = search needs
-
-peek-requires-9 : tie.Need-peek-requires-9
-peek-requires-9 c κs = search needs
 
 operator-worth-requires : tie.Need-operator-worth-requires
 operator-worth-requires c κs = omega (arith, c .before .before .before .before .before .wide .ensures .0)
 
 returns-5 : tie.Need-returns-5
 returns-5 c = let a = c .before .before .before .before .before .before .before .before .before .before .before .args in let w = c .before .before .before .before .before .before .wide in let z : w .result - 96 ≡ a .b - 96 = omega (arith, w .ensures .0) in
-    c .operator-worth .ensures ∙ ap (λ (n : ℕ). operator-worth n (a .x) (c .before .before .peek8 .result) (c .before .peek9 .result)) z
-    ∙ ap₂ (λ (x y : ℕ). operator-worth (a .b - 96) (a .x) x y) (c .before .before .peek8 .ensures) (c .before .peek9 .ensures)
+    c .operator-worth .ensures ∙ ap (λ (n : ℕ). operator-worth n (a .x) (c .before .before .peek7 .result) (c .before .peek8 .result)) z
+    ∙ ap₂ (λ (x y : ℕ). operator-worth (a .b - 96) (a .x) x y) (c .before .before .peek7 .ensures) (c .before .peek8 .ensures)
     ∙ worth-operator (a .s .now) (a .funcs .now) (a .e .now) (a .b) (a .x) (getD (a .stack .now) (a .t) 0) (getD (a .stack .now) (a .t + 1) 0) (omega (arith, w .ensures .0))
 
 pub worth-spec : {M : Type 1} → statement M
@@ -119,17 +113,15 @@ worth-spec =
     returns-3
     add-peek-3
     peek-requires-4
-    wide-requires-3
     peek-requires-5
-    add-peek-4
-    peek-requires-6
+    size-of-requires
     row-requires
+    add-peek-4
     add-peek-5
-    add-peek-6
-    peek-requires-7
+    peek-requires-6
     returns-4
+    peek-requires-7
+    add-peek-6
     peek-requires-8
-    add-peek-7
-    peek-requires-9
     operator-worth-requires
     returns-5)

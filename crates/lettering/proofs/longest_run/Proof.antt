@@ -1,30 +1,28 @@
 -- The loop's invariant: the longest run so far, and that of the names from i on.
 use borrow.Author.Needs.{needs}
 use native.Mathlib.Omega.{arith}
-use mathlib.Core.Path.{_≡_, refl, sym, ap, ap₂, _∙_}
-use mathlib.Core.List.{List, []}
-use Prim.Native.Nat.{ℕ, _+_, _-_, _≤_, _<_, max}
+use mathlib.Core.Path.{_≡_, sym, ap, _∙_}
+use mathlib.Core.List.{[]}
+use Prim.Native.Nat.{ℕ, _-_, _≤_, max}
 use lib.Dec.{eqb}
 use lib.ListN.{length, getD, drop}
 use Rattle.pcrl.specs.Limits.{max-stream}
 use Rattle.pcrl.specs.Tokens.{run}
-use Rattle.pcrl.specs.Sheet.{Sig}
-use Rattle.pcrl.specs.Right.{action-names}
-use Rattle.pcrl.specs.Printer.{longest-run}
-use Rattle.firing.specs.Known.{KnownParts}
-use Rattle.lettering.proofs.Runs.{longest-step, longest-ends, list-short, name-at, names-count}
+use Rattle.pcrl.specs.Letters.{longest-run}
+use Rattle.lettering.specs.Named.{names-at}
+use Rattle.lettering.proofs.Runs.{longest-step, longest-ends, list-short, name-at, names-many}
 use Rattle.terms.specs.Stands.{list-at}
 use Rattle.lettering.proofs.longest_run.Statement.{statement}
 use Rattle.lettering.proofs.longest_run.Tie as tie
 
 abbrev Inv-loop : tie.InvT-loop
-Inv-loop s acts n b most₀ i₀ most i = (i ≤ n) × ((most ≤ max-stream) × ((S : Sig) (Ps : List (List ℕ)) (params : List ℕ) → KnownParts S Ps s acts params → n ≡ length (S .acts) → longest-run b (action-names (S .acts)) ≡ max most (longest-run b (drop i (action-names (S .acts))))))
+Inv-loop s places n b most₀ i₀ most i = (i ≤ n) × ((most ≤ max-stream) × (longest-run b (names-at s places n) ≡ max most (longest-run b (drop i (names-at s places n)))))
 
 abbrev μ-loop : tie.MeasureT-loop
-μ-loop s acts n b most₀ i₀ most i = n - i
+μ-loop s places n b most₀ i₀ most i = n - i
 
 loop-holds : tie.Need-loop-holds Inv-loop μ-loop
-loop-holds c = (omega arith, (omega arith, λ S Ps params k e. omega arith))
+loop-holds c = (omega arith, (omega arith, omega arith))
 
 cell-requires : tie.Need-cell-requires Inv-loop μ-loop
 cell-requires c κs = search needs
@@ -57,22 +55,18 @@ loop-again c =
       omega (arith, test),
       (
         omega (arith, c .before .before .before .before .before .before .before .before .pre, c .larger .ensures, c .before .before .before .before .before .loop .inv .1 .0),
-        λ S Ps params k e.
-            let here : c .before .before .list-at .result .now ≡ getD (action-names (S .acts)) i [] = there ∙ (ap (λ (p : ℕ). list-at (a .s .now) p) place ∙ name-at S Ps (a .s .now) (a .acts .now) params k i (omega (arith, test))) in
-            longest-step (a .b) (action-names (S .acts)) i (c .before .before .before .before .before .loop .most) (c .before .front-run .result) (c .larger .result) (omega (arith, test, names-count S Ps (a .s .now) (a .acts .now) params k)) (counted .0 ∙ ap (run (eqb (a .b))) here) (c .larger .ensures) (c .before .before .before .before .before .loop .inv .1 .1 S Ps params k e),
+        let here : c .before .before .list-at .result .now ≡ getD (names-at (a .s .now) (a .places .now) (a .n)) i [] = there ∙ (ap (λ (p : ℕ). list-at (a .s .now) p) place ∙ sym (name-at (a .s .now) (a .places .now) (a .n) i (omega (arith, test)))) in
+            longest-step (a .b) (names-at (a .s .now) (a .places .now) (a .n)) i (c .before .before .before .before .before .loop .most) (c .before .front-run .result) (c .larger .result) (omega (arith, test, names-many (a .s .now) (a .places .now) (a .n))) (counted .0 ∙ ap (run (eqb (a .b))) here) (c .larger .ensures) (c .before .before .before .before .before .loop .inv .1 .1),
       ),
     )
 
 returns : tie.Need-returns Inv-loop μ-loop
 returns c =
-    let a = c .before .before .before .before .args in (
-      omega (arith, c .before .loop .inv .1 .0),
-      λ S Ps params k e.
-          let inv = c .before .loop .inv .1 .1 S Ps params k e in
-          let n = names-count S Ps (a .s .now) (a .acts .now) params k in
-          let z = longest-ends (a .b) (action-names (S .acts)) (c .before .loop .i) (omega arith) in
-          omega arith,
-    )
+    let a = c .before .before .before .before .args in
+    let inv = c .before .loop .inv .1 .1 in
+    let n = names-many (a .s .now) (a .places .now) (a .n) in
+    let z = longest-ends (a .b) (names-at (a .s .now) (a .places .now) (a .n)) (c .before .loop .i) (omega arith) in
+    (omega (arith, c .before .loop .inv .1 .0), omega arith)
 
 pub longest-run-spec : {M : Type 1} → statement M
 longest-run-spec =

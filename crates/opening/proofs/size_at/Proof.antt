@@ -1,11 +1,10 @@
--- The size stands behind the count of sorts; a right table has no other case.
+-- The size stands behind the places of the functions; a right table has no other case.
 use borrow.Author.Needs.{needs}
 use Rattle.opening.proofs.size_at.Statement.{statement}
 use Rattle.opening.proofs.size_at.Tie as tie
 use native.Mathlib.Omega.{arith}
-use Prim.Native.Nat.{ℕ, _+_, _-_}
-use mathlib.Core.Path.{_≡_, _∙_, ap}
-use lib.ListN.{getD}
+use mathlib.Core.Path.{_∙_, ap}
+use Rattle.terms.specs.Stands.{size-in}
 use Rattle.opening.proofs.Sizing.{size-none, size-some, size-right}
 
 peek-requires : tie.Need-peek-requires
@@ -15,7 +14,7 @@ wide-requires : tie.Need-wide-requires
 wide-requires c κs = search needs
 
 returns : tie.Need-returns
-returns c = (omega arith, (omega arith, λ S funcs vars known st sorts few. size-none S (c .before .before .before .before .args .s .now) funcs vars (c .before .before .before .before .args .at) (c .before .before .before .before .args .i) known st sorts few (c .before .before .before .before .pre .1) (omega (arith, c .before .wide .ensures .0, c .before .before .peek .ensures))))
+returns c = (omega arith, (omega arith, λ S vars known st sorts few. size-none S (c .before .before .before .before .before .args .s .now) (c .before .before .before .before .before .args .funcs .now) vars (c .before .before .before .before .before .args .at) (c .before .before .before .before .before .args .i) known st sorts few (c .before .before .before .before .before .pre .1) (omega (arith, c .before .wide .ensures .0, c .before .before .peek .ensures))))
 
 add-peek : tie.Need-add-peek
 add-peek c = search needs
@@ -26,24 +25,18 @@ add-peek-2 c = search needs
 peek-requires-2 : tie.Need-peek-requires-2
 peek-requires-2 c κs = search needs
 
-wide-requires-2 : tie.Need-wide-requires-2
-wide-requires-2 c κs = search needs
-
-add-peek-3 : tie.Need-add-peek-3
-add-peek-3 c = search needs
-
-peek-requires-3 : tie.Need-peek-requires-3
-peek-requires-3 c κs = search needs
+size-of-requires : tie.Need-size-of-requires
+size-of-requires c κs = search needs
 
 returns-2 : tie.Need-returns-2
 returns-2 c = (
   omega arith,
   (
     omega arith,
-    λ S funcs vars known st sorts few.
-        let a = c .before .before .before .before .before .before .before .before .args in let w : 1 + c .before .before .wide2 .result ≡ 1 + getD (a .s .now) (a .at + 1 + a .i) 0 = ap (λ (x : ℕ). 1 + x) (c .before .before .wide2 .ensures .0 ∙ c .before .before .before .peek2 .ensures) in
-        let is = c .before .peek3 .ensures ∙ ap (λ (x : ℕ). getD (a .s .now) x 0) w in
-        let r = size-right S (a .s .now) funcs vars (a .at) (a .i) known st sorts few (c .before .before .before .before .before .before .before .before .pre .1) (c .before .peek3 .result) is (omega (arith, c .before .before .before .before .before .wide .ensures .0, c .before .before .before .before .before .before .peek .ensures)) in absurd (omega (arith, c .if2 .taken)),
+    λ S vars known st sorts few.
+        let a = c .before .before .before .before .before .before .before .before .args in
+        let is = c .before .size-of .ensures ∙ ap (size-in (a .funcs .now)) (c .before .before .peek2 .ensures) in
+        let r = size-right S (a .s .now) (a .funcs .now) vars (a .at) (a .i) known st sorts few (c .before .before .before .before .before .before .before .before .pre .1) (c .before .size-of .result) is (omega (arith, c .before .before .before .before .wide .ensures .0, c .before .before .before .before .before .peek .ensures)) in absurd (omega (arith, c .if2 .taken)),
   ),
 )
 
@@ -52,10 +45,10 @@ returns-3 c = (
   omega arith,
   (
     omega arith,
-    λ S funcs vars known st sorts few.
-        let a = c .before .before .before .before .before .before .before .before .before .args in let w : 1 + c .before .before .before .wide2 .result ≡ 1 + getD (a .s .now) (a .at + 1 + a .i) 0 = ap (λ (x : ℕ). 1 + x) (c .before .before .before .wide2 .ensures .0 ∙ c .before .before .before .before .peek2 .ensures) in
-        let is = c .before .before .peek3 .ensures ∙ ap (λ (x : ℕ). getD (a .s .now) x 0) w in
-        let r = size-right S (a .s .now) funcs vars (a .at) (a .i) known st sorts few (c .before .before .before .before .before .before .before .before .before .pre .1) (c .before .before .peek3 .result) is (omega (arith, c .before .before .before .before .before .before .wide .ensures .0, c .before .before .before .before .before .before .before .peek .ensures)) in absurd (omega (arith, c .if3 .taken)),
+    λ S vars known st sorts few.
+        let a = c .before .before .before .before .before .before .before .before .before .args in
+        let is = c .before .before .size-of .ensures ∙ ap (size-in (a .funcs .now)) (c .before .before .before .peek2 .ensures) in
+        let r = size-right S (a .s .now) (a .funcs .now) vars (a .at) (a .i) known st sorts few (c .before .before .before .before .before .before .before .before .before .pre .1) (c .before .before .size-of .result) is (omega (arith, c .before .before .before .before .before .wide .ensures .0, c .before .before .before .before .before .before .peek .ensures)) in absurd (omega (arith, c .if3 .taken)),
   ),
 )
 
@@ -64,10 +57,10 @@ returns-4 c = (
   omega arith,
   (
     omega arith,
-    λ S funcs vars known st sorts few.
-        let a = c .before .before .before .before .before .before .before .before .before .args in let w : 1 + c .before .before .before .wide2 .result ≡ 1 + getD (a .s .now) (a .at + 1 + a .i) 0 = ap (λ (x : ℕ). 1 + x) (c .before .before .before .wide2 .ensures .0 ∙ c .before .before .before .before .peek2 .ensures) in
-        let is = c .before .before .peek3 .ensures ∙ ap (λ (x : ℕ). getD (a .s .now) x 0) w in
-        size-some S (a .s .now) funcs vars (a .at) (a .i) known st sorts few (c .before .before .before .before .before .before .before .before .before .pre .1) (c .before .before .peek3 .result) is (omega (arith, c .before .before .before .before .before .before .wide .ensures .0, c .before .before .before .before .before .before .before .peek .ensures)),
+    λ S vars known st sorts few.
+        let a = c .before .before .before .before .before .before .before .before .before .args in
+        let is = c .before .before .size-of .ensures ∙ ap (size-in (a .funcs .now)) (c .before .before .before .peek2 .ensures) in
+        size-some S (a .s .now) (a .funcs .now) vars (a .at) (a .i) known st sorts few (c .before .before .before .before .before .before .before .before .before .pre .1) (c .before .before .size-of .result) is (omega (arith, c .before .before .before .before .before .wide .ensures .0, c .before .before .before .before .before .before .peek .ensures)),
   ),
 )
 
@@ -81,9 +74,7 @@ size-at-spec =
     add-peek
     add-peek-2
     peek-requires-2
-    wide-requires-2
-    add-peek-3
-    peek-requires-3
+    size-of-requires
     returns-2
     returns-3
     returns-4)

@@ -30,7 +30,7 @@ size-at-requires-4 c κs = search needs
 returns : tie.Need-returns
 returns c = let a = c .before .before .before .size-at .ensures in let b = c .before .before .size-at2 .ensures in let e = c .before .size-at3 .ensures in let d = c .size-at4 .ensures in (
   range _ _ _ _ (a .0, a .1 .0) (b .0, b .1 .0) (e .0, e .1 .0) (d .0, d .1 .0),
-  λ S funcs vars known st sorts few. four-sizes S vars _ _ _ _ few (a .1 .1 S funcs vars known st sorts few) (b .1 .1 S funcs vars known st sorts few) (e .1 .1 S funcs vars known st sorts few) (d .1 .1 S funcs vars known st sorts few),
+  λ S vars known st sorts few. four-sizes S vars _ _ _ _ few (a .1 .1 S vars known st sorts few) (b .1 .1 S vars known st sorts few) (e .1 .1 S vars known st sorts few) (d .1 .1 S vars known st sorts few),
 )
 
 pub sizes-spec : {M : Type 1} → statement M

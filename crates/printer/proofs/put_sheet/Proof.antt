@@ -1,51 +1,40 @@
--- What the index makes known is what the lines ask.
+-- The text with the names and letters that were found.
 use borrow.Author.Needs.{needs}
-use native.Mathlib.Omega.{arith}
-use mathlib.Core.Path.{_≡_, refl, sym, ap, ap₂, subst, _∙_}
-use mathlib.Core.List.{List, [], _∷_, _++_, map, append-assoc}
-use Prim.Native.Nat.{ℕ, suc, _+_, _-_, _*_, _≤_, _<_, min}
-use lib.ListN.{length, getD, take, drop}
-use lib.Seq.{take-all}
-use Rattle.pcrl.specs.Text.{bytes, byte, decimal}
-use Rattle.texts.specs.Wrote.{Wrote}
-use Rattle.texts.proofs.Writing.{wrote-nothing, wrote-more, wrote-fits, wrote-as}
-use Rattle.firing.proofs.Indexing.{known-table}
-use Rattle.printer.proofs.Whole.{index-counts}
 use Rattle.printer.proofs.put_sheet.Statement.{statement}
 use Rattle.printer.proofs.put_sheet.Tie as tie
 
-slice-aggregate-put-lines : tie.Need-slice-aggregate-put-lines
-slice-aggregate-put-lines c = search needs
+letters-of-requires : tie.Need-letters-of-requires
+letters-of-requires c κs = search needs
 
-slice-aggregate-put-lines-2 : tie.Need-slice-aggregate-put-lines-2
-slice-aggregate-put-lines-2 c = search needs
+slice-aggregate-put-text : tie.Need-slice-aggregate-put-text
+slice-aggregate-put-text c = search needs
 
-slice-aggregate-put-lines-3 : tie.Need-slice-aggregate-put-lines-3
-slice-aggregate-put-lines-3 c = search needs
+put-text-requires : tie.Need-put-text-requires
+put-text-requires c κs = search needs
 
-slice-aggregate-put-lines-4 : tie.Need-slice-aggregate-put-lines-4
-slice-aggregate-put-lines-4 c = search needs
+slice-aggregate-sorts-free : tie.Need-slice-aggregate-sorts-free
+slice-aggregate-sorts-free c = search needs
 
-put-lines-requires : tie.Need-put-lines-requires
-put-lines-requires c κs = search needs
+sorts-free-requires : tie.Need-sorts-free-requires
+sorts-free-requires c κs = search needs
 
 same-length : tie.Need-same-length
 same-length c = search needs
 
 returns : tie.Need-returns
 returns c =
-    let a = c .before .before .before .before .before .before .before .before .before .before .before .before .before .before .args in
-    let e = c .before .before .put-lines .ensures in
-    (e .0, λ U right k. e .1 U (known-table U (a .s .now) (a .index) k right) (index-counts U (a .s .now) (a .index) _ k refl refl refl refl))
+    let text = c .before .before .before .before .put-text .ensures in
+    let letters = c .before .before .before .before .before .before .before .before .letters-of .ensures in
+    (text .0, λ U right k. (text .1 U right k (letters U right k), c .sorts-free .ensures U right k (letters U right k)))
 
 pub put-sheet-spec : {M : Type 1} → statement M
 put-sheet-spec =
     tie.close
     (tie.spec
-    slice-aggregate-put-lines
-    slice-aggregate-put-lines-2
-    slice-aggregate-put-lines-3
-    slice-aggregate-put-lines-4
-    put-lines-requires
+    letters-of-requires
+    slice-aggregate-put-text
+    put-text-requires
+    slice-aggregate-sorts-free
+    sorts-free-requires
     same-length
     returns)

@@ -10,20 +10,25 @@ use lib.ListN.{getD}
 use Rattle.laws.specs.Says.{Says, says-as, says-lt, says-eq}
 use Rattle.stacks.specs.Fitting.{FitsAt}
 
-shared-slice-read-wide : tie.Need-shared-slice-read-wide
-shared-slice-read-wide c = search needs
-
 wide-requires : tie.Need-wide-requires
 wide-requires c κs = search needs
 
-peek-requires : tie.Need-peek-requires
-peek-requires c κs = search needs
+shared-slice-read-wide : tie.Need-shared-slice-read-wide
+shared-slice-read-wide c = search needs
+
+wide-requires-2 : tie.Need-wide-requires-2
+wide-requires-2 c κs = search needs
+
+cell-requires : tie.Need-cell-requires
+cell-requires c κs = search needs
 
 returns : tie.Need-returns
 returns c =
-    let a = c .before .before .before .before .before .before .args in
-    let e : c .peek .result ≡ getD (a .sizes .now) (getD (a .sorts .now) (a .i) 0) 0 = c .peek .ensures ∙ ap (λ (x : ℕ). getD (a .sizes .now) x 0) (c .before .wide .ensures .0) in
-    says-as (ltb (a .v) (c .peek .result)) {P = a .v < c .peek .result} {Q = FitsAt (a .sizes .now) (a .sorts .now) (a .i) (a .v)} (λ h. (λ w. omega arith, λ w. absurd (omega arith))) (λ f. let b = f .0 (omega arith) in omega arith) (says-lt (a .v) (c .peek .result))
+    let a = c .before .before .before .before .before .before .before .args in
+    let v = c .before .before .before .wide .result in
+    let is : v ≡ a .v = c .before .before .before .wide .ensures .0 in
+    let e : c .cell .result ≡ getD (a .sizes .now) (getD (a .sorts .now) (a .i) 0) 0 = c .cell .ensures .0 ∙ ap (λ (x : ℕ). getD (a .sizes .now) x 0) (c .before .wide2 .ensures .0) in
+    says-as (ltb v (c .cell .result)) {P = v < c .cell .result} {Q = FitsAt (a .sizes .now) (a .sorts .now) (a .i) (a .v)} (λ h. (λ w. omega arith, λ w. absurd (omega arith))) (λ f. let b = f .0 (omega arith) in omega arith) (says-lt v (c .cell .result))
 
 returns-2 : tie.Need-returns-2
 returns-2 c = let a = c .before .before .before .args in
@@ -31,4 +36,4 @@ returns-2 c = let a = c .before .before .before .args in
 
 pub fits-spec : {M : Type 1} → statement M
 fits-spec =
-    tie.close (tie.spec shared-slice-read-wide wide-requires peek-requires returns returns-2)
+    tie.close (tie.spec wide-requires shared-slice-read-wide wide-requires-2 cell-requires returns returns-2)

@@ -28,14 +28,17 @@ returns c = λ T x. wrong-count frame-width stack-limit T (c .before .before .be
 returns-2 : tie.Need-returns-2 Inv-loop μ-loop
 returns-2 c = λ T x. too-deep frame-width stack-limit T (c .before .before .before .before .args .frames .now) (c .before .before .before .before .args .depth) (omega arith)
 
-list-at-requires : tie.Need-list-at-requires Inv-loop μ-loop
-list-at-requires c κs = search needs
+slice-aggregate-cells : tie.Need-slice-aggregate-cells Inv-loop μ-loop
+slice-aggregate-cells c = search needs
 
-slice-aggregate-first : tie.Need-slice-aggregate-first Inv-loop μ-loop
-slice-aggregate-first c = search needs
+cells-requires : tie.Need-cells-requires Inv-loop μ-loop
+cells-requires c κs = search needs
 
-first-requires : tie.Need-first-requires Inv-loop μ-loop
-first-requires c κs = search needs
+slice-aggregate-cells-2 : tie.Need-slice-aggregate-cells-2 Inv-loop μ-loop
+slice-aggregate-cells-2 c = search needs
+
+cells-requires-2 : tie.Need-cells-requires-2 Inv-loop μ-loop
+cells-requires-2 c κs = search needs
 
 mul-unused : tie.Need-mul-unused Inv-loop μ-loop
 mul-unused c = omega arith
@@ -45,7 +48,7 @@ zeros-requires c κs = (omega arith, omega arith)
 
 returns-3 : tie.Need-returns-3 Inv-loop μ-loop
 returns-3 c = λ T x r.
-    let fs = c .before .before .before .before .before .before .before .before .before .before .args .frames .now in let d = c .before .before .before .before .before .before .before .before .before .before .args .depth in
+    let fs = c .before .before .before .before .before .before .before .before .before .before .before .before .args .frames .now in let d = c .before .before .before .before .before .before .before .before .before .before .before .before .args .depth in
     said-no (c .before .zeros .result) (c .before .zeros .ensures) (not-true _ (c .if3 .taken)) (λ k l h.
     let i : d ≤ k / 5 = omega arith in
     zero-bytes-at frame-width fs (k / 5 * 5) (omega arith) (unused-zero frame-width stack-limit T fs d (omega arith) (omega arith) r (k / 5) i (omega arith)) k (omega arith) (omega arith))
@@ -73,13 +76,13 @@ right-frame-requires c κs = simp (length-take, length-drop) (omega arith)
 
 returns-4 : tie.Need-returns-4 Inv-loop μ-loop
 returns-4 c = λ T x r.
-    let fs = c .before .before .before .before .before .before .before .before .before .before .before .before .before .before .before .args .frames .now in
+    let fs = c .before .before .before .before .before .before .before .before .before .before .before .before .before .before .before .before .before .args .frames .now in
     let i = c .before .before .before .before .loop .i in
-    let k = known T (c .before .before .before .before .before .before .before .before .before .before .before .before .before .before .before .args .s .now) (c .before .before .before .before .before .before .before .before .before .before .before .before .before .before .before .args .index) _ _ x (c .before .before .before .before .before .before .before .before .before .before .list-at .ensures) (c .before .before .before .before .before .before .before .first .ensures) in
+    let k = known T (c .before .before .before .before .before .before .before .before .before .before .before .before .before .before .before .before .before .args .s .now) (c .before .before .before .before .before .before .before .before .before .before .before .before .before .before .before .before .before .args .index) _ _ x (c .before .before .before .before .before .before .before .before .before .before .cells .ensures) (c .before .before .before .before .before .before .before .cells2 .ensures) in
     let five : i * 5 + 5 - i * 5 ≡ 5 = omega arith in
     let cut = frame-cut frame-width fs _ (i * 5) (ap (λ (n : ℕ). take n (drop (i * 5) fs)) five) in
     said-no (c .before .right-frame .result) (subst (λ (f : Frame). Says (c .before .right-frame .result) (RightFrame frame-width T f)) cut (c .before .right-frame .ensures T k)) (not-true _ (c .if4 .taken))
-    (used-right frame-width stack-limit T fs (c .before .before .before .before .before .before .before .before .before .before .before .before .before .before .before .args .depth) (omega arith) (omega arith) r i (omega arith))
+    (used-right frame-width stack-limit T fs (c .before .before .before .before .before .before .before .before .before .before .before .before .before .before .before .before .before .args .depth) (omega arith) (omega arith) r i (omega arith))
 
 add-i : tie.Need-add-i Inv-loop μ-loop
 add-i c = omega arith
@@ -88,7 +91,7 @@ loop-less : tie.Need-loop-less Inv-loop μ-loop
 loop-less c = omega arith
 
 loop-again : tie.Need-loop-again Inv-loop μ-loop
-loop-again c = let fs = c .before .before .before .before .before .before .before .before .before .before .before .before .before .before .before .args .frames .now in
+loop-again c = let fs = c .before .before .before .before .before .before .before .before .before .before .before .before .before .before .before .before .before .args .frames .now in
     let i = c .before .before .before .before .loop .i in
     let five : i * 5 + 5 - i * 5 ≡ 5 = omega arith in
     let cut = frame-cut frame-width fs _ (i * 5) (ap (λ (n : ℕ). take n (drop (i * 5) fs)) five) in (
@@ -102,10 +105,10 @@ loop-again c = let fs = c .before .before .before .before .before .before .befor
 
 returns-5 : tie.Need-returns-5 Inv-loop μ-loop
 returns-5 c = λ T x.
-    let fs = c .before .before .before .before .before .before .before .before .before .before .before .before .args .frames .now in
-    let k = known T (c .before .before .before .before .before .before .before .before .before .before .before .before .args .s .now) (c .before .before .before .before .before .before .before .before .before .before .before .before .args .index) _ _ x (c .before .before .before .before .before .before .before .list-at .ensures) (c .before .before .before .before .first .ensures) in
+    let fs = c .before .before .before .before .before .before .before .before .before .before .before .before .before .before .args .frames .now in
+    let k = known T (c .before .before .before .before .before .before .before .before .before .before .before .before .before .before .args .s .now) (c .before .before .before .before .before .before .before .before .before .before .before .before .before .before .args .index) _ _ x (c .before .before .before .before .before .before .before .cells .ensures) (c .before .before .before .before .cells2 .ensures) in
     let zero = said-yes (c .before .before .before .zeros .result) (c .before .before .before .zeros .ensures) (not-false _ (c .before .before .if3 .left)) in
-    all-right frame-width stack-limit T fs (c .before .before .before .before .before .before .before .before .before .before .before .before .args .depth) (omega arith) (omega arith) (λ i w. c .before .loop .inv .1 T k i (omega arith)) (λ i l h. zero-frame-at frame-width fs (i * 5) (omega arith) (λ m u v. zero m (omega arith) (omega arith)))
+    all-right frame-width stack-limit T fs (c .before .before .before .before .before .before .before .before .before .before .before .before .before .before .args .depth) (omega arith) (omega arith) (λ i w. c .before .loop .inv .1 T k i (omega arith)) (λ i l h. zero-frame-at frame-width fs (i * 5) (omega arith) (λ m u v. zero m (omega arith) (omega arith)))
 
 pub right-frames-spec : {M : Type 1} → statement M
 right-frames-spec =
@@ -115,9 +118,10 @@ right-frames-spec =
     μ-loop
     returns
     returns-2
-    list-at-requires
-    slice-aggregate-first
-    first-requires
+    slice-aggregate-cells
+    cells-requires
+    slice-aggregate-cells-2
+    cells-requires-2
     mul-unused
     zeros-requires
     returns-3

@@ -69,7 +69,7 @@ use Rattle.wizbratel.proofs.wizbratel_ask.Statement as stated
 use Rattle.wizbratel.proofs.wizbratel_ask.Code as code
 
 abbrev stayed : Stays (f.ended .signature .params) (f.ended .kept)
-stayed = (stay-none-slice (0 ∷ []) tt (plain (λ _. u8)) yes, (stay-slice (1 ∷ []) tt (plain (λ _. T.the-row)), (gave-ref (2 ∷ []) tt (plain (λ _. usize)), (stay-none (λ _. u64) yes, (gave-ref (3 ∷ []) tt (plain (λ _. Array u8 24)), tt)))))
+stayed = (stay-none-slice (0 ∷ []) tt (plain (λ _. u8)) yes, (stay-slice (1 ∷ []) tt (plain (λ _. T.the-row)), (gave-ref (2 ∷ []) tt (plain (λ _. usize)), (stay-none (λ _. u64) yes, (gave-ref (3 ∷ []) tt (plain (λ _. Array u8 72)), tt)))))
 
 -- what is promised: of the frames xs before, zs after
 abbrev Promised : (file : List ℕ) (xs : List Frame) (d : ℕ) (k : ℕ) (out : List ℕ) (v : ℕ) (zs : List Frame) (d′ : ℕ) (out′ : List ℕ) → Type 0
@@ -116,14 +116,14 @@ module _ {M : Type 1} (𝓤 : URA M) (H : Heap 𝓤) (A : Atoms 𝓤) (W : Given
   Depth = MutRef (named 2) κ₃ usize .own dp (depthVal ∷ [])
 
   abbrev Out : Fml
-  Out = MutRef (named 3) κ₄ (Array u8 24) .own an (outVal ∷ [])
+  Out = MutRef (named 3) κ₄ (Array u8 72) .own an (outVal ∷ [])
 
   abbrev Post : Val → SProp 𝓤
   Post = walkOf 𝓤 H A f.ended stayed (f.clauses 𝓤 H A mem run) .post (((κ₁, (κ₂, (κ₃, (κ₄, tt)))), (q₁, (q₂, (q₃, (q₄, tt)))), tt, x, at), tt)
 
-  exits : (v : ℕ) (zs : List Frame) (d′ : ℕ) (out′ : List ℕ) → Promised (t .now) xs (dp .now) k (an .now) v zs d′ out′ → length zs ≡ n → v < 2 ^ 8 → ent 𝓤 (⋆ 𝓤 H A (‵ (held κ₂ b o γ n zs) ∷ ‵ (flft κ₂ q₂) ∷ ‵ Table ∷ ‵ (flft κ₁ q₁) ∷ ‵ (fres (dp .name) (usize .coded .code d′)) ∷ ‵ (flft κ₃ q₃) ∷ ‵ (fres (an .name) (Array u8 24 .coded .code out′)) ∷ ‵ (flft κ₄ q₄) ∷ [])) (Post (vint w8 v))
+  exits : (v : ℕ) (zs : List Frame) (d′ : ℕ) (out′ : List ℕ) → Promised (t .now) xs (dp .now) k (an .now) v zs d′ out′ → length zs ≡ n → v < 2 ^ 8 → ent 𝓤 (⋆ 𝓤 H A (‵ (held κ₂ b o γ n zs) ∷ ‵ (flft κ₂ q₂) ∷ ‵ Table ∷ ‵ (flft κ₁ q₁) ∷ ‵ (fres (dp .name) (usize .coded .code d′)) ∷ ‵ (flft κ₃ q₃) ∷ ‵ (fres (an .name) (Array u8 72 .coded .code out′)) ∷ ‵ (flft κ₄ q₄) ∷ [])) (Post (vint w8 v))
   exits v zs d′ out′ e len fits =
-      qed W (‵ (held κ₂ b o γ n zs) ∷ ‵ (flft κ₂ q₂) ∷ ‵ Table ∷ ‵ (flft κ₁ q₁) ∷ ‵ (fres (dp .name) (usize .coded .code d′)) ∷ ‵ (flft κ₃ q₃) ∷ ‵ (fres (an .name) (Array u8 24 .coded .code out′)) ∷ ‵ (flft κ₄ q₄) ∷ []) ∵
+      qed W (‵ (held κ₂ b o γ n zs) ∷ ‵ (flft κ₂ q₂) ∷ ‵ Table ∷ ‵ (flft κ₁ q₁) ∷ ‵ (fres (dp .name) (usize .coded .code d′)) ∷ ‵ (flft κ₃ q₃) ∷ ‵ (fres (an .name) (Array u8 72 .coded .code out′)) ∷ ‵ (flft κ₄ q₄) ∷ []) ∵
       suffices ! _ (ends-at 𝓤 H A f.ended stayed (f.clauses 𝓤 H A mem run) W (((κ₁, (κ₂, (κ₃, (κ₄, tt)))), (q₁, (q₂, (q₃, (q₄, tt)))), tt, x, at), tt) (vint w8 v) v (tt, (zs, (d′, (tt, (out′, tt))))) (tt, (len, (tt, (tt, (tt, tt)))))) $ says ! e $
       nothing ! $ move ! (8 ∷ 0 ∷ []) $ join ! $ move ! (6 ∷ 0 ∷ []) $ join ! $ move ! (2 ∷ 0 ∷ []) $ join ! $ move ! (3 ∷ 0 ∷ []) $ join ! $ frame ! $
       nothing ! $ move ! (4 ∷ 0 ∷ []) $ fjoin ! $ owned ! u64 (Is u64) (uint-makes 𝓤 H A W w64) k _ (refl, gk) $ fjoin ! $ move ! (3 ∷ 0 ∷ []) $ fjoin ! $ move ! (1 ∷ 0 ∷ []) $ fjoin ! $ move ! (1 ∷ 0 ∷ []) $ fjoin ! $ frame ! $
@@ -146,7 +146,7 @@ module _ {M : Type 1} (𝓤 : URA M) (H : Heap 𝓤) (A : Atoms 𝓤) (W : Given
   module _ (C : Calls 𝓤 H) (Λ : Loops 𝓤 H) (fm : FmC 𝓤 H (W .laws) C) (known-p : Triple 𝓤 (C #frames·prepare) (Prepare 𝓤 H A mem run)) (known-e : Triple 𝓤 (C #frames·exchange) (Exchange 𝓤 H A mem run)) (known-s : Triple 𝓤 (C #wizbratel·ask-stack) (AskStack 𝓤 H A mem run)) where
     walk : ent 𝓤 (onEntry 𝓤 H A f.signature (κ₁, (κ₂, (κ₃, (κ₄, tt)))) (q₁, (q₂, (q₃, (q₄, tt)))) x at) (WpFn 𝓤 H C Λ code.function (tableVal ∷ sliceVal (b, o) n ∷ depthVal ∷ vint w64 k ∷ outVal ∷ []) Post)
     walk =
-        qed W ((‵ (flft κ₁ q₁) ⊛ ‵ (flft κ₂ q₂) ⊛ ‵ (flft κ₃ q₃) ⊛ ‵ (flft κ₄ q₄) ⊛ ‵ ftrue) ∷ ‵ (owns (ShrSlice (named 0) κ₁ u8 ∷ MutSlice (named 1) κ₂ T.the-row ∷ MutRef (named 2) κ₃ usize ∷ u64 ∷ MutRef (named 3) κ₄ (Array u8 24) ∷ []) x at) ∷ []) ∵
+        qed W ((‵ (flft κ₁ q₁) ⊛ ‵ (flft κ₂ q₂) ⊛ ‵ (flft κ₃ q₃) ⊛ ‵ (flft κ₄ q₄) ⊛ ‵ ftrue) ∷ ‵ (owns (ShrSlice (named 0) κ₁ u8 ∷ MutSlice (named 1) κ₂ T.the-row ∷ MutRef (named 2) κ₃ usize ∷ u64 ∷ MutRef (named 3) κ₄ (Array u8 72) ∷ []) x at) ∷ []) ∵
         split ! $ move ! (1 ∷ []) $ split ! $ move ! (1 ∷ []) $ split ! $ move ! (1 ∷ []) $ split ! $ move ! (5 ∷ []) $ fsplit ! $ move ! (1 ∷ []) $ fsplit ! $ move ! (1 ∷ []) $ fsplit ! $ move ! (1 ∷ []) $ fsplit ! $ move ! (1 ∷ []) $ fsplit ! $ keep ! (4 ∷ 9 ∷ 5 ∷ 10 ∷ 3 ∷ 8 ∷ 0 ∷ 6 ∷ []) $
         enter ! C Λ code.function (tableVal ∷ sliceVal (b, o) n ∷ depthVal ∷ vint w64 k ∷ outVal ∷ []) _ $
         alloc1 ! (λ l₀. alloc1 ! (λ l₁. alloc1 ! (λ l₂. alloc1 ! (λ l₃. alloc1 ! (λ l₄. alloc1 ! (λ l₅. alloc1 ! (λ l₆. alloc1 ! (λ l₇. alloc1 ! (λ l₈. alloc1 ! (λ l₉. alloc1 ! (λ l₁₀. alloc1 ! (λ l₁₁. alloc1 ! (λ l₁₂. alloc1 ! (λ l₁₃. alloc1 ! (λ l₁₄. alloc1 ! (λ l₁₅. alloc1 ! (λ l₁₆. alloc0 ! $ params1 ! $
@@ -194,7 +194,7 @@ module _ {M : Type 1} (𝓤 : URA M) (H : Heap 𝓤) (A : Atoms 𝓤) (W : Given
 module _ {M : Type 1} (𝓤 : URA M) (H : Heap 𝓤) (A : Atoms 𝓤) (W : Given 𝓤 H A) (mem : Memory → SProp 𝓤) (run : Routine → Fun 𝓤) (C : Calls 𝓤 H) (Λ : Loops 𝓤 H) (fm : FmC 𝓤 H (W .laws) C)
     (known-p : Triple 𝓤 (C #frames·prepare) (Prepare 𝓤 H A mem run)) (known-e : Triple 𝓤 (C #frames·exchange) (Exchange 𝓤 H A mem run)) (known-s : Triple 𝓤 (C #wizbratel·ask-stack) (AskStack 𝓤 H A mem run)) where
   walks : Walks 𝓤 H A f.ended stayed (WpFn 𝓤 H C Λ code.function) (f.clauses 𝓤 H A mem run)
-  walks = walked 𝓤 H A f.ended stayed (f.clauses 𝓤 H A mem run) (WpFn 𝓤 H C Λ code.function) (λ κs. (slice-vals, (slice-vals, (ptr-vals, (uint-vals w64, (ptr-vals, tt)))))) (λ κs. (shr-slice-tells (named 0) (κs .0) u8, (mut-slice-tells (named 1) (κs .1 .0) T.the-row, (mut-tells (named 2) (κs .1 .1 .0) usize, (uint-tells w64, (mut-tells (named 3) (κs .1 .1 .1 .0) (Array u8 24), tt))))))
+  walks = walked 𝓤 H A f.ended stayed (f.clauses 𝓤 H A mem run) (WpFn 𝓤 H C Λ code.function) (λ κs. (slice-vals, (slice-vals, (ptr-vals, (uint-vals w64, (ptr-vals, tt)))))) (λ κs. (shr-slice-tells (named 0) (κs .0) u8, (mut-slice-tells (named 1) (κs .1 .0) T.the-row, (mut-tells (named 2) (κs .1 .1 .0) usize, (uint-tells w64, (mut-tells (named 3) (κs .1 .1 .1 .0) (Array u8 72), tt))))))
       (λ κs qs bounds a g are. via 𝓤 _ (fst∗ 𝓤 _ (emp 𝓤)) (walk 𝓤 H A W mem run (κs .0) (κs .1 .0) (κs .1 .1 .0) (κs .1 .1 .1 .0) (qs .0) (qs .1 .0) (qs .1 .1 .0) (qs .1 .1 .1 .0) (a .0) (a .1 .0 .ptr .0) (a .1 .0 .ptr .1) (a .1 .0 .name) (a .1 .0 .now) (a .1 .1 .0) (a .1 .1 .1 .0) (a .1 .1 .1 .1 .0) (are .0 .0 .1) (are .1 .0 .0 .1) (are .1 .1 .1 .0 .1) C Λ fm known-p known-e known-s))
 
 pub wizbratel-ask-spec : {M : Type 1} → stated.statement M
@@ -205,7 +205,7 @@ wizbratel-ask-spec 𝓤 H 𝓜 𝓖 𝓡 =
     entered 𝓤 H (tripleOf 𝓤 H (𝓖 .A) f.signature (f.spec 𝓤 H (𝓖 .A) (𝓜 .mem) (𝓡 .run)))
     (tables 𝓤 H 𝓜 𝓡 code.env .C) (tables 𝓤 H 𝓜 𝓡 code.env .Λ) #wizbratel·wizbratel-ask code.function (code.unfolded 𝓤 H 𝓜 𝓡)
     (walk-meets 𝓤 H (𝓖 .A) f.ended stayed W
-    (goes-none-slice 𝓤 H (𝓖 .A) W 4 (0 ∷ []) tt (plain (λ _. u8)) yes, (goes-slice 𝓤 H (𝓖 .A) W 4 1 tt (plain (λ _. T.the-row)), (goes-gave-ref 𝓤 H (𝓖 .A) W 4 2 tt (plain (λ _. usize)), (goes-none 𝓤 H (𝓖 .A) W 4 (λ _. u64) yes (λ κs x f. refl), (goes-gave-ref 𝓤 H (𝓖 .A) W 4 3 tt (plain (λ _. Array u8 24)), tt)))))
+    (goes-none-slice 𝓤 H (𝓖 .A) W 4 (0 ∷ []) tt (plain (λ _. u8)) yes, (goes-slice 𝓤 H (𝓖 .A) W 4 1 tt (plain (λ _. T.the-row)), (goes-gave-ref 𝓤 H (𝓖 .A) W 4 2 tt (plain (λ _. usize)), (goes-none 𝓤 H (𝓖 .A) W 4 (λ _. u64) yes (λ κs x f. refl), (goes-gave-ref 𝓤 H (𝓖 .A) W 4 3 tt (plain (λ _. Array u8 72)), tt)))))
     (f.clauses 𝓤 H (𝓖 .A) (𝓜 .mem) (𝓡 .run)) (WpFn 𝓤 H (𝓣 .C) (𝓣 .Λ) code.function) (WpFn-mono 𝓤 H (W .laws) 𝓣 code.function)
     (walks 𝓤 H (𝓖 .A) W (𝓜 .mem) (𝓡 .run) (𝓣 .C) (𝓣 .Λ) (fmOf 𝓤 H (W .laws) 𝓣)
     (cited 𝓤 H (Prepare 𝓤 H (𝓖 .A) (𝓜 .mem) (𝓡 .run)) 𝓜 𝓡 code.env #frames·prepare prepare-def.routine code.calls-frames·prepare (prepare-thm.met 𝓤 H 𝓜 𝓖 𝓡))

@@ -1,4 +1,6 @@
 -- By the kinds of a byte.
+use lib.ListN.{getD}
+use Rattle.lettering.specs.Named.{funcs-place, vars-place}
 use borrow.Author.Needs.{needs}
 use native.Mathlib.Omega.{arith}
 use Rattle.texts.proofs.Writing.{wrote-more, wrote-as}
@@ -17,9 +19,9 @@ same-length c = search needs
 
 returns : tie.Need-returns
 returns c =
-    let a = c .before .before .before .before .before .before .before .args in
+    let a = c .before .before .before .before .before .before .before .before .args in
     let n = c .before .before .before .before .before .wide in
-    wrote-as (a .out .now) (a .at) _ _ _ _ (value-text (a .l .funcs) (a .l .vars) (a .place) (a .b) (n .result) (n .ensures .0) (omega (arith, n .ensures))) (c .before .before .put-decimal .ensures)
+    wrote-as (a .out .now) (a .at) _ _ _ _ (value-text (getD (a .l .now) funcs-place 0) (getD (a .l .now) vars-place 0) (a .place) (a .b) (n .result) (n .ensures .0) (omega (arith, n .ensures))) (c .before .before .put-decimal .ensures)
 
 put-name-requires : tie.Need-put-name-requires
 put-name-requires c κs = search needs
@@ -29,9 +31,9 @@ same-length-2 c = search needs
 
 returns-2 : tie.Need-returns-2
 returns-2 c =
-    let a = c .before .before .before .before .before .before .before .before .args in
+    let a = c .before .before .before .before .before .before .before .before .before .args in
     let n = c .before .before .before .before .before .before .wide in
-    wrote-as (a .out .now) (a .at) _ _ _ _ (variable-text (a .l .funcs) (a .l .vars) (a .place) (a .b) (n .result) (n .ensures .0) (omega (arith, n .ensures)) (omega (arith, n .ensures))) (c .before .before .put-name .ensures)
+    wrote-as (a .out .now) (a .at) _ _ _ _ (variable-text (getD (a .l .now) funcs-place 0) (getD (a .l .now) vars-place 0) (a .place) (a .b) (n .result) (n .ensures .0) (omega (arith, n .ensures)) (omega (arith, n .ensures))) (c .before .before .put-name .ensures)
 
 put-name-requires-2 : tie.Need-put-name-requires-2
 put-name-requires-2 c κs = search needs
@@ -44,9 +46,9 @@ same-length-3 c = search needs
 
 returns-3 : tie.Need-returns-3
 returns-3 c =
-    let a = c .before .before .before .before .before .before .before .before .before .before .before .before .before .args in
+    let a = c .before .before .before .before .before .before .before .before .before .before .before .before .before .before .args in
     let n = c .before .before .before .before .before .before .before .before .before .before .before .wide in
-    wrote-as (a .out .now) (a .at) _ _ _ _ (function-text (a .l .funcs) (a .l .vars) (a .place) (a .b) (n .result) (n .ensures .0) (omega (arith, n .ensures)) (omega (arith, n .ensures)))
+    wrote-as (a .out .now) (a .at) _ _ _ _ (function-text (getD (a .l .now) funcs-place 0) (getD (a .l .now) vars-place 0) (a .place) (a .b) (n .result) (n .ensures .0) (omega (arith, n .ensures)) (omega (arith, n .ensures)))
     (wrote-more (a .out .now) (a .at) _ _ _ _ _ _ (omega arith) (c .before .before .before .before .before .before .put-name2 .ensures) (c .before .before .put-byte .ensures))
 
 put-operator-requires : tie.Need-put-operator-requires
@@ -57,9 +59,9 @@ same-length-4 c = search needs
 
 returns-4 : tie.Need-returns-4
 returns-4 c =
-    let a = c .before .before .before .before .before .before .before .before .before .args in
+    let a = c .before .before .before .before .before .before .before .before .before .before .args in
     let n = c .before .before .before .before .before .before .before .wide in
-    let w = c .before .before .put-operator .ensures (a .l .funcs) (a .l .vars) in
+    let w = c .before .before .put-operator .ensures (getD (a .l .now) funcs-place 0) (getD (a .l .now) vars-place 0) in
     rw (n .ensures .0) at w
 
 pub put-node-spec : {M : Type 1} → statement M

@@ -20,7 +20,7 @@ returns : tie.Need-returns
 returns c =
     let a = c .before .before .before .before .before .before .before .before .before .before .before .before .before .before .before .before .before .before .before .before .args in
     signature-put (a .s .now) (a .sizes .now) (a .funcs .now) (a .values .now) (a .places .now) (a .acts .now) (a .names .now) (a .b) (a .n) (a .w) (a .out .now)
-    (c .before .before .before .before .before .before .before .before .before .before .put-sorts .result) (c .before .before .before .before .before .before .before .before .before .before .put-sorts .last .1 .1 .0) (c .before .before .before .before .before .before .put-funcs .result) (c .before .before .before .before .before .before .put-funcs .last .1 .1 .1 .1 .0) (c .before .before .put-actions .result) (c .before .before .put-actions .last .1 .1 .1 .1 .1 .0)
+    (c .before .before .before .before .before .before .before .before .before .before .put-sorts .result) (c .before .before .before .before .before .before .before .before .before .before .put-sorts .last .1 .1 .1 .1 .0) (c .before .before .before .before .before .before .put-funcs .result) (c .before .before .before .before .before .before .put-funcs .last .1 .1 .1 .1 .0) (c .before .before .put-actions .result) (c .before .before .put-actions .last .1 .1 .1 .1 .1 .0)
     (c .before .before .before .before .before .before .before .before .before .before .put-sorts .ensures) (c .before .before .before .before .before .before .put-funcs .ensures) (c .before .before .put-actions .ensures)
 
 pub put-signature-spec : {M : Type 1} → statement M

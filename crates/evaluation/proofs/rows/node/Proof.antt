@@ -7,6 +7,7 @@ use mathlib.Core.List.{List}
 use lib.ListN.{getD}
 use Rattle.evaluation.specs.Rows.{lane-env}
 use Rattle.pcrl.specs.Stream.{variable-code}
+use Rattle.terms.specs.Stands.{size-in}
 use Rattle.evaluation.specs.Run.{operator-count}
 use Rattle.evaluation.proofs.Bytes.{no-arguments, one-argument, two-arguments, operator-arguments}
 use Rattle.evaluation.proofs.LaneLaws.{put-fewer, mark-put, put-value, put-variable, lane-fast, lane-slow, lane-other, put-one, put-two, put-operator}
@@ -123,14 +124,8 @@ add-peek c = search needs
 peek-requires-3 : tie.Need-peek-requires-3
 peek-requires-3 c κs = search needs
 
-wide-requires-2 : tie.Need-wide-requires-2
-wide-requires-2 c κs = search needs
-
-add-peek-2 : tie.Need-add-peek-2
-add-peek-2 c = search needs
-
-peek-requires-4 : tie.Need-peek-requires-4
-peek-requires-4 c κs = search needs
+size-of-requires : tie.Need-size-of-requires
+size-of-requires c κs = search needs
 
 add-binary : tie.Need-add-binary
 add-binary c = search needs
@@ -145,8 +140,8 @@ same-length-12 : tie.Need-same-length-12
 same-length-12 c = search needs
 
 returns-6 : tie.Need-returns-6
-returns-6 c = let a = c .before .before .before .before .before .before .before .before .before .before .before .before .before .before .before .before .before .before .before .before .before .before .before .before .before .args in let n = c .before .before .before .before .before .before .before .before .before .before .before .before .before .before .before .before .before .wide in let d = c .before .before .before .before .before .before .before .before .before .before .onto4 in let env : ℕ → List ℕ = (λ (i : ℕ). lane-env (a .e .now) (a .u) (a .v) (a .slow .now) (a .fast .now) i) in
-    (d .ensures .1, (d .ensures .0 ∙ ap (λ (k : ℕ). min (a .t + k) 17 - 1) (two-arguments (a .s .now) (a .funcs .now) (a .b) (c .before .before .before .before .before .before .before .before .before .before .before .before .before .cell .result) (omega arith) (omega arith) (c .before .before .before .before .before .before .before .before .before .before .before .before .before .cell .ensures .0 ∙ (let z : n .result - 64 ≡ a .b - 64 = omega (arith, n .ensures .0) in ap (λ (i : ℕ). getD (a .funcs .now) i 0) z)) (λ q. c .before .before .before .before .before .before .before .before .before .before .before .if6 .left (c .before .before .before .before .before .before .before .before .before .before .before .before .peek2 .ensures ∙ q))), λ h k w. let y = c .before .before .before .before .binary .ensures w in (put-two (a .n) (a .s .now) (a .funcs .now) env (a .b) (n .result) (a .t) (a .rows .now) _ (d .result) (n .ensures .0) (c .before .before .before .before .before .before .before .before .before .before .before .before .before .cell .result) (omega arith) (omega arith) (c .before .before .before .before .before .before .before .before .before .before .before .before .before .cell .ensures .0) (c .before .before .before .before .before .before .before .peek4 .result) (λ q. c .before .before .before .before .before .before .before .before .before .before .before .if6 .left (c .before .before .before .before .before .before .before .before .before .before .before .before .peek2 .ensures ∙ q)) (c .before .before .before .before .before .before .before .peek4 .ensures ∙ ap (λ (x : ℕ). getD (a .s .now) (1 + x) 0) (c .before .before .before .before .before .before .before .before .wide2 .ensures .0 ∙ c .before .before .before .before .before .before .before .before .before .peek3 .ensures)) (y .0), y .1)))
+returns-6 c = let a = c .before .before .before .before .before .before .before .before .before .before .before .before .before .before .before .before .before .before .before .before .before .before .before .before .args in let n = c .before .before .before .before .before .before .before .before .before .before .before .before .before .before .before .before .wide in let d = c .before .before .before .before .before .before .before .before .before .onto4 in let env : ℕ → List ℕ = (λ (i : ℕ). lane-env (a .e .now) (a .u) (a .v) (a .slow .now) (a .fast .now) i) in
+    (d .ensures .1, (d .ensures .0 ∙ ap (λ (k : ℕ). min (a .t + k) 17 - 1) (two-arguments (a .s .now) (a .funcs .now) (a .b) (c .before .before .before .before .before .before .before .before .before .before .before .before .cell .result) (omega arith) (omega arith) (c .before .before .before .before .before .before .before .before .before .before .before .before .cell .ensures .0 ∙ (let z : n .result - 64 ≡ a .b - 64 = omega (arith, n .ensures .0) in ap (λ (i : ℕ). getD (a .funcs .now) i 0) z)) (λ q. c .before .before .before .before .before .before .before .before .before .before .if6 .left (c .before .before .before .before .before .before .before .before .before .before .before .peek2 .ensures ∙ q))), λ h k w. let y = c .before .before .before .before .binary .ensures w in (put-two (a .n) (a .s .now) (a .funcs .now) env (a .b) (n .result) (a .t) (a .rows .now) _ (d .result) (n .ensures .0) (c .before .before .before .before .before .before .before .before .before .before .before .before .cell .result) (omega arith) (omega arith) (c .before .before .before .before .before .before .before .before .before .before .before .before .cell .ensures .0) (c .before .before .before .before .before .before .before .size-of .result) (λ q. c .before .before .before .before .before .before .before .before .before .before .if6 .left (c .before .before .before .before .before .before .before .before .before .before .before .peek2 .ensures ∙ q)) (c .before .before .before .before .before .before .before .size-of .ensures ∙ ap (size-in (a .funcs .now)) (c .before .before .before .before .before .before .before .before .peek3 .ensures)) (y .0), y .1)))
 
 operator-arguments-requires : tie.Need-operator-arguments-requires
 operator-arguments-requires c κs = search needs
@@ -209,9 +204,7 @@ node-spec =
     onto-requires-4
     add-peek
     peek-requires-3
-    wide-requires-2
-    add-peek-2
-    peek-requires-4
+    size-of-requires
     add-binary
     binary-requires
     same-length-11

@@ -1,21 +1,14 @@
 -- Refused by 12 to 14, or the text delivered.
 use borrow.Author.Needs.{needs}
 use native.Mathlib.Omega.{arith}
-use mathlib.Core.Path.{_≡_, refl, sym, ap, ap₂, subst, _∙_}
-use mathlib.Core.List.{List, [], _∷_, _++_, map, append-assoc}
-use Prim.Native.Nat.{ℕ, suc, _+_, _-_, _*_, _≤_, _<_, min}
-use lib.ListN.{length, getD, take, drop, length-take}
-use lib.Seq.{take-all}
-use Rattle.pcrl.specs.Text.{bytes, byte, decimal}
-use Rattle.texts.specs.Wrote.{Wrote}
-use Rattle.texts.proofs.Writing.{wrote-nothing, wrote-more, wrote-fits, wrote-as}
-use Rattle.pcrl.specs.Limits.{max-bytes, max-processes}
-use Rattle.laws.specs.Says.{said-yes, said-no}
-use Rattle.printer.specs.Printing.{text-room, TokensApart, printed-answer}
+use mathlib.Core.Path.{_≡_, refl, sym, ap, subst, _∙_}
+use mathlib.Core.List.{List, []}
+use Prim.Native.Nat.{ℕ, _-_}
+use lib.ListN.{length, take, length-take}
+use Rattle.printer.specs.Printing.{printed-answer}
 use Rattle.pcrl.specs.Result.{Result}
 use Rattle.pcrl.specs.Answers.{output-after}
-use Rattle.printer.proofs.Seventeen.{Delivered, delivered-refused, delivered-text, wrote-front, no-room, some-room, whole, too-long, too-many, not-apart, fit, printed-refused, printed-checked}
-use borrow.Author.Tests.{not-false, not-true}
+use Rattle.printer.proofs.Seventeen.{delivered-refused, printed-refused, printed-checked}
 use Rattle.stepping.proofs.Loading.{load-refused, load-accepted, load-count}
 use Rattle.tables.specs.Indexed.{Indexed}
 use Rattle.printer.proofs.delivery.print_in.Statement.{statement}
@@ -77,9 +70,10 @@ returns-2 c =
     let right = both .0 in
     let indexed = both .1 in
     let n : l .result .count ≡ l .result .count - 0 = omega arith in
-    let wrote = c .before .before .before .before .before .before .before .put-sheet .ensures .1 U right (subst (λ (m : ℕ). Indexed U (take m (l .last .1 .0)) (l .result .index)) n indexed) in
-    let m : c .before .before .before .before .before .before .before .put-sheet .result - 0 ≡ c .before .before .before .before .before .before .before .put-sheet .result = omega arith in
-    let done = c .before .before .deliver .ensures U right (ap (λ (k : ℕ). take k (c .before .before .before .before .before .before .before .put-sheet .last .1 .1 .0)) m ∙ wrote .text) (indexed .equations-are) in
+    let put = c .before .before .before .before .before .before .before .put-sheet .ensures .1 U right (subst (λ (m : ℕ). Indexed U (take m (l .last .1 .0)) (l .result .index)) n indexed) in
+    let end = c .before .before .before .before .before .before .before .put-sheet .result .at in
+    let m : end - 0 ≡ end = omega arith in
+    let done = c .before .before .deliver .ensures U right (ap (λ (k : ℕ). take k (c .before .before .before .before .before .before .before .put-sheet .last .1 .1 .0)) m ∙ put .0 .text) (indexed .equations-are) (put .1) in
     let same = printed-checked (a .file .now) (length (a .out .now)) U checked in
     (done .0 ∙ sym (ap printed-answer same), done .1 ∙ sym (ap (λ (x : Result (List ℕ)). output-after x (a .out .now)) same))
 

@@ -1,14 +1,11 @@
 -- Four pieces; the start's equation and values stand in the stream.
 use borrow.Author.Needs.{needs}
 use native.Mathlib.Omega.{arith}
-use mathlib.Core.Path.{_≡_, refl, sym, ap, ap₂, subst, _∙_}
-use mathlib.Core.List.{List, [], _∷_, _++_, map, append-assoc}
-use Prim.Native.Nat.{ℕ, suc, _+_, _-_, _*_, _≤_, _<_, min}
-use lib.ListN.{length, getD, take, drop}
-use lib.Seq.{take-all}
-use Rattle.pcrl.specs.Text.{bytes, byte, decimal}
-use Rattle.texts.specs.Wrote.{Wrote}
-use Rattle.texts.proofs.Writing.{wrote-nothing, wrote-more, wrote-fits, wrote-as}
+use mathlib.Core.Path.{_≡_, sym, ap, _∙_}
+use mathlib.Core.List.{[]}
+use Prim.Native.Nat.{ℕ, _-_}
+use lib.ListN.{length, getD}
+use Rattle.texts.proofs.Writing.{wrote-fits, wrote-as}
 use Rattle.printer.proofs.Chained.{four}
 use Rattle.printer.proofs.Params.{init-line}
 use Rattle.printer.proofs.Known.{start-at, start-values, start-count, start-small}
@@ -56,8 +53,8 @@ same-length c = search needs
 
 returns : tie.Need-returns
 returns c =
-    let a = c .before .before .before .before .before .before .before .before .before .before .before .before .before .before .before .before .before .before .before .before .before .before .before .before .before .before .args in
-    let all = four _ _ _ _ _ _ _ _ _ _ _ _ _ _ (omega (arith, c .before .before .before .before .before .before .before .before .before .before .before .before .before .before .before .before .before .before .before .before .before .before .before .before .before .before .pre)) (c .before .before .before .before .before .before .before .before .before .before .before .before .before .before .put-bytes .ensures) (c .before .before .before .before .before .before .before .before .before .before .put-name .ensures) (c .before .before .before .before .before .before .put-bracketed .ensures) (c .before .before .put-byte .ensures) in
+    let a = c .before .before .before .before .before .before .before .before .before .before .before .before .before .before .before .before .before .before .before .before .before .before .before .before .before .before .before .args in
+    let all = four _ _ _ _ _ _ _ _ _ _ _ _ _ _ (omega (arith, c .before .before .before .before .before .before .before .before .before .before .before .before .before .before .before .before .before .before .before .before .before .before .before .before .before .before .before .pre)) (c .before .before .before .before .before .before .before .before .before .before .before .before .before .before .put-bytes .ensures) (c .before .before .before .before .before .before .before .before .before .before .put-name .ensures) (c .before .before .before .before .before .before .put-bracketed .ensures) (c .before .before .put-byte .ensures) in
     let fits = wrote-fits _ _ _ _ _ all in (
       (omega (arith, fits, all .same), all .same),
       λ T funcs acts rows k x h.
@@ -66,7 +63,7 @@ returns c =
           let place = c .before .before .before .before .before .before .before .before .before .before .before .before .before .before .before .before .before .before .before .before .cell .ensures .0 ∙ ap (λ (n : ℕ). getD (a .params .now) n 0) e in
           let n : length (T .start .1) ≡ c .before .before .before .before .before .before .before .before .before .before .before .before .before .before .before .before .before .before .wide2 .result = sym (c .before .before .before .before .before .before .before .before .before .before .before .before .before .before .before .before .before .before .wide2 .ensures .0 ∙ c .before .before .before .before .before .before .before .before .before .before .before .before .before .before .before .before .before .before .before .peek2 .ensures ∙ ap (λ (q : ℕ). getD s q 0) place ∙ start-count T s funcs acts (a .params .now) rows k) in
           let vs = c .before .before .before .before .before .before .before .before .before .before .before .before .before .before .before .before .before .bytes-at .ensures (T .start .1) (start-values T s (a .from) h) n in
-          wrote-as _ _ _ _ _ _ (init-line (T .sig .acts) (a .l) x (T .start) _ _ (start-small T s funcs acts (a .params .now) rows k) e vs) all,
+          wrote-as _ _ _ _ _ _ (init-line (T .sig) (a .l .now) x (T .start) _ _ (start-small T s funcs acts (a .params .now) rows k) e vs) all,
     )
 
 pub put-init-spec : {M : Type 1} → statement M

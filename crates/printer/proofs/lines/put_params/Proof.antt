@@ -1,16 +1,14 @@
 -- The loop's invariant: the parameters behind the first that were passed are written.
-use borrow.Author.Needs.{needs}
 use native.Mathlib.Omega.{arith}
-use mathlib.Core.Path.{_≡_, refl, sym, ap, ap₂, subst, _∙_}
-use mathlib.Core.List.{List, [], _∷_, _++_, map, append-assoc}
-use Prim.Native.Nat.{ℕ, suc, _+_, _-_, _*_, _≤_, _<_, min}
-use lib.ListN.{length, getD, take, drop}
-use lib.Seq.{take-all}
-use Rattle.pcrl.specs.Text.{bytes, byte, decimal}
+use mathlib.Core.Path.{sym, _∙_}
+use mathlib.Core.List.{[], _++_}
+use Prim.Native.Nat.{_+_, _-_, _≤_}
+use lib.ListN.{length, take, drop}
+use Rattle.pcrl.specs.Text.{bytes}
 use Rattle.texts.specs.Wrote.{Wrote}
 use Rattle.texts.proofs.Writing.{wrote-nothing, wrote-more, wrote-fits, wrote-as}
 use Rattle.pcrl.specs.Printer.{numbered}
-use Rattle.rendering.specs.Texts.{bracketed-text, concat}
+use Rattle.rendering.specs.Texts.{concat}
 use Rattle.printer.specs.Lines.{param-by}
 use Rattle.printer.proofs.Chained.{four}
 use Rattle.printer.proofs.Params.{bracketed-none, bracketed-numbered, numbered-next, start-none}
@@ -24,10 +22,10 @@ abbrev μ-loop : tie.MeasureT-loop
 μ-loop sorts l out₀ at a p₀ i₀ out p i = length sorts - i
 
 returns : tie.Need-returns Inv-loop μ-loop
-returns c = let a = c .before .before .before .args in wrote-as _ _ [] _ _ _ (bracketed-none (a .sorts .now) (param-by (a .l)) (omega arith)) (wrote-nothing (a .out .now) (a .at) (omega (arith, c .before .before .before .pre)))
+returns c = let a = c .before .before .before .before .args in wrote-as _ _ [] _ _ _ (bracketed-none (a .sorts .now) (param-by (a .l .now)) (omega arith)) (wrote-nothing (a .out .now) (a .at) (omega (arith, c .before .before .before .before .pre)))
 
 put-byte-requires : tie.Need-put-byte-requires Inv-loop μ-loop
-put-byte-requires c κs = omega (arith, c .before .before .before .before .pre)
+put-byte-requires c κs = omega (arith, c .before .before .before .before .before .pre)
 
 shared-slice-read-put-param : tie.Need-shared-slice-read-put-param Inv-loop μ-loop
 shared-slice-read-put-param c = omega arith
@@ -36,7 +34,7 @@ put-param-requires : tie.Need-put-param-requires Inv-loop μ-loop
 put-param-requires c κs = wrote-fits _ _ _ _ _ (c .before .before .before .before .put-byte .ensures)
 
 loop-holds : tie.Need-loop-holds Inv-loop μ-loop
-loop-holds c = let a = c .before .before .before .before .before .before .before .before .before .before .before .before .args in (omega arith, wrote-as _ _ [] _ _ _ (start-none (λ k x. bytes "," ++ param-by (a .l) k x) (drop 1 (a .sorts .now))) (wrote-nothing _ _ (wrote-fits _ _ _ _ _ (c .before .before .put-param .ensures))))
+loop-holds c = let a = c .before .before .before .before .before .before .before .before .before .before .before .before .before .args in (omega arith, wrote-as _ _ [] _ _ _ (start-none (λ k x. bytes "," ++ param-by (a .l .now) k x) (drop 1 (a .sorts .now))) (wrote-nothing _ _ (wrote-fits _ _ _ _ _ (c .before .before .put-param .ensures))))
 
 add-loop : tie.Need-add-loop Inv-loop μ-loop
 add-loop c = omega arith
@@ -64,12 +62,12 @@ loop-less c = omega arith
 
 loop-again : tie.Need-loop-again Inv-loop μ-loop
 loop-again c =
-    let a = c .before .before .before .before .before .before .before .before .before .before .before .before .before .before .before .before .before .before .before .before .before .before .before .args in
+    let a = c .before .before .before .before .before .before .before .before .before .before .before .before .before .before .before .before .before .before .before .before .before .before .before .before .args in
     let now = c .before .before .before .before .before .before .before .before .before .before .loop in
     let test = c .before .before .before .before .before .before .before .before .before .loop-test in
     let wrote = now .inv .1 in (
       omega (arith, test),
-      wrote-as _ _ _ _ _ _ (sym (numbered-next (λ k x. bytes "," ++ param-by (a .l) k x) (a .sorts .now) (now .i) (omega (arith, test))))
+      wrote-as _ _ _ _ _ _ (sym (numbered-next (λ k x. bytes "," ++ param-by (a .l .now) k x) (a .sorts .now) (now .i) (omega (arith, test))))
           (wrote-more _ _ _ (now .out) (now .p) _ _ _ (wrote-fits _ _ _ _ _ (c .before .before .before .before .before .before .before .before .before .before .before .before .before .put-param .ensures)) wrote (wrote-more (now .out) (now .p) _ _ _ _ _ _ (wrote-fits _ _ _ _ _ wrote) (c .before .before .before .before .before .before .before .put-byte2 .ensures) (c .before .before .put-param2 .ensures))),
     )
 
@@ -81,9 +79,9 @@ same-length c = c .before .before .put-byte3 .ensures .same ∙ (c .before .befo
 
 returns-2 : tie.Need-returns-2 Inv-loop μ-loop
 returns-2 c =
-    let a = c .before .before .before .before .before .before .before .before .before .before .before .before .before .before .before .before .before .before .args in
-    wrote-as _ _ _ _ _ _ (bracketed-numbered (param-by (a .l)) (a .sorts .now) (c .before .before .before .before .before .loop .i) (omega arith) (omega arith))
-    (four _ _ _ _ _ _ _ _ _ _ _ _ _ _ (omega (arith, c .before .before .before .before .before .before .before .before .before .before .before .before .before .before .before .before .before .before .pre)) (c .before .before .before .before .before .before .before .before .before .before .before .before .before .put-byte .ensures) (c .before .before .before .before .before .before .before .before .put-param .ensures) (c .before .before .before .before .before .loop .inv .1) (c .before .before .put-byte3 .ensures))
+    let a = c .before .before .before .before .before .before .before .before .before .before .before .before .before .before .before .before .before .before .before .args in
+    wrote-as _ _ _ _ _ _ (bracketed-numbered (param-by (a .l .now)) (a .sorts .now) (c .before .before .before .before .before .loop .i) (omega arith) (omega arith))
+    (four _ _ _ _ _ _ _ _ _ _ _ _ _ _ (omega (arith, c .before .before .before .before .before .before .before .before .before .before .before .before .before .before .before .before .before .before .before .pre)) (c .before .before .before .before .before .before .before .before .before .before .before .before .before .put-byte .ensures) (c .before .before .before .before .before .before .before .before .put-param .ensures) (c .before .before .before .before .before .loop .inv .1) (c .before .before .put-byte3 .ensures))
 
 pub put-params-spec : {M : Type 1} → statement M
 put-params-spec =

@@ -1,15 +1,11 @@
 -- Three pieces; the equation's sorts and summands stand in the stream.
 use borrow.Author.Needs.{needs}
 use native.Mathlib.Omega.{arith}
-use mathlib.Core.Path.{_≡_, refl, sym, ap, ap₂, subst, _∙_}
-use mathlib.Core.List.{List, [], _∷_, _++_, map, append-assoc}
-use Prim.Native.Nat.{ℕ, suc, _+_, _-_, _*_, _≤_, _<_, min}
-use lib.ListN.{length, getD, take, drop}
-use lib.Seq.{take-all}
-use Rattle.pcrl.specs.Text.{bytes, byte, decimal}
-use Rattle.texts.specs.Wrote.{Wrote}
-use Rattle.texts.proofs.Writing.{wrote-nothing, wrote-more, wrote-fits, wrote-as}
-use Rattle.pcrl.specs.Tests.{Every}
+use mathlib.Core.Path.{_≡_, sym, ap, _∙_}
+use mathlib.Core.List.{[]}
+use Prim.Native.Nat.{ℕ, _-_}
+use lib.ListN.{length, drop}
+use Rattle.texts.proofs.Writing.{wrote-fits, wrote-as}
 use Rattle.pcrl.specs.Table.{equation, params-of}
 use Rattle.terms.specs.Stands.{list-at}
 use Rattle.printer.proofs.Chained.{three}
@@ -44,7 +40,7 @@ same-length c = search needs
 
 returns : tie.Need-returns
 returns c =
-    let a = c .before .before .before .before .before .before .before .before .before .before .before .before .before .before .before .before .before .before .before .before .before .before .args in
+    let a = c .before .before .before .before .before .before .before .before .before .before .before .before .before .before .before .before .before .before .before .before .before .before .before .args in
     let head = c .before .before .before .before .before .before .before .before .before .before .before .put-proc-head .ensures in
     let right = c .before .before .before .before .before .before .put-right .ensures in
     let last = c .before .before .put-byte .ensures in
@@ -59,8 +55,8 @@ returns c =
           let row = k .rows-at (a .e) below in
           let there = ap (λ (q : ℕ). drop q s) (c .before .before .before .before .before .before .before .before .cell2 .ensures .0) ∙ row .1 in
           let wrote = right .1 (T .sig) (params-of (T .equations)) (equation T (a .e) .params) (equation T (a .e) .summands) (row .0) (k .terms) (k .parts) (right-summands T s (a .funcs .now) (a .acts .now) (a .params .now) (a .rows .now) k (a .e) below) (sym n) (omega arith) x there in
-          wrote-as _ _ _ _ _ _ (proc-line (T .sig .acts) (a .l) x (a .e) (equation T (a .e)) _ _ (small-number T s (a .funcs .now) (a .acts .now) (a .params .now) (a .rows .now) k (a .e) below) sorts n few (small-sorts T s (a .funcs .now) (a .acts .now) (a .params .now) (a .rows .now) k (a .e) below))
-          (three _ _ _ _ _ _ _ _ _ _ _ (omega (arith, c .before .before .before .before .before .before .before .before .before .before .before .before .before .before .before .before .before .before .before .before .before .before .pre)) head wrote last),
+          wrote-as _ _ _ _ _ _ (proc-line (T .sig) (a .l .now) x (a .e) (equation T (a .e)) _ _ (small-number T s (a .funcs .now) (a .acts .now) (a .params .now) (a .rows .now) k (a .e) below) sorts n few (small-sorts T s (a .funcs .now) (a .acts .now) (a .params .now) (a .rows .now) k (a .e) below))
+          (three _ _ _ _ _ _ _ _ _ _ _ (omega (arith, c .before .before .before .before .before .before .before .before .before .before .before .before .before .before .before .before .before .before .before .before .before .before .before .pre)) head wrote last),
     )
 
 pub put-proc-spec : {M : Type 1} → statement M
