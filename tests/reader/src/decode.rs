@@ -1,16 +1,17 @@
-//! Reading the stream of a table (question 14): within all limits, rightly sorted. `None` is a
-//! stream of no table.
+//! Reading the stream of a table (question 14), of either layout: within all limits, rightly sorted.
+//! `None` is a stream of no table.
 
+use crate::layout::{name_older, Layout};
 use crate::limits;
-use crate::signature::{Action, Data, Function, Signature, BOOL, BOOL_NAME, BOOL_SIZE};
-use crate::stream::TAU;
+use crate::signature::{Action, Data, Function, Signature, Sort, BOOL, BOOL_NAME, BOOL_SIZE};
+use crate::stream::{NAMED, TAU};
 use crate::table::{Call, Condition, Equation, Summand, Table};
 use crate::token::is_name;
 
 /// The table at the start of the bytes, and how many bytes it takes.
 pub fn decode(bytes: &[u8]) -> Option<(Table, usize)> {
     let mut reader = Reader { bytes };
-    let signature = reader.signature()?;
+    let (layout, signature) = reader.signature()?;
     let parameters = reader.parameter_lists(&signature)?;
     let rows = Rows {
         signature: &signature,
@@ -20,10 +21,11 @@ pub fn decode(bytes: &[u8]) -> Option<(Table, usize)> {
     let start = reader.index(equations.len())?;
     let mut start_values = Vec::new();
     for &sort in &parameters[start] {
-        start_values.push(reader.value_below(signature.sorts[sort])?);
+        start_values.push(reader.value_below(signature.size(sort))?);
     }
     let length = bytes.len() - reader.bytes.len();
     let table = Table {
+        layout,
         signature,
         equations,
         start,
@@ -65,9 +67,10 @@ impl Reader<'_> {
         (0..count).map(|_| self.index(sorts)).collect()
     }
 
-    fn signature(&mut self) -> Option<Signature> {
+    fn signature(&mut self) -> Option<(Layout, Signature)> {
+        let layout = self.layout()?;
         let mut signature = Signature {
-            sorts: self.sorts()?,
+            sorts: self.sorts(layout)?,
             functions: Vec::new(),
             actions: Vec::new(),
         };
@@ -79,20 +82,50 @@ impl Reader<'_> {
             let action = self.action(&signature)?;
             signature.actions.push(action);
         }
-        Some(signature)
+        if layout == Layout::Older {
+            name_older(&mut signature);
+        }
+        Some((layout, signature))
     }
 
-    fn sorts(&mut self) -> Option<Vec<u8>> {
-        let count = self.count(1, limits::SORTS)?;
-        let sizes: Vec<u8> = (0..count).map(|_| self.byte()).collect::<Option<_>>()?;
-        let right = sizes.iter().all(|s| (1..=limits::SORT_SIZE).contains(s));
-        (right && sizes[BOOL] == BOOL_SIZE).then_some(sizes)
+    /// The first byte says it, and is passed where it is hex F2.
+    fn layout(&mut self) -> Option<Layout> {
+        if *self.bytes.first()? != NAMED {
+            return Some(Layout::Older);
+        }
+        self.byte().map(|_| Layout::Named)
+    }
+
+    /// Bool of size 2 is first; sort names are valid and distinct. In the earlier layout none stands
+    /// here.
+    fn sorts(&mut self, layout: Layout) -> Option<Vec<Sort>> {
+        let mut sorts: Vec<Sort> = Vec::new();
+        for _ in 0..self.count(1, limits::SORTS)? {
+            let size = self.count(1, limits::SORT_SIZE.into())? as u8;
+            let name = match layout {
+                Layout::Named => self.name()?,
+                Layout::Older => String::new(),
+            };
+            if layout == Layout::Named && sorts.iter().any(|sort| sort.name == name) {
+                return None;
+            }
+            sorts.push(Sort { name, size });
+        }
+        let first_named = layout == Layout::Older || sorts[BOOL].name == BOOL_NAME;
+        (first_named && sorts[BOOL].size == BOOL_SIZE).then_some(sorts)
+    }
+
+    /// Name length and a name that is valid by the token rule.
+    fn name(&mut self) -> Option<String> {
+        let length = self.count(1, limits::NAME_LENGTH)?;
+        let bytes = (0..length).map(|_| self.byte()).collect::<Option<_>>()?;
+        String::from_utf8(bytes).ok().filter(|name| is_name(name))
     }
 
     fn function(&mut self, signature: &Signature) -> Option<Function> {
         let arguments = self.sort_list(1, limits::ARITY, signature.sorts.len())?;
         let result = self.index(signature.sorts.len())?;
-        let size = signature.sorts[result];
+        let size = signature.size(result);
         let values = (0..signature.combinations(&arguments))
             .map(|_| self.value_below(size))
             .collect::<Option<_>>()?;
@@ -105,11 +138,9 @@ impl Reader<'_> {
 
     /// Action names are distinct, valid by the token rule, and none is Bool.
     fn action(&mut self, signature: &Signature) -> Option<Action> {
-        let length = self.count(1, limits::NAME_LENGTH)?;
-        let bytes = (0..length).map(|_| self.byte()).collect::<Option<_>>()?;
-        let name = String::from_utf8(bytes).ok()?;
+        let name = self.name()?;
         let known = signature.actions.iter().any(|action| action.name == name);
-        if known || !is_name(&name) || name == BOOL_NAME {
+        if known || name == BOOL_NAME {
             return None;
         }
         let arguments = self.sort_list(0, limits::ARITY, signature.sorts.len())?;

@@ -43,7 +43,7 @@ impl Term<'_> {
         self.nodes_left = self.nodes_left.checked_sub(1)?;
         match reader.byte()? {
             value @ ..VARIABLE => {
-                let size = self.rows.signature.sorts[sort];
+                let size = self.rows.signature.size(sort);
                 (value < size).then_some(Data::Value(value))
             }
             variable @ VARIABLE..FUNCTION => {

@@ -1,4 +1,4 @@
-//! A reader of the rules of document 01, with the changes #101 and #102 of document 02, written
+//! A reader of the rules of document 01, with the changes #101, #102 and #104 of document 02, written
 //! apart from the proved library: sheets, linear tables, table files, stacks, closed terms and
 //! equality to n steps.
 
@@ -16,6 +16,7 @@ mod equations;
 mod file;
 mod heads;
 mod hex;
+mod layout;
 pub mod limits;
 mod linear;
 mod names;
@@ -44,6 +45,7 @@ pub use blocks::{crc16, from_blocks, to_blocks};
 pub use check::check_sheet;
 pub use file::{encode_file, make_table, make_table_within, read_table};
 pub use hex::{from_hex, to_hex};
+pub use layout::Layout;
 pub use linear::linear_table;
 pub use print::{print_table, print_table_within, printed};
 pub use question::Refusal;

@@ -3,6 +3,7 @@
 use crate::count::HeadCounts;
 use crate::equations::{self, Body, Equations};
 use crate::heads::heads;
+use crate::layout::Layout;
 use crate::limits;
 use crate::question::{self, put, Refusal};
 use crate::sheet::Sheet;
@@ -23,6 +24,7 @@ pub fn linear_table(sheet: &Sheet) -> Result<Table, Refusal> {
         });
     }
     let table = Table {
+        layout: Layout::Named,
         signature: sheet.signature.clone(),
         equations: rows,
         start: sheet.start,

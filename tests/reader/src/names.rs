@@ -4,7 +4,7 @@ use std::collections::HashMap;
 
 use crate::data::NO_SORT;
 use crate::sheet::{Choice, Conditional, Part, PartKind, Process, Sequence, Sheet};
-use crate::signature::{Action, Data, Function, Signature, BOOL, BOOL_NAME, BOOL_SIZE};
+use crate::signature::{Action, Data, Function, Signature, Sort, BOOL, BOOL_NAME};
 use crate::sorts::own_sort;
 use crate::syntax;
 
@@ -82,8 +82,9 @@ impl Names {
     }
 
     fn signature(&self, sheet: &syntax::Sheet) -> Option<Signature> {
-        let sizes = sheet.sorts.iter().map(|&(_, size)| size);
-        let sorts = [BOOL_SIZE].into_iter().chain(sizes).collect();
+        let written = sheet.sorts.iter();
+        let written = written.map(|&(name, size)| Sort::new(name, size));
+        let sorts = [Sort::bool()].into_iter().chain(written).collect();
         let mut functions = Vec::new();
         for function in &sheet.functions {
             functions.push(Function {

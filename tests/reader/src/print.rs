@@ -1,10 +1,12 @@
-//! A table printed as a sheet (question 17): names by index, and the fewest blanks and brackets.
+//! A table printed as a sheet (question 17): sorts and actions by their names, all else by letter and
+//! index, with the fewest blanks and brackets.
 
 use crate::check::check_written;
 use crate::file::read_table;
+use crate::layout::run_of;
 use crate::limits::SHEET_BYTES;
 use crate::question::{self, put, Refusal};
-use crate::signature::{Signature, BOOL, BOOL_NAME};
+use crate::signature::{Signature, BOOL};
 use crate::table::{Call, Condition, Equation, Summand, Table};
 
 /// The sheet of a table file, written to an output that is always long enough.
@@ -22,10 +24,13 @@ pub fn print_table_within(file: &[u8], lent: usize) -> Result<String, Refusal> {
 
 /// The text of a table, whether or not it is a sheet.
 pub fn printed(table: &Table) -> String {
-    let run = |letter| run_of(letter, &table.signature);
+    let signature = &table.signature;
+    let sorts = signature.sorts.iter().map(|sort| &sort.name[..]);
+    let actions = signature.actions.iter().map(|action| &action.name[..]);
+    let taken: Vec<&str> = sorts.chain(actions).collect();
+    let run = |letter| run_of(letter, &taken);
     let mut printer = Printer {
-        signature: &table.signature,
-        sorts: run("s"),
+        signature,
         functions: run("f"),
         processes: run("p"),
         variables: run("v"),
@@ -33,16 +38,6 @@ pub fn printed(table: &Table) -> String {
     };
     printer.sheet(table);
     printer.text.whole
-}
-
-/// The letter as few times, at least once, as leave no action name beginning with that run.
-fn run_of(letter: &str, signature: &Signature) -> String {
-    let mut run = letter.to_string();
-    let begins = |run: &str| signature.actions.iter().any(|a| a.name.starts_with(run));
-    while begins(&run) {
-        run += letter;
-    }
-    run
 }
 
 /// A text that grows by tokens.
@@ -75,10 +70,10 @@ fn merge(token: &str, next: &str) -> bool {
     }
 }
 
-/// What stands before the index of a sort, a function, a process and a variable; and the text so far.
+/// What stands before the index of a function, a process and a variable, which no sort's and no
+/// action's name begins with; and the text so far.
 pub(crate) struct Printer<'t> {
     signature: &'t Signature,
-    sorts: String,
     functions: String,
     processes: String,
     variables: String,
@@ -91,11 +86,7 @@ impl Printer<'_> {
     }
 
     fn sort(&mut self, index: usize) {
-        if index == BOOL {
-            self.tokens(&[BOOL_NAME]);
-        } else {
-            self.tokens(&[&format!("{}{index}", self.sorts)]);
-        }
+        self.tokens(&[&self.signature.sorts[index].name]);
     }
 
     pub(crate) fn function(&mut self, index: usize) {
@@ -155,10 +146,8 @@ impl Printer<'_> {
 
     fn declarations(&mut self) {
         let signature = self.signature;
-        for (index, size) in signature.sorts.iter().enumerate().skip(BOOL + 1) {
-            self.tokens(&["sort"]);
-            self.sort(index);
-            self.tokens(&[&size.to_string(), ";"]);
+        for sort in &signature.sorts[BOOL + 1..] {
+            self.tokens(&["sort", &sort.name, &sort.size.to_string(), ";"]);
         }
         for (index, function) in signature.functions.iter().enumerate() {
             self.tokens(&["func"]);

@@ -113,7 +113,7 @@ impl<'t> Search<'t> {
     /// The size of the next variable's sort, if one is left.
     fn next_size(&self) -> Option<u8> {
         let sort = *self.summand.variables.get(self.known())?;
-        Some(self.table.signature.sorts[sort])
+        Some(self.table.signature.size(sort))
     }
 
     /// Whether the conditions hold that the last known variable has decided.

@@ -1,6 +1,7 @@
-//! Sorts, functions and actions, which a sheet and its table share, and the values of data over them.
+//! Sorts, functions and actions, which a sheet and its table share, the values of data over them, and labels.
 
 pub use crate::data::{all_variables, Data, Joint};
+use crate::transitions::Label;
 
 /// The index of Bool among the sorts; Bool is always there first.
 pub const BOOL: usize = 0;
@@ -8,6 +9,28 @@ pub const BOOL: usize = 0;
 pub const BOOL_NAME: &str = "Bool";
 /// The size of Bool: 0 false, 1 true.
 pub const BOOL_SIZE: u8 = 2;
+
+/// A sort: its name, and how many values it has.
+#[derive(Clone, Debug, PartialEq, Eq)]
+pub struct Sort {
+    /// The name, as the labels bear it.
+    pub name: String,
+    /// The values are 0 to size - 1.
+    pub size: u8,
+}
+
+impl Sort {
+    /// The sort of this name and size.
+    pub fn new(name: &str, size: u8) -> Self {
+        let name = name.to_string();
+        Sort { name, size }
+    }
+
+    /// Bool, which is always there first.
+    pub fn bool() -> Self {
+        Sort::new(BOOL_NAME, BOOL_SIZE)
+    }
+}
 
 /// A function: argument sorts, result sort, and its values, last argument fastest.
 #[derive(Clone, Debug, PartialEq, Eq)]
@@ -29,11 +52,11 @@ pub struct Action {
     pub arguments: Vec<usize>,
 }
 
-/// The sorts' sizes (Bool first), the functions and the actions.
+/// The sorts (Bool first), the functions and the actions.
 #[derive(Clone, Debug, PartialEq, Eq)]
 pub struct Signature {
-    /// Size of each sort; Bool, of size 2, is first.
-    pub sorts: Vec<u8>,
+    /// The sorts; Bool, of size 2, is first.
+    pub sorts: Vec<Sort>,
     /// The functions.
     pub functions: Vec<Function>,
     /// The actions.
@@ -41,11 +64,27 @@ pub struct Signature {
 }
 
 impl Signature {
+    /// How many values a sort has.
+    pub fn size(&self, sort: usize) -> u8 {
+        self.sorts[sort].size
+    }
+
+    /// The label of an action with these values: its name, the names of its sorts, and the values.
+    pub fn label(&self, action: usize, values: Vec<u8>) -> Label {
+        let Action { name, arguments } = &self.actions[action];
+        let sorts = arguments.iter().map(|&sort| self.sorts[sort].name.clone());
+        Label::Action {
+            name: name.clone(),
+            sorts: sorts.collect(),
+            values,
+        }
+    }
+
     /// The number of values that a function of these argument sorts has.
     pub fn combinations(&self, arguments: &[usize]) -> usize {
         arguments
             .iter()
-            .map(|&sort| usize::from(self.sorts[sort]))
+            .map(|&sort| usize::from(self.size(sort)))
             .product()
     }
 
@@ -57,7 +96,7 @@ impl Signature {
             ..
         } = &self.functions[function];
         let place = sorts.iter().zip(arguments).fold(0, |place, (&sort, &v)| {
-            place * usize::from(self.sorts[sort]) + usize::from(v)
+            place * usize::from(self.size(sort)) + usize::from(v)
         });
         values[place]
     }

@@ -21,7 +21,7 @@ pub fn closed_choice_well_sorted(sheet: &Sheet, choice: &Choice) -> bool {
 
 /// Function values complete and in range.
 fn values_right(signature: &Signature, function: &Function) -> bool {
-    let size = signature.sorts[function.result];
+    let size = signature.size(function.result);
     function.values.len() == signature.combinations(&function.arguments)
         && function.values.iter().all(|&value| value < size)
 }
@@ -29,7 +29,7 @@ fn values_right(signature: &Signature, function: &Function) -> bool {
 /// Whether data has this sort when its variables have the sorts given.
 fn data_has_sort(signature: &Signature, variables: &[usize], data: &Data, sort: usize) -> bool {
     match data {
-        Data::Value(value) => *value < signature.sorts[sort],
+        Data::Value(value) => *value < signature.size(sort),
         Data::Variable(index) => variables[*index] == sort,
         Data::Apply(function, arguments) => {
             let function = &signature.functions[*function];

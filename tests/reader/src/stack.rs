@@ -122,6 +122,6 @@ pub fn frame_right(table: &Table, frame: &Frame) -> bool {
     };
     let sorts = &equation.parameters;
     let (values, spare) = frame.values.split_at(sorts.len());
-    let in_sort = |(&value, &sort): (&u8, &usize)| value < table.signature.sorts[sort];
+    let in_sort = |(&value, &sort): (&u8, &usize)| value < table.signature.size(sort);
     values.iter().zip(sorts).all(in_sort) && spare.iter().all(|&value| value == 0)
 }

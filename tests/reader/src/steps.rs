@@ -55,10 +55,7 @@ fn successor(
     let signature = &table.signature;
     let label = match summand.action {
         None => Label::Tau,
-        Some(action) => Label::Action(
-            signature.actions[action].name.clone(),
-            signature.values(&summand.arguments, values),
-        ),
+        Some(action) => signature.label(action, signature.values(&summand.arguments, values)),
     };
     let calls = summand.calls.iter().rev();
     let frames =

@@ -1,10 +1,13 @@
-//! The stream of a table, one byte a number. All parameter lists stand before all summands, so
-//! that a call's data can be read without a count.
+//! The stream of a table, one byte a number, in the table's layout. All parameter lists stand before
+//! all summands, so that a call's data can be read without a count.
 
 use crate::data::{Data, Joint};
-use crate::signature::Signature;
+use crate::layout::Layout;
+use crate::signature::{Signature, Sort};
 use crate::table::{Equation, Summand, Table};
 
+/// The first byte of a stream that names its sorts (#104).
+pub const NAMED: u8 = 0xf2;
 /// The action byte of tau.
 pub const TAU: u8 = 0xff;
 /// Variable i is this plus i.
@@ -23,7 +26,8 @@ pub const OR: u8 = 0x63;
 /// The stream of a table.
 pub fn encode(table: &Table) -> Vec<u8> {
     let mut stream = Vec::new();
-    signature(&table.signature, &mut stream);
+    sorts(table.layout, &table.signature.sorts, &mut stream);
+    declared(&table.signature, &mut stream);
     number(table.equations.len(), &mut stream);
     for equation in &table.equations {
         list(&equation.parameters, &mut stream);
@@ -46,9 +50,28 @@ fn list(numbers: &[usize], stream: &mut Vec<u8>) {
     numbers.iter().for_each(|&n| number(n, stream));
 }
 
-fn signature(signature: &Signature, stream: &mut Vec<u8>) {
-    number(signature.sorts.len(), stream);
-    stream.extend_from_slice(&signature.sorts);
+/// Count and sizes; with hex F2 before them, each size has its sort's name behind it.
+fn sorts(layout: Layout, sorts: &[Sort], stream: &mut Vec<u8>) {
+    if layout == Layout::Named {
+        stream.push(NAMED);
+    }
+    number(sorts.len(), stream);
+    for sort in sorts {
+        stream.push(sort.size);
+        if layout == Layout::Named {
+            name(&sort.name, stream);
+        }
+    }
+}
+
+/// Name length, name.
+fn name(name: &str, stream: &mut Vec<u8>) {
+    number(name.len(), stream);
+    stream.extend_from_slice(name.as_bytes());
+}
+
+/// Functions and actions.
+fn declared(signature: &Signature, stream: &mut Vec<u8>) {
     number(signature.functions.len(), stream);
     for function in &signature.functions {
         list(&function.arguments, stream);
@@ -57,8 +80,7 @@ fn signature(signature: &Signature, stream: &mut Vec<u8>) {
     }
     number(signature.actions.len(), stream);
     for action in &signature.actions {
-        number(action.name.len(), stream);
-        stream.extend_from_slice(action.name.as_bytes());
+        name(&action.name, stream);
         list(&action.arguments, stream);
     }
 }

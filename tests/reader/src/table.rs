@@ -1,11 +1,14 @@
 //! The linear table: per equation, the heads of its right side as summands.
 
+use crate::layout::Layout;
 use crate::signature::{Data, Signature};
 use crate::stack::Frame;
 
 /// A table within all limits and rightly sorted.
 #[derive(Clone, Debug, PartialEq, Eq)]
 pub struct Table {
+    /// How its stream gives the sorts.
+    pub layout: Layout,
     /// Sorts, functions and actions.
     pub signature: Signature,
     /// The equations, written ones first where the table comes from a sheet.

@@ -114,9 +114,9 @@ impl<'s> Terms<'s> {
             PartKind::Delta => {}
             PartKind::Tau => steps.push((Label::Tau, Term { parts: vec![] })),
             PartKind::Action(action, data) => {
-                let name = self.sheet.signature.actions[*action].name.clone();
                 let values = self.sheet.signature.values(data, &[]);
-                steps.push((Label::Action(name, values), Term { parts: vec![] }));
+                let label = self.sheet.signature.label(*action, values);
+                steps.push((label, Term { parts: vec![] }));
             }
             PartKind::Call(process, data) => {
                 let values = self.sheet.signature.values(data, &[]);
@@ -130,7 +130,7 @@ impl<'s> Terms<'s> {
                 body,
             } => {
                 let mut known = vec![None; variable + 1];
-                for value in 0..self.sheet.signature.sorts[*sort] {
+                for value in 0..self.sheet.signature.size(*sort) {
                     known[*variable] = Some(value);
                     self.choice_steps(&self.put(&known).choice(body), steps);
                 }

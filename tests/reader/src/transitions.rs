@@ -4,21 +4,28 @@ use std::collections::HashMap;
 use std::fmt;
 use std::hash::Hash;
 
-/// A label is the action's name and values; tau is a label.
+/// A label is the action's name, the names of its sorts and its values (#104); tau is a label.
 #[derive(Clone, Debug, PartialEq, Eq, Hash, PartialOrd, Ord)]
 pub enum Label {
     /// Tau.
     Tau,
-    /// An action's name and values.
-    Action(String, Vec<u8>),
+    /// An action's.
+    Action {
+        /// Its name.
+        name: String,
+        /// The names of its sorts.
+        sorts: Vec<String>,
+        /// A value of each sort.
+        values: Vec<u8>,
+    },
 }
 
 impl fmt::Display for Label {
-    /// Name, bracketed values by commas, no blanks; tau as `tau`.
+    /// As the walk prints it: name, bracketed values by commas, no blanks; tau as `tau`.
     fn fmt(&self, f: &mut fmt::Formatter<'_>) -> fmt::Result {
         let (name, values) = match self {
             Label::Tau => return f.write_str("tau"),
-            Label::Action(name, values) => (name, values),
+            Label::Action { name, values, .. } => (name, values),
         };
         f.write_str(name)?;
         for (index, value) in values.iter().enumerate() {

@@ -3,8 +3,8 @@
 
 mod common;
 
-use common::{table, vectors};
-use reader::signature::{Action, Data, Function};
+use common::{sort_sections, table, vectors};
+use reader::signature::{Action, Data, Function, Sort};
 use reader::table::{Call, Condition, Equation, Summand, Table};
 use reader::{crc16, encode_file, from_blocks, read_table, to_blocks};
 
@@ -19,14 +19,21 @@ fn verdict(table: &Table) -> u8 {
     }
 }
 
-/// The verdict on a table with this change.
+/// The verdict on a table with this change, in both layouts.
 fn changed(change: impl Fn(&mut Table)) -> u8 {
+    let table = table_with(change);
+    let answer = verdict(&table);
+    assert_eq!(verdict(&table.older()), answer);
+    answer
+}
+
+fn table_with(change: impl Fn(&mut Table)) -> Table {
     let mut table = table(
         "sort D 3;func f:D->Bool=0,1,1;func g:Bool#D->D=0,1,2,2,1,0;act a:D;act b;\
          proc X(p:D)=sum(q:D,a(g(f(p),q)).X(p).b<|f(q)|>tau);init X(2);",
     );
     change(&mut table);
-    verdict(&table)
+    table
 }
 
 fn summand(table: &mut Table) -> &mut Summand {
@@ -110,11 +117,14 @@ fn thirteen_is_put_to_all_blocks_before_fourteen() {
 
 #[test]
 fn sorts_and_functions() {
-    let sorts = |count: usize| changed(move |t| t.signature.sorts.resize(count, 1));
+    let sorts = |count: usize| {
+        let more = (2..count).map(|i| Sort::new(&format!("E{i}"), 1));
+        changed(move |t| t.signature.sorts.extend(more.clone()))
+    };
     assert_eq!([sorts(8), sorts(9)], [0, 14]);
-    let size = |size: u8| changed(move |t| t.signature.sorts.push(size));
+    let size = |size: u8| changed(move |t| t.signature.sorts.push(Sort::new("E", size)));
     assert_eq!([0, 1, 16, 17].map(size), [14, 0, 0, 14]);
-    assert_eq!(changed(|t| t.signature.sorts[0] = 3), 14);
+    assert_eq!(changed(|t| t.signature.sorts[0].size = 3), 14);
     let function = |arguments: Vec<usize>, result, values: Vec<u8>| {
         changed(move |t| {
             t.signature.functions.push(Function {
@@ -137,6 +147,39 @@ fn sorts_and_functions() {
         })
     };
     assert_eq!([functions(16), functions(17)], [0, 14]);
+}
+
+#[test]
+fn names_of_sorts() {
+    let name = |name: &str| verdict(&table_with(|t| t.signature.sorts.push(Sort::new(name, 2))));
+    let right = ["E", "bool", "c_", "sum1", "a", "s1", "nnnnnnnnnnnnnnnn"];
+    assert_eq!(right.map(name), [0; 7]);
+    let wrong = [
+        "D",
+        "Bool",
+        "",
+        "_c",
+        "1c",
+        "c-",
+        "sort",
+        "nnnnnnnnnnnnnnnnn",
+    ];
+    assert_eq!(wrong.map(name), [14; 8]);
+    let first = |name: &str| verdict(&table_with(|t| t.signature.sorts[0].name = name.into()));
+    assert_eq!(["Bool", "bool", "E", "D"].map(first), [0, 14, 14, 14]);
+}
+
+#[test]
+fn sort_sections_damaged_and_right() {
+    for stream in sort_sections::damaged() {
+        let answer = read_table(&to_blocks(&stream.bytes));
+        assert_eq!(answer, Err(14), "{}", stream.what);
+    }
+    for stream in sort_sections::right() {
+        let file = to_blocks(&stream.bytes);
+        let table = read_table(&file).expect(&stream.what);
+        assert_eq!(encode_file(&table), file, "{}", stream.what);
+    }
 }
 
 #[test]
@@ -283,7 +326,7 @@ fn the_rest_is_zeros_in_the_fewest_blocks() {
 #[test]
 fn a_changed_stream_is_refused_or_the_stream_of_another_table() {
     let (mut refused, mut read) = (0, 0);
-    for case in vectors("tables.jsonl").iter().step_by(9) {
+    for case in vectors::of("tables").iter().step_by(9) {
         let file = case.bytes("file");
         if case.text("answer") != "ok" || file.len() > 512 {
             continue;

@@ -14,12 +14,13 @@ use reader::{Answer, Frame, Label, Sheet, Table, Term, Terms, Transitions};
 const SEEDS: u64 = 5000;
 const STACKS: usize = 40;
 
-/// Every accepted sheet of the seeds, half of them with operators, with its table.
+/// Every accepted sheet of the seeds, with operators or names of many kinds or neither, with its table.
 fn accepted(seeds: u64) -> Vec<(String, Sheet, Table)> {
     let mut found = Vec::new();
     for seed in 0..seeds {
-        let text = match seed % 2 {
+        let text = match seed % 4 {
             0 => generate::sheet(seed),
+            1 => generate::with_names(seed),
             _ => generate::with_operators(seed),
         };
         let sheet = check_sheet(text.as_bytes()).unwrap_or_else(|n| panic!("{n}: {text}"));
@@ -133,6 +134,25 @@ fn files_are_read_as_the_tables_written() {
         let file = make_table(text.as_bytes()).unwrap();
         assert_eq!(encode_file(&table), file);
         assert_eq!(read_table(&file), Ok(table));
+    }
+}
+
+/// In the earlier layout a table has the same steps, but for the names of sorts.
+#[test]
+fn earlier_files_step_as_the_tables_written() {
+    for (text, _, table) in accepted(SEEDS) {
+        let older = read_table(&encode_file(&table.older())).expect(&text);
+        assert_eq!(older, table.older());
+        for stack in reached(&table, 5) {
+            let shown = |table: &Table| {
+                let steps = all_steps(table, &stack).into_iter();
+                let shown: Vec<_> = steps
+                    .map(|(label, next)| (label.to_string(), next))
+                    .collect();
+                shown
+            };
+            assert_eq!(shown(&older), shown(&table), "{text}");
+        }
     }
 }
 

@@ -27,7 +27,7 @@ fn answer(text: &[u8]) -> usize {
 fn every_mutant_gets_one_answer() {
     let mut random = Random::new(11);
     let mut verdicts = [0; 12];
-    for case in vectors("sheets.jsonl") {
+    for case in vectors::of("sheets") {
         let sheet = case.bytes("sheet");
         for _ in 0..8 {
             verdicts[answer(&mutant(&mut random, &sheet))] += 1;

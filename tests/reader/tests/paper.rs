@@ -1,14 +1,10 @@
-//! Every example of document 01: the worked stream, the printed walk, the check value, the sheets
+//! Every example of document 01, with #104's labels and hex F2: the worked stream, the printed walk, the check value, the sheets
 //! on the shelf, and the readings that look natural.
 
 mod common;
 
-use common::{lent, stream, table, verdict};
-use reader::{all_steps, ask_table, equal_to, Answer, Frame, Label, Terms};
-
-fn label(name: &str, values: &[u8]) -> Label {
-    Label::Action(name.to_string(), values.to_vec())
-}
+use common::{label, lent, stream, table, verdict};
+use reader::{all_steps, ask_table, equal_to, Answer, Frame, Terms};
 
 #[test]
 fn check_value() {
@@ -17,14 +13,14 @@ fn check_value() {
 
 #[test]
 fn worked_stream() {
-    let hex = "01020001016100010001000000010000";
+    let hex = "f2010204426f6f6c0001016100010001000000010000";
     let sheet = "act a;proc X=a.X;init X;";
     assert_eq!(reader::to_hex(&stream(sheet)), hex);
     let file = reader::make_table(sheet.as_bytes()).unwrap();
     assert_eq!(file.len(), 512);
     assert_eq!(file[..4], [0, 0, 1, 0]);
-    assert_eq!(reader::to_hex(&file[4..20]), hex);
-    assert!(file[20..510].iter().all(|&byte| byte == 0));
+    assert_eq!(reader::to_hex(&file[4..26]), hex);
+    assert!(file[26..510].iter().all(|&byte| byte == 0));
     assert_eq!(file[510..], reader::crc16(&file[..510]).to_be_bytes());
 }
 
@@ -47,7 +43,7 @@ fn refused_sheets_on_the_shelf() {
 fn delta_has_no_summand_and_is_stuck() {
     let sheet = "proc X=delta;init X;";
     assert_eq!(table(sheet).equations[0].summands, []);
-    assert_eq!(stream(sheet), [1, 2, 0, 0, 1, 0, 0, 0]);
+    assert_eq!(stream(sheet)[8..], [0, 0, 1, 0, 0, 0]);
     assert_eq!(reader::walk(sheet.as_bytes()), "stuck\n");
 }
 
@@ -55,8 +51,8 @@ fn delta_has_no_summand_and_is_stuck() {
 fn a_to_depth_one_and_a_to_ended() {
     let table = table("act a;act b;proc X=a.b+a;init X;");
     let steps = all_steps(&table, &table.start_stack());
-    let to_b = (label("a", &[]), vec![Frame::new(1, &[])]);
-    let to_end = (label("a", &[]), vec![]);
+    let to_b = (label("a", &[], &[]), vec![Frame::new(1, &[])]);
+    let to_end = (label("a", &[], &[]), vec![]);
     assert_eq!(steps, [to_b, to_end]);
 }
 
@@ -76,7 +72,7 @@ fn a_sum_steps_by_each_value() {
     let sheet = "sort D 3;act a:D;proc X=sum(d:D,a(d));init X;";
     let table = table(sheet);
     let steps = all_steps(&table, &table.start_stack());
-    let wanted = [0, 1, 2].map(|value| (label("a", &[value]), vec![]));
+    let wanted = [0, 1, 2].map(|value| (label("a", &["D"], &[value]), vec![]));
     assert_eq!(steps, wanted);
     assert_eq!(verdict(&sheet.replace("a(d)", "a(3)")), 8);
 }
@@ -86,7 +82,7 @@ fn depth_63_steps_to_64_and_depth_64_gets_16() {
     let table = table("act a;proc X=a.X.X;init X;");
     let frames = lent(&[]);
     let step = Answer::Step {
-        label: label("a", &[]),
+        label: label("a", &[], &[]),
         depth: 64,
         frames: frames.clone(),
     };

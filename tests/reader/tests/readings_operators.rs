@@ -28,7 +28,7 @@ fn condition_stream(data: &str) -> String {
         "act a;proc X(d:Bool,e:Bool,g:Bool)=a<|{data}|>delta;init X(0,0,0);"
     ));
     // the bytes before and after the term
-    let (before, after) = (16, 6);
+    let (before, after) = (22, 6);
     reader::to_hex(&stream[before..stream.len() - after])
 }
 

@@ -3,26 +3,46 @@
 mod common;
 
 use common::{repeated, table};
-use reader::{encode_file, print_table, printed};
+use reader::{encode_file, print_table, printed, Table};
 
-/// The text of a sheet's table, and that it is read back.
-fn text(sheet: &str) -> String {
-    let file = encode_file(&table(sheet));
-    let text = print_table(&file).expect(sheet);
-    assert_eq!(reader::make_table(text.as_bytes()), Ok(file), "{text}");
+/// The text of a table, and that it is read back, with the names of its sorts.
+fn text_of(table: &Table) -> String {
+    let text = print_table(&encode_file(table)).expect("a text");
+    let again = reader::make_table(text.as_bytes());
+    assert_eq!(again, Ok(encode_file(&table.renewed())), "{text}");
     text
 }
 
+/// The text of a sheet's table.
+fn text(sheet: &str) -> String {
+    text_of(&table(sheet))
+}
+
+/// The text of a sheet's table in the earlier layout.
+fn older_text(sheet: &str) -> String {
+    text_of(&table(sheet).older())
+}
+
+fn refused_of(table: &Table) {
+    assert_eq!(print_table(&encode_file(table)), Err(17));
+}
+
 fn refused(sheet: &str) {
-    let file = encode_file(&table(sheet));
-    assert_eq!(print_table(&file), Err(17), "{sheet}");
+    refused_of(&table(sheet));
 }
 
 #[test]
-fn the_first_sort_after_bool_has_index_1() {
+fn sorts_keep_their_names() {
+    let sheet = "sort D 3;sort E 1;act a:E#D;proc X(x:D)=sum(e:E,a(e,x));init X(2);";
+    let wanted = "sort D 3;sort E 1;act a:E#D;proc p0(v0:D)=sum(v1:E,a(v1,v0));init p0(2);";
+    assert_eq!(text(sheet), wanted);
+}
+
+#[test]
+fn without_names_the_first_sort_after_bool_has_index_1() {
     let sheet = "sort D 3;sort E 1;act a:E#D;proc X(x:D)=sum(e:E,a(e,x));init X(2);";
     let wanted = "sort s1 3;sort s2 1;act a:s2#s1;proc p0(v0:s1)=sum(v1:s2,a(v1,v0));init p0(2);";
-    assert_eq!(text(sheet), wanted);
+    assert_eq!(older_text(sheet), wanted);
 }
 
 #[test]
@@ -30,7 +50,8 @@ fn each_letter_is_repeated_by_itself() {
     let sheet = "sort D 1;func g:D->Bool=1;act s;act pp;proc X(x:D)=s<|g(x)|>pp;init X(0);";
     let wanted = "sort ss1 1;func f0:ss1->Bool=1;act s;act pp;\
         proc ppp0(v0:ss1)=s<|f0(v0)|>delta+delta<|f0(v0)|>pp;init ppp0(0);";
-    assert_eq!(text(sheet), wanted);
+    assert_eq!(older_text(sheet), wanted);
+    assert_eq!(text(sheet), wanted.replace("ss1", "D"));
 }
 
 #[test]
@@ -75,7 +96,9 @@ fn a_run_that_is_never_printed_does_no_harm() {
     refused(&format!("act {long};proc X=sum(x:Bool,{long});init X;"));
     let sorts = "s".repeat(16);
     text(&format!("act {sorts};proc X={sorts};init X;"));
-    refused(&format!("sort D 1;act {sorts};proc X={sorts};init X;"));
+    let sheet = format!("sort D 1;act {sorts};proc X={sorts};init X;");
+    text(&sheet);
+    refused_of(&table(&sheet).older());
     let functions = "f".repeat(16);
     text(&format!("act {functions};proc X={functions};init X;"));
     refused(&format!(
@@ -126,8 +149,8 @@ fn data_in_more_than_16_brackets_are_refused() {
 fn nothing_is_simplified() {
     let sheet = "sort D 2;func f:D->D=1,0;act a;act b:D;\
         proc X=sum(d:D,a.X)<|1|>delta+a<|0|>a+delta<|0|>a;init X;";
-    let wanted = "sort s1 2;func f0:s1->s1=1,0;act a;act b:s1;\
-        proc p0=sum(v0:s1,a.p0<|1|>delta)+a<|0|>delta+delta<|0|>a+delta<|0|>a;init p0;";
+    let wanted = "sort D 2;func f0:D->D=1,0;act a;act b:D;\
+        proc p0=sum(v0:D,a.p0<|1|>delta)+a<|0|>delta+delta<|0|>a+delta<|0|>a;init p0;";
     assert_eq!(text(sheet), wanted);
 }
 

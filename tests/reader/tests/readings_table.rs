@@ -9,7 +9,7 @@ use reader::signature::Data;
 fn parameter_lists_stand_before_all_summands() {
     let plain = "act a;proc X=a.Y;proc Y=a;init X;";
     let with_data = "act a;proc X=a.Y(0);proc Y(b:Bool)=delta;init X;";
-    let declared = "010200010161000200";
+    let declared = "f2010204426f6f6c00010161000200";
     let plain_stream = format!("{declared}00010000000101010000000000");
     let data_stream = format!("{declared}0100010000000101000000");
     assert_eq!(reader::to_hex(&stream(plain)), plain_stream);
@@ -104,7 +104,7 @@ fn parameters_of_a_new_equation_are_its_free_variables_by_the_text() {
         reader::to_hex(&stream(
             "act a;act b:Bool;proc X(p:Bool,q:Bool)=a.b(q);init X(0,1);"
         )),
-        "010200020161000162010002020000010001000000010121010000012000000001"
+        "f2010204426f6f6c00020161000162010002020000010001000000010121010000012000000001"
     );
 }
 
@@ -113,7 +113,7 @@ fn data_is_put_in_as_written() {
     let sheet = "func f:Bool->Bool=1,0;act b:Bool;\
                  proc X=sum(u:Bool,Y(f(0)))<|f(f(1))|>b(f(1));proc Y(p:Bool)=b(f(p));init X;";
     let wanted = [
-        "0102 010100000100 0101620100",
+        "f2010204426f6f6c 010100000100 0101620100",
         "02 00 0100",
         "02 0100 01 01404001 00404000 00",
         "00 01 00404001 004001 00",
@@ -139,7 +139,7 @@ fn order_of_variables_conditions_and_calls() {
     assert_eq!(tests, [1, 0, 1].map(Data::Value).each_ref());
     let nested = stream("act a;proc X=(a<|0|>a)<|1|>a;init X;");
     let rows = "03 00 02 0101 0100 00 00 00 02 0101 0000 00 00 00 01 0001 00 00 00";
-    assert_eq!(reader::to_hex(&nested[9..]), rows.replace(' ', ""));
+    assert_eq!(reader::to_hex(&nested[15..]), rows.replace(' ', ""));
 }
 
 #[test]

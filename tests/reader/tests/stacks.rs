@@ -2,7 +2,7 @@
 
 mod common;
 
-use common::{lent, table};
+use common::{label, lent, table};
 use reader::{all_steps, ask, ask_list, ask_table, step, Answer, Frame, Table};
 
 const SHEET: &str = "sort D 3;act a:D;act b;proc X(p:D,q:Bool)=sum(d:D,a(d).Y.X(d,q)<|q|>b);\
@@ -87,7 +87,7 @@ fn the_first_call_is_on_top_and_zeros_follow() {
     let below = frame(1, &[]);
     let frames = lent(&[below, frame(0, &[0, 1])]);
     let wanted = Answer::Step {
-        label: reader::Label::Action("a".to_string(), vec![2]),
+        label: label("a", &["D"], &[2]),
         depth: 3,
         frames: lent(&[below, frame(0, &[2, 1]), frame(1, &[])]),
     };

@@ -68,6 +68,32 @@ struct Writer {
 
 const SORT_NAMES: [&str; 3] = ["Bool", "D", "E"];
 
+/// The names that a sheet's sorts and actions have, and those that they may get instead: as long as
+/// can be, runs of the letters of printed names, nearly words. None is one that a sheet has.
+const NAMES: [&str; 5] = ["D", "E", "a0", "a1", "a2"];
+const OTHERS: [&str; 20] = [
+    "Level",
+    "coil_channel",
+    "nnnnnnnnnnnnnnnn",
+    "n_0_9_Z________z",
+    "s",
+    "ss",
+    "s1",
+    "sss_",
+    "set",
+    "sssssssssssssss",
+    "ssssssssssssssss",
+    "f",
+    "ff_",
+    "p",
+    "ppp_",
+    "v",
+    "vv",
+    "Sum",
+    "tau1",
+    "bool",
+];
+
 /// How tightly the operators bind; data without one outside binds tightest.
 const OR: usize = 0;
 const AND: usize = 1;
@@ -101,6 +127,30 @@ pub fn with_operators(seed: u64) -> String {
 pub fn with_heads_and_operators(seed: u64) -> String {
     let operators = true;
     written(seed, Shape { operators, ..HEADS })
+}
+
+/// The sheet of a seed, with operators or without, with other names for its sorts and actions.
+pub fn with_names(seed: u64) -> String {
+    let text = match seed % 2 {
+        0 => sheet(seed),
+        _ => with_operators(seed),
+    };
+    let mut random = Random::new(seed ^ 0xf2);
+    let mut others = OTHERS.to_vec();
+    let new = NAMES.map(|_| others.swap_remove(random.below(others.len())));
+    let in_name = |letter: char| letter.is_ascii_alphanumeric() || letter == '_';
+    let mut renamed = String::new();
+    let mut rest = &text[..];
+    while let Some(place) = rest.find(in_name) {
+        let (front, from) = rest.split_at(place);
+        let (word, behind) =
+            from.split_at(from.find(|letter| !in_name(letter)).unwrap_or(from.len()));
+        let known = NAMES.iter().position(|name| *name == word);
+        renamed += front;
+        renamed += known.map_or(word, |index| new[index]);
+        rest = behind;
+    }
+    renamed + rest
 }
 
 fn written(seed: u64, shape: Shape) -> String {

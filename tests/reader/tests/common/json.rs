@@ -45,6 +45,18 @@ impl Json {
         rows.iter().map(Json::numbers).collect()
     }
 
+    /// A list of texts.
+    pub fn texts(&self, key: &str) -> Vec<String> {
+        let Some(Json::List(items)) = self.get(key) else {
+            panic!("{key}: no list");
+        };
+        let text = |item: &Json| match item {
+            Json::Text(text) => text.clone(),
+            other => panic!("no text: {other:?}"),
+        };
+        items.iter().map(text).collect()
+    }
+
     fn numbers(&self) -> Vec<u64> {
         let Json::List(items) = self else {
             panic!("no list: {self:?}");

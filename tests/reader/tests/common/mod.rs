@@ -9,13 +9,15 @@ pub mod mutate;
 pub mod operators;
 pub mod random;
 pub mod slow;
+pub mod sort_sections;
 pub mod table_limits;
 pub mod tables;
+pub mod vectors;
 pub mod worst;
 
 use std::time::{Duration, Instant};
 
-use reader::{Frame, Table};
+use reader::{Frame, Label, Table};
 
 /// A sheet, what it tries, and the number of the question that it fails, or 0 if it is accepted.
 #[derive(Clone)]
@@ -36,13 +38,6 @@ impl Case {
     }
 }
 
-/// All vectors of a file in `tests/vectors`.
-pub fn vectors(file: &str) -> Vec<json::Json> {
-    let path = format!("{}/../vectors/{file}", env!("CARGO_MANIFEST_DIR"));
-    let text = std::fs::read_to_string(&path).expect(&path);
-    text.lines().map(json::parse).collect()
-}
-
 /// The number of the question that a sheet fails, or 0 if it is accepted.
 pub fn verdict(sheet: &str) -> u8 {
     reader::make_table(sheet.as_bytes()).err().unwrap_or(0)
@@ -57,6 +52,15 @@ pub fn stream(sheet: &str) -> Vec<u8> {
 pub fn table(sheet: &str) -> Table {
     let file = reader::make_table(sheet.as_bytes()).expect(sheet);
     reader::read_table(&file).expect(sheet)
+}
+
+/// The label of an action of this name, with these sorts and values.
+pub fn label(name: &str, sorts: &[&str], values: &[u8]) -> Label {
+    Label::Action {
+        name: name.to_string(),
+        sorts: sorts.iter().map(|sort| sort.to_string()).collect(),
+        values: values.to_vec(),
+    }
 }
 
 /// 64 frames that begin with these.

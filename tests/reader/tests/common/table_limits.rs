@@ -281,11 +281,11 @@ pub fn with_wide_summands(calls: usize, heads: usize, name: &str, more: usize) -
 
 /// A sheet whose stream grows by one byte for each character of an action's name.
 fn long_stream(name: &str) -> String {
-    with_wide_summands(5, 101, name, 142)
+    with_wide_summands(5, 101, name, 140)
 }
 
 /// Characters of the name with which the stream has 64,768 bytes.
-const NAME: usize = 3;
+const NAME: usize = 5;
 
 /// The sheet whose stream has exactly 64,768 bytes.
 pub fn longest_stream() -> String {

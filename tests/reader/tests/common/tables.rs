@@ -1,8 +1,9 @@
 //! Right tables by a seed, made without a sheet: within all limits and rightly sorted.
 
 use reader::limits;
-use reader::signature::{Action, Data, Function, Joint, Signature, BOOL, BOOL_SIZE};
+use reader::signature::{Action, Data, Function, Joint, Signature, Sort, BOOL};
 use reader::table::{Call, Condition, Equation, Summand, Table};
+use reader::Layout;
 
 use super::random::Random;
 
@@ -83,6 +84,22 @@ const PRESSING: [&str; 24] = [
     "vvv_", "Sum", "sums", "tau1", "delta_", "proc0", "initial", "bool", "Boolean",
 ];
 
+/// Names of sorts: plain, nearly words, and such as the earlier layout gives.
+const SORT_NAMES: [&str; 12] = [
+    "D",
+    "E",
+    "Level",
+    "coil_channel",
+    "bool",
+    "Boolean",
+    "sort1",
+    "Tau",
+    "s1",
+    "ss2",
+    "sss1",
+    "s_",
+];
+
 /// The table of a seed.
 pub fn table(seed: u64) -> Table {
     made(seed, false)
@@ -91,6 +108,11 @@ pub fn table(seed: u64) -> Table {
 /// The table of a seed with operators in its data.
 pub fn with_operators(seed: u64) -> Table {
     made(seed, true)
+}
+
+/// The table of a seed as the earlier writer filed it, with or without operators in its data.
+pub fn older(seed: u64) -> Table {
+    made(seed, seed % 2 == 1).older()
 }
 
 fn made(seed: u64, operators: bool) -> Table {
@@ -102,7 +124,9 @@ fn made(seed: u64, operators: bool) -> Table {
         _ => SMALL,
     };
     let mut random = Random::new(seed);
-    let signature = signature(&mut random, &shape);
+    let mut signature = signature(&mut random, &shape);
+    // by numbers of their own, so that all else is as without names
+    name_sorts(&mut Random::new(seed ^ 0xf2), &mut signature);
     let mut maker = Maker {
         random,
         shape,
@@ -114,12 +138,12 @@ fn made(seed: u64, operators: bool) -> Table {
 }
 
 fn signature(random: &mut Random, shape: &Shape) -> Signature {
-    let mut sizes = vec![BOOL_SIZE];
+    let mut sorts = vec![Sort::bool()];
     for _ in 1..1 + random.below(shape.sorts - 1) {
-        sizes.push(1 + random.below(shape.size - 1) as u8);
+        sorts.push(Sort::new("", 1 + random.below(shape.size - 1) as u8));
     }
     let mut signature = Signature {
-        sorts: sizes,
+        sorts,
         functions: Vec::new(),
         actions: Vec::new(),
     };
@@ -137,6 +161,36 @@ fn signature(random: &mut Random, shape: &Shape) -> Signature {
     signature
 }
 
+/// Names all sorts but Bool: valid, distinct, now and then as an action is named.
+fn name_sorts(random: &mut Random, signature: &mut Signature) {
+    for index in BOOL + 1..signature.sorts.len() {
+        let name = loop {
+            let name = sort_name(random, &signature.actions);
+            if signature.sorts[..index]
+                .iter()
+                .all(|sort| sort.name != name)
+            {
+                break name;
+            }
+        };
+        signature.sorts[index].name = name;
+    }
+}
+
+fn sort_name(random: &mut Random, actions: &[Action]) -> String {
+    match random.below(32) {
+        0 if !actions.is_empty() => random.pick(actions).name.clone(),
+        0..4 => pressing_name(random),
+        4..7 => format!(
+            "{:n<1$}",
+            random.pick(&["D", "s", "E9_"]),
+            limits::NAME_LENGTH
+        ),
+        7..20 => random.pick(&SORT_NAMES).to_string(),
+        _ => format!("D{}", random.below(40)),
+    }
+}
+
 /// From so many sorts to two.
 fn some_sorts(random: &mut Random, signature: &Signature, least: usize) -> Vec<usize> {
     let count = least + random.below(limits::ARITY + 1 - least);
@@ -147,7 +201,7 @@ fn some_sorts(random: &mut Random, signature: &Signature, least: usize) -> Vec<u
 fn function(random: &mut Random, signature: &Signature) -> Function {
     let arguments = some_sorts(random, signature, 1);
     let result = random.below(signature.sorts.len());
-    let size = usize::from(signature.sorts[result]);
+    let size = usize::from(signature.size(result));
     let values = (0..signature.combinations(&arguments)).map(|_| random.below(size) as u8);
     Function {
         values: values.collect(),
@@ -156,20 +210,21 @@ fn function(random: &mut Random, signature: &Signature) -> Function {
     }
 }
 
-/// Often a name that presses on a letter: a run of it of any length, with or without a digit behind it.
+/// A name that presses on a letter: a run of it of any length, with or without a digit behind it.
+fn pressing_name(random: &mut Random) -> String {
+    let short = random.below(3) < 2;
+    let times = 1 + random.below(if short { 3 } else { limits::NAME_LENGTH });
+    let run = random.pick(&["s", "f", "p", "v"]).repeat(times);
+    let behind = random.pick(&["", "", "0", "1", "_"]);
+    let name = format!("{run}{behind}");
+    name.chars().take(limits::NAME_LENGTH).collect()
+}
+
+/// Often a name that presses on a letter.
 fn action_name(random: &mut Random) -> String {
     match random.below(4) {
         0 => random.pick(&PRESSING).to_string(),
-        1 => {
-            let short = random.below(3) < 2;
-            let times = 1 + random.below(if short { 3 } else { limits::NAME_LENGTH });
-            let run = random.pick(&["s", "f", "p", "v"]).repeat(times);
-            let behind = random.pick(&["", "", "0", "1", "_"]);
-            format!("{run}{behind}")
-                .chars()
-                .take(limits::NAME_LENGTH)
-                .collect()
-        }
+        1 => pressing_name(random),
         _ => format!(
             "{}{}",
             random.pick(&["a", "b", "read", "Y_"]),
@@ -203,6 +258,7 @@ impl Maker {
         let sorts = self.parameters[start].clone();
         let start_values = sorts.iter().map(|&sort| self.value(sort)).collect();
         let mut table = Table {
+            layout: Layout::Named,
             signature: self.signature.clone(),
             equations,
             start,
@@ -218,7 +274,7 @@ impl Maker {
     }
 
     fn value(&mut self, sort: usize) -> u8 {
-        self.random.below(usize::from(self.signature.sorts[sort])) as u8
+        self.random.below(usize::from(self.signature.size(sort))) as u8
     }
 
     fn equation(&mut self, index: usize, left: &mut usize) -> Equation {
