@@ -67,10 +67,11 @@ static void print(const wizbratel_answer *answer) {
         puts(answer->kind == WIZBRATEL_ENDED ? "ended" : answer->kind == WIZBRATEL_NONE ? "no such step" : "too deep");
         return;
     }
-    printf("%s", answer->name);
-    for (int i = 0; i < answer->value_count; i++)
-        printf("%c%d", i ? ',' : '(', answer->values[i]);
-    printf("%s, depth %d\n", answer->value_count ? ")" : "", answer->depth);
+    const wizbratel_label *label = &answer->label;
+    printf("%s", label->name);
+    for (int i = 0; i < label->value_count; i++)
+        printf("%c%d", i ? ',' : '(', label->values[i]);
+    printf("%s, depth %d\n", label->value_count ? ")" : "", answer->depth);
 }
 
 /* Asks for step k, which moves the stack. A step too deep for a stack is answered as a list would answer it. */

@@ -60,14 +60,16 @@ extern "C" {
 /* Of a table file: */
 #define WIZBRATEL_Q_FILE_LENGTH 12 /* Is it 512 to 65,536 bytes long, a multiple of 512? */
 #define WIZBRATEL_Q_BLOCK 13       /* Are each block's number, block count and check right? */
-#define WIZBRATEL_Q_STREAM 14      /* Do the blocks hold a right table, within all limits, and zeros behind it? */
+#define WIZBRATEL_Q_STREAM 14      /* Do the blocks hold a right table, within all limits, and zeros behind it? Its
+                                    * stream names its sorts (it begins with hex F2), or is of the earlier layout. */
 
 /* Of a stack: */
 #define WIZBRATEL_Q_FRAMES 15   /* 64 frames, depth 0 to 64, used frames right for this table, all else zero? */
 #define WIZBRATEL_Q_TOO_DEEP 16 /* Are there at most 64 frames after the step? */
 
 /* Of a table that is printed, after 14 and before 11: */
-#define WIZBRATEL_Q_PRINTED 17 /* Does its text pass 1 to 8? Tables of more than 16 equations never do. */
+#define WIZBRATEL_Q_PRINTED 17 /* Does its text pass 1 to 8? Tables of more than 16 equations never do, nor those in
+                                * which a sort has an action's name. */
 
 /* A frame: an equation and the values of its parameters, spare ones 0. Of the lent frames the first
  * `depth` are used, the top one last; the others are zero. */
@@ -76,20 +78,36 @@ typedef struct {
     uint8_t values[4];
 } wizbratel_frame;
 
+/* The name of a sort, 20 bytes. In a table of the earlier layout a sort but Bool is called by the letter s, repeated until
+ * no action's name begins with that run, and its number: up to 18 characters. */
+typedef struct {
+    uint8_t length; /* byte 0: 1 to 18; 0 where there is no sort */
+    char name[19];  /* bytes 1 to 19: zeros behind the name, so it is a C string */
+} wizbratel_sort;
+
+/* A label, 61 bytes: the action's name, its sorts and its values. Two labels are the same exactly if all their bytes
+ * are. For tau the name is "tau", which no action has; it has no values. */
+typedef struct {
+    uint8_t value_count;     /* byte 0: how many values and sorts there are, 0 to 2 */
+    uint8_t values[2];       /* bytes 1 and 2: the values, 0 where there is none */
+    uint8_t name_length;     /* byte 3: 1 to 16 */
+    char name[17];           /* bytes 4 to 20: zeros behind the name, so it is a C string */
+    wizbratel_sort sorts[2]; /* bytes 21 to 40 and 41 to 60: the sort of each value, zeros where there is none */
+} wizbratel_label;
+
 /* What is answered to a step question. */
 #define WIZBRATEL_ENDED 0     /* the stack is empty */
 #define WIZBRATEL_NONE 1      /* the stack has no step k */
 #define WIZBRATEL_STEP 2      /* step k was taken */
 #define WIZBRATEL_TOO_DEEP 16 /* in a list only: step k exists, and its next stack has more than 64 frames */
 
-/* The fields behind `kind` are those of a step; for the other kinds they are 0. */
+/* An answer, 72 bytes. The fields behind `kind` are those of a step; for the other kinds they are 0. */
 typedef struct {
-    uint8_t kind;
-    uint8_t depth;       /* of the stack after the step */
-    uint8_t value_count; /* 0 to 2 */
-    uint8_t values[2];   /* of the label */
-    uint8_t name_length; /* 1 to 16 */
-    char name[18];       /* the action's name, or "tau"; zeros behind it, so it is a C string */
+    uint8_t kind;                /* byte 0: one of the four above */
+    uint8_t depth;               /* byte 1: of the stack after the step */
+    wizbratel_label label;       /* bytes 2 to 62: of the step */
+    uint8_t reserved;            /* byte 63: 0 */
+    uint64_t reserved_for_count; /* bytes 64 to 71: 0; a later version says there how many steps the stack has */
 } wizbratel_answer;
 
 /* Check a sheet.
@@ -128,13 +146,15 @@ size_t wizbratel_walk(const uint8_t *sheet, size_t length, uint8_t *out, size_t 
  * Stack    3 KB for a file of 512 bytes; at most 69 KB. */
 uint8_t wizbratel_check_table(const uint8_t *file, size_t length);
 
-/* Print a table file as a sheet: sorts, functions, processes and variables are named by the letters s, f, p and v and
- * a number, each equation is a process, and line feeds there are none.
+/* Print a table file as a sheet: sorts and actions keep their names, functions, processes and variables are named by
+ * the letters f, p and v and a number, each equation is a process, and line feeds there are none. The sorts of a table
+ * of the earlier layout are named by the letter s and a number.
  *
  * Answers  0, or 12 to 14 for the file, or 17 if the text is no sheet by questions 1 to 8, or 11 if the text is longer
  *          than `room` bytes. 17 comes before 11. A good table with no output (`out` NULL, `room` 0) gets 11 or 17.
  * Leaves   After 0 the text over the front of `out`, not ended by a zero, and its length in `*written`; what is behind
- *          it in `out` is untouched. make_table makes exactly `table` of the text.
+ *          it in `out` is untouched. make_table makes exactly `table` of the text; of the text of a table of the earlier
+ *          layout it makes the same table with these names.
  * Time     0.5 us for the shortest table, 20 us for a text of 4,096 bytes; 0.5 ms for 65,536 bytes.
  * Stack    At most 80 KB. */
 uint8_t wizbratel_print_table(const uint8_t *table, size_t length, uint8_t *out, size_t room, size_t *written);

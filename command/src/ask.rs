@@ -7,13 +7,14 @@ use wizbratel::{Asked, Frame, Refused, Table};
 use crate::args::{Args, Options};
 use crate::frames;
 use crate::input::{self, Kind, SHEET, TABLE};
+use crate::labels::{Labels, SORTS};
 use crate::out;
 use crate::stop::{misuse, Status, Stop, GOOD};
 
 const STACK: &str = "--stack";
 const K: &str = "-k";
 const OPTIONS: Options = Options {
-    flags: &[TABLE, SHEET],
+    flags: &[TABLE, SHEET, SORTS],
     valued: &[STACK, K],
 };
 
@@ -27,7 +28,7 @@ pub fn run(words: &[OsString]) -> Result<Status, Stop> {
         return Err(misuse("-k K is missing: the step's number, from 0"));
     };
     let answer = input::table(name, kind).and_then(|table| {
-        let answer = answer(&table, &used, k);
+        let answer = answer(&table, &used, k, Labels::of(&args));
         answer.map_err(|refused| Stop::Refused(input::shown(name), refused))
     });
     match answer {
@@ -55,13 +56,13 @@ fn stack(args: &Args) -> Result<Vec<Frame>, Stop> {
 }
 
 /// What the library answers, as a line.
-fn answer(table: &Table, used: &[Frame], k: u64) -> Result<String, Refused> {
+fn answer(table: &Table, used: &[Frame], k: u64, labels: Labels) -> Result<String, Refused> {
     Ok(match table.stack(used)?.ask(k)? {
         Asked::Ended => "ended\n".to_string(),
         Asked::None => "none\n".to_string(),
         Asked::Step { label, stack } => {
             let (depth, hex) = (stack.depth(), frames::hex(stack.frames()));
-            let line = format!("{label} {depth} {hex}");
+            let line = format!("{} {depth} {hex}", labels.shown(&label));
             format!("{}\n", line.trim_end())
         }
     })

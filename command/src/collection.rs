@@ -2,6 +2,7 @@
 //! beside it. `renew` makes the tables that are missing or differ, `audit` only looks. What a sheet's table is, and
 //! which sheets are refused, the library says.
 
+mod earlier;
 mod judge;
 mod report;
 mod search;

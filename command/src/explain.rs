@@ -108,8 +108,8 @@ const EXPLAINED: [Explained; 17] = [
     ),
     entry(
         File("with 3 for the size of Bool, and the block's check made right", |file| {
-            file[5] = 3;
-            file[510..].copy_from_slice(&[0xaf, 0x0f]);
+            file[6] = 3;
+            file[510..].copy_from_slice(&[0xb5, 0x25]);
         }),
         "The file was not written by this library, or by a writer that keeps other rules. Make it again from its \
          sheet.",
@@ -129,8 +129,8 @@ const EXPLAINED: [Explained; 17] = [
     entry(
         Printed("act a;proc X=a.a.a.a.a.a.a.a.a+a.a.a.a.a.a.a.a.a;init X;"),
         "Each equation of the table is printed as a process, and each part after a first one that is no call has an \
-         equation; data deep in functions, or a long name of an action that begins with s, f, p or v, can fail it \
-         too. The table itself is right: keep the sheet that it was made from.",
+         equation; data deep in functions, or a long name of an action or a sort that begins with f, p or v, can fail \
+         it too. The table itself is right: keep the sheet that it was made from.",
         Printed("act a;proc X=a.a.a.a.a.a.a.a.a+a.a.a.a.a.a.a.a;init X;"),
     ),
 ];

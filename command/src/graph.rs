@@ -9,12 +9,13 @@ use wizbratel::{Stack, Table};
 use crate::args::{Args, Options};
 use crate::frames::{stack_shown, width};
 use crate::input::{self, Kind, SHEET, TABLE};
+use crate::labels::{Labels, SORTS};
 use crate::out::written;
 use crate::stop::{misuse, say, Status, Stop, GOOD};
 
 const LIMIT: &str = "--limit";
 const OPTIONS: Options = Options {
-    flags: &[TABLE, SHEET],
+    flags: &[TABLE, SHEET, SORTS],
     valued: &[LIMIT],
 };
 
@@ -33,7 +34,7 @@ pub fn run(words: &[OsString]) -> Result<Status, Stop> {
         limit => usize::try_from(limit).unwrap_or(usize::MAX),
     };
     let table = input::table(name, Kind::of(&args, name)?)?;
-    let graph = Graph::reached(&table, limit);
+    let graph = Graph::reached(&table, limit, Labels::of(&args));
     let mut out = BufWriter::new(std::io::stdout().lock());
     written(graph.write(&mut out).and_then(|()| out.flush()))?;
     if graph.cut {
@@ -71,7 +72,7 @@ struct Graph<'t> {
 
 impl<'t> Graph<'t> {
     /// What is reached from the start, with at most so many stacks.
-    fn reached(table: &'t Table, limit: usize) -> Self {
+    fn reached(table: &'t Table, limit: usize, labels: Labels) -> Self {
         let mut graph = Graph {
             stacks: vec![table.start()],
             numbers: HashMap::from([(table.start(), 0)]),
@@ -90,7 +91,7 @@ impl<'t> Graph<'t> {
                 match step.way {
                     Ok((label, stack)) => {
                         let to = graph.end(stack);
-                        graph.edge(from, label.to_string(), to);
+                        graph.edge(from, labels.shown(&label), to);
                     }
                     Err(_) => graph.edge(from, String::new(), End::TooDeep),
                 }

@@ -13,6 +13,7 @@ mod frames;
 mod graph;
 mod help;
 mod input;
+mod labels;
 mod make;
 mod out;
 mod print;

@@ -8,6 +8,7 @@ use wizbratel::{Frame, Stack, Table};
 use crate::args::{Args, Options};
 use crate::frames::{stack_shown, width};
 use crate::input::{self, is_standard, Kind, SHEET, TABLE};
+use crate::labels::{Labels, SORTS};
 use crate::out::written;
 use crate::random::Random;
 use crate::stop::{misuse, say, Status, Stop, GOOD, REFUSED};
@@ -15,7 +16,7 @@ use crate::words::{Word, Words};
 
 const SEED: &str = "--seed";
 const OPTIONS: Options = Options {
-    flags: &[TABLE, SHEET],
+    flags: &[TABLE, SHEET, SORTS],
     valued: &[SEED],
 };
 
@@ -34,10 +35,18 @@ pub fn run(words: &[OsString]) -> Result<Status, Stop> {
         return Err(misuse(text));
     }
     let table = input::table(name, Kind::of(&args, name)?)?;
-    let random = Random::new(args.number(SEED)?);
-    let terminal = std::io::stdin().is_terminal();
-    let out = std::io::stdout().lock();
-    Session::new(input::shown(name), &table, random, terminal, out).follow(std::io::stdin().lock())
+    let session = Session {
+        name: input::shown(name),
+        table: &table,
+        stack: table.start(),
+        before: Vec::new(),
+        random: Random::new(args.number(SEED)?),
+        labels: Labels::of(&args),
+        terminal: std::io::stdin().is_terminal(),
+        out: std::io::stdout().lock(),
+        status: GOOD,
+    };
+    session.follow(std::io::stdin().lock())
 }
 
 /// Where somebody stands who steps through a table.
@@ -49,25 +58,13 @@ struct Session<'t, W> {
     /// The used frames before each step taken.
     before: Vec<Box<[Frame]>>,
     random: Random,
+    labels: Labels,
     terminal: bool,
     out: W,
     status: Status,
 }
 
-impl<'t, W: Write> Session<'t, W> {
-    fn new(name: String, table: &'t Table, random: Random, terminal: bool, out: W) -> Self {
-        Session {
-            name,
-            table,
-            stack: table.start(),
-            before: Vec::new(),
-            random,
-            terminal,
-            out,
-            status: GOOD,
-        }
-    }
-
+impl<W: Write> Session<'_, W> {
     /// Follows the commands of an input to its end.
     fn follow(mut self, input: impl BufRead) -> Result<Status, Stop> {
         let mut words = Words::new(input);
@@ -120,6 +117,7 @@ impl<'t, W: Write> Session<'t, W> {
             Ok(Some(label)) => {
                 self.before.push(before);
                 let (number, depth) = (self.before.len(), self.stack.depth());
+                let label = self.labels.shown(&label);
                 self.line(&format!("{number} {label} {depth}"))
             }
             Ok(None) if self.stack.is_ended() => self.line("ended"),
@@ -169,7 +167,9 @@ impl<'t, W: Write> Session<'t, W> {
             none = false;
             let k = step.k;
             self.line(&match step.way {
-                Ok((label, next)) => format!("  {k} {label} {}", next.depth()),
+                Ok((label, next)) => {
+                    format!("  {k} {} {}", self.labels.shown(&label), next.depth())
+                }
                 Err(refused) => format!("  {k} refused {}", refused.number()),
             })?;
         }

@@ -7,7 +7,7 @@ mod many;
 #[path = "collection/odd.rs"]
 mod odd;
 
-use cabinet::{bad, good, Cabinet, Ran};
+use cabinet::{bad, earlier, good, Cabinet, Ran};
 use std::fs::{self, Permissions};
 use std::os::unix::fs::PermissionsExt;
 use std::path::Path;
@@ -25,12 +25,13 @@ fn makes_what_is_missing_and_leaves_the_rest() {
     cabinet.put("deep/er/b.pcrl", good(2));
     cabinet.put("deep/note.txt", "kept");
     let faults = ["a.table: missing", "deep/er/b.table: missing"];
-    let counts = "sheets 2: right 0, missing 2, differs 0, refused 0, unread 0, no sheet 0";
+    let counts =
+        "sheets 2: right 0, missing 2, earlier 0, differs 0, refused 0, unread 0, no sheet 0";
     check(&cabinet.audit(), 1, counts, &faults);
     assert!(!cabinet.path("a.table").exists());
 
     let counts =
-        "sheets 2: right 0, made 2, mended 0, refused 0, unread 0, unwritten 0, no sheet 0";
+        "sheets 2: right 0, made 2, updated 0, mended 0, refused 0, unread 0, unwritten 0, no sheet 0";
     check(&cabinet.renew(), 0, counts, &[]);
     cabinet.assert_right("a", &good(1));
     cabinet.assert_right("deep/er/b", &good(2));
@@ -50,7 +51,7 @@ fn makes_what_is_missing_and_leaves_the_rest() {
         .modified()
         .unwrap();
     let counts =
-        "sheets 2: right 2, made 0, mended 0, refused 0, unread 0, unwritten 0, no sheet 0";
+        "sheets 2: right 2, made 0, updated 0, mended 0, refused 0, unread 0, unwritten 0, no sheet 0";
     check(&cabinet.renew(), 0, counts, &[]);
     assert_eq!(
         fs::metadata(cabinet.path("a.table"))
@@ -59,7 +60,8 @@ fn makes_what_is_missing_and_leaves_the_rest() {
             .unwrap(),
         before
     );
-    let counts = "sheets 2: right 2, missing 0, differs 0, refused 0, unread 0, no sheet 0";
+    let counts =
+        "sheets 2: right 2, missing 0, earlier 0, differs 0, refused 0, unread 0, no sheet 0";
     check(&cabinet.audit(), 0, counts, &[]);
 }
 
@@ -70,7 +72,8 @@ fn a_table_under_another_sheet_is_found_and_mended() {
     cabinet.put("b.pcrl", good(2));
     assert_eq!(cabinet.renew().status, Some(0));
     fs::rename(cabinet.path("a.table"), cabinet.path("b.table")).unwrap();
-    let counts = "sheets 2: right 0, missing 1, differs 1, refused 0, unread 0, no sheet 0";
+    let counts =
+        "sheets 2: right 0, missing 1, earlier 0, differs 1, refused 0, unread 0, no sheet 0";
     check(
         &cabinet.audit(),
         1,
@@ -78,7 +81,7 @@ fn a_table_under_another_sheet_is_found_and_mended() {
         &["a.table: missing", "b.table: differs"],
     );
     let counts =
-        "sheets 2: right 0, made 1, mended 1, refused 0, unread 0, unwritten 0, no sheet 0";
+        "sheets 2: right 0, made 1, updated 0, mended 1, refused 0, unread 0, unwritten 0, no sheet 0";
     check(&cabinet.renew(), 0, counts, &[]);
     cabinet.assert_right("a", &good(1));
     cabinet.assert_right("b", &good(2));
@@ -113,6 +116,73 @@ fn every_change_of_a_table_is_found() {
     }
 }
 
+/// What an audit says of a table of the earlier layout.
+const EARLIER: &str = "earlier layout: the sheet's table without the names of its sorts";
+
+/// Accepted sheets: with no sort but Bool, with as many as can be, with a table of two blocks that was one.
+fn sheets() -> Vec<String> {
+    let sorts: String = (1..8)
+        .map(|i| format!("sort SortNumber{i}_____ {i};"))
+        .collect();
+    let many = ["a"; 119].join("+");
+    vec![
+        "act a;proc X=a.X;init X;".to_string(),
+        format!("{sorts}act a:SortNumber7_____;proc X=a(6);init X;"),
+        format!("sort LongNameOfASort_ 2;act a;proc X={many};init X;"),
+    ]
+}
+
+#[test]
+fn tables_of_the_earlier_layout_are_told_apart_and_updated() {
+    for (number, sheet) in sheets().iter().map(String::as_bytes).enumerate() {
+        let cabinet = Cabinet::new(&format!("earlier-{number}"));
+        let (own, old) = (cabinet::table(sheet), earlier(sheet));
+        assert_eq!((own.len() > old.len(), old != own), (number == 2, true));
+        cabinet.put("a.pcrl", sheet);
+        cabinet.put("a.table", &old);
+        cabinet.put("b.pcrl", good(1));
+        cabinet.put("b.table", &old);
+        let counts =
+            "sheets 2: right 0, missing 0, earlier 1, differs 1, refused 0, unread 0, no sheet 0";
+        let faults = [&format!("a.table: {EARLIER}")[..], "b.table: differs"];
+        check(&cabinet.audit(), 1, counts, &faults);
+        assert_eq!(fs::read(cabinet.path("a.table")).unwrap(), old);
+        let counts = "sheets 2: right 0, made 0, updated 1, mended 1, refused 0, unread 0, unwritten 0, no sheet 0";
+        check(&cabinet.renew(), 0, counts, &[]);
+        cabinet.assert_right("a", sheet);
+        assert_eq!(cabinet.audit().status, Some(0));
+    }
+}
+
+/// Only the sheet's own table in the earlier layout is said to be that: none with a byte changed, damaged or not.
+#[test]
+fn nearly_earlier_tables_differ() {
+    let cabinet = Cabinet::new("nearly");
+    let sheet = b"sort D 3;sort E 2;act a:D;proc X=sum(d:D,a(d).X);init X;";
+    cabinet.put("a.pcrl", sheet);
+    let old = earlier(sheet);
+    let says = |file: &[u8]| {
+        cabinet.put("a.table", file);
+        cabinet.audit().faults
+    };
+    assert_eq!(says(&old), [format!("a.table: {EARLIER}")]);
+    let stream = reader::from_blocks(&old).unwrap();
+    let used = reader::encode(&reader::read_table(&old).unwrap()).len();
+    for at in 0..used {
+        let mut other = stream[..used].to_vec();
+        other[at] ^= 1;
+        let damaged = old.iter().enumerate();
+        let damaged = damaged.map(|(i, &byte)| if i == 4 + at { byte ^ 1 } else { byte });
+        for file in [reader::to_blocks(&other), damaged.collect()] {
+            assert_eq!(says(&file), ["a.table: differs"], "{at}");
+        }
+    }
+    let longer = [&stream[..], &[0]].concat();
+    for file in [reader::to_blocks(&longer), old[..511].to_vec(), Vec::new()] {
+        assert_eq!(says(&file), ["a.table: differs"]);
+    }
+}
+
 #[test]
 fn refused_sheets_and_tables_without_a_sheet_are_listed_and_kept() {
     let cabinet = Cabinet::new("refused");
@@ -138,12 +208,13 @@ fn refused_sheets_and_tables_without_a_sheet_are_listed_and_kept() {
     ];
     assert!(faults[0].starts_with("circle.pcrl: refused 9: "));
     let faults: Vec<&str> = faults.iter().map(String::as_str).collect();
-    let counts = "sheets 4: right 0, missing 1, differs 0, refused 3, unread 0, no sheet 2";
+    let counts =
+        "sheets 4: right 0, missing 1, earlier 0, differs 0, refused 3, unread 0, no sheet 2";
     let mut with_missing = vec!["a.table: missing"];
     with_missing.extend(&faults);
     check(&cabinet.audit(), 1, counts, &with_missing);
     let counts =
-        "sheets 4: right 0, made 1, mended 0, refused 3, unread 0, unwritten 0, no sheet 2";
+        "sheets 4: right 0, made 1, updated 0, mended 0, refused 3, unread 0, unwritten 0, no sheet 2";
     check(&cabinet.renew(), 1, counts, &faults);
     assert_eq!(
         fs::read(cabinet.path("circle.table")).unwrap(),
@@ -189,7 +260,8 @@ fn misuse() {
     let ran = cabinet.shell("cd \"$1\" && exec \"$0\" renew .");
     assert_eq!(ran.status, Some(0), "{ran:?}");
     let ran = Cabinet::run("audit", &Cabinet::new("misuse-empty").folder);
-    let counts = "sheets 0: right 0, missing 0, differs 0, refused 0, unread 0, no sheet 0";
+    let counts =
+        "sheets 0: right 0, missing 0, earlier 0, differs 0, refused 0, unread 0, no sheet 0";
     check(&ran, 0, counts, &[]);
 }
 

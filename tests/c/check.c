@@ -46,25 +46,34 @@ static void deepest(void) {
     expect("deepest", wizbratel_check_sheet((const uint8_t *)text, strlen(text)), 0);
 }
 
-/* The file of document 01's worked sheet, `act a;proc X=a.X;init X;`: one block. */
-static void worked(uint8_t file[512]) {
-    static const uint8_t stream[] = {1, 2, 0, 1, 1, 0x61, 0, 1, 0, 1, 0, 0, 0, 1, 0, 0};
+/* The file of document 01's worked sheet, `act a;proc X=a.X;init X;`: one block. Its stream names Bool, or is of the
+ * earlier layout; the zero that ends each is its last byte. */
+static void worked(uint8_t file[512], int named) {
+    static const uint8_t names[] = "\xF2\1\2\4Bool\0\1\1a\0\1\0\1\0\0\0\1\0";
+    static const uint8_t earlier[] = "\1\2\0\1\1a\0\1\0\1\0\0\0\1\0";
     memset(file, 0, 512);
     file[2] = 1;
-    memcpy(file + 4, stream, sizeof stream);
-    file[510] = 0xAC;
-    file[511] = 0x85;
+    memcpy(file + 4, named ? names : earlier, named ? sizeof names : sizeof earlier);
+    file[510] = named ? 0x73 : 0xAC;
+    file[511] = named ? 0x9F : 0x85;
 }
 
 static void tables(void) {
     static uint8_t zeros[512], file[512];
-    worked(file);
     expect("nothing", wizbratel_check_table(zeros, 0), 12);
     expect("zeros", wizbratel_check_table(zeros, 512), 13);
+    worked(file, 0);
+    expect("the worked file of the earlier layout", wizbratel_check_table(file, 512), 0);
+    worked(file, 1);
     expect("the worked file", wizbratel_check_table(file, 512), 0);
-    file[510] = 0x85;
-    file[511] = 0xAC;
+    file[510] = 0x9F;
+    file[511] = 0x73;
     expect("the check low byte first", wizbratel_check_table(file, 512), 13);
+    worked(file, 1);
+    file[6] = 3; /* the size of Bool */
+    file[510] = 0xB5;
+    file[511] = 0x25;
+    expect("no table", wizbratel_check_table(file, 512), 14);
 }
 
 /* No bytes at all: the pointer leads nowhere. */
@@ -79,7 +88,7 @@ static void nothing(void) {
     expect("no file, no frames", wizbratel_ask(NULL, 0, NULL, 0, &depth, 0, &answer), 12);
     expect("no file, nothing", wizbratel_ask_all(NULL, 0, NULL, 0, &depth, NULL, 0, NULL, 0), 12);
     static uint8_t file[512];
-    worked(file);
+    worked(file, 1);
     expect("no frames", wizbratel_start(file, 512, NULL, 0, &depth), 15);
     expect("no frames", wizbratel_ask(file, 512, NULL, 0, &depth, 0, &answer), 15);
     expect("no frames", wizbratel_ask_all(file, 512, NULL, 0, &depth, NULL, 0, NULL, 0), 15);

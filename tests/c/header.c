@@ -6,8 +6,15 @@
 #include "wizbratel.h"
 
 static_assert(sizeof(wizbratel_frame) == 5, "a frame");
-static_assert(sizeof(wizbratel_answer) == 24, "an answer");
-static_assert(offsetof(wizbratel_answer, name) == 6, "the name in an answer");
+static_assert(sizeof(wizbratel_sort) == 20 && offsetof(wizbratel_sort, name) == 1, "a sort's name");
+static_assert(sizeof(wizbratel_label) == 61, "a label");
+static_assert(offsetof(wizbratel_label, value_count) == 0 && offsetof(wizbratel_label, values) == 1, "its values");
+static_assert(offsetof(wizbratel_label, name_length) == 3 && offsetof(wizbratel_label, name) == 4, "its name");
+static_assert(offsetof(wizbratel_label, sorts) == 21, "its sorts");
+static_assert(sizeof(wizbratel_answer) == 72, "an answer");
+static_assert(offsetof(wizbratel_answer, kind) == 0 && offsetof(wizbratel_answer, depth) == 1, "its kind and depth");
+static_assert(offsetof(wizbratel_answer, label) == 2 && offsetof(wizbratel_answer, reserved) == 63, "its label");
+static_assert(offsetof(wizbratel_answer, reserved_for_count) == 64, "what is reserved for a count");
 static_assert(WIZBRATEL_MAX_SHEET == 4096 && WIZBRATEL_MAX_FILE == 65536 && WIZBRATEL_FRAMES == 64, "limits");
 static_assert(WIZBRATEL_TOO_DEEP == WIZBRATEL_Q_TOO_DEEP, "16 in a list");
 

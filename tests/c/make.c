@@ -29,12 +29,13 @@ static const char worked[] = "act a;proc X=a.X;init X;";
 
 /* One block: number 0 of 1, the stream, zeros, the check. */
 static void worked_sheet(void) {
-    static const uint8_t stream[] = {1, 2, 0, 1, 1, 0x61, 0, 1, 0, 1, 0, 0, 0, 1, 0, 0};
+    /* the zero that ends it is the stream's last byte */
+    static const uint8_t stream[] = "\xF2\1\2\4Bool\0\1\1a\0\1\0\1\0\0\0\1\0";
     static uint8_t wanted[512];
     wanted[2] = 1;
     memcpy(wanted + 4, stream, sizeof stream);
-    wanted[510] = 0xAC;
-    wanted[511] = 0x85;
+    wanted[510] = 0x73;
+    wanted[511] = 0x9F;
     expect("the worked sheet", make(worked, WIZBRATEL_MAX_FILE), 0);
     expect("its length", (long)written, 512);
     expect("its file", memcmp(out, wanted, 512), 0);

@@ -1,4 +1,5 @@
-/* Prints tables from C: a table and its text in turn, too short an output, refused files and tables. */
+/* Prints tables from C: a table and its text in turn, a table of the earlier layout, too short an output, refused files
+ * and tables. */
 #include <string.h>
 
 #include "expect.h"
@@ -33,15 +34,20 @@ static uint8_t print(size_t room) {
     return refused;
 }
 
-/* A sheet's table is printed so, in just as many bytes, and the text gives the same file. */
-static void prints(const char *sheet, const char *text) {
-    make(sheet);
+/* The file is printed so; the text is made a table again. */
+static void printed(const char *text) {
     expect("printed", print(WIZBRATEL_MAX_SHEET), 0);
     expect("its length", (long)written, (long)strlen(text));
     expect(text, memcmp(out, text, strlen(text)), 0);
     size_t again_length = 0;
     expect("read back", wizbratel_make_table(out, written, again, sizeof again, &again_length), 0);
     expect("as long", (long)again_length, (long)length);
+}
+
+/* A sheet's table is printed so, in just as many bytes, and the text gives the same file. */
+static void prints(const char *sheet, const char *text) {
+    make(sheet);
+    printed(text);
     expect("the same file", memcmp(file, again, length), 0);
     expect("just enough room", print(strlen(text)), 0);
     expect("a byte too little", print(strlen(text) - 1), WIZBRATEL_Q_NO_ROOM);
@@ -51,9 +57,24 @@ static void prints(const char *sheet, const char *text) {
 static void texts(void) {
     prints("act a;proc X=a.X;init X;", "act a;proc p0=a.p0;init p0;");
     prints("sort D 3;act pair:D#D;act s;proc B(b:D)=sum(d:D,pair(b,d).B(d))+s<|1|>tau;init B(1);",
-           "sort ss1 3;act pair:ss1#ss1;act s;proc pp0(v0:ss1)=sum(v1:ss1,pair(v0,v1).pp0(v1))+s<|1|>delta"
+           "sort D 3;act pair:D#D;act s;proc pp0(v0:D)=sum(v1:D,pair(v0,v1).pp0(v1))+s<|1|>delta"
            "+delta<|1|>tau;init pp0(1);");
+    prints("sort v 2;act a;proc X(d:Bool)=a.X(d);init X(0);", "sort v 2;act a;proc p0(vv0:Bool)=a.p0(vv0);init p0(0);");
     prints("proc X=delta;init X;", "proc p0=delta;init p0;");
+}
+
+/* A table of the earlier layout: its sort is named by a letter and a number, and the text gives the file with names. */
+static void earlier(void) {
+    /* the zero that ends it is the stream's last byte */
+    static const uint8_t stream[] = "\2\2\3\0\1\1a\1\1\1\0\1\0\0\0\2\0";
+    memset(file, 0, 512);
+    file[2] = 1;
+    memcpy(file + 4, stream, sizeof stream);
+    file[510] = 0x53;
+    file[511] = 0xBC;
+    length = 512;
+    printed("sort s1 3;act a:s1;proc p0=a(2);init p0;");
+    expect("names", memcmp(again + 4, "\xF2\2\2\4Bool\3\2s1\0\1\1a", 16), 0);
 }
 
 /* 12, 13 and 14 for the file, 17 for its text, each before 11. */
@@ -66,14 +87,15 @@ static void refused(void) {
     length--;
     expect("a byte less", print(0), WIZBRATEL_Q_FILE_LENGTH);
     make("act a;proc X=a.X;init X;");
-    file[5] = 3; /* the size of Bool */
-    file[510] = 0xAF;
-    file[511] = 0x0F;
+    file[6] = 3; /* the size of Bool */
+    file[510] = 0xB5;
+    file[511] = 0x25;
     expect("no table", print(0), WIZBRATEL_Q_STREAM);
 }
 
 int main(void) {
     texts();
+    earlier();
     refused();
     return failed;
 }

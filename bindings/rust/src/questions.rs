@@ -25,7 +25,7 @@ const QUESTIONS: [&str; 17] = [
      not used?",
     "at most 64 frames after the step?",
     "the printed text a sheet by questions 1 to 8: at most 4,096 bytes, names of at most 16 characters, at most 16 \
-     round brackets open, at most 16 equations, no == over two values?",
+     round brackets open, at most 16 equations, no sort with an action's name, no == over two values?",
 ];
 
 /// What a question asks, in words; there are questions 1 to 17.

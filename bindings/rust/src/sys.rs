@@ -4,9 +4,9 @@
 //! many elements as the length beside it says: both are those of one slice, or the pointer is a reference's. Nothing
 //! else writes there meanwhile: what is read is lent by `&`, what is written by `&mut`. What is written overlaps
 //! nothing else that is lent: two `&mut`, or a `&` and a `&mut`, never overlap. Whatever bytes come back are values
-//! of their types, since all of them are integers or structs of bytes.
+//! of their types, since all of them are integers or structs of integers.
 
-use std::mem::{align_of, size_of, size_of_val};
+use std::mem::{align_of, offset_of, size_of, size_of_val};
 
 /// The longest sheet, in bytes: an output of this length is never too short for a table's text.
 pub const MAX_SHEET: usize = 4096;
@@ -30,16 +30,34 @@ pub struct Frame {
     pub values: [u8; 4],
 }
 
+/// `wizbratel_sort`: the name of a sort, zeros behind it.
+#[repr(C)]
+#[derive(Clone, Copy, Default, PartialEq, Eq, Hash, PartialOrd, Ord)]
+pub(crate) struct SortName {
+    pub length: u8,
+    pub name: [u8; 19],
+}
+
+/// `wizbratel_label`: as many values and sorts as it says, zeros behind them and behind the name.
+#[repr(C)]
+#[derive(Clone, Copy, Default, PartialEq, Eq, Hash, PartialOrd, Ord)]
+pub(crate) struct LabelRecord {
+    pub value_count: u8,
+    pub values: [u8; 2],
+    pub name_length: u8,
+    pub name: [u8; 17],
+    pub sorts: [SortName; 2],
+}
+
 /// `wizbratel_answer`.
 #[repr(C)]
 #[derive(Clone, Copy, Default)]
 pub(crate) struct Answer {
     pub kind: u8,
     pub depth: u8,
-    pub value_count: u8,
-    pub values: [u8; 2],
-    pub name_length: u8,
-    pub name: [u8; 18],
+    pub label: LabelRecord,
+    _reserved: u8,
+    _reserved_for_count: u64,
 }
 
 /// Kinds of an answer.
@@ -48,9 +66,11 @@ pub(crate) const NONE: u8 = 1;
 pub(crate) const STEP: u8 = 2;
 pub(crate) const TOO_DEEP: u8 = 16;
 
-// The sizes that C gives the structs: bytes only, so no padding and no alignment.
+// The sizes that C gives the structs; none has padding.
 const _: () = assert!(size_of::<Frame>() == 5 && align_of::<Frame>() == 1);
-const _: () = assert!(size_of::<Answer>() == 24 && align_of::<Answer>() == 1);
+const _: () = assert!(size_of::<SortName>() == 20 && size_of::<LabelRecord>() == 61);
+const _: () = assert!(size_of::<Answer>() == 72 && align_of::<Answer>() == 8);
+const _: () = assert!(offset_of!(Answer, label) == 2 && offset_of!(Answer, _reserved) == 63);
 
 extern "C" {
     fn wizbratel_check_sheet(sheet: *const u8, length: usize) -> u8;

@@ -84,14 +84,15 @@ impl Table {
         &self.file
     }
 
-    /// Prints the table as a sheet, whose table is this one byte for byte; question 17. Sorts, functions, processes and
-    /// variables are named by a letter and a number.
+    /// Prints the table as a sheet, whose table is this one byte for byte; question 17. Functions, processes and
+    /// variables are named by a letter and a number. A table that was filed without the names of its sorts has them
+    /// named so too, and the sheet's table has these names.
     ///
     /// ```
     /// use wizbratel::Table;
     /// let table = Table::make(b"sort D 3; act in: D; proc Get = sum(d: D, in(d).Get); init Get;")?;
     /// let text = table.print()?;
-    /// assert_eq!(text, "sort s1 3;act in:s1;proc p0=sum(v0:s1,in(v0).p0);init p0;");
+    /// assert_eq!(text, "sort D 3;act in:D;proc p0=sum(v0:D,in(v0).p0);init p0;");
     /// assert_eq!(Table::make(text.as_bytes())?, table);
     /// # Ok::<(), wizbratel::Refused>(())
     /// ```

@@ -4,17 +4,13 @@ mod common;
 
 use common::json::Json;
 use common::random::Random;
-use common::{number, vectors};
-use wizbratel::{Asked, Frame, Refused, Stack, Table, Taken, FRAMES};
+use common::{frames_of, label_of, number, vectors};
+use reader::Answer;
+use wizbratel::{Asked, Frame, Label, Refused, Stack, Table, Taken, FRAMES};
 
 /// Frames of a case, zeros behind them.
 fn frames(case: &Json, key: &str, count: usize) -> Vec<Frame> {
-    let frame = |row: &Vec<u64>| {
-        let equation = row[0] as u8;
-        let values = std::array::from_fn(|at| row.get(at + 1).copied().unwrap_or(0) as u8);
-        Frame { equation, values }
-    };
-    let mut frames: Vec<Frame> = case.rows(key).iter().map(frame).collect();
+    let mut frames = frames_of(&vectors::frames(case, key));
     frames.resize(count, Frame::default());
     frames
 }
@@ -27,41 +23,53 @@ fn expressible(case: &Json, lent: &[Frame], depth: usize) -> bool {
         && behind.iter().all(|frame| *frame == Frame::default())
 }
 
-/// Asks in all three ways, and says in the words of the vectors what each answers; the stack after it.
-fn all_ways<'t>(stack: &Stack<'t>, k: u64) -> (String, Stack<'t>) {
-    let asked = match stack.ask(k) {
-        Ok(Asked::Ended) => ("ended".to_string(), stack.clone()),
-        Ok(Asked::None) => ("none".to_string(), stack.clone()),
-        Ok(Asked::Step { label, stack }) => (format!("step {label}"), stack),
-        Err(refused) => (format!("refused {}", refused.number()), stack.clone()),
+/// The reader's answer that a step to this stack is.
+fn step(label: &Label, stack: &Stack) -> Answer {
+    let frame = |frame: &Frame| reader::Frame::new(frame.equation.into(), &frame.values);
+    let mut frames: Vec<reader::Frame> = stack.frames().iter().map(frame).collect();
+    frames.resize(FRAMES, reader::Frame::default());
+    Answer::Step {
+        label: label_of(label),
+        depth: stack.depth() as u64,
+        frames,
+    }
+}
+
+/// Asks in all three ways, and says as the reader would what each answers.
+fn all_ways(stack: &Stack, k: u64) -> Answer {
+    let (asked, after) = match stack.ask(k) {
+        Ok(Asked::Ended) => (Answer::Ended, stack.clone()),
+        Ok(Asked::None) => (Answer::None, stack.clone()),
+        Ok(Asked::Step { label, stack }) => (step(&label, &stack), stack),
+        Err(refused) => (Answer::Refused(refused.number()), stack.clone()),
     };
     let mut taking = stack.clone();
     let taken = taking.take(k);
-    assert_eq!(taking, asked.1);
+    assert_eq!(taking, after);
     match taken {
-        Ok(Some(label)) => assert_eq!(asked.0, format!("step {label}")),
-        Ok(None) => assert!(asked.0 == "none" || asked.0 == "ended"),
-        Err(refused) => assert_eq!(asked.0, format!("refused {}", refused.number())),
+        Ok(Some(label)) => assert_eq!(asked, step(&label, &taking)),
+        Ok(None) => assert!(asked == Answer::None || asked == Answer::Ended),
+        Err(refused) => assert_eq!(asked, Answer::Refused(refused.number())),
     }
     let mut listing = stack.clone();
     let listed = match listing.take_all(&[k])[..] {
-        [Taken::Ended] => "ended".to_string(),
-        [Taken::None] => "none".to_string(),
-        [Taken::TooDeep] => "refused 16".to_string(),
+        [Taken::Ended] => Answer::Ended,
+        [Taken::None] => Answer::None,
+        [Taken::TooDeep] => Answer::Refused(16),
         [Taken::Step(label, depth)] => {
             assert_eq!(depth, listing.depth());
-            format!("step {label}")
+            step(&label, &listing)
         }
         _ => panic!("one answer to one question"),
     };
-    assert_eq!((listed, listing), asked);
+    assert_eq!((listed, listing), (asked.clone(), after));
     asked
 }
 
 #[test]
 fn questions_get_their_answers() {
     let mut put = 0;
-    for case in vectors("asks") {
+    for case in vectors::all("asks") {
         let name = case.text("name");
         let (depth, k) = (case.number("depth") as usize, case.number("k"));
         let lent = frames(&case, "frames", case.number("lent") as usize);
@@ -87,24 +95,16 @@ fn questions_get_their_answers() {
                 continue;
             }
         };
-        let (answer, after) = all_ways(&stack, k);
-        if case.text("answer") == "step" {
-            assert_eq!(answer, format!("step {}", case.text("label")), "{name}");
-            let depth = case.number("depth_after") as usize;
-            let wanted = frames(&case, "frames_after", depth);
-            assert_eq!(after.frames(), wanted, "{name}");
-        } else {
-            assert_eq!(answer, case.text("answer"), "{name}");
-        }
+        assert_eq!(all_ways(&stack, k), vectors::answer(&case), "{name}");
     }
     // all but those that lend other than 64 frames, or leave used ones behind the depth
-    assert_eq!(put, 344 + 65);
+    assert_eq!(put, 344 + 65 + 65);
 }
 
 #[test]
 fn used_frames_with_one_byte_changed() {
     let (mut random, mut refused) = (Random::new(15), 0);
-    for case in vectors("asks") {
+    for case in vectors::all("asks") {
         let depth = case.number("depth") as usize;
         let mut lent = frames(&case, "frames", FRAMES.max(depth));
         if depth == 0 {

@@ -4,7 +4,7 @@ mod common;
 
 use std::collections::{HashMap, HashSet};
 
-use common::{frames_of, generate};
+use common::{frames_of, generate, label_of};
 use wizbratel::{Stack, Table, Taken, FRAMES};
 
 /// Sheets, and stacks of each that are looked at.
@@ -28,7 +28,7 @@ fn same_steps<'t>(stack: &Stack<'t>, table: &reader::Table, text: &str) -> Vec<S
             Err(refused) => assert!(refused.number() == 16 && frames.len() > FRAMES),
             Ok((found, stack)) => {
                 assert_eq!(found.to_string(), label.to_string(), "{text}");
-                assert_eq!(found.is_tau(), label == reader::Label::Tau);
+                assert_eq!(label_of(&found), label, "{text}");
                 assert_eq!(stack.frames(), frames_of(&frames), "{text}");
                 next.push(stack);
             }
@@ -41,7 +41,7 @@ fn same_steps<'t>(stack: &Stack<'t>, table: &reader::Table, text: &str) -> Vec<S
 fn steps_of_reached_stacks() {
     let mut seen_steps = 0;
     for seed in 0..SHEETS {
-        let text = generate::sheet(seed);
+        let text = generate::with_names(seed);
         let Ok(table) = Table::make(text.as_bytes()) else {
             continue;
         };

@@ -8,21 +8,17 @@ use wizbratel::{check, make_into, question, Table, MAX_FILE};
 #[test]
 fn sheets_get_their_tables_or_numbers() {
     let (mut made, mut refused) = (0, 0);
-    for case in vectors("sheets") {
+    for case in vectors::all("sheets") {
         let (sheet, name) = (case.bytes("sheet"), case.text("name"));
         if case.get("stream").is_none() && case.get("refused").is_none() {
             continue; // asked for its walk only
         }
-        let wanted = case.get("refused").map(|_| case.number("refused") as u8);
+        let wanted = vectors::made(&case);
         let mut out = [7; MAX_FILE];
-        let room = case.get("room").map_or(MAX_FILE, |_| {
-            usize::try_from(case.number("room")).unwrap().min(MAX_FILE)
-        });
-        assert_eq!(
-            number(&make_into(&sheet, &mut out[..room])),
-            wanted,
-            "{name}"
-        );
+        let room = vectors::room(&case).min(MAX_FILE);
+        let answer = make_into(&sheet, &mut out[..room]).map(|length| out[..length].to_vec());
+        assert_eq!(answer.map_err(|by| by.number()), wanted, "{name}");
+        let wanted = wanted.err();
         // all the others are asked with room enough
         let wanted = wanted.filter(|&question| question != 11);
         assert_eq!(number(&check(&sheet)), wanted, "{name}");
@@ -38,17 +34,18 @@ fn sheets_get_their_tables_or_numbers() {
             Err(_) => refused += 1,
         }
     }
-    assert_eq!((made, refused), (407 + 39, 834 + 31));
+    // those refused by 11 for their room are made here
+    assert_eq!((made, refused), (406 + 39 + 35, 835 + 31 + 35));
 }
 
 #[test]
 fn table_files_get_their_numbers() {
-    for case in vectors("tables") {
+    for case in vectors::all("tables") {
         let (file, name) = (case.bytes("file"), case.text("name"));
         let read = Table::read(&file);
-        match reader::read_table(&file) {
-            Ok(_) => assert_eq!(read.expect(name).file(), file, "{name}"),
-            Err(wanted) => assert_eq!(number(&read), Some(wanted), "{name}"),
+        match case.text("answer") {
+            "ok" => assert_eq!(read.expect(name).file(), file, "{name}"),
+            refused => assert_eq!(number(&read), Some(vectors::number(refused)), "{name}"),
         }
     }
 }

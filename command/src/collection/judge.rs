@@ -1,5 +1,6 @@
 //! One sheet beside its table.
 
+use super::earlier::is_earlier;
 use super::search::Sheet;
 use std::fs::{self, File};
 use std::io::{self, Read};
@@ -29,6 +30,8 @@ pub struct Refusal {
 /// What is wrong with the file in the table's place.
 pub enum Wrong {
     Missing,
+    /// It is the sheet's table without the names of sorts.
+    Earlier,
     Differs,
     Unread(io::Error),
 }
@@ -56,6 +59,7 @@ pub fn judge(sheet: &Sheet) -> Standing {
     };
     let wrong = match read(&sheet.table, TABLE_BYTES) {
         Ok((file, _)) if file == table.file() => return Standing::Right,
+        Ok((file, _)) if is_earlier(&file, &table) => Wrong::Earlier,
         Ok(_) => Wrong::Differs,
         Err(error) if error.kind() == io::ErrorKind::NotFound => Wrong::Missing,
         Err(error) => Wrong::Unread(error),

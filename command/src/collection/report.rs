@@ -14,8 +14,9 @@ pub struct Report {
     sheets: usize,
     right: usize,
     missing: usize,
+    earlier: usize,
     differ: usize,
-    /// Of the missing and the differing, those that were made.
+    /// Of the missing, the earlier and the differing, those that were made.
     renewed: usize,
     refused: usize,
     unread: usize,
@@ -60,6 +61,10 @@ impl Report {
             Wrong::Missing => {
                 self.missing += 1;
                 "missing"
+            }
+            Wrong::Earlier => {
+                self.earlier += 1;
+                "earlier layout: the sheet's table without the names of its sorts"
             }
             Wrong::Differs | Wrong::Unread(_) => {
                 self.differ += 1;
@@ -112,6 +117,7 @@ impl Report {
             sheets,
             right,
             missing,
+            earlier,
             differ,
             refused,
             unread,
@@ -120,9 +126,9 @@ impl Report {
             ..
         } = self;
         let text = if renewed {
-            format!("made {missing}, mended {differ}, refused {refused}, unread {unread}, unwritten {unwritten}")
+            format!("made {missing}, updated {earlier}, mended {differ}, refused {refused}, unread {unread}, unwritten {unwritten}")
         } else {
-            format!("missing {missing}, differs {differ}, refused {refused}, unread {unread}")
+            format!("missing {missing}, earlier {earlier}, differs {differ}, refused {refused}, unread {unread}")
         };
         let mut out = io::stdout().lock();
         writeln!(

@@ -36,6 +36,12 @@ pub fn table(sheet: &[u8]) -> Vec<u8> {
         .to_vec()
 }
 
+/// A sheet's table as the earlier writer filed it.
+pub fn earlier(sheet: &[u8]) -> Vec<u8> {
+    let own = reader::read_table(&table(sheet)).expect("a table");
+    reader::encode_file(&own.older())
+}
+
 /// The line of a sheet that is refused.
 pub fn bad(name: &str, sheet: &[u8]) -> String {
     match Table::make(sheet) {

@@ -31,7 +31,7 @@ fn names_that_are_no_text_and_things_that_are_no_files() {
         "two\\x0alines\\x1b.table: no sheet",
     ];
     let counts =
-        "sheets 5: right 0, made 3, mended 0, refused 0, unread 1, unwritten 1, no sheet 1";
+        "sheets 5: right 0, made 3, updated 0, mended 0, refused 0, unread 1, unwritten 1, no sheet 1";
     check(&ran, 1, counts, &faults);
     assert_eq!(
         fs::read(cabinet.path(name(b"\xff\xfe.table"))).unwrap(),
@@ -45,7 +45,8 @@ fn names_that_are_no_text_and_things_that_are_no_files() {
         "taken.table: cannot be read: it is not a file",
         faults[2],
     ];
-    let counts = "sheets 5: right 3, missing 0, differs 0, refused 0, unread 2, no sheet 1";
+    let counts =
+        "sheets 5: right 3, missing 0, earlier 0, differs 0, refused 0, unread 2, no sheet 1";
     check(&cabinet.audit(), 1, counts, &faults);
 }
 
@@ -72,7 +73,7 @@ fn links_are_followed_but_not_in_circles() {
     }
     symlink("..", cabinet.path("inner/up")).unwrap();
     let counts =
-        "sheets 4: right 0, made 2, mended 1, refused 0, unread 1, unwritten 0, no sheet 0";
+        "sheets 4: right 0, made 2, updated 0, mended 1, refused 0, unread 1, unwritten 0, no sheet 0";
     check(
         &cabinet.renew(),
         1,
@@ -145,7 +146,7 @@ fn a_disk_that_takes_no_more() {
     let faults = ["a", "b"]
         .map(|name| format!("{name}.table: cannot be written: File too large (os error 27)"));
     let counts =
-        "sheets 2: right 0, made 0, mended 0, refused 0, unread 0, unwritten 2, no sheet 0";
+        "sheets 2: right 0, made 0, updated 0, mended 0, refused 0, unread 0, unwritten 2, no sheet 0";
     check(&ran, 1, counts, &[&faults[0], &faults[1]]);
     assert_eq!(cabinet.names(), ["a.pcrl", "b.pcrl", "b.table"]);
     assert_eq!(fs::read(cabinet.path("b.table")).unwrap(), b"old");
@@ -190,7 +191,7 @@ fn a_small_disk_that_is_full() {
         format!("disk/{name}.table: cannot be written: No space left on device (os error 28)")
     });
     let counts =
-        "sheets 2: right 0, made 0, mended 0, refused 0, unread 0, unwritten 2, no sheet 0";
+        "sheets 2: right 0, made 0, updated 0, mended 0, refused 0, unread 0, unwritten 2, no sheet 0";
     check(&ran, 1, counts, &[&faults[0], &faults[1]]);
     let names = |folder: &str| {
         let entries = fs::read_dir(cabinet.path(folder)).unwrap();

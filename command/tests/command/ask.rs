@@ -1,7 +1,9 @@
 //! `ask`: every step question of the vectors that can be put to used frames, and wrong arguments.
 
+use reader::{Answer, Label};
+
 use crate::common::json::Json;
-use crate::common::{run, vectors, Folder, LOOP};
+use crate::common::{fed, run, vectors, Folder, LOOP};
 
 /// The first frames of a case in hex, zeros where it lists no more.
 fn hex(case: &Json, key: &str, depth: usize) -> String {
@@ -11,10 +13,31 @@ fn hex(case: &Json, key: &str, depth: usize) -> String {
     bytes.map(|byte| format!("{byte:02x}")).collect()
 }
 
+/// A label with its sorts.
+fn with_sorts(label: &Label) -> String {
+    let Label::Action {
+        name,
+        sorts,
+        values,
+    } = label
+    else {
+        return "tau".to_string();
+    };
+    let values = sorts.iter().zip(values);
+    let values: Vec<String> = values
+        .map(|(sort, value)| format!("{sort}:{value}"))
+        .collect();
+    match values.len() {
+        0 => name.clone(),
+        _ => format!("{name}({})", values.join(",")),
+    }
+}
+
 #[test]
 fn questions_of_the_vectors() {
     let folder = Folder::new();
-    for case in vectors("asks") {
+    let mut sorted = 0;
+    for case in vectors::all("asks") {
         let (depth, answer) = (case.number("depth") as usize, case.text("answer"));
         if answer == "refused 15" && depth <= 64 {
             // these lend other than 64 frames, or leave something behind the used ones
@@ -35,7 +58,35 @@ fn questions_of_the_vectors() {
         };
         assert_eq!(ran.text(), format!("{wanted}\n"), "{}", case.text("name"));
         assert_eq!(ran.status, i32::from(answer.starts_with("refused")));
+        if let Answer::Step { label, .. } = vectors::answer(&case) {
+            let wanted = wanted.replacen(case.text("label"), &with_sorts(&label), 1);
+            let whole = run(&["ask", &table, "--sorts", "--stack", &stack, "-k", &k]);
+            whole.prints(&format!("{wanted}\n"));
+            sorted += usize::from(wanted.contains(':'));
+        }
     }
+    assert!(sorted > 20, "{sorted}");
+}
+
+/// Within one table an action's name says its sorts; those of two tables need not.
+#[test]
+fn sorts_of_two_tables() {
+    let asked = |sheet: &str, more: &[&str]| {
+        let words = ["ask", "--sheet", "-", "--stack", "0000000000", "-k", "0"];
+        fed(&[&words[..], more].concat(), sheet.as_bytes())
+            .text()
+            .to_string()
+    };
+    let one = "act set:Bool;proc X=set(1);init X;";
+    let other = "sort Channel 2;act set:Channel;proc X=set(1);init X;";
+    assert_eq!(
+        [one, other].map(|sheet| asked(sheet, &[])),
+        ["set(1) 0\n"; 2]
+    );
+    assert_eq!(asked(one, &["--sorts"]), "set(Bool:1) 0\n");
+    assert_eq!(asked(other, &["--sorts"]), "set(Channel:1) 0\n");
+    let both = "sort D 3;act a:D#Bool;proc X=a(2,1);init X;";
+    assert_eq!(asked(both, &["--sorts"]), "a(D:2,Bool:1) 0\n");
 }
 
 #[test]

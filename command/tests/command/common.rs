@@ -4,6 +4,9 @@
 pub mod json;
 #[path = "../../../tests/library/src/large.rs"]
 pub mod large;
+#[path = "../../../tests/reader/tests/common/vectors.rs"]
+#[allow(dead_code)]
+pub mod vectors;
 
 use std::ffi::OsStr;
 use std::fs;
@@ -133,17 +136,4 @@ impl Drop for Folder {
 /// An example of the repository.
 pub fn example(name: &str) -> String {
     format!("{}/../examples/{name}", env!("CARGO_MANIFEST_DIR"))
-}
-
-/// All vectors of a kind in `tests/vectors`: those of the base, and those with operators.
-pub fn vectors(kind: &str) -> Vec<json::Json> {
-    let read = |file: String| {
-        let path = format!(
-            "{}/../tests/vectors/{file}.jsonl",
-            env!("CARGO_MANIFEST_DIR")
-        );
-        fs::read_to_string(&path).expect(&path)
-    };
-    let text = read(kind.to_string()) + &read(format!("operators-{kind}"));
-    text.lines().map(json::parse).collect()
 }

@@ -35,6 +35,13 @@ fn the_charger() {
     let made = reader::make_table(&sheet).unwrap();
     let table = folder.file("charger.table", made).display().to_string();
     run(&["graph", "--limit", "6", &table]).prints(CHARGER);
+    let with_sorts = CHARGER.replace("charge(", "charge(Level:");
+    run(&["graph", "--sorts", &table]).prints(&with_sorts);
+    let earlier = reader::read_table(&reader::make_table(&sheet).unwrap());
+    let earlier = reader::encode_file(&earlier.unwrap().older());
+    let table = folder.file("earlier.table", earlier).display().to_string();
+    run(&["graph", &table]).prints(CHARGER);
+    run(&["graph", "--sorts", &table]).prints(&CHARGER.replace("charge(", "charge(s1:"));
 }
 
 /// How many stacks, and how many steps to them, the reader reaches.

@@ -8,22 +8,19 @@ const PRINTED: &str = "act a;proc p0=a.p0;init p0;";
 #[test]
 fn tables_of_the_vectors() {
     let mut texts = 0;
-    for case in vectors("prints") {
+    for case in vectors::all("prints") {
         let ran = fed(&["print", "-"], &case.bytes("file"));
-        match case.text("answer") {
-            "text" => {
+        match vectors::printed(&case) {
+            Ok(text) => {
                 texts += 1;
-                ran.prints(case.text("text"));
+                ran.prints(&text);
             }
             // the command lends room for every text
-            "refused 11" => assert_eq!((ran.status, &ran.err[..]), (0, "")),
-            refused => {
-                let number = &refused["refused ".len()..];
-                ran.fails(1, &[&format!("refused by question {number}: ")]);
-            }
+            Err(11) => assert_eq!((ran.status, &ran.err[..]), (0, "")),
+            Err(number) => ran.fails(1, &[&format!("refused by question {number}: ")]),
         }
     }
-    assert_eq!(texts, 39 + 42);
+    assert_eq!(texts, 39 + 42 + 41);
 }
 
 #[test]

@@ -33,6 +33,15 @@ fn undone_none_ended_and_listed() {
 }
 
 #[test]
+fn with_sorts() {
+    let plain = "1 seat(2) 1\ndepth 1: 1(2)\n  0 drive(2,0) 1\n  1 off 1\n2 off 1\n";
+    assert_eq!(script("coil.pcrl", "2 l 1"), plain);
+    let whole = plain.replace("seat(2", "seat(Channel:2");
+    let whole = whole.replace("drive(2,0", "drive(Channel:2,Amp:0");
+    fed(&["step", "--sorts", &example("coil.pcrl")], b"2 l 1").prints(&whole);
+}
+
+#[test]
 fn at_random() {
     let ran = |seed: &str| {
         let words = "r ".repeat(200);

@@ -4,12 +4,12 @@ use crate::common::{closed, example, fed, run, run_into, vectors};
 
 #[test]
 fn walks_of_the_vectors() {
-    for case in vectors("sheets") {
+    for case in vectors::all("sheets") {
         if case.get("walk").is_none() {
             continue; // asked for its table only
         }
         let ran = fed(&["walk", "-"], &case.bytes("sheet"));
-        let wanted = case.text("walk");
+        let wanted = vectors::walk(&case);
         let refused = wanted.starts_with("refused");
         assert_eq!(ran.text(), wanted, "{}", case.text("name"));
         assert_eq!(ran.status, i32::from(refused));

@@ -68,7 +68,7 @@ pub fn asked(file: &[u8], frames: &[Frame], depth: usize, k: u64) -> After {
         number,
         frames,
         depth,
-        answers: answers[1].bytes(),
+        answers: answers[1].bytes.to_vec(),
     }
 }
 
@@ -104,12 +104,7 @@ pub fn asked_all(
 /// An answer that has not been written.
 fn canary() -> Answer {
     Answer {
-        kind: CANARY,
-        depth: CANARY,
-        value_count: CANARY,
-        values: [CANARY; 2],
-        name_length: CANARY,
-        name: [CANARY; 18],
+        bytes: [CANARY; ANSWER],
     }
 }
 
@@ -143,7 +138,7 @@ pub fn meant(answer: &reader::Answer, frames: &[Frame], depth: usize) -> After {
         number,
         frames,
         depth,
-        answers: shown.bytes(),
+        answers: shown.bytes.to_vec(),
     }
 }
 
@@ -184,7 +179,7 @@ pub fn wanted_all(
             after.depth,
         );
         after.answers.extend(if next.number == 16 {
-            Answer::plain(TOO_DEEP).bytes()
+            Answer::plain(TOO_DEEP).bytes.to_vec()
         } else {
             next.answers
         });

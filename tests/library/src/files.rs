@@ -1,15 +1,20 @@
-//! Table files: those of the vectors' sheets, and changed ones whose checks are right again.
+//! Table files: those of the vectors' sheets, in both layouts, and changed ones whose checks are right again.
 
 use crate::common::random::Random;
 use crate::common::vectors;
 
-/// Files of the accepted sheets of the vectors.
+/// Files of the accepted sheets of the vectors, and those of their tables in the earlier layout.
 pub fn made() -> Vec<Vec<u8>> {
-    let sheets = vectors("sheets.jsonl");
-    sheets
-        .iter()
-        .filter_map(|case| reader::make_table(&case.bytes("sheet")).ok())
-        .collect()
+    let sheets = vectors::of("sheets");
+    let files = sheets.iter();
+    let files = files.filter_map(|case| reader::make_table(&case.bytes("sheet")).ok());
+    files.flat_map(|file| [earlier(&file), file]).collect()
+}
+
+/// The file of a file's table in the earlier layout.
+pub fn earlier(file: &[u8]) -> Vec<u8> {
+    let table = reader::read_table(file).expect("a table");
+    reader::encode_file(&table.older())
 }
 
 /// The check of each block made right again.

@@ -38,7 +38,7 @@ impl Followed {
         let number = ask(&self.file, &mut frames, &mut depth, k, &mut answer);
         assert_eq!(number, 0, "a stack that is followed has room for its steps");
         frames.truncate(depth);
-        (answer.kind == STEP).then(|| (answer.shown(), frames))
+        (answer.kind() == STEP).then(|| (answer.shown(), frames))
     }
 
     /// The stacks reached from the start, nearest first, and the steps of so many of them at the most.

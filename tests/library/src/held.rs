@@ -5,9 +5,9 @@
 use std::collections::BTreeMap;
 
 use reader::sheet::{Choice, Conditional, Part, PartKind};
-use reader::signature::{Data, Joint};
+use reader::signature::{Data, Joint, Signature};
 use reader::table::Summand;
-use reader::{Sheet, Table};
+use reader::{Layout, Sheet, Table};
 
 /// Constants by their names.
 pub type Numbers = BTreeMap<String, usize>;
@@ -185,10 +185,7 @@ pub fn arrays(sheet: &Sheet, kinds: &Numbers) -> Arrays {
         init,
     ];
     Arrays::from([
-        (
-            "sizes",
-            signature.sorts.iter().copied().map(usize::from).collect(),
-        ),
+        ("sizes", sizes(signature)),
         ("funcs", funcs),
         ("places", places),
         ("values", values),
@@ -199,6 +196,12 @@ pub fn arrays(sheet: &Sheet, kinds: &Numbers) -> Arrays {
         ("cells", terms.cells),
         ("parts", terms.parts),
     ])
+}
+
+/// The size of each sort.
+fn sizes(signature: &Signature) -> Vec<usize> {
+    let sorts = signature.sorts.iter();
+    sorts.map(|sort| usize::from(sort.size)).collect()
 }
 
 fn nodes(datas: &[Data]) -> usize {
@@ -230,9 +233,13 @@ fn standing(first: usize, lengths: impl Iterator<Item = usize>) -> (Vec<usize>, 
 /// The index of a table's stream.
 pub fn index(table: &Table) -> Arrays {
     let (signature, equations) = (&table.signature, &table.equations);
+    let named = table.layout == Layout::Named;
+    let names = signature.sorts.iter();
+    let names = names.map(|sort| if named { 2 + sort.name.len() } else { 1 });
+    let (sorts, end) = standing(usize::from(named) + 1, names);
     let functions = signature.functions.iter();
     let functions = functions.map(|each| 2 + each.arguments.len() + each.values.len());
-    let (funcs, end) = standing(2 + signature.sorts.len(), functions);
+    let (funcs, end) = standing(end + 1, functions);
     let actions = signature.actions.iter();
     let actions = actions.map(|each| 2 + each.name.len() + each.arguments.len());
     let (acts, end) = standing(end + 1, actions);
@@ -242,6 +249,10 @@ pub fn index(table: &Table) -> Arrays {
     let summands = summands.map(|each| 1 + each.summands.iter().map(summand_length).sum::<usize>());
     let (rows, start) = standing(end, summands);
     Arrays::from([
+        ("sort_count", vec![sorts.len()]),
+        ("named", vec![named.into()]),
+        ("sorts", sorts),
+        ("sizes", sizes(signature)),
         ("functions", vec![funcs.len()]),
         ("actions", vec![acts.len()]),
         ("equations", vec![rows.len()]),

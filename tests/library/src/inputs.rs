@@ -31,6 +31,10 @@ fn number(word: &str) -> Result<usize, String> {
     word.parse().map_err(|_| format!("no number: {word}"))
 }
 
+pub(crate) fn byte(word: &str) -> Result<u8, String> {
+    u8::from_str_radix(word, 16).map_err(|_| format!("no byte: {word}"))
+}
+
 fn value(word: &str) -> Result<u8, String> {
     word.parse().map_err(|_| format!("no value: {word}"))
 }
@@ -40,9 +44,14 @@ impl Input {
     fn sheet(&mut self, text: &str) {
         self.sheet = text.as_bytes().to_vec();
         if let Ok(file) = made_whole(&self.sheet) {
-            let start = started(&file, &[Frame::default(); FRAMES], UNSET);
-            (self.file, self.frames, self.depth) = (file, start.frames, start.depth);
+            self.file(file);
         }
+    }
+
+    /// A table file, and the start in 64 frames.
+    fn file(&mut self, file: Vec<u8>) {
+        let start = started(&file, &[Frame::default(); FRAMES], UNSET);
+        (self.file, self.frames, self.depth) = (file, start.frames, start.depth);
     }
 
     fn frame(&mut self, words: &[&str]) -> Result<(), String> {
@@ -61,8 +70,8 @@ impl Input {
     }
 
     fn byte(&mut self, place: &str, hex: &str) -> Result<(), String> {
-        let byte = self.file.get_mut(number(place)?).ok_or("no such byte")?;
-        *byte = u8::from_str_radix(hex, 16).map_err(|_| format!("no byte: {hex}"))?;
+        let changed = self.file.get_mut(number(place)?).ok_or("no such byte")?;
+        *changed = byte(hex)?;
         Ok(())
     }
 
@@ -84,6 +93,10 @@ impl Input {
         let words: Vec<&str> = line.split_whitespace().collect();
         match words[..] {
             ["sheet", ..] => self.sheet(line["sheet".len()..].trim_start()),
+            ["stream", ref bytes @ ..] => {
+                let bytes = bytes.iter().map(|hex| byte(hex));
+                self.file(reader::to_blocks(&bytes.collect::<Result<Vec<u8>, _>>()?));
+            }
             ["blanks", length] => {
                 self.sheet.resize(number(length)?, b' ');
                 self.answer = Some(in_words(crate::check_sheet(&self.sheet)));

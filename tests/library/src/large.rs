@@ -1,7 +1,8 @@
 //! A table whose stream fills 128 blocks but for a few bytes.
 
-use reader::signature::{Action, Data, Function, Signature};
+use reader::signature::{Action, Data, Function, Signature, Sort};
 use reader::table::{Condition, Equation, Summand, Table};
+use reader::Layout;
 
 /// `f(f(..f(0)..))` of this many nodes.
 fn nested(nodes: usize) -> Data {
@@ -41,11 +42,12 @@ pub fn large_file() -> Vec<u8> {
         arguments: vec![],
     }];
     let signature = Signature {
-        sorts: vec![2],
+        sorts: vec![Sort::bool()],
         functions,
         actions,
     };
     let table = Table {
+        layout: Layout::Named,
         signature,
         equations: vec![equation(30)],
         start: 0,

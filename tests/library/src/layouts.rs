@@ -7,7 +7,7 @@ use reader::limits::FRAMES;
 use crate::asked::{asked_all, started, After, UNSET};
 use crate::followed::Followed;
 use crate::held::{arrays, index, Arrays, Numbers};
-use crate::inputs::in_words;
+use crate::inputs::{byte, in_words};
 use crate::stepping::{Frame, ANSWER};
 
 const WORDS: [&str; 8] = ["sort", "func", "act", "proc", "init", "sum", "delta", "tau"];
@@ -36,10 +36,6 @@ struct Line<'a> {
 
 fn number(word: &str) -> Result<usize, String> {
     word.parse().map_err(|_| format!("no number: {word}"))
-}
-
-fn byte(word: &str) -> Result<u8, String> {
-    u8::from_str_radix(word, 16).map_err(|_| format!("no byte: {word}"))
 }
 
 fn same<T: PartialEq + std::fmt::Debug>(got: T, wanted: T) -> Result<(), String> {
@@ -263,19 +259,17 @@ fn after(sheet: &str, questions: &[&str]) -> Result<After, String> {
     Ok(after)
 }
 
-/// Each line has a piece of the bytes, in hex, before two blanks.
-fn pieces_are(bytes: &[u8], length: usize, text: &str) -> Result<(), String> {
-    let hex = |piece: &[u8]| piece.iter().map(|byte| format!("{byte:02x}")).collect();
-    let wanted: Vec<Vec<String>> = bytes.chunks(length).map(hex).collect();
+/// The bytes of each line, in hex, before two blanks.
+fn pieces(text: &str) -> Result<Vec<Vec<u8>>, String> {
     let front = |line: &str| line.split("  ").next().unwrap_or_default().to_string();
-    let shown = text.lines().map(front);
-    same(
-        shown.collect(),
-        wanted
-            .iter()
-            .map(|piece| piece.join(" "))
-            .collect::<Vec<_>>(),
-    )
+    let line = |line: &str| front(line).split(' ').map(byte).collect();
+    text.lines().map(line).collect()
+}
+
+/// Each line has a piece of the bytes.
+fn pieces_are(bytes: &[u8], length: usize, shown: Vec<Vec<u8>>) -> Result<(), String> {
+    let wanted: Vec<Vec<u8>> = bytes.chunks(length).map(<[u8]>::to_vec).collect();
+    same(shown, wanted)
 }
 
 /// The stack that these questions lead to has these frames, in bytes.
@@ -285,10 +279,13 @@ pub fn frames_are(sheet: &str, questions: &[&str], text: &str) -> Result<(), Str
     let bytes: Vec<u8> = used
         .flat_map(|frame| [&[frame.equation][..], &frame.values].concat())
         .collect();
-    pieces_are(&bytes, std::mem::size_of::<Frame>(), text)
+    pieces_are(&bytes, std::mem::size_of::<Frame>(), pieces(text)?)
 }
 
-/// These questions get these answers, in bytes.
+/// These questions get these answers, in bytes; zeros at the end of one may be left out.
 pub fn answers_are(sheet: &str, questions: &[&str], text: &str) -> Result<(), String> {
-    pieces_are(&after(sheet, questions)?.answers, ANSWER, text)
+    let mut shown = pieces(text)?;
+    let longer = |answer: &mut Vec<u8>| answer.resize(answer.len().max(ANSWER), 0);
+    shown.iter_mut().for_each(longer);
+    pieces_are(&after(sheet, questions)?.answers, ANSWER, shown)
 }

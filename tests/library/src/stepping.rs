@@ -11,25 +11,28 @@ pub struct Frame {
     pub values: [u8; PARAMETERS],
 }
 
-/// `wizbratel_answer`.
+/// Bytes of a `wizbratel_answer`.
+pub const ANSWER: usize = 72;
+
+/// Where its fields stand: the count of the label's values and these, then the names of the action and of two sorts,
+/// each with its length before it. Behind them are zeros.
+const KIND: usize = 0;
+const DEPTH: usize = 1;
+const VALUES: usize = 2;
+const NAME: usize = 5;
+const SORTS: [usize; 2] = [23, 43];
+
+/// `wizbratel_answer`, by its bytes: the library writes no more than these, at any place.
 #[repr(C)]
 #[derive(Clone, Copy, Debug, PartialEq, Eq)]
 pub struct Answer {
-    pub kind: u8,
-    pub depth: u8,
-    pub value_count: u8,
-    pub values: [u8; 2],
-    pub name_length: u8,
-    pub name: [u8; 18],
+    pub bytes: [u8; ANSWER],
 }
 
 pub const ENDED: u8 = 0;
 pub const NONE: u8 = 1;
 pub const STEP: u8 = 2;
 pub const TOO_DEEP: u8 = 16;
-
-/// Bytes of an answer.
-pub const ANSWER: usize = std::mem::size_of::<Answer>();
 
 extern "C" {
     fn wizbratel_start(
@@ -127,49 +130,65 @@ pub fn frames_of(frames: &[reader::Frame]) -> Vec<Frame> {
 }
 
 impl Answer {
-    /// An answer that is no step: all fields behind the kind are 0.
+    /// An answer that is no step: all bytes behind the kind are 0.
     pub fn plain(kind: u8) -> Self {
-        Answer {
-            kind,
-            depth: 0,
-            value_count: 0,
-            values: [0; 2],
-            name_length: 0,
-            name: [0; 18],
-        }
+        let mut bytes = [0; ANSWER];
+        bytes[KIND] = kind;
+        Answer { bytes }
     }
 
     /// The answer of a step to this depth.
     pub fn step(label: &Label, depth: usize) -> Self {
-        let (text, values) = match label {
-            Label::Tau => ("tau", &[][..]),
-            Label::Action(name, values) => (name.as_str(), &values[..]),
-        };
         let mut answer = Answer::plain(STEP);
-        answer.depth = depth as u8;
-        answer.value_count = values.len() as u8;
-        answer.values[..values.len()].copy_from_slice(values);
-        answer.name_length = text.len() as u8;
-        answer.name[..text.len()].copy_from_slice(text.as_bytes());
+        answer.bytes[DEPTH] = depth as u8;
+        match label {
+            Label::Tau => answer.put(NAME, b"tau"),
+            Label::Action {
+                name,
+                sorts,
+                values,
+            } => {
+                answer.put(VALUES, values);
+                answer.put(NAME, name.as_bytes());
+                let places = SORTS.into_iter().zip(sorts);
+                places.for_each(|(at, sort)| answer.put(at, sort.as_bytes()));
+            }
+        }
         answer
     }
 
-    /// All bytes of it.
-    pub fn bytes(&self) -> Vec<u8> {
-        let fields = [self.kind, self.depth, self.value_count];
-        let ends = [&self.values[..], &[self.name_length], &self.name].concat();
-        [&fields[..], &ends].concat()
+    /// Writes a count and what it counts.
+    fn put(&mut self, at: usize, listed: &[u8]) {
+        self.bytes[at] = listed.len() as u8;
+        self.bytes[at + 1..][..listed.len()].copy_from_slice(listed);
+    }
+
+    /// What stands behind a count.
+    fn listed(&self, at: usize) -> &[u8] {
+        &self.bytes[at + 1..][..usize::from(self.bytes[at])]
+    }
+
+    /// The kind of answer.
+    pub fn kind(&self) -> u8 {
+        self.bytes[KIND]
+    }
+
+    /// The depth after a step.
+    pub fn depth(&self) -> usize {
+        self.bytes[DEPTH].into()
     }
 
     /// The label of a step.
     pub fn shown(&self) -> Label {
-        let name = &self.name[..usize::from(self.name_length)];
-        let values = &self.values[..usize::from(self.value_count)];
-        let name = String::from_utf8(name.to_vec()).expect("a name");
-        if name == "tau" {
-            Label::Tau
-        } else {
-            Label::Action(name, values.to_vec())
+        let text = |at| String::from_utf8(self.listed(at).to_vec()).expect("a name");
+        let values = self.listed(VALUES);
+        if self.listed(NAME) == b"tau" {
+            return Label::Tau;
+        }
+        Label::Action {
+            name: text(NAME),
+            sorts: SORTS[..values.len()].iter().map(|&at| text(at)).collect(),
+            values: values.to_vec(),
         }
     }
 

@@ -5,6 +5,7 @@ use std::collections::BTreeMap;
 use std::path::{Path, PathBuf};
 use std::process::Command;
 
+use library::files::earlier;
 use library::followed::Followed;
 use library::inputs::{answer, in_words};
 use library::layouts;
@@ -68,9 +69,13 @@ fn cases_are(lines: &str) -> Result<(), String> {
     Ok(())
 }
 
-/// The stream bytes of the sheet's file are these, and then zeros.
-fn stream_is(sheet: &str, shown: &[u8]) -> Result<(), String> {
-    let file = followed(sheet)?.file;
+/// The file of the sheet's table in the earlier layout.
+fn earlier_file(sheet: &str) -> Result<Vec<u8>, String> {
+    Ok(earlier(&followed(sheet)?.file))
+}
+
+/// The stream bytes of the file are these, and then zeros.
+fn stream_is(file: &[u8], shown: &[u8]) -> Result<(), String> {
     let mut bytes: Vec<u8> = file
         .chunks(512)
         .flat_map(|block| block[4..510].to_vec())
@@ -80,9 +85,9 @@ fn stream_is(sheet: &str, shown: &[u8]) -> Result<(), String> {
     same(rest.iter().any(|&byte| byte != 0), false)
 }
 
-/// The sheet's table is printed so; the listing's line feeds are left out.
-fn printed_is(sheet: &str, shown: &str) -> Result<(), String> {
-    let text = printed_whole(&followed(sheet)?.file).map_err(in_words)?;
+/// The file is printed so; the listing's line feeds are left out.
+fn printed_is(file: &[u8], shown: &str) -> Result<(), String> {
+    let text = printed_whole(file).map_err(in_words)?;
     same(text, shown.replace('\n', ""))
 }
 
@@ -109,9 +114,11 @@ fn check(listing: &Listing, sheet: Option<&str>) -> Result<(), String> {
             equal_is(text, n, true).and_then(|()| equal_is(text, m, false))
         }
         ["walk"] => same(written("walk", before()?.as_bytes()).as_str(), text),
-        ["stream"] => stream_is(before()?, &stream(text)),
-        ["stream", "places"] => stream_is(before()?, &layouts::placed(text)?),
-        ["printed"] => printed_is(before()?, text),
+        ["stream"] => stream_is(&followed(before()?)?.file, &stream(text)),
+        ["stream", "places"] => stream_is(&followed(before()?)?.file, &layouts::placed(text)?),
+        ["stream", "earlier"] => stream_is(&earlier_file(before()?)?, &stream(text)),
+        ["printed"] => printed_is(&followed(before()?)?.file, text),
+        ["printed", "earlier"] => printed_is(&earlier_file(before()?)?, text),
         ["numbers", file] => layouts::numbers_are(file, text),
         ["cells", "tokens"] => layouts::tokens_are(before()?, text),
         ["cells", "raw"] => layouts::raw_is(before()?, text),
@@ -219,7 +226,10 @@ fn wrong_listings_are_found() {
         RAW,
         "```cells terms\n0  10 0 0\n3  36 0 0\n6  84 0 0\n9  8 0 0\n```\n",
         "```rows\nparts  6 0 0\nnames  1028 1034 1041  a, b, X\n```\n",
-        "```index\nacts  4 7\nparams  11 12\nrows  13 19\nstart  24\n```\n",
+        "```index\nsorts  2\nsizes  2\nacts  10 13\nparams  17 18\nrows  19 25\nstart  30\n```\n",
+        "```printed earlier\nact a;act b;proc p0=a.p1;proc p1=b;init p0;\n```\n",
+        "```stream earlier\n01 02 00 02 01 61 00 01 62 00 02 00 00\n01 00 00 00 01 01 01 00 00 01 00\n```\n",
+        "```answers 0 0\n02 01 00 00 00 01 61  a\n02 00 00 00 00 01 62  b\n```\n",
     ];
     for listing in right {
         assert!(check_all(&format!("{sheet}{listing}")).is_ok(), "{listing}");
@@ -235,10 +245,13 @@ fn wrong_listings_are_found() {
         "```printed\nact a;act b;proc p0=a.p1;proc p1=b; init p0;\n```\n",
         "```printed\nact a;act b;proc X=a.b;init X;\n```\n",
         "```stream\n01 02 00 03\n```\n",
-        "```stream places\n0  01 02\n3  00\n```\n",
+        "```stream earlier\nf2 01 02 04\n```\n",
+        "```stream places\n0  f2 01\n3  04\n```\n",
+        "```printed earlier\nact a;act b;proc X=a.b;init X;\n```\n",
         "```frames 0\n01 00 00 00 01\n```\n",
         "```frames 0 0\n01 00 00 00 00\n```\n",
-        "```answers 0\n02 01 00 00 00 01 61\n```\n",
+        "```answers 0\n02 01 00 00 00 01 62\n```\n",
+        "```answers 0\n02 01 00 00 00 01\n```\n",
         "```file 512\n2  02 00\n```\n",
         "```file 1024\n0  00 00 01 00\n```\n",
         "```cells tokens\n0  162 1028 59\n```\n",
@@ -251,8 +264,8 @@ fn wrong_listings_are_found() {
         "```rows\nparts  6 0 1\n```\n",
         "```rows\nacts  0 0 0\n```\n",
         "```rows\nfuncs  0\n```\n",
-        "```index\nrows  13 18\n```\n",
-        "```index\ncells  13 18\n```\n",
+        "```index\nrows  19 24\n```\n",
+        "```index\ncells  19 25\n```\n",
         "```numbers crates/parts/src/row.rt\nROW 4\n```\n",
         "```numbers crates/parts/src/row.rt\n```\n",
         "```pcrl refused 7\nact a;proc X=a;init X;\n```\n",
@@ -263,6 +276,8 @@ fn wrong_listings_are_found() {
         "```pcrl equal 0 not 1\nact a;proc X=a;init X;\n\nact a;proc X=a+a;init X;\n```\n",
         "```input refused 13\nsheet act a;proc X=a;init X;\nlength 100\n```\n",
         "```input refused 13\nsheet act a;proc X=a;init X;\nwide 100\n```\n",
+        "```input accepted\nstream f2 01 02 04 42 6f 6f\n```\n",
+        "```input refused 14\nstream f2 01 02 0g\n```\n",
         "```input refused 11\nsheet act a;proc X=a;init X;\nprint 24\n```\n",
     ] {
         assert!(

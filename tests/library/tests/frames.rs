@@ -2,7 +2,8 @@
 
 use library::asked::{lent, same, same_all, same_start};
 use library::common::random::Random;
-use library::stepping::Frame;
+use library::common::sort_sections;
+use library::stepping::{Frame, ANSWER};
 
 /// Equations of no, two and four parameters, sorts of 3, 2 and 1, and a new equation of one.
 const SHEET: &str = "sort D 3;sort U 1;act a:D;act b;\
@@ -29,7 +30,7 @@ fn answers(file: &[u8], frames: &[Frame], depth: usize, wanted: u8, what: &str) 
         assert_eq!(same(file, frames, depth, k, what).0, wanted, "{what}");
     }
     for questions in [&[][..], &[0], &[0, 5, 0]] {
-        for room in [0, 23, 24, 100] {
+        for room in [0, ANSWER - 1, ANSWER, 4 * ANSWER + 4] {
             let after = same_all(file, frames, depth, questions, room, what);
             assert_eq!(after.number, wanted, "{what}");
         }
@@ -185,6 +186,20 @@ fn files_before_frames() {
             "a broken file and broken frames",
         );
         answers(&file, &[], 0, number, "a broken file and no frames");
+    }
+}
+
+/// Sort sections that are damaged are refused before the frames; by right ones, of either layout, steps are taken.
+#[test]
+fn sort_sections_before_frames() {
+    let start = lent(&[Frame::default()]);
+    let sections = [(sort_sections::damaged(), 14), (sort_sections::right(), 0)];
+    for (streams, number) in sections {
+        for stream in streams {
+            let (file, what) = (reader::to_blocks(&stream.bytes), &stream.what[..]);
+            answers(&file, &start, 1, number, what);
+            assert_eq!(same_start(&file, &start, 1, what), number, "{what}");
+        }
     }
 }
 

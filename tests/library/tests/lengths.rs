@@ -85,7 +85,7 @@ fn streams_of_every_length_over_two_blocks() {
     let sheet =
         |name: &str, count| format!("act {name};proc X={};init X;", repeated(name, count, "+"));
     let (first, end) = every_stream(sheet, 1..256);
-    assert!(first < 20 && end > 1030, "{first} to {end}");
+    assert!(first < 30 && end > 1030, "{first} to {end}");
 }
 
 #[test]

@@ -69,7 +69,7 @@ fn refused_sheets_write_nothing_whatever_the_output() {
 #[test]
 fn files_of_all_vectors_in_their_own_length() {
     let mut files = 0;
-    for case in library::common::vectors("sheets.jsonl") {
+    for case in library::common::vectors::of("sheets") {
         let sheet = case.bytes("sheet");
         let Ok(file) = reader::make_table(&sheet) else {
             continue;

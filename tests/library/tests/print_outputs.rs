@@ -60,13 +60,18 @@ fn lengths_and_blocks_that_are_refused() {
 
 #[test]
 fn streams_that_are_refused() {
+    // hex F2, counts and sizes, names of Bool and the action, parameters, a call, the start, and what is behind it
     for (at, byte) in [
         (4, 0),
-        (5, 3),
-        (9, b'2'),
-        (12, 5),
-        (19, 1),
-        (20, 1),
+        (5, 2),
+        (6, 3),
+        (7, 3),
+        (8, b'b'),
+        (15, b'2'),
+        (18, 5),
+        (24, 1),
+        (25, 1),
+        (26, 1),
         (509, 1),
     ] {
         let mut changed = plain();

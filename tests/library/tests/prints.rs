@@ -1,8 +1,9 @@
-//! Tables printed as sheets beside the reader, each text read back as its own file: vectors, tables of generated
-//! sheets, generated tables that come from no sheet, action names that press on the letters.
+//! Tables printed as sheets beside the reader, each text read back as its own file, with the names of sorts if it has
+//! none: vectors, tables of generated sheets, generated tables that come from no sheet, tables of the earlier layout,
+//! names of actions and sorts that press on the letters.
 
 use library::common::random::Random;
-use library::common::{generate, tables, vectors};
+use library::common::{generate, sort_sections, tables, vectors};
 use library::files;
 use library::made::made_whole;
 use library::printed::{printed, same};
@@ -31,14 +32,11 @@ fn room(random: &mut Random) -> usize {
 
 #[test]
 fn vectors_give_their_texts_or_refusals() {
-    let cases = [vectors("prints.jsonl"), vectors("operators-prints.jsonl")].concat();
-    assert_eq!(cases.len(), 140);
+    let cases = vectors::all("prints");
+    assert_eq!(cases.len(), 210);
     for case in &cases {
-        let (name, room) = (case.text("name"), case.number("room") as usize);
-        let wanted = match case.text("answer") {
-            "text" => Ok(case.text("text").to_string()),
-            refused => Err(refused["refused ".len()..].parse().expect("a number")),
-        };
+        let (name, room) = (case.text("name"), vectors::room(case));
+        let wanted = vectors::printed(case);
         assert_eq!(printed(&case.bytes("file"), room), wanted, "{name}");
         same(&case.bytes("file"), room, name);
     }
@@ -51,6 +49,7 @@ fn tables_of_sheets() {
         let sheet = match seed % 4 {
             0 => generate::with_heads(seed),
             1 => generate::with_operators(seed),
+            2 => generate::with_names(seed),
             _ => generate::sheet(seed),
         };
         if let Ok(file) = made_whole(sheet.as_bytes()) {
@@ -66,8 +65,9 @@ fn tables_of_sheets() {
 fn tables_of_no_sheet() {
     let (mut random, mut seen): (_, Seen) = (Random::new(102), [0; 18]);
     for seed in 0..count() {
-        let table = match seed % 2 {
+        let table = match seed % 3 {
             0 => tables::table(seed),
+            1 => tables::older(seed),
             _ => tables::with_operators(seed),
         };
         let file = reader::encode_file(&table);
@@ -82,7 +82,7 @@ fn tables_of_no_sheet() {
 #[test]
 fn files_of_the_vectors_and_changed_ones() {
     let (mut random, mut seen): (_, Seen) = (Random::new(103), [0; 18]);
-    let listed = vectors("tables.jsonl");
+    let listed = vectors::all("tables");
     let mut all: Vec<Vec<u8>> = listed.iter().map(|case| case.bytes("file")).collect();
     for file in files::made() {
         all.extend((0..8).map(|_| files::slightly_changed(&mut random, &file)));
@@ -93,6 +93,18 @@ fn files_of_the_vectors_and_changed_ones() {
     }
     println!("answers 0 to 17: {seen:?}");
     assert!([0, 12, 14, 17].iter().all(|&number| seen[number] > 50));
+}
+
+#[test]
+fn sort_sections_damaged_and_right() {
+    let mut seen: Seen = [0; 18];
+    let streams = [sort_sections::damaged(), sort_sections::right()];
+    for stream in streams.iter().flatten() {
+        let file = reader::to_blocks(&stream.bytes);
+        seen[usize::from(same(&file, SHEET_BYTES, &stream.what))] += 1;
+    }
+    // a sort with the action's name, names of the earlier layout that have 17 and 18 characters
+    assert!(seen[0] > 20 && seen[17] >= 3, "{seen:?}");
 }
 
 /// A sheet with this action, and as many sorts, functions and processes as make their indices this long.
@@ -137,12 +149,39 @@ fn action_names_that_press_on_the_letters() {
                     assert!(name.len() > NAME_LENGTH, "{sheet}");
                     continue;
                 };
-                seen[usize::from(same(&file, SHEET_BYTES, &sheet))] += 1;
+                let earlier = files::earlier(&file);
+                for file in [file, earlier] {
+                    seen[usize::from(same(&file, SHEET_BYTES, &sheet))] += 1;
+                }
             }
         }
     }
     println!("answers 0 to 17: {seen:?}");
-    assert!(seen[0] > 1000 && seen[17] > 50, "{seen:?}");
+    assert!(seen[0] > 2000 && seen[17] > 100, "{seen:?}");
+}
+
+#[test]
+fn sort_names_that_press_on_the_letters() {
+    let mut seen: Seen = [0; 18];
+    for (letter, times) in ["s", "f", "p", "v", "B"]
+        .iter()
+        .flat_map(|letter| (1..=NAME_LENGTH).map(move |times| (letter, times)))
+    {
+        for behind in ["", "0", "_"] {
+            let name = letter.repeat(times) + behind;
+            if name.len() > NAME_LENGTH {
+                continue;
+            }
+            let right = "sum(y:Bool,act0<|g(y)|>delta)";
+            let sheet = format!(
+                "sort {name} 2;func g:Bool->Bool=0,1;act act0;act b:{name};proc X={right};init X;"
+            );
+            let file = made_whole(sheet.as_bytes()).expect(&sheet);
+            seen[usize::from(same(&file, SHEET_BYTES, &sheet))] += 1;
+        }
+    }
+    println!("answers 0 to 17: {seen:?}");
+    assert!(seen[0] > 100 && seen[17] > 5, "{seen:?}");
 }
 
 /// The timed tables print, and are as long as they are meant to be.

@@ -8,11 +8,10 @@ fn written(sheet: &[u8]) -> String {
 
 #[test]
 fn vectors_in_words() {
-    for case in vectors("sheets.jsonl").iter().step_by(20) {
-        let refused = case.get("refused").map(|_| case.number("refused") as u8);
-        let wanted = match refused {
-            None => "accepted\n".to_string(),
-            Some(number) => format!("refused {number}\n"),
+    for case in vectors::of("sheets").iter().step_by(20) {
+        let wanted = match vectors::made(case) {
+            Ok(_) => "accepted\n".to_string(),
+            Err(number) => format!("refused {number}\n"),
         };
         assert_eq!(
             written(&case.bytes("sheet")),

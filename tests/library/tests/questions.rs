@@ -38,7 +38,7 @@ fn conditions_of_31_nodes_over_four_sums_of_16() {
         assert!(summand
             .variables
             .iter()
-            .all(|&sort| table.signature.sorts[sort] == 16));
+            .all(|&sort| table.signature.size(sort) == 16));
     }
 }
 

@@ -2,7 +2,7 @@
 
 use library::asked::{asked, lent, meant, same_start};
 use library::common::random::Random;
-use library::common::{generate, vectors};
+use library::common::{generate, tables, vectors};
 use library::files;
 use library::made::made_whole;
 use library::reached::{piled, reached};
@@ -92,7 +92,7 @@ fn every_stack(file: &[u8], random: &mut Random, seen: &mut Seen, text: &str) {
 fn tables_of_no_sheet() {
     let mut random = Random::new(42);
     let mut seen = Seen::default();
-    let listed = vectors("tables.jsonl");
+    let listed = vectors::all("tables");
     let mut all: Vec<Vec<u8>> = listed.iter().map(|case| case.bytes("file")).collect();
     for file in files::made() {
         all.extend((0..12).map(|_| files::slightly_changed(&mut random, &file)));
@@ -106,21 +106,42 @@ fn tables_of_no_sheet() {
     assert!(seen.too_deep > 100 && seen.ended > 200, "{seen:?}");
 }
 
+/// Sorts of many names, one like an action's among them, and the names of the earlier layout.
+#[test]
+fn generated_tables_of_both_layouts() {
+    let mut random = Random::new(43);
+    let mut seen = Seen::default();
+    // those of other seeds are large, and have steps by the thousand
+    for seed in (0..1000).filter(|seed| seed % 32 < 20) {
+        let text = format!("seed {seed}");
+        for table in [tables::table(seed), tables::older(seed)] {
+            let file = reader::encode_file(&table);
+            every_stack(&file, &mut random, &mut seen, &text);
+        }
+    }
+    println!("{seen:?}");
+    assert!(seen.steps > 5000 && seen.none > 1000, "{seen:?}");
+}
+
 #[test]
 fn every_step_of_every_stack() {
     let sheets = std::env::var(VARIABLE).map_or(SHEETS, |number| number.parse().expect(VARIABLE));
     let mut random = Random::new(41);
     let mut seen = Seen::default();
     for seed in 0..sheets {
-        let text = match seed % 3 {
+        let text = match seed % 4 {
             0 => generate::sheet(seed),
             1 => generate::with_heads(seed),
+            2 => generate::with_names(seed),
             _ => generate::with_operators(seed),
         };
         let Ok(file) = made_whole(text.as_bytes()) else {
             continue;
         };
         every_stack(&file, &mut random, &mut seen, &text);
+        if seed % 4 == 2 {
+            every_stack(&files::earlier(&file), &mut random, &mut seen, &text);
+        }
     }
     println!("{seen:?}");
     let least = sheets / 10;

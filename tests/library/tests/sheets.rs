@@ -29,7 +29,7 @@ fn every_limit_from_both_sides() {
 fn mutants_of_vectors() {
     let mut random = Random::new(22);
     let mut seen = [0; 11];
-    for case in vectors("sheets.jsonl") {
+    for case in vectors::of("sheets") {
         let sheet = case.bytes("sheet");
         for _ in 0..8 {
             let mutant = mutate::mutant(&mut random, &sheet);

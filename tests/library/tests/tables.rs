@@ -1,8 +1,9 @@
 //! Table files put to the proved library and to the other reader: vectors, files made of sheets, and mutants of them.
 
+use library::check_table;
 use library::common::random::Random;
+use library::common::{sort_sections, tables, vectors};
 use library::files::{made, rechecked, slightly_changed};
-use library::{check_table, common};
 
 /// Both say the same of a file.
 fn same(file: &[u8], what: &str) -> u8 {
@@ -13,11 +14,10 @@ fn same(file: &[u8], what: &str) -> u8 {
 
 #[test]
 fn vectors_get_their_answers() {
-    let files = ["tables.jsonl", "operators-tables.jsonl"];
-    for case in files.iter().flat_map(|file| common::vectors(file)) {
+    for case in vectors::all("tables") {
         let wanted = match case.text("answer") {
             "ok" => 0,
-            refused => refused["refused ".len()..].parse().expect("a number"),
+            refused => vectors::number(refused),
         };
         assert_eq!(
             check_table(&case.bytes("file")),
@@ -35,6 +35,40 @@ fn files_of_sheets_are_accepted() {
     for file in &files {
         assert_eq!(same(file, "a file of a sheet"), 0);
     }
+}
+
+/// Where names stand, and where they do not: damaged sort sections, right ones, tables that come from no sheet.
+#[test]
+fn sort_sections_damaged_and_right() {
+    let file = |stream: &sort_sections::Stream| reader::to_blocks(&stream.bytes);
+    for stream in sort_sections::damaged() {
+        assert_eq!(same(&file(&stream), &stream.what), 14);
+    }
+    for stream in sort_sections::right() {
+        assert_eq!(same(&file(&stream), &stream.what), 0);
+    }
+    for seed in 0..2000 {
+        let what = format!("seed {seed}");
+        let [named, older] = [tables::table(seed), tables::older(seed)];
+        let files = [named, older].map(|table| reader::encode_file(&table));
+        assert_eq!(files.map(|file| same(&file, &what)), [0; 2]);
+    }
+}
+
+/// Every byte of a sort section with every value.
+#[test]
+fn every_value_in_a_sort_section() {
+    let table = reader::make_table(b"sort D 3;sort Ef 2;act a:D;act Ef_:Ef;proc X=a(2);init X;");
+    let file = table.expect("a table");
+    let mut accepted = 0;
+    for at in 4..4 + 16 {
+        for value in 0..=255 {
+            let mut mutant = file.clone();
+            mutant[at] = value;
+            accepted += usize::from(same(&rechecked(mutant), &format!("{value} at {at}")) == 0);
+        }
+    }
+    assert!(accepted > 100, "{accepted}");
 }
 
 #[test]

@@ -37,9 +37,9 @@ fn examples_get_their_walks() {
 
 #[test]
 fn vectors_get_their_walks() {
-    for case in vectors("sheets.jsonl") {
+    for case in vectors::of("sheets") {
         let (name, sheet) = (case.text("name"), case.bytes("sheet"));
-        assert_eq!(written(&sheet), case.text("walk"), "{name}");
+        assert_eq!(written(&sheet), vectors::walk(&case), "{name}");
     }
 }
 

@@ -35,33 +35,21 @@ fn stack(frames: &[Frame], depth: usize) -> Vec<reader::Frame> {
 fn follow(terms: &Terms, term: &Term, k: u64, answer: &Answer, next: Term, text: &str) -> Term {
     let steps = terms.steps(term);
     let count = steps.len() as u64;
-    match answer.kind {
+    match answer.kind() {
         ENDED => assert!(terms.ended(term), "ended: {text}"),
         NONE => assert!(!terms.ended(term) && k >= count, "none for {k}: {text}"),
         TOO_DEEP => assert!(k < count, "16 for {k}: {text}"),
         kind => {
             assert_eq!(kind, STEP);
             assert!(k < count, "a step {k}: {text}");
-            let taken = |(label, after): &(reader::Label, Term)| {
-                label.to_string() == answer.label() && *after == next
-            };
+            let taken =
+                |(label, after): &(reader::Label, Term)| *label == answer.shown() && *after == next;
             assert!(steps.iter().any(taken), "no such step of the term: {text}");
             return next;
         }
     }
     assert_eq!(next, *term, "the stack has changed: {text}");
     next
-}
-
-/// The answer in these bytes.
-fn shown(bytes: &[u8]) -> Answer {
-    let mut answer = Answer::plain(bytes[0]);
-    answer.depth = bytes[1];
-    answer.value_count = bytes[2];
-    answer.values.copy_from_slice(&bytes[3..5]);
-    answer.name_length = bytes[5];
-    answer.name.copy_from_slice(&bytes[6..]);
-    answer
 }
 
 /// Walks from the start to so many steps, or through so many lists; how many answers of each kind there were.
@@ -86,15 +74,17 @@ fn walk(text: &str, random: &mut Random, steps: usize, lists: usize) -> [usize; 
         let list = asked_all(&file, &frames, depth, &questions, LIST * ANSWER);
         assert_eq!(list.number, 0);
         for (&k, bytes) in questions.iter().zip(list.answers.chunks(ANSWER)) {
-            let answer = shown(bytes);
+            let answer = Answer {
+                bytes: bytes.try_into().expect("a whole answer"),
+            };
             let kinds = [ENDED, NONE, STEP, TOO_DEEP];
-            let kind = kinds.iter().position(|&kind| kind == answer.kind);
+            let kind = kinds.iter().position(|&kind| kind == answer.kind());
             seen[kind.expect("a kind of answer")] += 1;
             let one = asked(&file, &frames, depth, k);
             (frames, depth) = (one.frames, one.depth);
             let next = terms.of_stack(&stack(&frames, depth));
-            if answer.kind == STEP {
-                assert_eq!(usize::from(answer.depth), depth, "{text}");
+            if answer.kind() == STEP {
+                assert_eq!(answer.depth(), depth, "{text}");
             }
             term = follow(&terms, &term, k, &answer, next, text);
         }
@@ -126,7 +116,7 @@ fn generated_sheets() {
     let mut seen = [0; 4];
     for seed in 0..400 {
         let text = match seed % 3 {
-            0 => generate::sheet(seed),
+            0 => generate::with_names(seed),
             1 => generate::with_heads(seed),
             _ => generate::with_operators(seed),
         };

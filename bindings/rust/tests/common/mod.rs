@@ -8,20 +8,22 @@ pub mod generate;
 pub mod json;
 #[path = "../../../../tests/reader/tests/common/random.rs"]
 pub mod random;
+#[path = "../../../../tests/reader/tests/common/vectors.rs"]
+pub mod vectors;
 
-use wizbratel::{Frame, Refused};
+use wizbratel::{Frame, Label, Refused};
 
-/// All vectors of a kind in `tests/vectors`: those of the base, and those with operators.
-pub fn vectors(kind: &str) -> Vec<json::Json> {
-    let read = |file: String| {
-        let path = format!(
-            "{}/../../tests/vectors/{file}.jsonl",
-            env!("CARGO_MANIFEST_DIR")
-        );
-        std::fs::read_to_string(&path).expect(&path)
-    };
-    let text = read(kind.to_string()) + &read(format!("operators-{kind}"));
-    text.lines().map(json::parse).collect()
+/// The label that the reader would give.
+pub fn label_of(label: &Label) -> reader::Label {
+    if label.is_tau() {
+        assert_eq!((label.sorts().len(), label.values()), (0, &[][..]));
+        return reader::Label::Tau;
+    }
+    reader::Label::Action {
+        name: label.name().to_string(),
+        sorts: label.sorts().map(str::to_string).collect(),
+        values: label.values().to_vec(),
+    }
 }
 
 /// The reader's frames as this crate's.
