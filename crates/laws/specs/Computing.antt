@@ -37,7 +37,7 @@ use Rattle.pcrl.specs.Answers
 use Rattle.pcrl.specs.Walk
 
 unfoldable pub in-tests : ℕ
-unfolding Tests.both? Tests.between? Tests.at-most? Tests.below? Tests.T? Tests.same? Tests.among Tests.distinct Tests.some? Tests.Every Tests.every? Tests.Each Tests.each? Result.question Result.question-of Result.after Result.refusal Result.passed Bytes.short? Bytes.Printable Bytes.printable? Reader.bind Reader.keep Reader.one Reader.test Reader.pair Reader.view Reader.times Reader.each Reader.all Reader.counted Maybe.for-each native.Mathlib.Decide.ℕ-discrete native.Mathlib.Decide.decLe native.Mathlib.Decide.decLt
+unfolding Tests.both? Tests.between? Tests.at-most? Tests.below? Tests.T? Tests.same? Tests.among Tests.distinct Tests.some? Tests.Every Tests.every? Tests.Each Tests.each? Result.question Result.question-of Result.after Result.both-checked Result.refusal Result.passed Bytes.short? Bytes.Printable Bytes.printable? Reader.bind Reader.keep Reader.one Reader.test Reader.pair Reader.view Reader.times Reader.each Reader.all Reader.counted Maybe.for-each native.Mathlib.Decide.ℕ-discrete native.Mathlib.Decide.decLe native.Mathlib.Decide.decLt
 in-tests = 0
 
 unfoldable pub in-reading : ℕ

@@ -1,9 +1,9 @@
 -- What an accepted answer says of the questions before it, and the other way round.
-use mathlib.Core.Path.{_≡_, refl, sym, _∙_}
+use mathlib.Core.Path.{_≡_, refl, sym, ap, _∙_}
 use mathlib.Core.Option.{Option, none, some}
 use Prim.Native.Nat.{ℕ}
 use native.Mathlib.Omega.{arith}
-use Rattle.pcrl.specs.Result.{Result, refused, accepted, question, question-of, after}
+use Rattle.pcrl.specs.Result.{Result, refused, accepted, question, question-of, after, both-checked}
 
 -- a question that passes
 pub question-passes : {P A : Type 0} (n : ℕ) (d : Dec P) (rest : P → Result A) (r : Result A) → P → ((h : P) → rest h ≡ r) → question n d rest ≡ r
@@ -56,3 +56,25 @@ past-answer r rest b e k = let x = after-passed r rest b e in k (x .0) (x .1) (x
 -- There is one answer.
 pub accepted-one : {A : Type 0} {r : Result A} {a b : A} → r ≡ accepted a → r ≡ accepted b → a ≡ b
 accepted-one {A} {r} {a} {b} e h = let q : accepted a ≡ accepted b = sym e ∙ h in cc
+
+-- OF TWO: the answer is that of the first one's questions, or else that of the second one's, and both pass exactly if each does.
+
+pub first-refuses : {A B : Type 0} (first : Result A) (second : Result B) (n : ℕ) → first ≡ refused n → both-checked first second ≡ refused n
+unfolding both-checked after
+first-refuses first second n e = rw e
+
+pub second-refuses : {A B : Type 0} (first : Result A) (second : Result B) (a : A) (n : ℕ) → first ≡ accepted a → second ≡ refused n → both-checked first second ≡ refused n
+unfolding both-checked after
+second-refuses first second a n e f = rw (e, f)
+
+pub both-pass : {A B : Type 0} (first : Result A) (second : Result B) (a : A) (b : B) → first ≡ accepted a → second ≡ accepted b → both-checked first second ≡ accepted (a, b)
+unfolding both-checked after
+both-pass first second a b e f = rw (e, f)
+
+pub both-passed : {A B : Type 0} (first : Result A) (second : Result B) (a : A) (b : B) → both-checked first second ≡ accepted (a, b) → (first ≡ accepted a) × (second ≡ accepted b)
+unfolding both-checked
+both-passed {A} {B} first second a b e =
+    let (x, p, q) = after-passed first (λ a. after second (λ b. accepted (a, b))) (a, b) e in
+    let (y, r, s) = after-passed second (λ b. accepted (x, b)) (a, b) q in
+    let z : _≡_ {A = A × B} (x, y) (a, b) = cc in
+    (p ∙ ap (λ (w : A × B). accepted (w .0)) z, r ∙ ap (λ (w : A × B). accepted (w .1)) z)

@@ -21,6 +21,10 @@ unfoldable pub after : {A B : Type 0} → Result A → (A → Result B) → Resu
 after (refused n) rest = refused n
 after (accepted a) rest = rest a
 
+-- "Of two tables, or of two stacks, the first is put all its questions before the second."
+unfoldable pub both-checked : {A B : Type 0} → Result A → Result B → Result (A × B)
+both-checked first second = after first (λ a. after second (λ b. accepted (a, b)))
+
 -- the answer as one number: that of the question that failed, or 0
 unfoldable pub refusal : {A : Type 0} → Result A → ℕ
 refusal (refused n) = n

@@ -74,6 +74,8 @@ pub data Operation : Type 0 where
   -- none: `==` over two numerals has no sort
   unsorted : Operation
 
+-- Numbers of operators: behind all that written functions have (16 at the most), as far apart as their codes in the stream, hex 60 to 63, are
+-- from that of function 0, hex 40.
 abbrev pub not-number : ℕ
 not-number = 32
 
@@ -86,7 +88,7 @@ and-number = 34
 abbrev pub or-number : ℕ
 or-number = 35
 
--- `==` at the sort D is 256 + D
+-- `==` at the sort D is 256 + D: a number that no byte of a stream stands for, so that none is read as `==` without its sort
 abbrev pub first-equal : ℕ
 first-equal = 256
 
