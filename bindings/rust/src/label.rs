@@ -22,6 +22,7 @@ pub struct Label(LabelRecord);
 
 impl Label {
     /// The action's name, or `tau`, which is no action's name.
+    #[must_use]
     pub fn name(&self) -> &str {
         text(&self.0.name, self.0.name_length)
     }
@@ -37,22 +38,26 @@ impl Label {
     /// assert_eq!(one.to_string(), other.to_string());
     /// assert!(one != other && one.sorts().eq(["Bool"]) && other.sorts().eq(["Channel"]));
     /// ```
+    #[must_use]
     pub fn sorts(&self) -> impl ExactSizeIterator<Item = &str> {
         let sorts = &self.0.sorts[..self.values().len()];
         sorts.iter().map(|sort| text(&sort.name, sort.length))
     }
 
     /// The action's values, at most two.
+    #[must_use]
     pub fn values(&self) -> &[u8] {
         &self.0.values[..usize::from(self.0.value_count)]
     }
 
     /// Whether this is tau.
+    #[must_use]
     pub fn is_tau(&self) -> bool {
         self.name() == "tau"
     }
 
     /// The label as text with its sorts: `a`, `a(D:1)`, `a(D:1,Bool:0)`, `tau`. Labels that differ have other texts.
+    #[must_use]
     pub fn with_sorts(&self) -> impl fmt::Display + '_ {
         WithSorts(self)
     }

@@ -20,20 +20,28 @@
 //!
 //! A table whose sheet is lost can be [printed](Table::print) as one.
 //!
-//! What is not right is [`Refused`], with the number of the first question that it fails:
+//! What is not right is [`Refused`], with the first [`Question`] that it fails:
 //!
 //! ```
+//! use wizbratel::Question;
 //! let refused = wizbratel::check(b"proc X = X; init X;").unwrap_err();
-//! assert_eq!(refused.number(), 9);
+//! assert_eq!((refused.number(), refused.question()), (9, Question::Circle));
 //! ```
+//!
+//! Where and why a sheet is refused, [`Diagnostic`] says.
 //!
 //! All answers are those of the proved library: nothing here decides anything about a sheet, a table or a stack. There
-//! is no state, and any number of threads may call at once. A sheet needs up to 128 KiB of the machine's stack, its
-//! walk 264 KiB, any other use 96 KiB: a thread of Rust's has 2 MB unless it is made with less.
+//! is no state, and any number of threads may call at once.
+//!
+//! A thread that checks sheets or makes their tables wants 192 KiB of stack, one that walks them 320 KiB, any other 128
+//! KiB ([`STACK_SHEETS`], [`STACK_WALK`], [`STACK_TABLES`]), but one that says where sheets are wrong 1 MiB: a thread of
+//! Rust's has 2 MB unless it is made with less.
 
 #![deny(missing_docs)]
 #![deny(unsafe_code)]
+#![warn(clippy::missing_errors_doc, clippy::missing_panics_doc, clippy::must_use_candidate)]
 
+mod diagnostic;
 mod label;
 mod questions;
 mod refused;
@@ -43,12 +51,14 @@ mod steps;
 mod sys;
 mod table;
 
+pub use diagnostic::Diagnostic;
 pub use label::Label;
-pub use questions::question;
+pub use questions::{question, NoQuestion, Question};
 pub use refused::Refused;
 pub use stack::{Asked, Stack, Taken};
 pub use steps::{Step, Steps};
 pub use sys::{Frame, FRAMES, MAX_FILE, MAX_SHEET};
+pub use sys::{STACK_SHEETS, STACK_TABLES, STACK_WALK};
 pub use table::{check, make_into, walk, Table};
 
 /// The README's example, run as those of the documentation are.

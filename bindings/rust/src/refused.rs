@@ -1,43 +1,54 @@
-//! The one error: a refusal, with the number of the first question that fails.
+//! The one error: a refusal, with the first question that fails.
 
 use std::fmt;
 
-use crate::question;
+use crate::Question;
 
-/// A refusal by the library: the number of the first question that fails. Nothing was changed then.
+/// A refusal by the library: the first question that fails. Nothing was changed then.
 ///
 /// ```
-/// let refused = wizbratel::check(b"act a; proc X = b; init X;").unwrap_err();
-/// assert_eq!(refused.number(), 7);
-/// assert!(refused.question().starts_with("every declared name new"));
+/// use wizbratel::{check, Question};
+/// let refused = check(b"act a; proc X = b; init X;").unwrap_err();
+/// assert_eq!((refused.number(), refused.question()), (7, Question::Name));
 /// assert!(refused.to_string().starts_with("refused by question 7: every declared name new"));
+/// assert!(format!("{refused:?}").starts_with("Refused(7: every declared name new"));
 /// ```
-#[derive(Clone, Copy, Debug, PartialEq, Eq, Hash, PartialOrd, Ord)]
-pub struct Refused(u8);
+#[derive(Clone, Copy, PartialEq, Eq, Hash, PartialOrd, Ord)]
+pub struct Refused(Question);
 
 impl Refused {
     /// The question's number, 1 to 17.
+    #[must_use]
     pub fn number(self) -> u8 {
-        self.0
+        self.0.number()
     }
 
-    /// What the question asks, which was answered no.
-    pub fn question(self) -> &'static str {
-        question(self.0).unwrap_or("a question that this crate does not know")
+    /// The question, which was answered no.
+    #[must_use]
+    pub fn question(self) -> Question {
+        self.0
     }
 
     /// What the library's number says: 0 is yes to all questions.
     pub(crate) fn unless_zero(number: u8) -> Result<(), Refused> {
-        match number {
-            0 => Ok(()),
-            number => Err(Refused(number)),
+        if number == 0 {
+            return Ok(());
         }
+        let question = Question::try_from(number).expect("the library's questions are 1 to 17");
+        Err(Refused(question))
     }
 }
 
 impl fmt::Display for Refused {
     fn fmt(&self, f: &mut fmt::Formatter<'_>) -> fmt::Result {
-        write!(f, "refused by question {}: {}", self.0, self.question())
+        write!(f, "refused by question {}: {}", self.number(), self.0)
+    }
+}
+
+/// With the question's words, since `unwrap` and a `main` that ends with this show nothing else.
+impl fmt::Debug for Refused {
+    fn fmt(&self, f: &mut fmt::Formatter<'_>) -> fmt::Result {
+        write!(f, "Refused({}: {})", self.number(), self.0)
     }
 }
 

@@ -2,6 +2,8 @@
 
 use std::fmt;
 use std::hash::{Hash, Hasher};
+use std::ops::Deref;
+use std::sync::Arc;
 
 use crate::steps::Steps;
 use crate::sys::{self, Answer, Frame, FRAMES};
@@ -9,11 +11,49 @@ use crate::table::promised;
 use crate::{Label, Refused, Table};
 
 /// A stack of a table: where a process stands. Stacks are equal if their tables and their frames are.
+///
+/// It borrows its table, or owns it: then it is a `Stack<'static>`, and a struct can hold it beside or without the table.
+///
+/// ```
+/// use wizbratel::{Refused, Stack, Table};
+///
+/// struct Bench {
+///     stack: Stack<'static>,
+/// }
+///
+/// fn bench(sheet: &str) -> Result<Bench, Refused> {
+///     let stack = sheet.parse::<Table>()?.into_start();
+///     Ok(Bench { stack })
+/// }
+///
+/// let mut bench = bench("act a; proc X = a; init X;")?;
+/// assert_eq!(bench.stack.take(0)?.unwrap().name(), "a");
+/// assert!(bench.stack.is_ended() && bench.stack.table().file().len() == 512);
+/// # Ok::<(), Refused>(())
+/// ```
 #[derive(Clone)]
 pub struct Stack<'t> {
-    table: &'t Table,
+    table: Held<'t>,
     frames: [Frame; FRAMES],
     depth: usize,
+}
+
+/// A table that is borrowed, or owned together with other stacks.
+#[derive(Clone)]
+pub(crate) enum Held<'t> {
+    Lent(&'t Table),
+    Owned(Arc<Table>),
+}
+
+impl Deref for Held<'_> {
+    type Target = Table;
+
+    fn deref(&self) -> &Table {
+        match self {
+            Held::Lent(table) => table,
+            Held::Owned(table) => table,
+        }
+    }
 }
 
 /// What is answered to the question for step k.
@@ -48,30 +88,44 @@ pub enum Taken {
 
 impl<'t> Stack<'t> {
     /// A stack whose frames the library has passed or written.
-    pub(crate) fn new(table: &'t Table, frames: [Frame; FRAMES], depth: usize) -> Self {
+    pub(crate) fn new(table: Held<'t>, frames: &[Frame; FRAMES], depth: usize) -> Self {
         Stack {
             table,
-            frames,
+            frames: *frames,
             depth,
         }
     }
 
+    /// The same stack with its table its own: a copy of a borrowed one. Stacks that are reached from it share it.
+    #[must_use]
+    pub fn into_owned(self) -> Stack<'static> {
+        let table = match self.table {
+            Held::Lent(table) => Arc::new(table.clone()),
+            Held::Owned(table) => table,
+        };
+        Stack::new(Held::Owned(table), &self.frames, self.depth)
+    }
+
     /// The table that the stack steps by.
-    pub fn table(&self) -> &'t Table {
-        self.table
+    #[must_use]
+    pub fn table(&self) -> &Table {
+        &self.table
     }
 
     /// How many frames are used, 0 to 64.
+    #[must_use]
     pub fn depth(&self) -> usize {
         self.depth
     }
 
     /// Whether the process has ended: no frame is used.
+    #[must_use]
     pub fn is_ended(&self) -> bool {
         self.depth == 0
     }
 
     /// The used frames, the bottom first and the top last.
+    #[must_use]
     pub fn frames(&self) -> &[Frame] {
         &self.frames[..self.depth]
     }
@@ -85,11 +139,16 @@ impl<'t> Stack<'t> {
     /// assert_eq!(labels, ["a(0)", "a(1)", "a(2)"]);
     /// # Ok::<(), wizbratel::Refused>(())
     /// ```
+    #[must_use]
     pub fn steps(&self) -> Steps<'t> {
         Steps::new(self.clone())
     }
 
-    /// Asks for step k (from 0) and leaves this stack as it is. A step to more than 64 frames is refused by 16.
+    /// Asks for step k (from 0) and leaves this stack as it is.
+    ///
+    /// # Errors
+    ///
+    /// Question 16, if the stack after the step would have more than 64 frames.
     ///
     /// ```
     /// use wizbratel::{Asked, Table};
@@ -116,7 +175,11 @@ impl<'t> Stack<'t> {
     }
 
     /// Takes step k (from 0) and gives its label; none if there is no such step or the process has ended. The stack is
-    /// as it was then, and after a refusal by 16 too.
+    /// as it was then.
+    ///
+    /// # Errors
+    ///
+    /// Question 16, if the stack after the step would have more than 64 frames; it is as it was then too.
     ///
     /// ```
     /// let table = wizbratel::Table::make(b"act a; proc X = a; init X;")?;
@@ -162,6 +225,7 @@ impl<'t> Stack<'t> {
     /// assert_eq!(table.start().step_count(), 9);
     /// # Ok::<(), wizbratel::Refused>(())
     /// ```
+    #[must_use]
     pub fn step_count(&self) -> u64 {
         let mut past = 1;
         while self.has_step(past - 1) {
@@ -208,7 +272,8 @@ impl Taken {
 
 impl PartialEq for Stack<'_> {
     fn eq(&self, other: &Self) -> bool {
-        let tables = std::ptr::eq(self.table, other.table) || self.table == other.table;
+        let (one, two): (&Table, &Table) = (&self.table, &other.table);
+        let tables = std::ptr::eq(one, two) || one == two;
         tables && self.frames() == other.frames()
     }
 }

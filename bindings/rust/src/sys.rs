@@ -17,6 +17,15 @@ pub const MAX_FILE: usize = 65_536;
 /// The longest text of a walk, in bytes.
 pub(crate) const MAX_WALK: usize = 238;
 
+/// Bytes of stack that a thread wants if it checks sheets or makes their tables; room to spare is in it.
+pub const STACK_SHEETS: usize = 192 << 10;
+
+/// Bytes of stack that a thread wants if it walks sheets.
+pub const STACK_WALK: usize = 320 << 10;
+
+/// Bytes of stack that a thread wants for everything else: tables and stacks.
+pub const STACK_TABLES: usize = 128 << 10;
+
 /// The frames that a stack has room for.
 pub const FRAMES: usize = 64;
 

@@ -1,12 +1,18 @@
 //! Sheets, tables and table files.
 
 use std::fmt;
+use std::str::FromStr;
+use std::sync::Arc;
 
-use crate::stack::Stack;
+use crate::stack::{Held, Stack};
 use crate::sys::{self, Frame, FRAMES, MAX_FILE, MAX_SHEET};
 use crate::Refused;
 
-/// Checks a sheet, questions 1 to 10: it is accepted exactly if its table can be made.
+/// Checks a sheet: it is accepted exactly if its table can be made.
+///
+/// # Errors
+///
+/// The first of the questions 1 to 10 that the sheet fails.
 ///
 /// ```
 /// assert!(wizbratel::check(b"act a; proc X = a.X; init X;").is_ok());
@@ -23,14 +29,19 @@ pub fn check(sheet: &[u8]) -> Result<(), Refused> {
 /// assert_eq!(wizbratel::walk(b"act a; proc X = a; init X;"), "1 a 0\nended\n");
 /// assert_eq!(wizbratel::walk(b""), "refused 5\n");
 /// ```
+#[must_use]
 pub fn walk(sheet: &[u8]) -> String {
     let mut text = [0; sys::MAX_WALK];
     let length = sys::walk(sheet, &mut text);
     String::from_utf8_lossy(&text[..length]).into_owned()
 }
 
-/// Makes a sheet's table file over the front of an output, questions 1 to 11, and says how long it is. What is behind
-/// it in the output stays, and a refusal leaves all of it. An output of [`MAX_FILE`] bytes is never too short.
+/// Makes a sheet's table file over the front of an output, and says how long it is. What is behind it in the output
+/// stays, and a refusal leaves all of it. An output of [`MAX_FILE`] bytes is never too short.
+///
+/// # Errors
+///
+/// The first of the questions 1 to 11 that fails.
 ///
 /// ```
 /// let mut out = [0; 512];
@@ -45,13 +56,26 @@ pub fn make_into(sheet: &[u8], out: &mut [u8]) -> Result<usize, Refused> {
 }
 
 /// A table, held as its file.
+///
+/// `parse` makes it of a sheet's text, and `try_from` reads a file:
+///
+/// ```
+/// use wizbratel::Table;
+/// let table: Table = "act a; proc X = a.X; init X;".parse()?;
+/// assert_eq!(Table::try_from(table.file().to_vec())?, table);
+/// # Ok::<(), wizbratel::Refused>(())
+/// ```
 #[derive(Clone, PartialEq, Eq, Hash)]
 pub struct Table {
     file: Box<[u8]>,
 }
 
 impl Table {
-    /// Makes the table of a sheet, questions 1 to 10.
+    /// Makes the table of a sheet.
+    ///
+    /// # Errors
+    ///
+    /// The first of the questions 1 to 10 that the sheet fails.
     ///
     /// ```
     /// let table = wizbratel::Table::make(b"act a; proc X = a.X; init X;")?;
@@ -65,7 +89,11 @@ impl Table {
         Ok(Table { file })
     }
 
-    /// Reads a table file, questions 12 to 14.
+    /// Reads a table file.
+    ///
+    /// # Errors
+    ///
+    /// The first of the questions 12 to 14 that the file fails.
     ///
     /// ```
     /// use wizbratel::Table;
@@ -75,18 +103,22 @@ impl Table {
     /// # Ok::<(), wizbratel::Refused>(())
     /// ```
     pub fn read(file: &[u8]) -> Result<Table, Refused> {
-        Refused::unless_zero(sys::check_table(file))?;
-        Ok(Table { file: file.into() })
+        Table::try_from(file.to_vec())
     }
 
     /// The table file: whole blocks of 512 bytes.
+    #[must_use]
     pub fn file(&self) -> &[u8] {
         &self.file
     }
 
-    /// Prints the table as a sheet, whose table is this one byte for byte; question 17. Functions, processes and
-    /// variables are named by a letter and a number. A table that was filed without the names of its sorts has them
-    /// named so too, and the sheet's table has these names.
+    /// Prints the table as a sheet, whose table is this one byte for byte. Functions, processes and variables are named
+    /// by a letter and a number. A table that was filed without the names of its sorts has them named so too, and the
+    /// sheet's table has these names.
+    ///
+    /// # Errors
+    ///
+    /// Question 17, if the text is no sheet.
     ///
     /// ```
     /// use wizbratel::Table;
@@ -102,8 +134,12 @@ impl Table {
         Ok(String::from_utf8_lossy(&text[..length]).into_owned())
     }
 
-    /// Prints the table over the front of an output, questions 17 and 11, and says how long the text is. What is behind
-    /// it in the output stays, and a refusal leaves all of it. An output of [`MAX_SHEET`] bytes is never too short.
+    /// Prints the table over the front of an output, and says how long the text is. What is behind it in the output
+    /// stays, and a refusal leaves all of it. An output of [`MAX_SHEET`] bytes is never too short.
+    ///
+    /// # Errors
+    ///
+    /// Question 17, if the text is no sheet, then 11, if the output is too short.
     ///
     /// ```
     /// let table = wizbratel::Table::make(b"act a; proc X = a.X; init X;")?;
@@ -120,13 +156,22 @@ impl Table {
     }
 
     /// The stack with which the table starts, of one frame.
+    #[must_use]
     pub fn start(&self) -> Stack<'_> {
-        let (mut frames, mut depth) = ([Frame::default(); FRAMES], 0);
-        promised(sys::start(&self.file, &mut frames, &mut depth));
-        Stack::new(self, frames, depth)
+        started(Held::Lent(self))
     }
 
-    /// The stack of these frames, the bottom first and the top last, question 15.
+    /// The stack with which the table starts, which owns the table.
+    #[must_use]
+    pub fn into_start(self) -> Stack<'static> {
+        started(Held::Owned(Arc::new(self)))
+    }
+
+    /// The stack of these frames, the bottom first and the top last.
+    ///
+    /// # Errors
+    ///
+    /// Question 15, if they are no stack of this table.
     ///
     /// ```
     /// use wizbratel::{Frame, Table};
@@ -152,7 +197,43 @@ impl Table {
         ))?;
         let mut frames = [Frame::default(); FRAMES];
         frames.copy_from_slice(&lent);
-        Ok(Stack::new(self, frames, depth))
+        Ok(Stack::new(Held::Lent(self), &frames, depth))
+    }
+}
+
+/// The stack of one frame with which a table starts.
+fn started(table: Held<'_>) -> Stack<'_> {
+    let (mut frames, mut depth) = ([Frame::default(); FRAMES], 0);
+    promised(sys::start(table.file(), &mut frames, &mut depth));
+    Stack::new(table, &frames, depth)
+}
+
+impl FromStr for Table {
+    type Err = Refused;
+
+    /// Makes the table of a sheet's text.
+    fn from_str(sheet: &str) -> Result<Table, Refused> {
+        Table::make(sheet.as_bytes())
+    }
+}
+
+impl TryFrom<&[u8]> for Table {
+    type Error = Refused;
+
+    /// Reads a table file.
+    fn try_from(file: &[u8]) -> Result<Table, Refused> {
+        Table::read(file)
+    }
+}
+
+impl TryFrom<Vec<u8>> for Table {
+    type Error = Refused;
+
+    /// Reads a table file, whose bytes the table keeps.
+    fn try_from(file: Vec<u8>) -> Result<Table, Refused> {
+        Refused::unless_zero(sys::check_table(&file))?;
+        let file = file.into();
+        Ok(Table { file })
     }
 }
 
