@@ -11,8 +11,10 @@
  *             NULL. `written`, `depth` and `answer` are never NULL. What a function writes overlaps
  *             nothing else that it is lent, and no other thread writes what is lent during the call.
  * Threads     There is no state: any number of threads may call at once.
- * Times       On one core of a server, the least of many calls. They are measured, not proved, and so is the stack.
- * Linking     libwizbratel.a, for x86-64 Linux; it needs memcpy and memset and nothing else. */
+ * Times       On one core of a server, the least of many calls. They are measured, not proved, and so is the stack of
+ *             sheets; that of tables is added up from the machine code.
+ * Linking     libwizbratel.a, for x86-64 Linux; it needs memcpy and memset and nothing else. wizbratel_words.h has the
+ *             questions in words. */
 #ifndef WIZBRATEL_H
 #define WIZBRATEL_H
 
@@ -23,9 +25,9 @@
 extern "C" {
 #endif
 
-#define WIZBRATEL_VERSION "0.1.0"
+#define WIZBRATEL_VERSION "0.2.0"
 #define WIZBRATEL_VERSION_MAJOR 0
-#define WIZBRATEL_VERSION_MINOR 1
+#define WIZBRATEL_VERSION_MINOR 2
 #define WIZBRATEL_VERSION_PATCH 0
 
 /* The longest sheet, and the longest table file: an output of WIZBRATEL_MAX_FILE bytes is never too short for a table,
@@ -38,6 +40,13 @@ extern "C" {
 
 /* Frames of a stack. */
 #define WIZBRATEL_FRAMES 64
+
+/* Bytes of the machine's stack that a thread wants, for pthread_attr_setstacksize. "Stack" below is what a function
+ * itself takes; the rest, 48 KiB or more, is for what the C library, the first call of a shared library and a signal
+ * take there. */
+#define WIZBRATEL_STACK_SHEETS 196608 /* 192 KiB: check_sheet, make_table */
+#define WIZBRATEL_STACK_WALK 327680   /* 320 KiB: walk */
+#define WIZBRATEL_STACK_TABLES 131072 /* 128 KiB: all others */
 
 /* The questions, in the order in which they are put, but for 17. A function answers the number of the first one that
  * has to be answered with no. */
@@ -135,15 +144,15 @@ uint8_t wizbratel_make_table(const uint8_t *sheet, size_t length, uint8_t *out, 
  * Leaves   The text over the front of `out`, as far as there is room, not ended by a zero; what is behind it is
  *          untouched.
  * Time     As make_table, check_table and 8 questions of a list: 1.6 us for 25 bytes.
- * Stack    130 KB more than make_table. */
+ * Stack    131 KB more than make_table. */
 size_t wizbratel_walk(const uint8_t *sheet, size_t length, uint8_t *out, size_t room);
 
 /* Check a table file.
  *
  * Answers  0 if it is exactly a file that could have been made of a right table, else 12 to 14. No bytes: 12.
  * Leaves   Nothing is written.
- * Time     0.2 to 0.5 us for 512 bytes, 0.2 ms for 65,536.
- * Stack    3 KB for a file of 512 bytes; at most 69 KB. */
+ * Time     0.2 to 0.5 us for 512 bytes; 0.2 ms for 65,536 made of a sheet, 0.5 ms for as many of random terms.
+ * Stack    3 KB for a file of 512 bytes; at most 70 KB. */
 uint8_t wizbratel_check_table(const uint8_t *file, size_t length);
 
 /* Print a table file as a sheet: sorts and actions keep their names, functions, processes and variables are named by
@@ -155,8 +164,9 @@ uint8_t wizbratel_check_table(const uint8_t *file, size_t length);
  * Leaves   After 0 the text over the front of `out`, not ended by a zero, and its length in `*written`; what is behind
  *          it in `out` is untouched. make_table makes exactly `table` of the text; of the text of a table of the earlier
  *          layout it makes the same table with these names.
- * Time     0.5 us for the shortest table, 20 us for a text of 4,096 bytes; 0.5 ms for 65,536 bytes.
- * Stack    At most 80 KB. */
+ * Time     0.5 us for the shortest table, 28 us for a text of 4,096 bytes; 0.6 ms for 65,536 bytes, 1.6 ms
+ *          for as many of random terms, both refused by 17.
+ * Stack    At most 82 KB. */
 uint8_t wizbratel_print_table(const uint8_t *table, size_t length, uint8_t *out, size_t room, size_t *written);
 
 /* Start a stack.
@@ -165,7 +175,7 @@ uint8_t wizbratel_print_table(const uint8_t *table, size_t length, uint8_t *out,
  *          not matter.
  * Leaves   After 0 the table's start in the first frame, zeros in the others, and 1 in `*depth`.
  * Time     As check_table, and half a microsecond.
- * Stack    4 KB for a file of 512 bytes; at most 69 KB. */
+ * Stack    5 KB for a file of 512 bytes; at most 70 KB. */
 uint8_t wizbratel_start(const uint8_t *file, size_t length, wizbratel_frame *frames, size_t count, size_t *depth);
 
 /* Ask for step k, from 0, and take it.
@@ -174,11 +184,11 @@ uint8_t wizbratel_start(const uint8_t *file, size_t length, wizbratel_frame *fra
  *          would get too deep. Too large a k is no refusal: the kind is then WIZBRATEL_NONE.
  * Leaves   After 0 `*answer`, all of it. If its kind is WIZBRATEL_STEP the frames hold the new stack, zeros
  *          behind it, and `*depth` is its depth; after ENDED and NONE they are as they were.
- * Time     The file is checked at each call: 0.5 us with 512 bytes, 0.2 ms with 65,536. Then the steps before
- *          k are counted: 0.04 to 0.2 us for usual tables. The dearest table found, 230 summands with four
+ * Time     The file is checked at each call: 0.6 us with 512 bytes, 0.2 to 0.5 ms with 65,536. Then the steps
+ *          before k are counted: 0.04 to 0.2 us for usual tables. The dearest table found, 230 summands with four
  *          sums of 16 values and eight long conditions, each on all of them, takes 1 s if k is too large. So
  *          look at a table of unknown origin in a thread that may wait.
- * Stack    5 KB for a file of 512 bytes; at most 73 KB. */
+ * Stack    9 KB for a file of 512 bytes; at most 74 KB. */
 uint8_t wizbratel_ask(const uint8_t *file, size_t length, wizbratel_frame *frames, size_t count, size_t *depth, uint64_t k,
                       wizbratel_answer *answer);
 
@@ -192,7 +202,7 @@ uint8_t wizbratel_ask(const uint8_t *file, size_t length, wizbratel_frame *frame
  *          answers, and what is behind the last answer is untouched. With no questions, or no room, the
  *          stack is only checked.
  * Time     As check_table once, then 0.04 to 0.2 us a question for usual tables; at the worst as ask.
- * Stack    5 KB for a file of 512 bytes; at most 73 KB. */
+ * Stack    9 KB for a file of 512 bytes; at most 74 KB. */
 uint8_t wizbratel_ask_all(const uint8_t *file, size_t length, wizbratel_frame *frames, size_t count, size_t *depth,
                           const uint64_t *questions, size_t question_count, wizbratel_answer *answers, size_t bytes);
 
