@@ -2,6 +2,7 @@
 
 use std::ffi::{OsStr, OsString};
 
+use crate::nearest::did_you_mean;
 use crate::stop::{misuse, Stop};
 
 /// The arguments of a command, taken apart.
@@ -11,15 +12,16 @@ pub struct Args {
     options: Vec<(&'static str, OsString)>,
 }
 
-/// The options of a command: those that stand alone, and those with a value behind them.
-pub struct Options {
-    pub flags: &'static [&'static str],
-    pub valued: &'static [&'static str],
+/// An option of a command: its name, what stands behind it (nothing, where it stands alone), and what it does, in lines.
+pub struct Opt {
+    pub name: &'static str,
+    pub value: &'static str,
+    pub does: &'static str,
 }
 
 impl Args {
     /// Takes the words behind a command's name apart.
-    pub fn parse(words: &[OsString], options: &Options) -> Result<Args, Stop> {
+    pub fn parse(words: &[OsString], options: &'static [Opt]) -> Result<Args, Stop> {
         let mut args = Args::default();
         let mut words = words.iter();
         while let Some(word) = words.next() {
@@ -41,24 +43,27 @@ impl Args {
         text: &str,
         word: &OsStr,
         words: &mut impl Iterator<Item = &'w OsString>,
-        options: &Options,
+        options: &'static [Opt],
     ) -> Result<(), Stop> {
         let (name, behind) = match text.split_once('=') {
             Some((name, value)) => (name, Some(OsString::from(value))),
             None => (text, None),
         };
-        let of = |names: &'static [&'static str]| names.iter().copied().find(|n| *n == name);
-        let (name, value) = match (of(options.flags), of(options.valued), behind) {
-            (Some(name), _, None) => (name, OsString::new()),
-            (_, Some(name), Some(value)) => (name, value),
-            (_, Some(name), None) => match words.next() {
-                Some(value) => (name, value.clone()),
-                None => return Err(misuse(format!("{name} needs a value behind it"))),
+        let Some(option) = options.iter().find(|option| option.name == name) else {
+            return Err(unknown(word, name, options));
+        };
+        let (name, alone) = (option.name, option.value.is_empty());
+        let value = match (behind, alone) {
+            (None, true) => OsString::new(),
+            (Some(value), false) => value,
+            (Some(_), true) => return Err(misuse(format!("{name} takes no value"))),
+            (None, false) => match words.next() {
+                Some(value) => value.clone(),
+                None => {
+                    let value = option.value;
+                    return Err(misuse(format!("{name} needs a value behind it: {value}")));
+                }
             },
-            _ => {
-                let word = word.to_string_lossy();
-                return Err(misuse(format!("no option `{word}` here")));
-            }
         };
         if self.value(name).is_some() {
             return Err(misuse(format!("{name} is given twice")));
@@ -98,6 +103,13 @@ impl Args {
             .map(|value| number(name, value))
             .transpose()
     }
+}
+
+/// What is said of an option that a command does not have.
+fn unknown(word: &OsStr, name: &str, options: &'static [Opt]) -> Stop {
+    let near = did_you_mean(name, options.iter().map(|option| option.name));
+    let near = near.map_or(String::new(), |near| format!("; {near}"));
+    misuse(format!("no option `{}` here{near}", word.to_string_lossy()))
 }
 
 /// A whole number in decimal.

@@ -4,23 +4,45 @@ use std::ffi::OsString;
 
 use wizbratel::{Asked, Frame, Refused, Table};
 
-use crate::args::{Args, Options};
+use crate::args::{Args, Opt};
 use crate::frames;
-use crate::input::{self, Kind, SHEET, TABLE};
-use crate::labels::{Labels, SORTS};
+use crate::help::Help;
+use crate::input::{self, Kind, SHEET_OPTION, TABLE_OPTION};
+use crate::labels::{Labels, SORTS_OPTION};
 use crate::out;
+use crate::refused::Refusal;
 use crate::stop::{misuse, Status, Stop, GOOD};
 
 const STACK: &str = "--stack";
 const K: &str = "-k";
-const OPTIONS: Options = Options {
-    flags: &[TABLE, SHEET, SORTS],
-    valued: &[STACK, K],
+pub const HELP: Help = Help {
+    usage: "ask TABLE --stack HEX -k K",
+    does: "asks for one step of a stack",
+    text: "\
+Prints `ended`, `none`, `LABEL DEPTH HEX` with the frames after the step, or
+`refused N`.
+",
+    options: &[
+        Opt {
+            name: STACK,
+            value: "HEX",
+            does: "the used frames, 5 bytes each, the top last: the number of the\nequation and four values",
+        },
+        Opt {
+            name: K,
+            value: "K",
+            does: "the number of the step, from 0",
+        },
+        SORTS_OPTION,
+        TABLE_OPTION,
+        SHEET_OPTION,
+    ],
+    example: "wizbratel ask charger.table --stack 0000000000 -k 0",
 };
 
 /// Prints `ended`, `none`, `LABEL DEPTH HEX` or `refused N`.
 pub fn run(words: &[OsString]) -> Result<Status, Stop> {
-    let args = Args::parse(words, &OPTIONS)?;
+    let args = Args::parse(words, HELP.options)?;
     let name = args.file("TABLE")?;
     let kind = Kind::table_first(&args, name)?;
     let used = stack(&args)?;
@@ -29,13 +51,13 @@ pub fn run(words: &[OsString]) -> Result<Status, Stop> {
     };
     let answer = input::table(name, kind).and_then(|table| {
         let answer = answer(&table, &used, k, Labels::of(&args));
-        answer.map_err(|refused| Stop::Refused(input::shown(name), refused))
+        answer.map_err(|refused| Stop::Refused(Refusal::of(input::shown(name), refused)))
     });
     match answer {
         Ok(line) => out::print(&line).map(|()| GOOD),
         Err(stop) => {
-            if let Stop::Refused(_, refused) = &stop {
-                out::refused(*refused)?;
+            if let Stop::Refused(refusal) = &stop {
+                out::refused(refusal.refused())?;
             }
             Err(stop)
         }

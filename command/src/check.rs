@@ -2,34 +2,36 @@
 
 use std::ffi::{OsStr, OsString};
 
-use crate::args::{Args, Options};
-use crate::input::{self, Kind, SHEET, TABLE};
+use crate::args::Args;
+use crate::help::Help;
+use crate::input::{self, Kind, SHEET_OPTION, TABLE_OPTION};
 use crate::out;
-use crate::stop::{misuse, say, Status, Stop, GOOD};
+use crate::refused::Refusal;
+use crate::stop::{misuse, worst, Status, Stop};
 
-const OPTIONS: Options = Options {
-    flags: &[TABLE, SHEET],
-    valued: &[],
+pub const HELP: Help = Help {
+    usage: "check FILE..",
+    does: "checks sheets and table files",
+    text: "\
+Puts each file its questions, 1 to 10 for a sheet and 12 to 14 for a table file,
+and says whether it is accepted, or the first question that it fails.
+",
+    options: &[TABLE_OPTION, SHEET_OPTION],
+    example: "wizbratel check charger.pcrl charger.table",
 };
 
 /// Checks every file; the status is that of the worst.
 pub fn run(words: &[OsString]) -> Result<Status, Stop> {
-    let args = Args::parse(words, &OPTIONS)?;
+    let args = Args::parse(words, HELP.options)?;
     if args.files().is_empty() {
         return Err(misuse("FILE is missing"));
     }
-    let mut worst = GOOD;
-    for name in args.files() {
-        let kind = Kind::of(&args, name)?;
-        match check(name, kind) {
-            Ok(()) => accepted(name, kind)?,
-            Err(stop) => {
-                stop.message().iter().for_each(|text| say(text));
-                worst = worst.max(stop.status());
-            }
-        }
-    }
-    Ok(worst)
+    let kinds = args.files().iter().map(|name| Kind::of(&args, name));
+    let kinds: Vec<Kind> = kinds.collect::<Result<_, _>>()?;
+    worst(args.files().iter().zip(kinds).map(|(name, kind)| {
+        check(name, kind)?;
+        accepted(name, kind)
+    }))
 }
 
 /// Says that a file is accepted, and what it was taken for.
@@ -47,5 +49,6 @@ fn check(name: &OsStr, kind: Kind) -> Result<(), Stop> {
         return input::table(name, kind).map(|_| ());
     }
     let sheet = input::read(name)?;
-    wizbratel::check(&sheet).map_err(|refused| Stop::Refused(input::shown(name), refused))
+    wizbratel::check(&sheet)
+        .map_err(|refused| Stop::Refused(Refusal::of_sheet(input::shown(name), &sheet, refused)))
 }

@@ -1,176 +1,150 @@
-//! The collection: a folder, searched with its subfolders, in which a sheet `NAME.pcrl` has its table `NAME.table`
-//! beside it. `renew` makes the tables that are missing or differ, `audit` only looks. What a sheet's table is, and
-//! which sheets are refused, the library says.
+//! The collection: folders, searched with their subfolders, in which an accepted sheet `NAME.pcrl` has its table
+//! `NAME.table` beside it, and a refused one has no table, but a mark `NAME.refused`. `renew` makes it so, `audit` only
+//! looks. What a sheet's table is, and which sheets are refused, the library says.
 
 mod earlier;
+mod help;
 mod judge;
+mod mark;
+mod mend;
 mod report;
 mod search;
+mod shard;
 mod workers;
-mod write;
 
-use judge::{judge, Refusal, Standing, Wrong};
+use crate::args::Args;
+use crate::replace::{folder_of, sync_folder};
+use crate::stop::{misuse, Status, Stop};
+pub use help::{AUDIT, RENEW};
+use help::{NO_MARK, QUIET, SHARD};
+use judge::judge;
+use mark::Mark;
+use mend::{mend, Outcome};
 use report::Report;
 use search::{search, Found, Sheet};
+use shard::Shard;
 use std::collections::BTreeSet;
 use std::ffi::OsString;
 use std::io;
 use std::path::Path;
 
-/// The exit status of misuse, and of a folder that cannot be read.
-const MISUSE: u8 = 2;
-
 /// Threads for each core when tables are written: most of them wait for the disk.
 const WRITERS: usize = 8;
 
-/// How often a table is made again because its sheet changes meanwhile.
-const ROUNDS: usize = 8;
-
-#[derive(Clone, Copy, PartialEq)]
-enum Task {
-    Renew,
-    Audit,
+/// What is done, and how.
+#[derive(Clone, Copy)]
+pub struct Task {
+    /// Whether anything is written.
+    renews: bool,
+    /// Whether refused sheets are to be marked.
+    marks: bool,
+    /// Whether what was done is told.
+    tells: bool,
+    shard: Shard,
 }
 
-/// What was done about one sheet, or found.
-enum Outcome {
-    Right,
-    /// The table was made anew; what was wrong before.
-    Renewed(Wrong),
-    /// The table was not made (an audit).
-    Found(Wrong),
-    Unwritten(io::Error),
-    Refused(Refusal),
-    Unread(io::Error),
+/// `renew DIR..`: makes each table that is missing or differs, and keeps refused sheets out.
+pub fn renew(words: &[OsString]) -> Result<Status, Stop> {
+    run(true, &Args::parse(words, RENEW.options)?)
 }
 
-/// `renew DIR`: makes each table that is missing or differs. The exit status.
-pub fn renew(arguments: &[OsString]) -> u8 {
-    run(Task::Renew, arguments)
+/// `audit DIR..`: writes nothing.
+pub fn audit(words: &[OsString]) -> Result<Status, Stop> {
+    run(false, &Args::parse(words, AUDIT.options)?)
 }
 
-/// `audit DIR`: writes nothing. The exit status.
-pub fn audit(arguments: &[OsString]) -> u8 {
-    run(Task::Audit, arguments)
-}
-
-fn run(task: Task, arguments: &[OsString]) -> u8 {
-    let [folder] = arguments else {
-        let name = if task == Task::Renew {
-            "renew"
-        } else {
-            "audit"
-        };
-        report::say(&format!("usage: wizbratel {name} DIR"));
-        return MISUSE;
+fn run(renews: bool, args: &Args) -> Result<Status, Stop> {
+    let shard = args.value(SHARD).map(|value| Shard::parse(SHARD, value));
+    let task = Task {
+        renews,
+        marks: !args.has(NO_MARK),
+        tells: renews && !args.has(QUIET),
+        shard: shard.transpose()?.unwrap_or(Shard::WHOLE),
     };
-    let folder = Path::new(folder);
-    match search(folder) {
-        Ok(found) => finish(task, &process(task, found)),
-        Err(error) => {
-            report::say(&report::line(folder, &format!("cannot be read: {error}")));
-            MISUSE
-        }
+    if args.files().is_empty() {
+        return Err(misuse("DIR is missing"));
     }
-}
-
-fn finish(task: Task, report: &Report) -> u8 {
+    let report = process(task, search(args.files(), task.shard));
     report.faults();
-    match report.counts(task == Task::Renew) {
-        Err(error) => {
-            report::say(&format!("standard output: cannot be written: {error}"));
-            MISUSE
-        }
-        Ok(()) if report.all_right() => 0,
-        Ok(()) => 1,
-    }
+    report.told()?;
+    Ok(report.status())
 }
 
-/// Judges every sheet, and for `renew` writes the tables.
+/// Judges every sheet, and for `renew` does what is to be done.
 fn process(task: Task, found: Found) -> Report {
-    let mut report = Report::default();
-    if task == Task::Renew {
-        remove_left_over(&found, &mut report);
-    }
+    let mut report = Report::new(task);
+    left_over(task, &found, &mut report);
     let cores = std::thread::available_parallelism().map_or(1, |n| n.get());
-    let threads = if task == Task::Renew {
-        cores * WRITERS
-    } else {
-        cores
-    };
+    let threads = if task.renews { cores * WRITERS } else { cores };
     let outcomes = workers::each(&found.sheets, threads, true, |sheet| outcome(task, sheet));
-    let changed: BTreeSet<&Path> = found
-        .sheets
-        .iter()
-        .zip(&outcomes)
-        .filter(|(_, outcome)| matches!(outcome, Outcome::Renewed(_)))
-        .map(|(sheet, _)| write::folder_of(&sheet.table))
-        .collect();
-    let changed: Vec<&Path> = changed.into_iter().collect();
-    let synced = workers::each(&changed, threads, false, |folder| {
-        write::sync_folder(folder)
-    });
+    sync(&found.sheets, &outcomes, threads, &mut report);
     for (sheet, outcome) in found.sheets.iter().zip(outcomes) {
         report.sheet(sheet, outcome);
     }
+    for table in &found.tables {
+        report.no_sheet(table, "no sheet");
+    }
+    let marks = found
+        .marks
+        .iter()
+        .filter(|path| task.marks && is_mark(path));
+    marks.for_each(|mark| report.no_sheet(mark, "no sheet, but its mark"));
+    for path in &found.large {
+        report.note(
+            path,
+            "no sheet by its name: the ending is .pcrl in small letters",
+        );
+    }
+    for (folder, error) in &found.unread {
+        report.unread(folder, error);
+    }
+    for folder in &found.empty {
+        report.empty(folder);
+    }
+    report
+}
+
+fn is_mark(path: &Path) -> bool {
+    matches!(mark::look(path), Mark::Of(..))
+}
+
+fn outcome(task: Task, sheet: &Sheet) -> Outcome {
+    if task.renews {
+        return mend(sheet, task.marks);
+    }
+    let (deeds, standing) = (Vec::new(), Ok(judge(sheet)));
+    Outcome { deeds, standing }
+}
+
+/// Makes last what was done in each folder.
+fn sync(sheets: &[Sheet], outcomes: &[Outcome], threads: usize, report: &mut Report) {
+    let changed = sheets.iter().zip(outcomes);
+    let changed = changed.filter(|(_, outcome)| !outcome.deeds.is_empty());
+    let changed: BTreeSet<&Path> = changed.map(|(sheet, _)| folder_of(&sheet.table)).collect();
+    let changed: Vec<&Path> = changed.into_iter().collect();
+    let synced = workers::each(&changed, threads, false, |folder| sync_folder(folder));
     for (folder, synced) in changed.iter().zip(synced) {
         if let Err(error) = synced {
             report.unwritten(folder, &error);
         }
     }
-    for table in &found.strays {
-        report.stray(table);
-    }
-    for (folder, error) in &found.unread {
-        report.unread(folder, error);
-    }
-    report
 }
 
-fn outcome(task: Task, sheet: &Sheet) -> Outcome {
-    match task {
-        Task::Audit => settled(judge(sheet), None),
-        Task::Renew => mend(sheet),
-    }
-}
-
-/// Makes a table that is not right, and looks again: the sheet may have changed meanwhile, and another `renew` may
-/// have read it earlier or later.
-fn mend(sheet: &Sheet) -> Outcome {
-    let mut first = None;
-    for _ in 0..ROUNDS {
-        match judge(sheet) {
-            Standing::Wrong(wrong, made) => {
-                if let Err(error) = write::replace(&sheet.table, made.table.file(), made.mode) {
-                    return Outcome::Unwritten(error);
-                }
-                first.get_or_insert(wrong);
-            }
-            standing => return settled(standing, first),
-        }
-    }
-    Outcome::Unwritten(io::Error::other("the sheet changes all the time"))
-}
-
-/// What a standing comes to if nothing is written any more; `before` is what was wrong and is mended.
-fn settled(standing: Standing, before: Option<Wrong>) -> Outcome {
-    match standing {
-        Standing::Right => before.map_or(Outcome::Right, Outcome::Renewed),
-        Standing::Wrong(wrong, _) => Outcome::Found(wrong),
-        Standing::Refused(refusal) => Outcome::Refused(refusal),
-        Standing::Unread(error) => Outcome::Unread(error),
-    }
-}
-
-/// Removes the temporary files of a `renew` that was cut off. One of a `renew` that is at work makes that one write
-/// its file again.
-fn remove_left_over(found: &Found, report: &mut Report) {
+/// The temporary files of a command that was cut off: `renew` removes them. One of a command that is at work makes that
+/// one write its file again.
+fn left_over(task: Task, found: &Found, report: &mut Report) {
     for path in &found.left_over {
+        if !task.renews {
+            report.note(
+                path,
+                "left over by a command that was cut off; renew removes it",
+            );
+            continue;
+        }
         match std::fs::remove_file(path) {
-            Err(error) if error.kind() != io::ErrorKind::NotFound => {
-                report.note(path, &format!("left over, cannot be removed: {error}"));
-            }
-            _ => {}
+            Ok(()) => report.did(path, "left over, removed".to_string()),
+            Err(error) if error.kind() == io::ErrorKind::NotFound => {}
+            Err(error) => report.note(path, &format!("left over, cannot be removed: {error}")),
         }
     }
 }

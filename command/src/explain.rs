@@ -4,15 +4,22 @@ use std::ffi::OsString;
 
 use wizbratel::question;
 
-use crate::args::{number, Args, Options};
+use crate::args::{number, Args};
 use crate::example::Example;
 use crate::example::Example::{Asked, Blanks, File, Printed, Room, Sheet};
+use crate::help::Help;
 use crate::out;
 use crate::stop::{misuse, Status, Stop, GOOD};
 
-const OPTIONS: Options = Options {
-    flags: &[],
-    valued: &[],
+pub const HELP: Help = Help {
+    usage: "explain [N]",
+    does: "says what a question asks, and how to mend what fails it",
+    text: "\
+Says what question N asks, with an example that fails it, what to do then, and
+the example mended; or lists what all questions ask.
+",
+    options: &[],
+    example: "wizbratel explain 9",
 };
 
 /// How a question is failed, and what to do then.
@@ -137,7 +144,7 @@ const EXPLAINED: [Explained; 17] = [
 
 /// Prints one question, or what all of them ask.
 pub fn run(words: &[OsString]) -> Result<Status, Stop> {
-    let args = Args::parse(words, &OPTIONS)?;
+    let args = Args::parse(words, HELP.options)?;
     if args.files().is_empty() {
         return out::print(&all()).map(|()| GOOD);
     }

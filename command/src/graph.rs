@@ -6,17 +6,33 @@ use std::io::{BufWriter, Result as Io, Write};
 
 use wizbratel::{Stack, Table};
 
-use crate::args::{Args, Options};
+use crate::args::{Args, Opt};
 use crate::frames::{stack_shown, width};
-use crate::input::{self, Kind, SHEET, TABLE};
-use crate::labels::{Labels, SORTS};
+use crate::help::Help;
+use crate::input::{self, Kind, SHEET_OPTION, TABLE_OPTION};
+use crate::labels::{Labels, SORTS_OPTION};
 use crate::out::written;
 use crate::stop::{misuse, say, Status, Stop, GOOD};
 
 const LIMIT: &str = "--limit";
-const OPTIONS: Options = Options {
-    flags: &[TABLE, SHEET, SORTS],
-    valued: &[LIMIT],
+pub const HELP: Help = Help {
+    usage: "graph SHEET|TABLE [--limit N]",
+    does: "prints the stacks that are reached and their steps, for Graphviz",
+    text: "\
+Prints a graph in the language of Graphviz: a box for each stack, the top frame
+first, and an arrow for each step. A large one is cut, with marks where it was.
+",
+    options: &[
+        Opt {
+            name: LIMIT,
+            value: "N",
+            does: "at most N stacks (1000) and 16 N steps",
+        },
+        SORTS_OPTION,
+        TABLE_OPTION,
+        SHEET_OPTION,
+    ],
+    example: "wizbratel graph charger.pcrl >charger.dot",
 };
 
 /// Stacks at most, unless `--limit` says otherwise.
@@ -27,7 +43,7 @@ const STEPS: usize = 16;
 
 /// Prints the graph; a graph that was cut is said to be on standard error.
 pub fn run(words: &[OsString]) -> Result<Status, Stop> {
-    let args = Args::parse(words, &OPTIONS)?;
+    let args = Args::parse(words, HELP.options)?;
     let name = args.file("SHEET or TABLE")?;
     let limit = match args.number(LIMIT)?.unwrap_or(STACKS) {
         0 => return Err(misuse("--limit is at least 1")),

@@ -7,7 +7,9 @@ use std::path::Path;
 
 use wizbratel::{Table, MAX_FILE};
 
-use crate::args::Args;
+use crate::args::{Args, Opt};
+use crate::output::is_standard_output;
+use crate::refused::Refusal;
 use crate::stop::{misuse, Stop};
 
 /// So many bytes are read, one more than the longest right file has. The first question to a sheet and to a table file
@@ -17,6 +19,16 @@ const READ: u64 = MAX_FILE as u64 + 1;
 /// The options that say what a file is.
 pub const TABLE: &str = "--table";
 pub const SHEET: &str = "--sheet";
+pub const TABLE_OPTION: Opt = Opt {
+    name: TABLE,
+    value: "",
+    does: "all files are table files, whatever their names",
+};
+pub const SHEET_OPTION: Opt = Opt {
+    name: SHEET,
+    value: "",
+    does: "all files are sheets, whatever their names",
+};
 
 /// What a file is taken for.
 #[derive(Clone, Copy, Debug, PartialEq, Eq)]
@@ -62,16 +74,24 @@ pub fn shown(name: &OsStr) -> String {
 
 /// The bytes of a file, or of standard input; of a long one only as many as are looked at.
 pub fn read(name: &OsStr) -> Result<Vec<u8>, Stop> {
-    let mut bytes = Vec::new();
     let read = if is_standard(name) {
-        io::stdin().lock().take(READ).read_to_end(&mut bytes)
+        start(io::stdin().lock())
     } else {
-        File::open(name).and_then(|file| file.take(READ).read_to_end(&mut bytes))
+        File::open(name).and_then(|file| {
+            if is_standard_output(&file.metadata()?) {
+                return Err(io::Error::other("standard output goes to it"));
+            }
+            start(file)
+        })
     };
-    match read {
-        Ok(_) => Ok(bytes),
-        Err(error) => Err(misuse(format!("{} cannot be read: {error}", shown(name)))),
-    }
+    read.map_err(|error| misuse(format!("{} cannot be read: {error}", shown(name))))
+}
+
+/// The first bytes of an input.
+fn start(input: impl Read) -> io::Result<Vec<u8>> {
+    let mut bytes = Vec::new();
+    input.take(READ).read_to_end(&mut bytes)?;
+    Ok(bytes)
 }
 
 /// The table of a sheet or of a table file.
@@ -81,5 +101,10 @@ pub fn table(name: &OsStr, kind: Kind) -> Result<Table, Stop> {
         Kind::Sheet => Table::make(&bytes),
         Kind::Table => Table::read(&bytes),
     };
-    table.map_err(|refused| Stop::Refused(shown(name), refused))
+    table.map_err(|refused| {
+        Stop::Refused(match kind {
+            Kind::Sheet => Refusal::of_sheet(shown(name), &bytes, refused),
+            Kind::Table => Refusal::of(shown(name), refused),
+        })
+    })
 }

@@ -3,10 +3,15 @@
 
 use wizbratel::Label;
 
-use crate::args::Args;
+use crate::args::{Args, Opt};
 
 /// The option that shows sorts.
-pub const SORTS: &str = "--sorts";
+const SORTS: &str = "--sorts";
+pub const SORTS_OPTION: Opt = Opt {
+    name: SORTS,
+    value: "",
+    does: "shows labels as `set(Channel:1)`, not `set(1)`: within one table\nan action's name says its sorts, between tables it need not",
+};
 
 /// How labels are shown.
 #[derive(Clone, Copy)]

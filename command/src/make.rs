@@ -1,51 +1,70 @@
-//! `make SHEET [-o TABLE]`: the table file of a sheet.
+//! `make SHEET.. [-o TABLE]`: the table files of sheets.
 
 use std::ffi::{OsStr, OsString};
 use std::fs;
+use std::os::unix::fs::MetadataExt;
 use std::path::Path;
 
-use crate::args::{Args, Options};
+use crate::args::{Args, Opt};
+use crate::help::Help;
 use crate::input::{self, is_standard, Kind};
-use crate::out;
-use crate::stop::{misuse, Status, Stop, GOOD};
+use crate::output;
+use crate::stop::{misuse, worst, Status, Stop};
 
 const OUTPUT: &str = "-o";
-const OPTIONS: Options = Options {
-    flags: &[],
-    valued: &[OUTPUT],
+pub const HELP: Help = Help {
+    usage: "make SHEET.. [-o TABLE]",
+    does: "makes the table files of sheets",
+    text: "\
+Makes the table file of each sheet, beside it: that of NAME.pcrl is NAME.table;
+of standard input it goes to standard output. A refused sheet leaves the table
+that is there, and the others are made. A table that is there is replaced, and
+so is a link in its place; a pipe or a device is written into.
+",
+    options: &[Opt {
+        name: OUTPUT,
+        value: "TABLE",
+        does: "where the table of the only sheet goes",
+    }],
+    example: "wizbratel make charger.pcrl -o bench.table",
 };
 
-/// Makes the table, and writes it beside the sheet or where `-o` says.
+/// Who may read and write a table, where its sheet has no permissions of its own.
+const ALL: u32 = 0o666;
+
+/// Makes each table, and writes it beside its sheet or where `-o` says; nothing if one would go over a sheet.
 pub fn run(words: &[OsString]) -> Result<Status, Stop> {
-    let args = Args::parse(words, &OPTIONS)?;
-    let sheet = args.file("SHEET")?;
-    let output = match args.value(OUTPUT) {
-        Some(output) => output.to_owned(),
-        None if is_standard(sheet) => sheet.to_owned(),
-        None => Path::new(sheet).with_extension("table").into(),
+    let args = Args::parse(words, HELP.options)?;
+    let sheets: Vec<&OsStr> = args.files().iter().map(OsString::as_os_str).collect();
+    let outputs = match (&sheets[..], args.value(OUTPUT)) {
+        ([], _) => return Err(misuse("SHEET is missing")),
+        ([_], Some(output)) => vec![output.to_owned()],
+        (_, Some(_)) => return Err(misuse(format!("{OUTPUT} is for one sheet alone"))),
+        (_, None) => sheets.iter().map(|sheet| beside(sheet)).collect(),
     };
-    if !is_standard(sheet) && same(sheet, &output) {
-        let name = input::shown(sheet);
-        return Err(misuse(format!("{name}: the table would go over the sheet")));
+    output::apart(&sheets, &outputs)?;
+    let made = sheets.iter().zip(&outputs);
+    worst(made.map(|(sheet, output)| make(sheet, output)))
+}
+
+/// The table's place beside its sheet; of standard input, standard output.
+fn beside(sheet: &OsStr) -> OsString {
+    match is_standard(sheet) {
+        true => sheet.to_owned(),
+        false => Path::new(sheet).with_extension("table").into(),
     }
+}
+
+/// Makes one table.
+fn make(sheet: &OsStr, output: &OsStr) -> Result<(), Stop> {
     let table = input::table(sheet, Kind::Sheet)?;
-    write(&output, table.file())?;
-    Ok(GOOD)
+    output::write(output, table.file(), mode(sheet))
 }
 
-/// Whether two names lead to one file that is there.
-fn same(one: &OsStr, other: &OsStr) -> bool {
-    match (fs::canonicalize(one), fs::canonicalize(other)) {
-        (Ok(one), Ok(other)) => one == other,
-        _ => false,
+/// The permissions of a table: those of its sheet.
+fn mode(sheet: &OsStr) -> u32 {
+    match fs::metadata(sheet) {
+        Ok(about) if about.is_file() && !is_standard(sheet) => about.mode(),
+        _ => ALL,
     }
-}
-
-/// Writes the table file.
-fn write(output: &OsStr, file: &[u8]) -> Result<(), Stop> {
-    if is_standard(output) {
-        return out::write(file);
-    }
-    let name = input::shown(output);
-    fs::write(output, file).map_err(|error| misuse(format!("{name} cannot be written: {error}")))
 }

@@ -2,22 +2,31 @@
 
 use std::ffi::OsString;
 
-use crate::args::{Args, Options};
-use crate::input::{self, Kind, SHEET, TABLE};
+use crate::args::Args;
+use crate::help::Help;
+use crate::input::{self, Kind, SHEET_OPTION, TABLE_OPTION};
 use crate::out;
+use crate::refused::Refusal;
 use crate::stop::{Status, Stop, GOOD};
 
-const OPTIONS: Options = Options {
-    flags: &[TABLE, SHEET],
-    valued: &[],
+pub const HELP: Help = Help {
+    usage: "print TABLE",
+    does: "prints a table as a sheet",
+    text: "\
+Prints a sheet whose table is the same, byte for byte; that of a table without
+the names of its sorts has them. No line feed is put behind it.
+",
+    options: &[TABLE_OPTION, SHEET_OPTION],
+    example: "wizbratel print charger.table >again.pcrl",
 };
 
 /// Prints the text with no line feed behind it: a text may be as long as the longest sheet.
 pub fn run(words: &[OsString]) -> Result<Status, Stop> {
-    let args = Args::parse(words, &OPTIONS)?;
+    let args = Args::parse(words, HELP.options)?;
     let name = args.file("TABLE")?;
     let table = input::table(name, Kind::table_first(&args, name)?)?;
     let printed = table.print();
-    let text = printed.map_err(|refused| Stop::Refused(input::shown(name), refused))?;
+    let text =
+        printed.map_err(|refused| Stop::Refused(Refusal::of(input::shown(name), refused)))?;
     out::print(&text).map(|()| GOOD)
 }

@@ -5,19 +5,38 @@ use std::io::{BufRead, IsTerminal, Write};
 
 use wizbratel::{Frame, Stack, Table};
 
-use crate::args::{Args, Options};
+use crate::args::{Args, Opt};
 use crate::frames::{stack_shown, width};
-use crate::input::{self, is_standard, Kind, SHEET, TABLE};
-use crate::labels::{Labels, SORTS};
+use crate::help::Help;
+use crate::input::{self, is_standard, Kind, SHEET_OPTION, TABLE_OPTION};
+use crate::labels::{Labels, SORTS_OPTION};
 use crate::out::written;
 use crate::random::Random;
+use crate::refused::Refusal;
 use crate::stop::{misuse, say, Status, Stop, GOOD, REFUSED};
 use crate::words::{Word, Words};
 
 const SEED: &str = "--seed";
-const OPTIONS: Options = Options {
-    flags: &[TABLE, SHEET, SORTS],
-    valued: &[SEED],
+pub const HELP: Help = Help {
+    usage: "step SHEET|TABLE [--seed N]",
+    does: "steps by hand, or by a script on standard input",
+    text: "\
+Reads words from standard input: a number takes that step, u undoes, r takes a
+step at random, l lists the steps, q ends. On a terminal the steps are listed
+before each prompt. A step is printed as its number, its label and the depth
+after it; where none was taken stands `ended`, `none` or `refused 16`.
+",
+    options: &[
+        Opt {
+            name: SEED,
+            value: "N",
+            does: "steps at random are the same each time",
+        },
+        SORTS_OPTION,
+        TABLE_OPTION,
+        SHEET_OPTION,
+    ],
+    example: "echo 0 0 l | wizbratel step charger.pcrl",
 };
 
 /// Steps that are listed; the others can be taken too.
@@ -28,7 +47,7 @@ const COMMANDS: &str =
 
 /// Reads commands from standard input until `q` or its end.
 pub fn run(words: &[OsString]) -> Result<Status, Stop> {
-    let args = Args::parse(words, &OPTIONS)?;
+    let args = Args::parse(words, HELP.options)?;
     let name = args.file("SHEET or TABLE")?;
     if is_standard(name) {
         let text = "step reads commands from standard input: the sheet needs a name";
@@ -149,7 +168,7 @@ impl<W: Write> Session<'_, W> {
             return self.line("none");
         };
         let stack = self.table.stack(&frames);
-        self.stack = stack.map_err(|refused| Stop::Refused("a stack".into(), refused))?;
+        self.stack = stack.map_err(|refused| Stop::Refused(Refusal::of("a stack", refused)))?;
         self.line(&format!("undone {}", self.stack.depth()))
     }
 

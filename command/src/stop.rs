@@ -2,7 +2,7 @@
 
 use std::io::Write;
 
-use wizbratel::Refused;
+use crate::refused::Refusal;
 
 /// An exit status.
 pub type Status = u8;
@@ -17,8 +17,8 @@ pub const MISUSE: Status = 2;
 /// Why a command stops early.
 #[derive(Debug)]
 pub enum Stop {
-    /// What is named was refused.
-    Refused(String, Refused),
+    /// A sheet, a table file or a stack was refused.
+    Refused(Refusal),
     /// Misuse, or a file that cannot be read or written.
     Misuse(String),
     /// Nobody reads standard output any more, which is no fault.
@@ -34,23 +34,34 @@ impl Stop {
     /// The exit status.
     pub fn status(&self) -> Status {
         match self {
-            Stop::Refused(..) => REFUSED,
+            Stop::Refused(_) => REFUSED,
             Stop::Misuse(_) => MISUSE,
             Stop::Closed => GOOD,
         }
     }
 
-    /// What is said of it on standard error, where anything is.
-    pub fn message(&self) -> Option<String> {
+    /// Says it on standard error, where anything is said; that nobody reads it is no fault.
+    pub fn say(&self) {
         match self {
-            Stop::Refused(name, refused) => {
-                let more = format!("`wizbratel explain {}` says more", refused.number());
-                Some(format!("{name}: {refused} ({more})"))
+            Stop::Refused(refusal) => {
+                let _ = std::io::stderr().write_all(refusal.said().as_bytes());
             }
-            Stop::Misuse(text) => Some(text.clone()),
-            Stop::Closed => None,
+            Stop::Misuse(text) => say(text),
+            Stop::Closed => {}
         }
     }
+}
+
+/// Does all of several things, says what stops each, and gives the status of the worst.
+pub fn worst(done: impl Iterator<Item = Result<(), Stop>>) -> Result<Status, Stop> {
+    let status = |done: Result<(), Stop>| match done {
+        Ok(()) => GOOD,
+        Err(stop) => {
+            stop.say();
+            stop.status()
+        }
+    };
+    Ok(done.map(status).max().unwrap_or(GOOD))
 }
 
 /// A message on standard error; that nobody reads it is no fault either.

@@ -2,8 +2,12 @@
 
 #[path = "collection/cabinet.rs"]
 mod cabinet;
+#[path = "collection/folders.rs"]
+mod folders;
 #[path = "collection/many.rs"]
 mod many;
+#[path = "collection/marks.rs"]
+mod marks;
 #[path = "collection/odd.rs"]
 mod odd;
 
@@ -26,13 +30,15 @@ fn makes_what_is_missing_and_leaves_the_rest() {
     cabinet.put("deep/note.txt", "kept");
     let faults = ["a.table: missing", "deep/er/b.table: missing"];
     let counts =
-        "sheets 2: right 0, missing 2, earlier 0, differs 0, refused 0, unread 0, no sheet 0";
+        "sheets 2: right 0, missing 2, earlier 0, differs 0, refused 0, unread 0, no sheet 0, wrong marks 0";
     check(&cabinet.audit(), 1, counts, &faults);
     assert!(!cabinet.path("a.table").exists());
 
     let counts =
-        "sheets 2: right 0, made 2, updated 0, mended 0, refused 0, unread 0, unwritten 0, no sheet 0";
-    check(&cabinet.renew(), 0, counts, &[]);
+        "sheets 2: right 0, made 2, updated 0, mended 0, refused 0, unread 0, unwritten 0, no sheet 0, set aside 0";
+    let ran = cabinet.renew();
+    check(&ran, 0, counts, &[]);
+    assert_eq!(ran.done, ["a.table: made", "deep/er/b.table: made"]);
     cabinet.assert_right("a", &good(1));
     cabinet.assert_right("deep/er/b", &good(2));
     assert_eq!(
@@ -51,7 +57,7 @@ fn makes_what_is_missing_and_leaves_the_rest() {
         .modified()
         .unwrap();
     let counts =
-        "sheets 2: right 2, made 0, updated 0, mended 0, refused 0, unread 0, unwritten 0, no sheet 0";
+        "sheets 2: right 2, made 0, updated 0, mended 0, refused 0, unread 0, unwritten 0, no sheet 0, set aside 0";
     check(&cabinet.renew(), 0, counts, &[]);
     assert_eq!(
         fs::metadata(cabinet.path("a.table"))
@@ -61,7 +67,7 @@ fn makes_what_is_missing_and_leaves_the_rest() {
         before
     );
     let counts =
-        "sheets 2: right 2, missing 0, earlier 0, differs 0, refused 0, unread 0, no sheet 0";
+        "sheets 2: right 2, missing 0, earlier 0, differs 0, refused 0, unread 0, no sheet 0, wrong marks 0";
     check(&cabinet.audit(), 0, counts, &[]);
 }
 
@@ -73,7 +79,7 @@ fn a_table_under_another_sheet_is_found_and_mended() {
     assert_eq!(cabinet.renew().status, Some(0));
     fs::rename(cabinet.path("a.table"), cabinet.path("b.table")).unwrap();
     let counts =
-        "sheets 2: right 0, missing 1, earlier 0, differs 1, refused 0, unread 0, no sheet 0";
+        "sheets 2: right 0, missing 1, earlier 0, differs 1, refused 0, unread 0, no sheet 0, wrong marks 0";
     check(
         &cabinet.audit(),
         1,
@@ -81,8 +87,10 @@ fn a_table_under_another_sheet_is_found_and_mended() {
         &["a.table: missing", "b.table: differs"],
     );
     let counts =
-        "sheets 2: right 0, made 1, updated 0, mended 1, refused 0, unread 0, unwritten 0, no sheet 0";
-    check(&cabinet.renew(), 0, counts, &[]);
+        "sheets 2: right 0, made 1, updated 0, mended 1, refused 0, unread 0, unwritten 0, no sheet 0, set aside 0";
+    let ran = cabinet.renew();
+    check(&ran, 0, counts, &[]);
+    assert_eq!(ran.done, ["a.table: made", "b.table: mended"]);
     cabinet.assert_right("a", &good(1));
     cabinet.assert_right("b", &good(2));
 }
@@ -143,12 +151,14 @@ fn tables_of_the_earlier_layout_are_told_apart_and_updated() {
         cabinet.put("b.pcrl", good(1));
         cabinet.put("b.table", &old);
         let counts =
-            "sheets 2: right 0, missing 0, earlier 1, differs 1, refused 0, unread 0, no sheet 0";
+            "sheets 2: right 0, missing 0, earlier 1, differs 1, refused 0, unread 0, no sheet 0, wrong marks 0";
         let faults = [&format!("a.table: {EARLIER}")[..], "b.table: differs"];
         check(&cabinet.audit(), 1, counts, &faults);
         assert_eq!(fs::read(cabinet.path("a.table")).unwrap(), old);
-        let counts = "sheets 2: right 0, made 0, updated 1, mended 1, refused 0, unread 0, unwritten 0, no sheet 0";
-        check(&cabinet.renew(), 0, counts, &[]);
+        let counts = "sheets 2: right 0, made 0, updated 1, mended 1, refused 0, unread 0, unwritten 0, no sheet 0, set aside 0";
+        let ran = cabinet.renew();
+        check(&ran, 0, counts, &[]);
+        assert_eq!(ran.done, ["a.table: updated", "b.table: mended"]);
         cabinet.assert_right("a", sheet);
         assert_eq!(cabinet.audit().status, Some(0));
     }
@@ -184,46 +194,6 @@ fn nearly_earlier_tables_differ() {
 }
 
 #[test]
-fn refused_sheets_and_tables_without_a_sheet_are_listed_and_kept() {
-    let cabinet = Cabinet::new("refused");
-    cabinet.put("a.pcrl", good(1));
-    cabinet.put("circle.pcrl", "proc X=X;init X;");
-    cabinet.put("circle.table", cabinet::table(&good(3)));
-    cabinet.put("empty.pcrl", "");
-    cabinet.put("stray.table", "whatever");
-    let huge = cabinet.put("huge.pcrl", "");
-    fs::File::options()
-        .write(true)
-        .open(huge)
-        .unwrap()
-        .set_len(1 << 30)
-        .unwrap();
-    let faults = [
-        bad("circle.pcrl", b"proc X=X;init X;"),
-        "circle.table: no sheet: it stands without a right one, that beside it is refused"
-            .to_string(),
-        bad("empty.pcrl", b""),
-        bad("huge.pcrl", &[0; 5000]),
-        "stray.table: no sheet".to_string(),
-    ];
-    assert!(faults[0].starts_with("circle.pcrl: refused 9: "));
-    let faults: Vec<&str> = faults.iter().map(String::as_str).collect();
-    let counts =
-        "sheets 4: right 0, missing 1, earlier 0, differs 0, refused 3, unread 0, no sheet 2";
-    let mut with_missing = vec!["a.table: missing"];
-    with_missing.extend(&faults);
-    check(&cabinet.audit(), 1, counts, &with_missing);
-    let counts =
-        "sheets 4: right 0, made 1, updated 0, mended 0, refused 3, unread 0, unwritten 0, no sheet 2";
-    check(&cabinet.renew(), 1, counts, &faults);
-    assert_eq!(
-        fs::read(cabinet.path("circle.table")).unwrap(),
-        cabinet::table(&good(3))
-    );
-    assert_eq!(fs::read(cabinet.path("stray.table")).unwrap(), b"whatever");
-}
-
-#[test]
 fn a_sheet_of_the_greatest_length_and_one_byte_more() {
     let cabinet = Cabinet::new("long");
     let mut sheet = good(1);
@@ -243,26 +213,27 @@ fn misuse() {
     for task in ["renew", "audit"] {
         for path in [file.as_path(), &cabinet.path("none"), Path::new("")] {
             let ran = Cabinet::run(task, path);
-            assert_eq!(
-                (ran.status, ran.counts.as_str(), ran.faults.len()),
-                (Some(2), "", 1),
-                "{ran:?}"
-            );
+            assert_eq!((ran.status, ran.faults.len()), (Some(2), 1), "{ran:?}");
+            assert!(ran.counts.contains("sheets 0: ") && ran.counts.contains("unread 1, "));
         }
-        for more in ["", "x y"] {
-            let ran = cabinet.shell(&format!("exec \"$0\" {task} {more}"));
-            assert_eq!(
-                (ran.status, ran.faults),
-                (Some(2), vec![format!("usage: wizbratel {task} DIR")])
+        for (words, said) in [
+            ("", "DIR is missing"),
+            ("--dance x", "no option `--dance` here"),
+            (
+                "--shard 3/2 x",
+                "--shard: `3/2` is no K/N with K from 1 to N",
+            ),
+        ] {
+            let ran = cabinet.shell(&format!("exec \"$0\" {task} {words}"));
+            assert_eq!((ran.status, ran.counts.as_str()), (Some(2), ""), "{ran:?}");
+            assert!(
+                ran.faults[0].starts_with(&format!("wizbratel: {said}")),
+                "{ran:?}"
             );
         }
     }
     let ran = cabinet.shell("cd \"$1\" && exec \"$0\" renew .");
     assert_eq!(ran.status, Some(0), "{ran:?}");
-    let ran = Cabinet::run("audit", &Cabinet::new("misuse-empty").folder);
-    let counts =
-        "sheets 0: right 0, missing 0, earlier 0, differs 0, refused 0, unread 0, no sheet 0";
-    check(&ran, 0, counts, &[]);
 }
 
 #[test]
@@ -287,9 +258,12 @@ fn a_bar_on_a_terminal_only() {
     cabinet.put("a.pcrl", good(1));
     cabinet.put("b.table", "");
     let ran = cabinet.shell("script -qec \"'$0' audit '$1'\" /dev/null </dev/null");
-    assert!(ran.counts.starts_with("\r[##"), "{ran:?}");
-    assert!(ran.counts.contains("] 1 of 1\r "), "{ran:?}");
-    assert!(ran.counts.ends_with("no sheet 1\r\n"), "{ran:?}");
+    assert!(ran.done[0].starts_with("\r[##"), "{ran:?}");
+    assert!(ran.done[0].contains("] 1 of 1\r "), "{ran:?}");
+    assert!(
+        ran.counts.ends_with("no sheet 1, wrong marks 0\r\n"),
+        "{ran:?}"
+    );
     assert_eq!(
         cabinet.audit().faults,
         ["a.table: missing", "b.table: no sheet"]

@@ -1,7 +1,9 @@
-//! One sheet beside its table.
+//! One sheet beside its table and its mark.
 
 use super::earlier::is_earlier;
+use super::mark::{self, Mark};
 use super::search::Sheet;
+use crate::refused::Refusal;
 use std::fs::{self, File};
 use std::io::{self, Read};
 use std::os::unix::fs::MetadataExt;
@@ -15,19 +17,26 @@ const TABLE_BYTES: u64 = 65537;
 /// How a sheet stands to what is beside it.
 pub enum Standing {
     Right,
+    /// The table is not the sheet's own.
     Wrong(Wrong, Made),
-    Refused(Refusal),
+    /// The table is the sheet's own, but a mark stands beside it.
+    Marked,
+    Refused(KeptOut),
     Unread(io::Error),
 }
 
-/// The question that a sheet fails, and whether a table stands beside it all the same.
-pub struct Refusal {
-    pub number: u8,
-    pub question: String,
+/// A sheet that is refused.
+pub struct KeptOut {
+    pub refusal: Refusal,
+    /// Whether a table stands beside it all the same.
     pub has_table: bool,
+    pub mark: Mark,
+    /// The permissions of the sheet.
+    pub mode: u32,
 }
 
 /// What is wrong with the file in the table's place.
+#[derive(Debug)]
 pub enum Wrong {
     Missing,
     /// It is the sheet's table without the names of sorts.
@@ -47,18 +56,25 @@ pub fn judge(sheet: &Sheet) -> Standing {
         Ok(read) => read,
         Err(error) => return Standing::Unread(error),
     };
+    let mark = mark::look(&sheet.mark);
     let table = match Table::make(&bytes) {
         Ok(table) => table,
         Err(refused) => {
-            return Standing::Refused(Refusal {
-                number: refused.number(),
-                question: refused.question().to_string(),
+            return Standing::Refused(KeptOut {
+                refusal: Refusal::of_sheet(sheet.path.to_string_lossy(), &bytes, refused),
                 has_table: fs::symlink_metadata(&sheet.table).is_ok() && !sheet.table.is_dir(),
+                mark,
+                mode,
             })
         }
     };
     let wrong = match read(&sheet.table, TABLE_BYTES) {
-        Ok((file, _)) if file == table.file() => return Standing::Right,
+        Ok((file, _)) if file == table.file() => {
+            return match mark {
+                Mark::Of(..) => Standing::Marked,
+                Mark::Missing | Mark::Other => Standing::Right,
+            }
+        }
         Ok((file, _)) if is_earlier(&file, &table) => Wrong::Earlier,
         Ok(_) => Wrong::Differs,
         Err(error) if error.kind() == io::ErrorKind::NotFound => Wrong::Missing,
@@ -68,7 +84,7 @@ pub fn judge(sheet: &Sheet) -> Standing {
 }
 
 /// The first bytes of a file, and its mode. A pipe or a device is not opened: it could wait for ever.
-fn read(path: &Path, limit: u64) -> io::Result<(Vec<u8>, u32)> {
+pub fn read(path: &Path, limit: u64) -> io::Result<(Vec<u8>, u32)> {
     let about = fs::metadata(path)?;
     if !about.is_file() {
         return Err(io::Error::other("it is not a file"));

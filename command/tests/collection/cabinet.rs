@@ -5,7 +5,7 @@ use std::io;
 use std::os::unix::fs::MetadataExt;
 use std::path::{Path, PathBuf};
 use std::process::{Command, Output};
-use wizbratel::Table;
+use wizbratel::{Diagnostic, Table};
 
 pub const COMMAND: &str = env!("CARGO_BIN_EXE_wizbratel");
 
@@ -16,11 +16,13 @@ pub struct Cabinet {
     pub folder: PathBuf,
 }
 
-/// What a run gave: its lines on standard error (without the collection's folder), its standard output.
+/// What a run gave: its lines on standard error and those on standard output (without the collection's folder), and the
+/// last of these.
 #[derive(Debug)]
 pub struct Ran {
     pub status: Option<i32>,
     pub counts: String,
+    pub done: Vec<String>,
     pub faults: Vec<String>,
 }
 
@@ -44,14 +46,10 @@ pub fn earlier(sheet: &[u8]) -> Vec<u8> {
 
 /// The line of a sheet that is refused.
 pub fn bad(name: &str, sheet: &[u8]) -> String {
-    match Table::make(sheet) {
-        Ok(_) => panic!("{name} is accepted"),
-        Err(refused) => format!(
-            "{name}: refused {}: {}",
-            refused.number(),
-            refused.question()
-        ),
-    }
+    let found = Diagnostic::of(sheet).expect("a refused sheet");
+    let (number, line, column) = (found.question(), found.line(), found.column());
+    let (message, help) = (found.message(), found.help().expect("a help"));
+    format!("{name}: refused {number}: line {line}, column {column}: {message}; {help}")
 }
 
 /// Where cabinets are made: in `TMPDIR` if it is set, else in memory if there is room, since a disk is slow to make and
@@ -140,14 +138,13 @@ impl Cabinet {
     }
 
     pub fn run(task: &str, folder: &Path) -> Ran {
-        ran(
-            folder,
-            Command::new(COMMAND)
-                .arg(task)
-                .arg(folder)
-                .output()
-                .unwrap(),
-        )
+        Self::run_with(&[task], folder)
+    }
+
+    /// Runs the command with these words before the folder.
+    pub fn run_with(words: &[&str], folder: &Path) -> Ran {
+        let mut command = Command::new(COMMAND);
+        ran(folder, command.args(words).arg(folder).output().unwrap())
     }
 
     /// Runs the command without the power of root to pass over permissions.
@@ -181,14 +178,22 @@ impl Cabinet {
 
 fn ran(folder: &Path, output: Output) -> Ran {
     let front = format!("{}/", folder.display());
-    let faults = String::from_utf8(output.stderr).unwrap();
+    let lines = |bytes| {
+        let text = String::from_utf8(bytes).unwrap();
+        let lines = text.split_inclusive('\n');
+        let lines = lines.map(|line| line.strip_prefix(&front).unwrap_or(line).to_string());
+        lines.collect::<Vec<_>>()
+    };
+    let bare = |lines: Vec<String>| {
+        let lines = lines.iter().map(|line| line.trim_end_matches('\n'));
+        lines.map(str::to_string).collect()
+    };
+    let mut done = lines(output.stdout);
     Ran {
         status: output.status.code(),
-        counts: String::from_utf8(output.stdout).unwrap(),
-        faults: faults
-            .lines()
-            .map(|line| line.strip_prefix(&front).unwrap_or(line).to_string())
-            .collect(),
+        counts: done.pop().unwrap_or_default(),
+        done: bare(done),
+        faults: bare(lines(output.stderr)),
     }
 }
 

@@ -184,9 +184,9 @@ fn sheets_that_change_meanwhile() {
 fn ten_thousand_in_seconds() {
     let many = Many::new("timed", 10000);
     for (task, counts) in [
-        ("renew", "sheets 10000: right 0, made 5000, updated 0, mended 5000, refused 0, unread 0, unwritten 0, no sheet 0\n"),
-        ("renew", "sheets 10000: right 10000, made 0, updated 0, mended 0, refused 0, unread 0, unwritten 0, no sheet 0\n"),
-        ("audit", "sheets 10000: right 10000, missing 0, earlier 0, differs 0, refused 0, unread 0, no sheet 0\n"),
+        ("renew", "sheets 10000: right 0, made 5000, updated 0, mended 5000, refused 0, unread 0, unwritten 0, no sheet 0, set aside 0\n"),
+        ("renew", "sheets 10000: right 10000, made 0, updated 0, mended 0, refused 0, unread 0, unwritten 0, no sheet 0, set aside 0\n"),
+        ("audit", "sheets 10000: right 10000, missing 0, earlier 0, differs 0, refused 0, unread 0, no sheet 0, wrong marks 0\n"),
     ] {
         let start = Instant::now();
         let ran = Cabinet::run(task, &many.cabinet.folder);

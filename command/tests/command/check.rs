@@ -29,12 +29,24 @@ fn the_worst_counts_and_all_are_checked() {
     let accepted = format!("{good}: sheet accepted\n");
     let ran = run(&["check", &circle, &good]);
     assert_eq!((ran.status, ran.text()), (1, &accepted[..]));
-    assert!(ran
-        .err
-        .contains(&format!("{circle}: refused by question 9: ")));
+    assert!(
+        ran.err.starts_with("refused by question 9: "),
+        "{}",
+        ran.err
+    );
+    assert!(ran.err.contains(&format!("--> {circle}:1:8\n")));
     let ran = run(&["check", &missing, &circle, &good]);
     assert_eq!((ran.status, ran.text()), (2, &accepted[..]));
-    assert_eq!(ran.err.lines().count(), 2);
+    let begins = |front: &str| {
+        ran.err
+            .lines()
+            .filter(|line| line.starts_with(front))
+            .count()
+    };
+    assert_eq!(
+        (begins("wizbratel: "), begins("refused by question 9: ")),
+        (1, 1)
+    );
     run(&["check"]).fails(2, &["FILE is missing"]);
 }
 
@@ -64,7 +76,7 @@ fn nobody_reads() {
     assert_eq!((ran.status, &ran.err[..]), (0, ""));
     let circle = folder.file("circle", CIRCLE).display().to_string();
     let ran = run_into(&["check", &good, &circle, &good], closed());
-    assert_eq!((ran.status, ran.err.lines().count()), (1, 1));
+    assert_eq!((ran.status, ran.err.matches("refused by").count()), (1, 1));
 }
 
 #[test]

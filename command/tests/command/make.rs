@@ -49,7 +49,7 @@ fn a_refused_sheet_leaves_the_old_table() {
     let folder = Folder::new();
     let sheet = folder.file("x.pcrl", CIRCLE);
     let ran = run(&words("make", &[&sheet]));
-    ran.fails(1, &["x.pcrl", "question 9", "no process that comes back"]);
+    ran.fails(1, &["x.pcrl", "question 9", "calls itself"]);
     assert!(!folder.path("x.table").exists());
     let table = folder.file("x.table", "old");
     run(&words("make", &[&sheet])).fails(1, &["question 9"]);

@@ -7,22 +7,6 @@ use std::process::{Command, Stdio};
 use crate::common::{closed, run, run_into, WIZBRATEL};
 
 #[test]
-fn help_and_version() {
-    for word in ["help", "--help", "-h"] {
-        let ran = run(&[word]);
-        assert_eq!((ran.status, &ran.err[..]), (0, ""));
-        for name in [
-            "make", "check", "walk", "print", "explain", "step", "ask", "graph",
-        ] {
-            assert!(ran.text().contains(&format!("\n  {name} ")), "{name}");
-        }
-        assert!(ran.text().lines().all(|line| line.len() <= 120));
-    }
-    let version = format!("wizbratel {}\n", env!("CARGO_PKG_VERSION"));
-    run(&["--version"]).prints(&version);
-}
-
-#[test]
 fn no_command() {
     run::<&str>(&[]).fails(2, &["wizbratel help"]);
     run(&["dance"]).fails(2, &["no command `dance`", "wizbratel help"]);

@@ -1,0 +1,54 @@
+//! The listings of `docs/KEEPING.md`: what stands behind `$` is run, and must print what stands below it.
+
+use std::fs;
+use std::path::{Path, PathBuf};
+use std::process::Command;
+
+/// A folder that is removed at the end.
+struct Folder(PathBuf);
+
+impl Drop for Folder {
+    fn drop(&mut self) {
+        let _ = fs::remove_dir_all(&self.0);
+    }
+}
+
+/// The lines of all listings for a shell.
+fn listed(page: &str) -> Vec<&str> {
+    let mut inside = false;
+    let lines = page.lines().filter(|line| {
+        let fence = line.starts_with("```");
+        inside = if fence { *line == "```sh" } else { inside };
+        inside && !fence
+    });
+    lines.collect()
+}
+
+#[test]
+fn the_listings_of_a_keeper() {
+    let root = Path::new(env!("CARGO_MANIFEST_DIR")).join("..");
+    let page = fs::read_to_string(root.join("docs/KEEPING.md")).unwrap();
+    let name = format!("wizbratel-keeping-{}", std::process::id());
+    let folder = Folder(std::env::temp_dir().join(name));
+    fs::create_dir_all(&folder.0).unwrap();
+    let bin = Path::new(env!("CARGO_BIN_EXE_wizbratel")).parent().unwrap();
+    let path = format!("{}:/usr/bin:/bin", bin.display());
+    let lines = listed(&page);
+    let (mut wanted, mut printed) = (String::new(), String::new());
+    for line in &lines {
+        wanted += &format!("{line}\n");
+        let Some(line) = line.strip_prefix("$ ") else {
+            continue;
+        };
+        let mut shell = Command::new("sh");
+        shell.args(["-c", &format!("exec 2>&1; {line}")]);
+        shell
+            .env("PATH", &path)
+            .env("LC_ALL", "C")
+            .current_dir(&folder.0);
+        let output = shell.output().unwrap();
+        printed += &format!("$ {line}\n{}", String::from_utf8(output.stdout).unwrap());
+    }
+    assert!(lines.iter().filter(|line| line.starts_with("$ ")).count() > 15);
+    assert_eq!(printed, wanted);
+}
