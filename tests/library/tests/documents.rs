@@ -15,8 +15,8 @@ use library::program::written;
 use library::stepping::Frame;
 use reader::equal_to;
 
-/// Listings that are no input of Wizbratel.
-const OTHERS: [&str; 8] = ["c", "cpp", "console", "dot", "rust", "sh", "text", "toml"];
+/// Listings that are no input of Wizbratel, and `said`, which is checked beside the Rust crate.
+const OTHERS: [&str; 9] = ["c", "cpp", "console", "dot", "rust", "said", "sh", "text", "toml"];
 
 /// A listing without a number has not more stacks than this.
 const MOST: usize = 100;
