@@ -26,6 +26,9 @@ pub const MAX_PROCESSES: usize = 16;
 // "A frame is an equation number and four values": an equation has as many parameters at the most.
 pub const FRAME_WIDTH: usize = 4;
 
+// A frame in bytes: the number and the values.
+pub const FRAME: usize = 1 + FRAME_WIDTH;
+
 // "Functions have one or two sorts, actions none to two."
 pub const MAX_ARITY: usize = 2;
 
@@ -37,6 +40,9 @@ pub const MAX_SUMMANDS: usize = 255;
 
 pub const MAX_VARIABLES: usize = 4;
 
+// The variables of a summand with the parameters before them, at the most.
+pub const VARIABLES: usize = FRAME_WIDTH + MAX_VARIABLES;
+
 pub const MAX_CONDITIONS: usize = 8;
 
 pub const MAX_CALLS: usize = 8;
@@ -47,6 +53,9 @@ pub const MAX_STREAM: usize = 64768;
 
 // "exactly 64 frames lent"
 pub const STACK_LIMIT: usize = 64;
+
+// All frames of a stack in bytes.
+pub const STACK_BYTES: usize = STACK_LIMIT * FRAME;
 
 // "Bool, size 2, is always there first"
 pub const BOOL: usize = 0;
@@ -77,6 +86,9 @@ pub const OR_CODE: usize = 0x63;
 
 // The most bytes of a data term, `max-term` of crate laws.
 pub const MAX_TERM: usize = 46;
+
+// In the index of a table: a place for each function, and behind them the size of each sort.
+pub const FUNCTION_CELLS: usize = MAX_FUNCTIONS + MAX_SORTS;
 
 // Questions of a sheet, by what is wrong where they are answered with no.
 pub const TOO_LONG: u8 = 1;
