@@ -9,7 +9,7 @@ use lib.ListN.{length, getD, take, drop, getElem?}
 use Rattle.pcrl.specs.Tests.{and}
 use Rattle.laws.specs.TermLength.{max-term}
 use Rattle.evaluation.specs.Run.{pick, top, run, peak, foot}
-use Rattle.assignments.specs.Places.{product, places}
+use Rattle.assignments.specs.Places.{product}
 
 -- the parameters' values, and behind them those of the sum variables
 abbrev pub env : ℕ → List ℕ → List ℕ → List ℕ

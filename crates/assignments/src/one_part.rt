@@ -7,7 +7,7 @@ ghost use Rattle.pcrl.specs.Limits.{frame-width, max-conditions};
 ghost use Rattle.laws.specs.TermLength.{max-term};
 ghost use Rattle.assignments.specs.Places.{product, valuesOf, places, Sizes};
 ghost use Rattle.assignments.specs.Conditions.{env, holds, tried-of, Tested, Finds};
-ghost use Rattle.assignments.specs.Parting.{Standing, asked, part-met, Part, Above};
+ghost use Rattle.assignments.specs.Parting.{Standing, asked, part-met, Part};
 use crate::Eight;
 use crate::Found;
 use crate::Four;

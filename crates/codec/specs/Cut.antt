@@ -9,7 +9,7 @@ use lib.Seq.{take-all, take-at, drop-at, drop-drop, take-add}
 use Rattle.pcrl.specs.Tests.{Every}
 use Rattle.pcrl.specs.Reader.{all}
 use Rattle.pcrl.specs.Lists.{tabulate}
-use Rattle.pcrl.specs.Blocks.{joined}
+use Rattle.pcrl.specs.Blocks.{concatenated}
 
 -- TABULATED
 
@@ -31,47 +31,47 @@ all-tabulate (suc n) f g = ap (λ (l : List ℕ). f (g zero) ++ l) (all-tabulate
 
 -- JOINED
 
-pub joined-zero : (f : ℕ → List ℕ) → joined zero f ≡ []
-unfolding joined all tabulate
-joined-zero f = refl
+pub concatenated-zero : (f : ℕ → List ℕ) → concatenated zero f ≡ []
+unfolding concatenated all tabulate
+concatenated-zero f = refl
 
-pub joined-suc : (n : ℕ) (f : ℕ → List ℕ) → joined (suc n) f ≡ f zero ++ joined n (λ i. f (suc i))
-unfolding joined all tabulate
-joined-suc n f = ap (λ (l : List ℕ). f zero ++ l) (all-tabulate n f suc)
+pub concatenated-suc : (n : ℕ) (f : ℕ → List ℕ) → concatenated (suc n) f ≡ f zero ++ concatenated n (λ i. f (suc i))
+unfolding concatenated all tabulate
+concatenated-suc n f = ap (λ (l : List ℕ). f zero ++ l) (all-tabulate n f suc)
 
-pub joined-alike : (n : ℕ) (f g : ℕ → List ℕ) → ((i : ℕ) → i < n → f i ≡ g i) → joined n f ≡ joined n g
-joined-alike zero f g h = joined-zero f ∙ sym (joined-zero g)
-joined-alike (suc n) f g h =
+pub concatenated-alike : (n : ℕ) (f g : ℕ → List ℕ) → ((i : ℕ) → i < n → f i ≡ g i) → concatenated n f ≡ concatenated n g
+concatenated-alike zero f g h = concatenated-zero f ∙ sym (concatenated-zero g)
+concatenated-alike (suc n) f g h =
     let e = h zero (omega arith) in
-    let e′ = joined-alike n (λ i. f (suc i)) (λ i. g (suc i)) (λ i k. h (suc i) (omega arith)) in
-    joined-suc n f ∙ ap (λ (l : List ℕ). l ++ joined n (λ i. f (suc i))) e ∙ ap (λ (l : List ℕ). g zero ++ l) e′ ∙ sym (joined-suc n g)
+    let e′ = concatenated-alike n (λ i. f (suc i)) (λ i. g (suc i)) (λ i k. h (suc i) (omega arith)) in
+    concatenated-suc n f ∙ ap (λ (l : List ℕ). l ++ concatenated n (λ i. f (suc i))) e ∙ ap (λ (l : List ℕ). g zero ++ l) e′ ∙ sym (concatenated-suc n g)
 
-pub length-joined : (n k : ℕ) (f : ℕ → List ℕ) → ((i : ℕ) → i < n → length (f i) ≡ k) → length (joined n f) ≡ n * k
-length-joined zero k f h = rw (joined-zero f, zero-mul k)
+pub length-joined : (n k : ℕ) (f : ℕ → List ℕ) → ((i : ℕ) → i < n → length (f i) ≡ k) → length (concatenated n f) ≡ n * k
+length-joined zero k f h = rw (concatenated-zero f, zero-mul k)
 length-joined (suc n) k f h =
-    rw (joined-suc n f, length-append (f zero) (joined n (λ i. f (suc i))), suc-mul n k)
+    rw (concatenated-suc n f, length-append (f zero) (concatenated n (λ i. f (suc i))), suc-mul n k)
     (omega (arith, h zero (omega arith), length-joined n k (λ i. f (suc i)) (λ i l. h (suc i) (omega arith))))
 
 drop-suc-mul : (i k : ℕ) (l : List ℕ) → drop (suc i * k) l ≡ drop (i * k) (drop k l)
 drop-suc-mul i k l = rw (suc-mul i k, add-comm (i * k) k) (sym (drop-drop (i * k) k l))
 
 -- part i of joined parts
-pub part-of-joined : (n k : ℕ) (f : ℕ → List ℕ) → ((i : ℕ) → i < n → length (f i) ≡ k) → (i : ℕ) → i < n → take k (drop (i * k) (joined n f)) ≡ f i
+pub part-of-joined : (n k : ℕ) (f : ℕ → List ℕ) → ((i : ℕ) → i < n → length (f i) ≡ k) → (i : ℕ) → i < n → take k (drop (i * k) (concatenated n f)) ≡ f i
 part-of-joined zero k f h i l = absurd (omega arith)
-part-of-joined (suc n) k f h zero l = rw (zero-mul k, joined-suc n f) (take-at (f zero) (joined n (λ i. f (suc i))) k (h zero (omega arith)))
+part-of-joined (suc n) k f h zero l = rw (zero-mul k, concatenated-suc n f) (take-at (f zero) (concatenated n (λ i. f (suc i))) k (h zero (omega arith)))
 part-of-joined (suc n) k f h (suc i) l =
-    rw (drop-suc-mul i k (joined (suc n) f), joined-suc n f, drop-at (f zero) (joined n (λ i. f (suc i))) k (h zero (omega arith)))
+    rw (drop-suc-mul i k (concatenated (suc n) f), concatenated-suc n f, drop-at (f zero) (concatenated n (λ i. f (suc i))) k (h zero (omega arith)))
     (part-of-joined n k (λ i. f (suc i)) (λ i m. h (suc i) (omega arith)) i (omega arith))
 
-joined-parts-take : (n k : ℕ) (l : List ℕ) → joined n (λ i. take k (drop (i * k) l)) ≡ take (n * k) l
-joined-parts-take zero k l = rw (joined-zero (λ i. take k (drop (i * k) l)), zero-mul k)
-joined-parts-take (suc n) k l =
-    joined-suc n (λ i. take k (drop (i * k) l))
-    ∙ ap (λ (j : ℕ). take k (drop j l) ++ joined n (λ i. take k (drop (suc i * k) l))) (zero-mul k)
-    ∙ ap (λ (m : List ℕ). take k l ++ m) (joined-alike n (λ i. take k (drop (suc i * k) l)) (λ i. take k (drop (i * k) (drop k l))) (λ i h. ap (take k) (drop-suc-mul i k l)) ∙ joined-parts-take n k (drop k l))
+concatenated-parts-take : (n k : ℕ) (l : List ℕ) → concatenated n (λ i. take k (drop (i * k) l)) ≡ take (n * k) l
+concatenated-parts-take zero k l = rw (concatenated-zero (λ i. take k (drop (i * k) l)), zero-mul k)
+concatenated-parts-take (suc n) k l =
+    concatenated-suc n (λ i. take k (drop (i * k) l))
+    ∙ ap (λ (j : ℕ). take k (drop j l) ++ concatenated n (λ i. take k (drop (suc i * k) l))) (zero-mul k)
+    ∙ ap (λ (m : List ℕ). take k l ++ m) (concatenated-alike n (λ i. take k (drop (suc i * k) l)) (λ i. take k (drop (i * k) (drop k l))) (λ i h. ap (take k) (drop-suc-mul i k l)) ∙ concatenated-parts-take n k (drop k l))
     ∙ sym (take-add k (n * k) l)
     ∙ ap (λ (j : ℕ). take j l) (add-comm k (n * k) ∙ sym (suc-mul n k))
 
 -- the parts of a list joined again
-pub joined-parts : (n k : ℕ) (l : List ℕ) → length l ≡ n * k → joined n (λ i. take k (drop (i * k) l)) ≡ l
-joined-parts n k l h = joined-parts-take n k l ∙ take-all (n * k) l (omega arith)
+pub concatenated-parts : (n k : ℕ) (l : List ℕ) → length l ≡ n * k → concatenated n (λ i. take k (drop (i * k) l)) ≡ l
+concatenated-parts n k l h = concatenated-parts-take n k l ∙ take-all (n * k) l (omega arith)

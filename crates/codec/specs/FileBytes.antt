@@ -8,7 +8,7 @@ use Rattle.pcrl.specs.Lists.{tabulate}
 use Rattle.pcrl.specs.Table.{Table}
 use Rattle.pcrl.specs.Right.{RightTable}
 use Rattle.pcrl.specs.Stream.{encode}
-use Rattle.pcrl.specs.Blocks.{block-stream, crc, low-first, high-first, block-body, block, blocks-for, joined, file-of-stream, file-of}
+use Rattle.pcrl.specs.Blocks.{block-stream, crc, low-first, high-first, block-body, block, blocks-for, concatenated, file-of-stream, file-of}
 use Rattle.laws.specs.Every.{every-of-all, every-append, every-take, every-drop, every-replicate}
 use Rattle.codec.specs.StreamBytes.{Byte, bytes-all, stream-bytes}
 
@@ -25,7 +25,7 @@ block-is-bytes number count s h =
 
 -- Every number of a right table's file is a byte.
 pub file-bytes : (T : Table) → RightTable T → Every (λ b. b < 256) (file-of T)
-unfolding file-of file-of-stream joined
+unfolding file-of file-of-stream concatenated
 file-bytes T h =
     let s : List ℕ = encode T in
     let n : ℕ = blocks-for (length s) in

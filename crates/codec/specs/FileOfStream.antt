@@ -9,8 +9,8 @@ use lib.Seq.{length-take-le}
 use Rattle.pcrl.specs.Limits.{max-stream}
 use Rattle.pcrl.specs.Tests.{Every}
 use Rattle.pcrl.specs.Stack.{padded}
-use Rattle.pcrl.specs.Blocks.{block-bytes, block-stream, block, blocks-for, joined, file-of-stream, RightLength, block-count, block-at, stream-at, RightBlock, RightBlocks, stream-of}
-use Rattle.codec.specs.Cut.{every-tabulate, every-tabulated, joined-alike, length-joined, part-of-joined, joined-parts}
+use Rattle.pcrl.specs.Blocks.{block-bytes, block-stream, block, blocks-for, concatenated, file-of-stream, RightLength, block-count, block-at, stream-at, RightBlock, RightBlocks, stream-of}
+use Rattle.codec.specs.Cut.{every-tabulate, every-tabulated, concatenated-alike, length-joined, part-of-joined, concatenated-parts}
 use Rattle.codec.specs.Padding.{zeros, zeros-of-every, part-padded}
 use Rattle.codec.specs.BlockLaws.{length-block, stream-of-block, block-padded}
 
@@ -68,9 +68,9 @@ module _ (s : List ℕ) where
       let n : ℕ = blocks-for (length s) in
       let whole : List ℕ = s ++ zeros (n * block-stream - length s) in
       let l : length whole ≡ n * block-stream = rw (length-append s (zeros (n * block-stream - length s)), length-replicate {A = ℕ} (n * block-stream - length s) 0) (omega (arith, blocks-hold (length s))) in
-      ap (λ (m : ℕ). joined m (stream-at (file-of-stream s))) block-count-file
-      ∙ joined-alike n (stream-at (file-of-stream s)) (part whole) (λ i h. stream-at-file i h ∙ sym (part-padded (i * block-stream) block-stream s (n * block-stream - length s) (omega (arith, blocks-hold (length s)))))
-      ∙ joined-parts n block-stream whole l
+      ap (λ (m : ℕ). concatenated m (stream-at (file-of-stream s))) block-count-file
+      ∙ concatenated-alike n (stream-at (file-of-stream s)) (part whole) (λ i h. stream-at-file i h ∙ sym (part-padded (i * block-stream) block-stream s (n * block-stream - length s) (omega (arith, blocks-hold (length s)))))
+      ∙ concatenated-parts n block-stream whole l
 
   -- as many bytes as the fewest blocks hold
   pub length-stream-of-file : length (stream-of (file-of-stream s)) ≡ blocks-for (length s) * block-stream
@@ -95,7 +95,7 @@ module _ (f : List ℕ) (right : RightLength f) where
   -- the fewest blocks, said of the stream's length
   pub fewest-blocks : (s : List ℕ) → length (stream-of f) ≡ blocks-for (length s) * block-stream → block-count f ≡ blocks-for (length s)
   unfolding stream-of
-  fewest-blocks s e = let l : length (joined (block-count f) (stream-at f)) ≡ block-count f * block-stream = length-joined (block-count f) block-stream (stream-at f) length-stream-at in omega arith
+  fewest-blocks s e = let l : length (concatenated (block-count f) (stream-at f)) ≡ block-count f * block-stream = length-joined (block-count f) block-stream (stream-at f) length-stream-at in omega arith
 
   -- the stream bytes of block i, where the file's stream is s and zeros
   stream-at-is : (s rest : List ℕ) → stream-of f ≡ s ++ rest → Every (λ b. b ≡ 0) rest → (i : ℕ) → i < block-count f → stream-at f i ≡ padded block-stream (part s i)
@@ -117,6 +117,6 @@ module _ (f : List ℕ) (right : RightLength f) where
       let same : n ≡ blocks-for (length s) = omega arith in
       let written : (i : ℕ) → i < n → block-at f i ≡ block i n (part s i) =
       λ i k. every-tabulated (RightBlock f) n (λ i. i) blocks i k ∙ ap (block i n) (stream-at-is s rest e h i k) ∙ block-padded i n (part s i) (few-bytes s i) in
-      sym (joined-parts n block-bytes f length-of-count)
-      ∙ joined-alike n (block-at f) (λ i. block i n (part s i)) written
-      ∙ ap (λ (m : ℕ). joined m (λ i. block i m (part s i))) same
+      sym (concatenated-parts n block-bytes f length-of-count)
+      ∙ concatenated-alike n (block-at f) (λ i. block i n (part s i)) written
+      ∙ ap (λ (m : ℕ). concatenated m (λ i. block i m (part s i))) same

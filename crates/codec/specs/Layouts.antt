@@ -5,7 +5,6 @@ use mathlib.Core.Logic.{_↔_}
 use Prim.Native.Nat.{ℕ, zero, suc, _*_, _≤_}
 use native.Mathlib.Omega.{arith}
 use lib.ListN.{length, getD, take, drop}
-use Rattle.pcrl.specs.Limits.{max-sorts}
 use Rattle.pcrl.specs.Result.{accepted}
 use Rattle.pcrl.specs.Reader.{all}
 use Rattle.pcrl.specs.Lists.{tabulate}
@@ -13,16 +12,16 @@ use Rattle.pcrl.specs.Sheet.{Sig}
 use Rattle.pcrl.specs.Table.{Layout, with-names, without-names, Table}
 use Rattle.pcrl.specs.Stream.{names-code, encode-numbers, encode-sorts, encode-sig, encode}
 use Rattle.pcrl.specs.Right.{RightSizes, RightSig, RightTable}
-use Rattle.pcrl.specs.Blocks.{block-stream, block-body, block, blocks-for, joined, file-of-stream, file-of}
+use Rattle.pcrl.specs.Blocks.{block-stream, block-body, block, blocks-for, concatenated, file-of-stream, file-of}
 use Rattle.pcrl.specs.Answers.{table-checked}
 use Rattle.codec.specs.FileLaws.{stream-begins, written-read}
 
 -- four bytes of a block's number and count, and then the stream
 first-of-file : (b : ℕ) (s : List ℕ) → getD (file-of-stream (b ∷ s)) 4 0 ≡ b
-unfolding file-of-stream joined all tabulate block block-body blocks-for
+unfolding file-of-stream concatenated all tabulate block block-body blocks-for
 first-of-file b s = go (blocks-for (length (b ∷ s))) (omega arith)
   where
-    go : (n : ℕ) → 1 ≤ n → getD (joined n (λ i. block i n (take block-stream (drop (i * block-stream) (b ∷ s))))) 4 0 ≡ b
+    go : (n : ℕ) → 1 ≤ n → getD (concatenated n (λ i. block i n (take block-stream (drop (i * block-stream) (b ∷ s))))) 4 0 ≡ b
     go zero h = absurd (omega arith)
     go (suc n) h = refl
 

@@ -1,6 +1,6 @@
 -- The reader that stood before #104: it "refuses it by 14" where a stream starts with hex F2, and what it read is read as before.
 use mathlib.Core.Path.{_≡_, refl, _∙_}
-use mathlib.Core.List.{List, [], _∷_, _++_}
+use mathlib.Core.List.{List, _∷_, _++_}
 use Prim.Native.Nat.{ℕ}
 use native.Mathlib.Decide.{ℕ-discrete}
 use lib.ListN.{length}

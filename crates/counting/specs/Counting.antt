@@ -15,7 +15,7 @@ use Rattle.nodes.specs.Layout.{enc, alt-kind, atom-kind, call-kind, seq-kind}
 use Rattle.nodes.specs.Bits.{bit}
 use Rattle.checker.specs.Circles.{SetOf}
 use Rattle.counting.specs.declared.Counted.{Counted}
-use Rattle.counting.specs.Limits.{row-width, cut, row}
+use Rattle.counting.specs.Limits.{row-width, cut}
 use Rattle.counting.specs.Count.{count-by}
 use Rattle.counting.specs.Heads.{called}
 

@@ -1,5 +1,5 @@
 -- How far heads are counted, and how counts stand in rows.
-use Prim.Native.Nat.{ℕ, _+_, _*_, min}
+use Prim.Native.Nat.{ℕ, min}
 use mathlib.Core.List.{List}
 use lib.ListN.{take, drop}
 use Rattle.pcrl.specs.Limits.{max-processes}

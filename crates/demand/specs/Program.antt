@@ -26,8 +26,8 @@ use Rattle.theory.specs.Calls.{CallIs, Calls, no-call, call-then, call-of-asked
 use Rattle.theory.specs.Demand.{AcceptedSheet, states, Answered, first-sentence-holds, last-sentence-holds, at-once-holds}
 use Rattle.asking.specs.Encoding.{answer-after, answers-after}
 use Rattle.stepping.specs.Promises.{put-questions}
-use Rattle.frames.specs.declared.Frame.{Frame}
-use Rattle.frames.specs.Lists.{frames-of}
+use Rattle.frames.specs.declared.LentFrame.{LentFrame}
+use Rattle.frames.specs.Lists.{lent-frames}
 use Rattle.wizbratel.specs.Tables.{MakePromise}
 use Rattle.wizbratel.specs.Promises.{StartPromise, AskPromise, AskAllPromise}
 use Rattle.wizbratel.specs.Made.{file-written}
@@ -74,12 +74,12 @@ unfolding started-in after
 started-by m fs d =
     ap (λ (x : Result Table). reply frame-width stack-limit fs d (after x (λ T. question 15 (ℕ-discrete (length fs) stack-limit) (λ _. accepted (tt, start-stack frame-width T))))) (ap table-checked (blocks-are m) ∙ sheet-of m .checked)
 
-pub started-right : (m : Made) (fs : List Frame) (d r : ℕ) (fs′ : List Frame) (d′ : ℕ) → StartPromise (blocks m) fs d r fs′ d′ → r ≡ 0 → RightFrames frame-width stack-limit (sheet-of m .table) (frames-of fs′) d′
+pub started-right : (m : Made) (fs : List LentFrame) (d r : ℕ) (fs′ : List LentFrame) (d′ : ℕ) → StartPromise (blocks m) fs d r fs′ d′ → r ≡ 0 → RightFrames frame-width stack-limit (sheet-of m .table) (lent-frames fs′) d′
 unfolding reply question refusal start-stack
-started-right m fs d r fs′ d′ p z = go (ℕ-discrete (length (frames-of fs)) stack-limit) (started-by m (frames-of fs) d)
+started-right m fs d r fs′ d′ p z = go (ℕ-discrete (length (lent-frames fs)) stack-limit) (started-by m (lent-frames fs) d)
   where
-    go : (x : Dec (length (frames-of fs) ≡ stack-limit)) → started (blocks m) (frames-of fs) d ≡ reply frame-width stack-limit (frames-of fs) d (question 15 x (λ _. accepted (tt, start-stack frame-width (sheet-of m .table))))
-        → RightFrames frame-width stack-limit (sheet-of m .table) (frames-of fs′) d′
+    go : (x : Dec (length (lent-frames fs) ≡ stack-limit)) → started (blocks m) (lent-frames fs) d ≡ reply frame-width stack-limit (lent-frames fs) d (question 15 x (λ _. accepted (tt, start-stack frame-width (sheet-of m .table))))
+        → RightFrames frame-width stack-limit (sheet-of m .table) (lent-frames fs′) d′
     go (no h) e = absurd (let n = p .answer ∙ ap (λ (y : Reply (Unit {0})). refusal (y .answer)) e in omega arith)
     go (yes h) e =
         let T = sheet-of m .table in
@@ -93,7 +93,7 @@ pub record Call : Type 0 where
   pub after : List ℕ
 
 -- its promise, on a file and the frames and depth lent to it
-abbrev pub Kept : List ℕ → List Frame → ℕ → ℕ → Call → List Frame → ℕ → Type 0
+abbrev pub Kept : List ℕ → List LentFrame → ℕ → ℕ → Call → List LentFrame → ℕ → Type 0
 Kept file fs d k c fs′ d′ = AskPromise file fs d k (c .before) (c .r) fs′ d′ (c .after)
 
 -- What a caller reads off it, "those answered ended, none or 16 included": for 16 the number alone, and the bytes as they were; for every
@@ -122,50 +122,50 @@ asked-alone file fs d k = go (stack-read frame-width stack-limit file fs d)
     go (accepted y) = one (ask frame-width stack-limit (y .0) k (y .1) .answer) (ask frame-width stack-limit (y .0) k (y .1) .stack)
 
 -- "put in turn to the stepping program": each call on the frames and depth that the last one left
-pub data Asking (file : List ℕ) : List Frame → ℕ → List ℕ → List Call → List Frame → ℕ → Type 0 where
-  no-question : {fs : List Frame} {d : ℕ} → Asking file fs d [] [] fs d
-  question-then : {fs fs′ fs″ : List Frame} {d d′ d″ k : ℕ} {c : Call} {ks : List ℕ} {cs : List Call} → Kept file fs d k c fs′ d′ → Asking file fs′ d′ ks cs fs″ d″ → Asking file fs d (k ∷ ks) (c ∷ cs) fs″ d″
+pub data Asking (file : List ℕ) : List LentFrame → ℕ → List ℕ → List Call → List LentFrame → ℕ → Type 0 where
+  no-question : {fs : List LentFrame} {d : ℕ} → Asking file fs d [] [] fs d
+  question-then : {fs fs′ fs″ : List LentFrame} {d d′ d″ k : ℕ} {c : Call} {ks : List ℕ} {cs : List Call} → Kept file fs d k c fs′ d′ → Asking file fs′ d′ ks cs fs″ d″ → Asking file fs d (k ∷ ks) (c ∷ cs) fs″ d″
 
-calls : (file : List ℕ) (T : Table) → table-checked file ≡ accepted T → {fs fs′ : List Frame} {d d′ : ℕ} {ks : List ℕ} {cs : List Call} → Asking file fs d ks cs fs′ d′
-    → (answers : List Answer) × Each Tells cs answers × Calls frame-width stack-limit T (frames-of fs) d ks answers (frames-of fs′) d′
+calls : (file : List ℕ) (T : Table) → table-checked file ≡ accepted T → {fs fs′ : List LentFrame} {d d′ : ℕ} {ks : List ℕ} {cs : List Call} → Asking file fs d ks cs fs′ d′
+    → (answers : List Answer) × Each Tells cs answers × Calls frame-width stack-limit T (lent-frames fs) d ks answers (lent-frames fs′) d′
 unfolding Each
 calls file T checked no-question = ([], tt, no-call)
 calls file T checked (question-then {fs} {fs′} {d = d} {d′} {k = k} {c} p more) =
     let (l, each, rest) = calls file T checked more in
-    let R = asked file (frames-of fs) d k in
-    let is = asked-alone file (frames-of fs) d k in (
+    let R = asked file (lent-frames fs) d k in
+    let is = asked-alone file (lent-frames fs) d k in (
       as-answer (R .answer) ∷ l,
       (record { number = p .0 .answer ∙ ap refusal is; bytes = p .1 ∙ ap (λ (x : Result Answer). answer-after x (c .before)) is }, each),
       call-then
-          (λ right. subst₂ (λ (gs : List pcrl.Frame) (n : ℕ). CallIs frame-width stack-limit T (frames-of fs) d k (as-answer (R .answer)) gs n) (sym (p .0 .frames)) (sym (p .0 .depth)) (call-of-asked frame-width stack-limit T file checked (frames-of fs) d k R refl right))
+          (λ right. subst₂ (λ (gs : List pcrl.Frame) (n : ℕ). CallIs frame-width stack-limit T (lent-frames fs) d k (as-answer (R .answer)) gs n) (sym (p .0 .frames)) (sym (p .0 .depth)) (call-of-asked frame-width stack-limit T file checked (lent-frames fs) d k R refl right))
           rest,
     )
 
 -- THE LAST SENTENCE, one call for each question.
 pub steps-in-turn : (m : Made)
     -- "from any stack of at most 64 frames of such a table"
-    → (fs : List Frame) (d : ℕ) → RightFrames frame-width stack-limit (sheet-of m .table) (frames-of fs) d
+    → (fs : List LentFrame) (d : ℕ) → RightFrames frame-width stack-limit (sheet-of m .table) (lent-frames fs) d
     -- "for every list of step questions, .. put in turn to the stepping program"
-    → (ks : List ℕ) (cs : List Call) (fs′ : List Frame) (d′ : ℕ) → Asking (blocks m) fs d ks cs fs′ d′
+    → (ks : List ℕ) (cs : List Call) (fs′ : List LentFrame) (d′ : ℕ) → Asking (blocks m) fs d ks cs fs′ d′
     -- "each answer, and the stack it leaves, is the one document 01's steps give, ..": all of `Answered`
-    → (answers : List Answer) × Each Tells cs answers × Answered (sheet-of m) (frames-of fs) d ks answers (frames-of fs′) d′
+    → (answers : List Answer) × Each Tells cs answers × Answered (sheet-of m) (lent-frames fs) d ks answers (lent-frames fs′) d′
 steps-in-turn m fs d right ks cs fs′ d′ asking =
     let A = sheet-of m in
     let (answers, each, made) = calls (A .file) (A .table) (A .checked) (subst (λ (f : List ℕ). Asking f fs d ks cs fs′ d′) (blocks-are m) asking) in
-    (answers, each, last-sentence-holds A ks (frames-of fs) d right answers (frames-of fs′) d′ made)
+    (answers, each, last-sentence-holds A ks (lent-frames fs) d right answers (lent-frames fs′) d′ made)
 
 -- The same, the whole list by one call of `wizbratel_ask_all`, as many questions as there is room for answers.
-pub steps-at-once : (m : Made) (fs : List Frame) (d : ℕ) → RightFrames frame-width stack-limit (sheet-of m .table) (frames-of fs) d
+pub steps-at-once : (m : Made) (fs : List LentFrame) (d : ℕ) → RightFrames frame-width stack-limit (sheet-of m .table) (lent-frames fs) d
     -- its promise, on the blocks written
-    → (ks out : List ℕ) (r : ℕ) (fs′ : List Frame) (d′ : ℕ) (out′ : List ℕ) → AskAllPromise (blocks m) fs d ks out r fs′ d′ out′
-    → (answers : List Answer) × (r ≡ 0) × (out′ ≡ answers-after (accepted answers) out) × Answered (sheet-of m) (frames-of fs) d (put-questions ks out) answers (frames-of fs′) d′
+    → (ks out : List ℕ) (r : ℕ) (fs′ : List LentFrame) (d′ : ℕ) (out′ : List ℕ) → AskAllPromise (blocks m) fs d ks out r fs′ d′ out′
+    → (answers : List Answer) × (r ≡ 0) × (out′ ≡ answers-after (accepted answers) out) × Answered (sheet-of m) (lent-frames fs) d (put-questions ks out) answers (lent-frames fs′) d′
 unfolding refusal
 steps-at-once m fs d right ks out r fs′ d′ out′ (p, w) =
     let A = sheet-of m in
-    let (answers, gs, n, e, all) = at-once-holds A (put-questions ks out) (frames-of fs) d right in
-    let q : asked-all (blocks m) (frames-of fs) d (put-questions ks out) ≡ record { answer = accepted answers; frames = gs; depth = n } = ap (λ (f : List ℕ). asked-all f (frames-of fs) d (put-questions ks out)) (blocks-are m) ∙ e in (
+    let (answers, gs, n, e, all) = at-once-holds A (put-questions ks out) (lent-frames fs) d right in
+    let q : asked-all (blocks m) (lent-frames fs) d (put-questions ks out) ≡ record { answer = accepted answers; frames = gs; depth = n } = ap (λ (f : List ℕ). asked-all f (lent-frames fs) d (put-questions ks out)) (blocks-are m) ∙ e in (
       answers,
       p .answer ∙ ap (λ (x : Reply (List Answer)). refusal (x .answer)) q,
       w ∙ ap (λ (x : Reply (List Answer)). answers-after (x .answer) out) q,
-      subst₂ (λ (hs : List pcrl.Frame) (k : ℕ). Answered A (frames-of fs) d (put-questions ks out) answers hs k) (sym (p .frames ∙ ap (λ (x : Reply (List Answer)). x .frames) q)) (sym (p .depth ∙ ap (λ (x : Reply (List Answer)). x .depth) q)) all,
+      subst₂ (λ (hs : List pcrl.Frame) (k : ℕ). Answered A (lent-frames fs) d (put-questions ks out) answers hs k) (sym (p .frames ∙ ap (λ (x : Reply (List Answer)). x .frames) q)) (sym (p .depth ∙ ap (λ (x : Reply (List Answer)). x .depth) q)) all,
     )

@@ -7,8 +7,8 @@ use native.Mathlib.Numerals.{add-one}
 use native.Mathlib.Omega.{arith}
 use lib.ListN.{length, take, set, length-append, length-set}
 use lib.Seq.{take-suc-set}
-use Rattle.pcrl.specs.Blocks.{joined}
-use Rattle.codec.specs.Cut.{joined-zero, joined-suc}
+use Rattle.pcrl.specs.Blocks.{concatenated}
+use Rattle.codec.specs.Cut.{concatenated-zero, concatenated-suc}
 use Rattle.nodes.specs.Layout.{byte-limit}
 use Rattle.emit.specs.Putting.{Puts}
 
@@ -43,24 +43,24 @@ pub puts-as : {e d : List ℕ} (w : ℕ) (o : List ℕ) (v : ℕ) (p : List ℕ)
 puts-as w o v p z h = subst (λ (l : List ℕ). Puts l w o v p) z h
 
 -- one part more
-pub joined-last : (n : ℕ) (f : ℕ → List ℕ) → joined (suc n) f ≡ joined n f ++ f n
-joined-last zero f = joined-suc zero f ∙ ap (λ (l : List ℕ). f zero ++ l) (joined-zero (λ i. f (suc i))) ∙ append-nil (f zero) ∙ ap (λ (l : List ℕ). l ++ f zero) (sym (joined-zero f))
-joined-last (suc n) f =
-    joined-suc (suc n) f
-    ∙ ap (λ (l : List ℕ). f zero ++ l) (joined-last n (λ i. f (suc i)))
-    ∙ sym (append-assoc (f zero) (joined n (λ i. f (suc i))) (f (suc n)))
-    ∙ ap (λ (l : List ℕ). l ++ f (suc n)) (sym (joined-suc n f))
+pub concatenated-last : (n : ℕ) (f : ℕ → List ℕ) → concatenated (suc n) f ≡ concatenated n f ++ f n
+concatenated-last zero f = concatenated-suc zero f ∙ ap (λ (l : List ℕ). f zero ++ l) (concatenated-zero (λ i. f (suc i))) ∙ append-nil (f zero) ∙ ap (λ (l : List ℕ). l ++ f zero) (sym (concatenated-zero f))
+concatenated-last (suc n) f =
+    concatenated-suc (suc n) f
+    ∙ ap (λ (l : List ℕ). f zero ++ l) (concatenated-last n (λ i. f (suc i)))
+    ∙ sym (append-assoc (f zero) (concatenated n (λ i. f (suc i))) (f (suc n)))
+    ∙ ap (λ (l : List ℕ). l ++ f (suc n)) (sym (concatenated-suc n f))
 
 -- a loop that puts one part after another, behind e
 module _ (e : List ℕ) (f : ℕ → List ℕ) (w : ℕ) (o : List ℕ) where
-  pub joined-none : (v : ℕ) (p : List ℕ) → Puts e w o v p → Puts (e ++ joined 0 f) w o v p
-  joined-none v p h = puts-as w o v p (sym (append-nil e) ∙ ap (λ (l : List ℕ). e ++ l) (sym (joined-zero f))) h
+  pub concatenated-none : (v : ℕ) (p : List ℕ) → Puts e w o v p → Puts (e ++ concatenated 0 f) w o v p
+  concatenated-none v p h = puts-as w o v p (sym (append-nil e) ∙ ap (λ (l : List ℕ). e ++ l) (sym (concatenated-zero f))) h
 
-  pub joined-more : (i v : ℕ) (p : List ℕ) (r : ℕ) (q : List ℕ) → Puts (e ++ joined i f) w o v p → Puts (f i) v p r q → Puts (e ++ joined (i + 1) f) w o r q
-  joined-more i v p r q h k =
-      puts-as w o r q (append-assoc e (joined i f) (f i) ∙ ap (λ (l : List ℕ). e ++ l) (sym (joined-last i f)) ∙ ap (λ (n : ℕ). e ++ joined n f) (sym (add-one i))) (puts-then h k)
+  pub concatenated-more : (i v : ℕ) (p : List ℕ) (r : ℕ) (q : List ℕ) → Puts (e ++ concatenated i f) w o v p → Puts (f i) v p r q → Puts (e ++ concatenated (i + 1) f) w o r q
+  concatenated-more i v p r q h k =
+      puts-as w o r q (append-assoc e (concatenated i f) (f i) ∙ ap (λ (l : List ℕ). e ++ l) (sym (concatenated-last i f)) ∙ ap (λ (n : ℕ). e ++ concatenated n f) (sym (add-one i))) (puts-then h k)
 
 -- a count, and behind it as many parts
-pub counted-put : (f : ℕ → List ℕ) (n b i w : ℕ) (o : List ℕ) (v : ℕ) (p : List ℕ) (r : ℕ) (q : List ℕ) → b ≡ n % byte-limit → i ≡ n → Puts (b ∷ []) w o v p → Puts (joined i f) v p r q
-    → Puts ((n % byte-limit ∷ []) ++ joined n f) w o r q
-counted-put f n b i w o v p r q eb ei h k = puts-as w o r q (ap₂ (λ (x y : ℕ). (x ∷ []) ++ joined y f) eb ei) (puts-then h k)
+pub counted-put : (f : ℕ → List ℕ) (n b i w : ℕ) (o : List ℕ) (v : ℕ) (p : List ℕ) (r : ℕ) (q : List ℕ) → b ≡ n % byte-limit → i ≡ n → Puts (b ∷ []) w o v p → Puts (concatenated i f) v p r q
+    → Puts ((n % byte-limit ∷ []) ++ concatenated n f) w o r q
+counted-put f n b i w o v p r q eb ei h k = puts-as w o r q (ap₂ (λ (x y : ℕ). (x ∷ []) ++ concatenated y f) eb ei) (puts-then h k)

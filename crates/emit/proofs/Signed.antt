@@ -11,13 +11,13 @@ use Rattle.pcrl.specs.Tests.{Every}
 use Rattle.pcrl.specs.Reader.{all}
 use Rattle.pcrl.specs.Tree.{Name}
 use Rattle.pcrl.specs.Lists.{tabulate, together}
-use Rattle.pcrl.specs.Blocks.{joined}
+use Rattle.pcrl.specs.Blocks.{concatenated}
 use Rattle.pcrl.specs.Sheet.{Func, Action, Sig, no-func, no-action, func}
 use Rattle.pcrl.specs.Table.{with-names}
 use Rattle.pcrl.specs.Stream.{names-code, encode-numbers, encode-list, encode-sort, encode-sorts, encode-func, encode-action, encode-sig}
 use Rattle.pcrl.specs.Right.{RightSortName, RightNames}
 use Rattle.laws.specs.Every.{every-at}
-use Rattle.codec.specs.Cut.{joined-zero, joined-suc, joined-alike}
+use Rattle.codec.specs.Cut.{concatenated-zero, concatenated-suc, concatenated-alike}
 use Rattle.codec.specs.Together.{firsts-together}
 use Rattle.nodes.specs.declared.Outline.{Outline}
 use Rattle.nodes.specs.Layout.{byte-limit}
@@ -29,10 +29,10 @@ use Rattle.emit.proofs.Putting.{puts-then, puts-as}
 use Rattle.emit.proofs.Copied.{part-is}
 
 -- a list's elements, one after another
-pub joined-all : {A : Type 0} (w : A → List ℕ) (d : A) (l : List A) → joined (length l) (λ i. w (getD l i d)) ≡ all w l
+pub concatenated-all : {A : Type 0} (w : A → List ℕ) (d : A) (l : List A) → concatenated (length l) (λ i. w (getD l i d)) ≡ all w l
 unfolding all
-joined-all w d [] = joined-zero (λ i. w (getD [] i d))
-joined-all w d (a ∷ l) = joined-suc (length l) (λ i. w (getD (a ∷ l) i d)) ∙ ap (λ (m : List ℕ). w a ++ m) (joined-all w d l)
+concatenated-all w d [] = concatenated-zero (λ i. w (getD [] i d))
+concatenated-all w d (a ∷ l) = concatenated-suc (length l) (λ i. w (getD (a ∷ l) i d)) ∙ ap (λ (m : List ℕ). w a ++ m) (concatenated-all w d l)
 
 pub row-is : (Ds s : List ℕ) (p : ℕ) → SortsAt Ds s p → row-bytes s p ≡ encode-numbers Ds
 unfolding row-bytes encode-numbers
@@ -47,7 +47,7 @@ row-is Ds s p h =
 counted-is : {A : Type 0} (w : A → List ℕ) (d : A) (l : List A) (n : ℕ) (f : ℕ → List ℕ) → n ≡ length l → n < byte-limit → ((i : ℕ) → i < n → f i ≡ w (getD l i d)) → counted-bytes n f ≡ encode-list w l
 unfolding counted-bytes encode-list
 counted-is w d l n f e h k =
-    ap₂ (λ (x : ℕ) (m : List ℕ). (x ∷ []) ++ m) (mod-eq-of-lt h ∙ e) (joined-alike n f (λ i. w (getD l i d)) k ∙ ap (λ (m : ℕ). joined m (λ i. w (getD l i d))) e ∙ joined-all w d l)
+    ap₂ (λ (x : ℕ) (m : List ℕ). (x ∷ []) ++ m) (mod-eq-of-lt h ∙ e) (concatenated-alike n f (λ i. w (getD l i d)) k ∙ ap (λ (m : ℕ). concatenated m (λ i. w (getD l i d))) e ∙ concatenated-all w d l)
 
 -- two lists side by side
 length-together : {A B : Type 0} (as′ : List A) (bs : List B) → length bs ≡ length as′ → length (together as′ bs) ≡ length as′

@@ -8,7 +8,7 @@ use Rattle.pcrl.specs.Text.{bytes}
 use Rattle.pcrl.specs.Tests.{Every}
 use Rattle.pcrl.specs.Tree.{Name}
 use Rattle.pcrl.specs.Lists.{tabulate}
-use Rattle.pcrl.specs.Blocks.{joined}
+use Rattle.pcrl.specs.Blocks.{concatenated}
 use Rattle.pcrl.specs.Sheet.{Action, Sig, no-action}
 use Rattle.pcrl.specs.Table.{with-names}
 use Rattle.pcrl.specs.Stream.{names-code, encode-sig}
@@ -29,7 +29,7 @@ row-bytes s p = part s p (getD s p 0 + 1)
 
 -- a count, and what is put for each number below it
 unfoldable pub counted-bytes : ℕ → (ℕ → List ℕ) → List ℕ
-counted-bytes n f = (n % byte-limit ∷ []) ++ joined n f
+counted-bytes n f = (n % byte-limit ∷ []) ++ concatenated n f
 
 unfoldable pub name-bytes : Name → List ℕ
 name-bytes x = (length x % byte-limit ∷ []) ++ x

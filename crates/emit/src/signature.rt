@@ -1,8 +1,5 @@
 // #104: hex F2, "count and sizes of sorts, Bool's 2 first", and "each sort a name length and name after its size"; "count of functions, each arity, sorts, result, values; count of actions, each name length, name, arity, sorts"
-ghost use mathlib.Core.Path.{_≡_};
 ghost use Prim.Native.Nat.{_-_, _<_};
-ghost use lib.ListN.{length, getD};
-ghost use Rattle.lexer.specs.Cells.{first-name};
 ghost use Rattle.nodes.specs.Layout.{cell-limit};
 ghost use Rattle.names.specs.NameCells.{name-at};
 ghost use Rattle.emit.specs.Putting.{Puts};

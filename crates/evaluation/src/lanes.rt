@@ -1,5 +1,4 @@
 // One row of up to 128 values, a lane for each pair of values of two variables, made of others lane by lane.
-ghost use mathlib.Core.Path.{_≡_};
 ghost use Prim.Native.Nat.{ℕ, _+_, _-_, _*_, _≤_, _<_};
 ghost use lib.ListN.{length, getD};
 ghost use Rattle.evaluation.specs.Run.{operator-code, operator-worth};

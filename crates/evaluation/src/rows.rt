@@ -2,7 +2,7 @@
 ghost use mathlib.Core.Path.{_≡_};
 ghost use Prim.Native.Nat.{ℕ, _+_, _-_, _*_, _≤_, _<_, min};
 ghost use lib.Dec.{eqb};
-ghost use lib.ListN.{length, getD, take, drop};
+ghost use lib.ListN.{length, take, drop};
 ghost use Rattle.pcrl.specs.Decode.{node-of};
 ghost use Rattle.evaluation.specs.Run.{pick, argument-count, worth-of, run, top};
 ghost use Rattle.evaluation.specs.Rows.{lane-count, row-count, row-room, mark-room, lane, RowPut, Marked, Zeros, lane-env, LanesKept};

@@ -5,7 +5,7 @@ use Prim.Native.Nat.{ℕ, suc, _≤_, _<_}
 use lib.ListN.{length}
 use Rattle.pcrl.specs.Limits.{max-arity, frame-width}
 use Rattle.pcrl.specs.Tests.{Every}
-use Rattle.pcrl.specs.Sheet.{Data, Act, Proc, delta, atom, alt, cond, sum, seq, call, Sheet, params}
+use Rattle.pcrl.specs.Sheet.{Proc, delta, atom, alt, cond, sum, seq, call, Sheet, params}
 use Rattle.nodes.specs.Layout.{byte-limit, act-number}
 use Rattle.nodes.specs.Scoped.{max-scope}
 use Rattle.putting.specs.Slots.{Writable}

@@ -4,21 +4,21 @@ ghost use Prim.Native.Nat.{_+_, _*_, _≤_};
 ghost use lib.ListN.{length, set};
 ghost use Rattle.pcrl.specs.Limits.{frame-width};
 ghost use Rattle.stacks.specs.Lent.{frame-bytes, frame-at, frames-in, stack-bytes};
-ghost use Rattle.frames.specs.Lists.{no-frames, over, taken, frame-of, frames-of};
+ghost use Rattle.frames.specs.Lists.{no-frames, over, taken, frame-of, lent-frames};
 use limits::FRAME_WIDTH;
 use limits::STACK_LIMIT;
 use stacks::FRAME;
 
 // "A frame is an equation number and four values, spare ones 0."
 #[repr(C)]
-pub struct Frame {
+pub struct LentFrame {
     pub equation: u8,
     pub values: [u8; FRAME_WIDTH],
 }
 
 // 64 frames by value.
 pub struct Stack {
-    pub frames: [Frame; STACK_LIMIT],
+    pub frames: [LentFrame; STACK_LIMIT],
 }
 
 // How many frames change places, with which, and the number of the question that failed, or 0.
@@ -32,7 +32,7 @@ pub fn empty() -> Stack
     ensures { λ r. ⌜ r .frames ≡ no-frames ⌝ }
 {
     Stack {
-        frames: [Frame {
+        frames: [LentFrame {
             equation: 0,
             values: [0; FRAME_WIDTH],
         }; STACK_LIMIT],
@@ -40,7 +40,7 @@ pub fn empty() -> Stack
 }
 
 // The first n frames of the slice and of the stack change places.
-pub fn exchange(fs: &mut [Frame], n: usize, s: Stack) -> Stack
+pub fn exchange(fs: &mut [LentFrame], n: usize, s: Stack) -> Stack
     requires { ⌜ (n ≤ length (now fs)) × (n ≤ 64) ⌝ }
     ensures { λ r. ⌜ (r .frames ≡ over n (now (fs .entry)) (s .frames)) × (now (fs .exit) ≡ over n (s .frames) (now (fs .entry))) ⌝ }
 {
@@ -75,7 +75,7 @@ pub fn prepare(n: usize) -> Ready
 }
 
 // Frame i of the bytes becomes f.
-fn put(bytes: &mut [u8], i: usize, f: Frame)
+fn put(bytes: &mut [u8], i: usize, f: LentFrame)
     requires { ⌜ (i + 1) * frame-bytes frame-width ≤ length (now bytes) ⌝ }
     ensures { λ _. ⌜ frames-in frame-width (now (bytes .exit)) ≡ set (frames-in frame-width (now (bytes .entry))) i (frame-of f) ⌝ }
 {
@@ -85,12 +85,12 @@ fn put(bytes: &mut [u8], i: usize, f: Frame)
 }
 
 // Frame i of the bytes.
-fn at(bytes: &[u8], i: usize) -> Frame
+fn at(bytes: &[u8], i: usize) -> LentFrame
     requires { ⌜ (i + 1) * frame-bytes frame-width ≤ length (now bytes) ⌝ }
     ensures { λ r. ⌜ frame-of r ≡ frame-at frame-width (now (bytes .entry)) (i * frame-bytes frame-width) ⌝ }
 {
     let a = i * FRAME;
-    Frame {
+    LentFrame {
         equation: bytes[a],
         values: [bytes[a + 1], bytes[a + 2], bytes[a + 3], bytes[a + 4]],
     }
@@ -99,7 +99,7 @@ fn at(bytes: &[u8], i: usize) -> Frame
 // The frames of a stack in bytes.
 pub fn to_bytes(s: Stack, bytes: &mut [u8])
     requires { ⌜ length (now bytes) ≡ stack-bytes ⌝ }
-    ensures { λ _. ⌜ frames-in frame-width (now (bytes .exit)) ≡ frames-of (s .frames) ⌝ }
+    ensures { λ _. ⌜ frames-in frame-width (now (bytes .exit)) ≡ lent-frames (s .frames) ⌝ }
 {
     let mut i = 0;
     while i < STACK_LIMIT {
@@ -111,7 +111,7 @@ pub fn to_bytes(s: Stack, bytes: &mut [u8])
 
 pub fn from_bytes(bytes: &[u8]) -> Stack
     requires { ⌜ length (now bytes) ≡ stack-bytes ⌝ }
-    ensures { λ r. ⌜ frames-of (r .frames) ≡ frames-in frame-width (now (bytes .entry)) ⌝ }
+    ensures { λ r. ⌜ lent-frames (r .frames) ≡ frames-in frame-width (now (bytes .entry)) ⌝ }
 {
     let mut t = empty();
     let mut i = 0;

@@ -12,7 +12,7 @@ use Rattle.pcrl.specs.Text.{bytes, byte, decimal}
 use Rattle.pcrl.specs.Limits.{max-name, max-numeral}
 use Rattle.pcrl.specs.Tests.{and, or, negated, same?, among, Every}
 use Rattle.pcrl.specs.Bytes.{separator, letter, digit, name-byte}
-use Rattle.pcrl.specs.Tokens.{Token, name, numeral, sign, the, words, marks, run, front, Lexeme, name-of, value-of, numeral-of, mark-of, first-token}
+use Rattle.pcrl.specs.Tokens.{Token, name, numeral, sign, the, words, punctuation, run, front, Lexeme, name-of, value-of, numeral-of, mark-of, first-token}
 use Rattle.pcrl.specs.Render.{write, goes-on}
 use Rattle.laws.specs.Tests.{is-true, both-pass, eqb-self, where-no}
 use Rattle.grammar.specs.TokenLaws.{ValidName, ValidToken, front-every, front-cons}
@@ -113,7 +113,7 @@ mark-taken w h e = record { here = h; whole = λ r s. e r }
 
 -- `=`, where no further `=` stands behind it
 pub equals-taken : Taken (the "=")
-unfolding write begins lexeme goes-on first-token marks mark-of among words same? ℕ-discrete
+unfolding write begins lexeme goes-on first-token punctuation mark-of among words same? ℕ-discrete
 equals-taken = record { here = tt; whole = λ r s. by r s }
   where
     by : (r : List ℕ) → Stops (λ b. eqb b (byte "=")) r → lexeme (bytes "=" ++ r) ≡ some (the "=", 1)
@@ -121,8 +121,8 @@ equals-taken = record { here = tt; whole = λ r s. by r s }
     by r (at b s e) = where-no (same? (bytes "==") (byte "=" ∷ b ∷ [])) (λ f. let z : _≡_ {A = ℕ} 0 1 = cc (eqb-self b) in omega arith) _ _
 
 -- "`( ) , ; : # = + . -> <| |>`", and `!`, `==`, `/\` and `\/`, each by computation
-pub marks-taken : Every (λ w. Taken (sign w)) marks
-unfolding Every marks begins lexeme first-token mark-of same? ℕ-discrete
+pub marks-taken : Every (λ w. Taken (sign w)) punctuation
+unfolding Every punctuation begins lexeme first-token mark-of same? ℕ-discrete
 marks-taken = (mark-taken _ tt (λ r. refl), (mark-taken _ tt (λ r. refl), (mark-taken _ tt (λ r. refl), (mark-taken _ tt (λ r. refl), (mark-taken _ tt (λ r. refl), (mark-taken _ tt (λ r. refl), (mark-taken _ tt (λ r. refl), (mark-taken _ tt (λ r. refl), (mark-taken _ tt (λ r. refl), (mark-taken _ tt (λ r. refl), (mark-taken _ tt (λ r. refl), (mark-taken _ tt (λ r. refl), (equals-taken, (mark-taken _ tt (λ r. refl), (mark-taken _ tt (λ r. refl), (mark-taken _ tt (λ r. refl), tt))))))))))))))))
 
 -- no digit is a letter
@@ -170,9 +170,9 @@ pub token-taken : (t : Token) → ValidToken t → Taken t
 unfolding ValidToken
 token-taken (name n) v = name-taken n v
 token-taken (numeral v) h = numeral-taken v h
-token-taken (sign w) v = by (among w words) refl (among w marks) refl v
+token-taken (sign w) v = by (among w words) refl (among w punctuation) refl v
   where
-    by : (a : Bool) → among w words ≡ a → (b : Bool) → among w marks ≡ b → T (or a b) → Taken (sign w)
+    by : (a : Bool) → among w words ≡ a → (b : Bool) → among w punctuation ≡ b → T (or a b) → Taken (sign w)
     by true e b f t = among-every (λ w. Taken (sign w)) words words-taken w (rw e tt)
-    by false e true f t = among-every (λ w. Taken (sign w)) marks marks-taken w (rw f tt)
+    by false e true f t = among-every (λ w. Taken (sign w)) punctuation marks-taken w (rw f tt)
     by false e false f t = absurd t

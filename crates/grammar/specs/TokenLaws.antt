@@ -11,7 +11,7 @@ use Rattle.pcrl.specs.Text.{byte}
 use Rattle.pcrl.specs.Limits.{max-name, max-numeral}
 use Rattle.pcrl.specs.Tests.{and, or, Between, same?, among, Every}
 use Rattle.pcrl.specs.Bytes.{separator, letter, digit, name-byte}
-use Rattle.pcrl.specs.Tokens.{Token, name, numeral, sign, words, marks, run, front, Lexeme, name-of, value-of, numeral-of, mark-of, first-token, before, followed, tokens-behind, tokens}
+use Rattle.pcrl.specs.Tokens.{Token, name, numeral, sign, words, punctuation, run, front, Lexeme, name-of, value-of, numeral-of, mark-of, first-token, before, followed, tokens-behind, tokens}
 use Rattle.laws.specs.Tests.{of-true, where-yes}
 
 -- "names (a letter, then letters, digits or underscores, the whole run at most 16 characters)"; the words "are never names"
@@ -22,7 +22,7 @@ ValidName n = (Between 1 max-name (length n) × Every (λ b. T (name-byte b)) n)
 unfoldable pub ValidToken : Token → Type 0
 ValidToken (name n) = ValidName n
 ValidToken (numeral v) = v ≤ max-numeral
-ValidToken (sign w) = T (or (among w words) (among w marks))
+ValidToken (sign w) = T (or (among w words) (among w punctuation))
 
 -- P holds of the value, if there is one
 pub data Given {A : Type 0} (P : A → Type 0) : Option A → Type 0 where
@@ -99,15 +99,15 @@ mark-among (m ∷ ms) s = by (same? m (take (length m) s)) (mark-among ms s)
     by (yes e) h = just (m, refl, among-here m ms)
     by (no f) h = more (mark-of ms s) h
 
-pub mark-valid : (s : List ℕ) → Given ValidLexeme (mark-of marks s)
+pub mark-valid : (s : List ℕ) → Given ValidLexeme (mark-of punctuation s)
 unfolding ValidToken
-mark-valid s = by (mark-of marks s) (mark-among marks s)
+mark-valid s = by (mark-of punctuation s) (mark-among punctuation s)
   where
     or-true : (a : Bool) → T (or a true)
     or-true true = tt
     or-true false = tt
 
-    by : (o : Option Lexeme) → Given (SignOf marks) o → Given ValidLexeme o
+    by : (o : Option Lexeme) → Given (SignOf punctuation) o → Given ValidLexeme o
     by none h = nothing
     by (some l) (just h) = just {a = l} (rw (h .1) (rw (h .2) (or-true (among (h .0) words))))
 
@@ -120,7 +120,7 @@ first-valid b s = by (letter b) refl (digit b)
         let f : front name-byte (b ∷ s) ≡ b ∷ front name-byte s = front-cons name-byte b s (rw e refl) in
         name-valid (front name-byte (b ∷ s)) (rw f (omega arith)) (front-every name-byte (b ∷ s)) (rw f (rw e tt))
 
-    by : (t : Bool) → letter b ≡ t → (u : Bool) → Given ValidLexeme (elim t [ true ↦ name-of (front name-byte (b ∷ s)) | false ↦ elim u [ true ↦ numeral-of (front digit (b ∷ s)) | false ↦ mark-of marks (b ∷ s) ] ])
+    by : (t : Bool) → letter b ≡ t → (u : Bool) → Given ValidLexeme (elim t [ true ↦ name-of (front name-byte (b ∷ s)) | false ↦ elim u [ true ↦ numeral-of (front digit (b ∷ s)) | false ↦ mark-of punctuation (b ∷ s) ] ])
     by true e u = named e
     by false e true = numeral-valid (front digit (b ∷ s))
     by false e false = mark-valid (b ∷ s)

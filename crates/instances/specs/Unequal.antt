@@ -1,11 +1,11 @@
 -- States that are not equal to n steps, and labels that a run does not bear: equality and runs hold no more than document 01 says.
-use mathlib.Core.Path.{_≡_, refl, sym, _∙_}
-use mathlib.Core.List.{List, [], _∷_}
+use mathlib.Core.Path.{_≡_, refl, sym}
+use mathlib.Core.List.{[], _∷_}
 use Prim.Native.Nat.{ℕ, zero, suc}
 use native.Mathlib.Omega.{arith}
 use Rattle.pcrl.specs.Limits.{frame-width}
 use Rattle.pcrl.specs.Label.{Label, label}
-use Rattle.pcrl.specs.Sheet.{Act, action, Proc, delta, alt, seq, atom, Sheet}
+use Rattle.pcrl.specs.Sheet.{action, Proc, delta, alt, seq, atom, Sheet}
 use Rattle.pcrl.specs.Table.{Table}
 use Rattle.pcrl.specs.Terms.{Rest, done, still, TermStep, acts, in-left, in-right, goes-on, goes-over}
 use Rattle.pcrl.specs.Equality.{System, Equal, Run, stay, go}

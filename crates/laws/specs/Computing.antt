@@ -41,7 +41,7 @@ unfolding Tests.both? Tests.between? Tests.at-most? Tests.below? Tests.T? Tests.
 in-tests = 0
 
 unfoldable pub in-reading : ℕ
-unfolding Tokens.words Tokens.marks Tokens.run Tokens.name-of Tokens.value-of Tokens.numeral-of Tokens.mark-of Tokens.first-token Tokens.before Tokens.followed Tokens.tokens-behind Tokens.tokens Tokens.is? Tokens.open-behind Tokens.most-open Tokens.Shallow Tokens.shallow? Grammar.on Grammar.fail Grammar.expect Grammar.a-name Grammar.a-numeral Grammar.on-numeral Grammar.data-term Grammar.data-given Grammar.choice Grammar.sort-line Grammar.numerals Grammar.one-or-two Grammar.func-line Grammar.act-line Grammar.parameters Grammar.proc-line Grammar.no-variable Grammar.none-in Grammar.init-line Grammar.lines Grammar.sheet Grammar.whole Grammar.parse Counts.Counted Counts.counted? Names.names-of Names.number-of Names.declared Names.new-variable Names.sort-of Names.equal-at Names.resolve-data Names.resolve-given Names.named Names.resolve-choice Names.sorts-of Names.resolve-func Names.resolve-act Names.resolve-params Names.resolve-proc Names.resolve-init Names.sizes-of Names.resolve-terms Names.resolve Sorts.binding Sorts.IsOperation Sorts.is-operation? Sorts.HasSort Sorts.has-sort? Sorts.arguments? Sorts.IsAct Sorts.is-act? Sorts.Sorted Sorts.sorted? Sorts.volume Sorts.Complete Sorts.complete? Sorts.RightlySorted Sorts.rightly-sorted? Circles.at-head Circles.NoCircle Circles.all-pass Circles.all-true Circles.passed-after Circles.guarded
+unfolding Tokens.words Tokens.punctuation Tokens.run Tokens.name-of Tokens.value-of Tokens.numeral-of Tokens.mark-of Tokens.first-token Tokens.before Tokens.followed Tokens.tokens-behind Tokens.tokens Tokens.is? Tokens.open-behind Tokens.most-open Tokens.Shallow Tokens.shallow? Grammar.on Grammar.fail Grammar.expect Grammar.a-name Grammar.a-numeral Grammar.on-numeral Grammar.data-term Grammar.data-given Grammar.choice Grammar.sort-line Grammar.numerals Grammar.one-or-two Grammar.func-line Grammar.act-line Grammar.parameters Grammar.proc-line Grammar.no-variable Grammar.none-in Grammar.init-line Grammar.lines Grammar.sheet Grammar.whole Grammar.parse Counts.Counted Counts.counted? Names.names-of Names.number-of Names.declared Names.new-variable Names.sort-of Names.equal-at Names.resolve-data Names.resolve-given Names.named Names.resolve-choice Names.sorts-of Names.resolve-func Names.resolve-act Names.resolve-params Names.resolve-proc Names.resolve-init Names.sizes-of Names.resolve-terms Names.resolve Sorts.binding Sorts.IsOperation Sorts.is-operation? Sorts.HasSort Sorts.has-sort? Sorts.arguments? Sorts.IsAct Sorts.is-act? Sorts.Sorted Sorts.sorted? Sorts.volume Sorts.Complete Sorts.complete? Sorts.RightlySorted Sorts.rightly-sorted? Circles.at-head Circles.NoCircle Circles.all-pass Circles.all-true Circles.passed-after Circles.guarded
 in-reading = 0
 
 unfoldable pub in-printing : ℕ
@@ -53,7 +53,7 @@ unfolding Lists.tabulate Lists.together Sheet.list-of Sheet.operator Sheet.opera
 in-tables = 0
 
 unfoldable pub in-files : ℕ
-unfolding Blocks.crc-bit Blocks.crc-byte Blocks.crc-from Blocks.crc Blocks.block-body Blocks.block Blocks.blocks-for Blocks.joined Blocks.file-of-stream Blocks.file-of Blocks.Room Blocks.room? Blocks.RightLength Blocks.right-length? Blocks.block-count Blocks.block-at Blocks.stream-at Blocks.RightBlock Blocks.RightBlocks Blocks.right-blocks? Blocks.stream-of Blocks.Filled Blocks.filled? Blocks.table-in Blocks.table-read
+unfolding Blocks.crc-bit Blocks.crc-byte Blocks.crc-from Blocks.crc Blocks.block-body Blocks.block Blocks.blocks-for Blocks.concatenated Blocks.file-of-stream Blocks.file-of Blocks.Room Blocks.room? Blocks.RightLength Blocks.right-length? Blocks.block-count Blocks.block-at Blocks.stream-at Blocks.RightBlock Blocks.RightBlocks Blocks.right-blocks? Blocks.stream-of Blocks.Filled Blocks.filled? Blocks.table-in Blocks.table-read
 in-files = 0
 
 unfoldable pub in-stacks : ℕ
@@ -61,7 +61,7 @@ unfolding Stack.InSorts Stack.in-sorts? Stack.used Stack.padded Stack.zero-frame
 in-stacks = 0
 
 unfoldable pub in-answers : ℕ
-unfolding Answers.tokens-read Answers.tree-read Answers.sorted-read Answers.sheet-read Answers.table-made Answers.stream-filed Answers.file-made Answers.output-after Answers.stream-read Answers.table-checked Answers.text-printed Answers.table-printed Answers.start-stack Answers.reply Answers.started-in Answers.stack-read Answers.one-answer Answers.asked-in Answers.asked-all-in Walk.values-text Walk.label-text Walk.line Walk.step-line Walk.closing Walk.answer-lines Walk.walk-lines Walk.walk-made Walk.walk-text
+unfolding Answers.tokens-read Answers.tree-read Answers.sorted-read Answers.sheet-read Answers.table-made Answers.stream-filed Answers.file-made Answers.output-after Answers.stream-read Answers.table-checked Answers.text-printed Answers.table-printed Answers.start-stack Answers.reply Answers.started-in Answers.stack-read Answers.one-answer Answers.asked-in Answers.asked-all-in Walk.values-text Walk.label-text Walk.text-line Walk.step-line Walk.closing Walk.answer-lines Walk.walk-lines Walk.walk-made Walk.walk-text
 in-answers = 0
 
 unfoldable pub definitions : ℕ

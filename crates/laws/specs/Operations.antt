@@ -1,6 +1,5 @@
 -- What a function's number stands for, and that every function of a right signature is right, operators too.
-use mathlib.Core.Path.{_≡_, refl, sym, ap, subst, _∙_}
-use mathlib.Core.List.{List, [], _∷_}
+use mathlib.Core.Path.{_≡_, refl, ap, _∙_}
 use mathlib.Core.Bool.{Bool, true, false}
 use Prim.Native.Nat.{ℕ, zero, suc, _+_, _*_, _-_, _/_, _%_, _<_, _≤_}
 use native.Mathlib.Omega.{arith}
@@ -8,12 +7,12 @@ use borrow.Author.Tests.{ltb-true, ltb-false}
 use lib.Dec.{eqb, ltb}
 use lib.ListN.{length, getD}
 use Rattle.pcrl.specs.Lists.{tabulate}
-use Rattle.pcrl.specs.Tests.{Between, Every}
-use Rattle.pcrl.specs.Sheet.{Func, Sig, no-func, Operation, not-number, unsorted-number, and-number, or-number, first-equal, operator, operation, size, func, same-at, function, function-at}
+use Rattle.pcrl.specs.Tests.{Every}
+use Rattle.pcrl.specs.Sheet.{Sig, no-func, Operation, not-number, unsorted-number, and-number, or-number, first-equal, operator, operation, size, func, same-at, function, function-at}
 use Rattle.pcrl.specs.Sorts.{IsOperation, IsFunc, volume}
-use Rattle.pcrl.specs.Right.{AreSorts, RightSizes, RightFunc}
+use Rattle.pcrl.specs.Right.{RightSizes, RightFunc}
 use Rattle.laws.specs.Every.{every-at}
-use Rattle.laws.specs.Lists.{length-tabulate, getD-tabulate}
+use Rattle.laws.specs.Lists.{length-tabulate}
 
 -- the operation of a number, with what the number is
 pub data Seen (f : ℕ) : Operation → Type 0 where

@@ -1,12 +1,11 @@
 -- How many bytes a term has: at most three for two nodes, less a half, since `==` has a byte more and two terms behind it.
-use mathlib.Core.Path.{_≡_}
-use mathlib.Core.List.{List, [], _∷_, _++_}
+use mathlib.Core.List.{List, [], _∷_}
 use Prim.Native.Nat.{ℕ, _+_, _*_, _≤_}
 use native.Mathlib.Omega.{arith}
 use lib.ListN.{length, getElem?, length-append}
 use Rattle.pcrl.specs.Limits.{max-nodes}
 use Rattle.pcrl.specs.Sheet.{Data, val, var, app, Datas, nil, cons, list-of, Operation, operation, Sig, function, function-at}
-use Rattle.pcrl.specs.Sorts.{IsOperation, IsFunc, HasSort, HaveSorts}
+use Rattle.pcrl.specs.Sorts.{IsOperation, HasSort, HaveSorts}
 use Rattle.pcrl.specs.Table.{nodes, nodes-all}
 use Rattle.pcrl.specs.Stream.{codes, encode-data, encode-datas}
 use Rattle.pcrl.specs.Right.{RightTerm}

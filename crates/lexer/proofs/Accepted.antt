@@ -16,7 +16,7 @@ use Rattle.pcrl.specs.Limits.{max-bytes, max-name, max-numeral}
 use Rattle.pcrl.specs.Result.{Result, refused, accepted, question, question-of}
 use Rattle.pcrl.specs.Tests.{and, or, same?, among, Every}
 use Rattle.pcrl.specs.Bytes.{separator, letter, digit, name-byte, short?, printable?}
-use Rattle.pcrl.specs.Tokens.{Token, name, numeral, sign, words, marks, run, front, Lexeme, name-of, value-of, numeral-of, mark-of, first-token, before, followed, tokens-behind, tokens, shallow?}
+use Rattle.pcrl.specs.Tokens.{Token, name, numeral, sign, words, punctuation, run, front, Lexeme, name-of, value-of, numeral-of, mark-of, first-token, before, followed, tokens-behind, tokens, shallow?}
 use Rattle.pcrl.specs.Answers.{tokens-read}
 use Rattle.laws.specs.Lists.{map-drop}
 use Rattle.laws.specs.Every.{every-at, map-every}
@@ -70,10 +70,10 @@ unfolding first-token
 solid-first b l = go (letter b) (digit b) refl
   where
     go : (t u : Bool) → letter b ≡ t
-        → SolidLexeme (elim t as (λ _. Option Lexeme) [ true ↦ name-of (front name-byte (b ∷ l)) | false ↦ elim u as (λ _. Option Lexeme) [ true ↦ numeral-of (front digit (b ∷ l)) | false ↦ mark-of marks (b ∷ l) ] ])
+        → SolidLexeme (elim t as (λ _. Option Lexeme) [ true ↦ name-of (front name-byte (b ∷ l)) | false ↦ elim u as (λ _. Option Lexeme) [ true ↦ numeral-of (front digit (b ∷ l)) | false ↦ mark-of punctuation (b ∷ l) ] ])
     go true u e = solid-name (front name-byte (b ∷ l)) (name-run b l e)
     go false true e = solid-numeral (front digit (b ∷ l))
-    go false false e = solid-mark marks (b ∷ l)
+    go false false e = solid-mark punctuation (b ∷ l)
 
 -- ---- so have all of a sheet, and there are no more tokens than bytes
 abbrev SolidTokens : ℕ → Option (List Token) → Type 0

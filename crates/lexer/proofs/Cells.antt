@@ -13,34 +13,34 @@ use Rattle.pcrl.specs.Tests.{and, or, negated, same?}
 use Rattle.pcrl.specs.Bytes.{name-byte}
 use Rattle.pcrl.specs.Tokens.{name, numeral, sign, words, front}
 use Rattle.lexer.specs.Classes.{one-of}
-use Rattle.lexer.specs.Cells.{first-long-mark, first-word, first-numeral, first-name, long-marks, written, cell-token}
+use Rattle.lexer.specs.Cells.{first-long-mark, first-word, first-numeral, first-name, long-marks, spelling, cell-token}
 use Rattle.lexer.proofs.Match.{all-from, from-all, or-no, and-left, and-right}
 
 module _ (s : List ℕ) where
-  pub cell-sign : (c : ℕ) → c < first-numeral → cell-token s c ≡ sign (written c)
+  pub cell-sign : (c : ℕ) → c < first-numeral → cell-token s c ≡ sign (spelling c)
   unfolding cell-token
   cell-sign c h = rw (lt-ltb _ _ h, cell-token)
 
   -- a mark of one byte
   pub cell-mark : (b : ℕ) → b < first-long-mark → cell-token s b ≡ sign (b ∷ [])
-  unfolding written
-  cell-mark b h = cell-sign b (omega arith) ∙ ap sign (rw (lt-ltb _ _ h, written))
+  unfolding spelling
+  cell-mark b h = cell-sign b (omega arith) ∙ ap sign (rw (lt-ltb _ _ h, spelling))
 
   pub cell-long-mark : (k : ℕ) → k < 32 → cell-token s (first-long-mark + k) ≡ sign (getD long-marks k [])
-  unfolding written
+  unfolding spelling
   cell-long-mark k h =
       let over : first-long-mark ≤ first-long-mark + k = omega arith in
       let under : first-long-mark + k < first-word = omega arith in
       cell-sign (first-long-mark + k) (omega arith)
-      ∙ ap sign (rw (le-ltb _ _ over, lt-ltb _ _ under, written) (ap (λ (j : ℕ). getD long-marks j []) (add-sub-cancel-left first-long-mark k)))
+      ∙ ap sign (rw (le-ltb _ _ over, lt-ltb _ _ under, spelling) (ap (λ (j : ℕ). getD long-marks j []) (add-sub-cancel-left first-long-mark k)))
 
   pub cell-word : (k : ℕ) → k < 96 → cell-token s (first-word + k) ≡ sign (getD words k [])
-  unfolding written
+  unfolding spelling
   cell-word k h =
       let over : first-long-mark ≤ first-word + k = omega arith in
       let over-too : first-word ≤ first-word + k = omega arith in
       cell-sign (first-word + k) (omega arith)
-      ∙ ap sign (rw (le-ltb _ _ over, le-ltb _ _ over-too, written) (ap (λ (j : ℕ). getD words j []) (add-sub-cancel-left first-word k)))
+      ∙ ap sign (rw (le-ltb _ _ over, le-ltb _ _ over-too, spelling) (ap (λ (j : ℕ). getD words j []) (add-sub-cancel-left first-word k)))
 
   pub numeral-cell : (c : ℕ) → first-numeral ≤ c → c < first-name → cell-token s c ≡ numeral (c - first-numeral)
   unfolding cell-token
@@ -84,10 +84,10 @@ sign-cells =
 
 -- no other cell below 256 is written like k
 abbrev only : ℕ → Bool
-only k = all-from (λ c. or (eqb c k) (differ (written c) (written k))) 0 256
+only k = all-from (λ c. or (eqb c k) (differ (spelling c) (spelling k))) 0 256
 
 all-only : T (all-from (λ k. or (negated (one-of sign-cells k)) (only k)) 0 256)
-unfolding written words long-marks same? ℕ-discrete
+unfolding spelling words long-marks same? ℕ-discrete
 all-only = tt
 
 abbrev below : ℕ → List ℕ → Bool
@@ -114,11 +114,11 @@ negated-no false h n = h
 pub sign-once : (s : List ℕ) (c k : ℕ) → T (one-of sign-cells k) → cell-token s c ≡ cell-token s k → c ≡ k
 sign-once s c k o e =
     let small : k < first-numeral = one-below first-numeral k sign-cells tt o in
-    let low : c < first-numeral = sign-small s c (written k) (e ∙ cell-sign s k small) in
-    let same : sign (written c) ≡ sign (written k) = sym (cell-sign s c low) ∙ e ∙ cell-sign s k small in
-    let alike : written c ≡ written k = cc in
+    let low : c < first-numeral = sign-small s c (spelling k) (e ∙ cell-sign s k small) in
+    let same : sign (spelling c) ≡ sign (spelling k) = sym (cell-sign s c low) ∙ e ∙ cell-sign s k small in
+    let alike : spelling c ≡ spelling k = cc in
     let ok : T (only k) = or-no (negated (one-of sign-cells k)) (only k) (negated-no (one-of sign-cells k) o)
     (from-all (λ k. or (negated (one-of sign-cells k)) (only k)) 0 256 all-only k (omega arith) (omega arith)) in
     eqb→eq c k
-    (or-first (eqb c k) (differ (written c) (written k)) (λ d. differ-no (written c) (written k) d alike)
-    (from-all (λ c. or (eqb c k) (differ (written c) (written k))) 0 256 ok c (omega arith) (omega arith)))
+    (or-first (eqb c k) (differ (spelling c) (spelling k)) (λ d. differ-no (spelling c) (spelling k) d alike)
+    (from-all (λ c. or (eqb c k) (differ (spelling c) (spelling k))) 0 256 ok c (omega arith) (omega arith)))

@@ -12,7 +12,7 @@ use Rattle.pcrl.specs.Text.{byte}
 use Rattle.pcrl.specs.Limits.{max-open}
 use Rattle.pcrl.specs.Tests.{same?}
 use Rattle.pcrl.specs.Tokens.{Token, the, is?, open-behind, most-open, Shallow}
-use Rattle.lexer.specs.Cells.{cell-token, written}
+use Rattle.lexer.specs.Cells.{cell-token, spelling}
 use Rattle.lexer.proofs.Runs.{drop-at}
 use Rattle.lexer.proofs.Cells.{cell-mark, sign-once}
 
@@ -51,11 +51,11 @@ open-behind-mono t m n l = go (is? "(" t) (is? ")" t)
 -- ---- a cell's brackets
 module _ (s : List ℕ) (n : ℕ) where
   opening : n + 1 ≡ open-behind (cell-token s (byte "(")) n
-  unfolding open-behind cell-token written is? same? ℕ-discrete
+  unfolding open-behind cell-token spelling is? same? ℕ-discrete
   opening = add-one n
 
   closing : pred n ≡ open-behind (cell-token s (byte ")")) n
-  unfolding open-behind cell-token written is? same? ℕ-discrete
+  unfolding open-behind cell-token spelling is? same? ℕ-discrete
   closing = refl
 
   pub at-open : (c : ℕ) → c ≡ byte "(" → n + 1 ≡ open-behind (cell-token s c) n
@@ -65,7 +65,7 @@ module _ (s : List ℕ) (n : ℕ) where
   at-close c m e q = q ∙ closing ∙ ap (λ (x : ℕ). open-behind (cell-token s x) n) (sym e)
 
   pub at-other : (c : ℕ) → (c ≡ byte "(" → ⊥) → (c ≡ byte ")" → ⊥) → n ≡ open-behind (cell-token s c) n
-  unfolding written
+  unfolding spelling
   at-other c a b =
       no-bracket (cell-token s c) n (λ e. a (sign-once s c (byte "(") tt (e ∙ sym (cell-mark s (byte "(") (omega arith))))) (λ e. b (sign-once s c (byte ")") tt (e ∙ sym (cell-mark s (byte ")") (omega arith)))))
 
@@ -73,7 +73,7 @@ module _ (s : List ℕ) (n : ℕ) where
   opens-one c e = omega (arith, at-open c e)
 
   pub opens-none : (c : ℕ) → (c ≡ byte "(" → ⊥) → open-behind (cell-token s c) n ≤ n + 0
-  unfolding written
+  unfolding spelling
   opens-none c a = omega (arith, no-open (cell-token s c) n (λ e. a (sign-once s c (byte "(") tt (e ∙ sym (cell-mark s (byte "(") (omega arith))))))
 
 -- ---- the most that are open

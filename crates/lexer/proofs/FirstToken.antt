@@ -13,7 +13,7 @@ use lib.Seq.{getD-drop}
 use borrow.Author.Tests.{eqb-true, leb-true, leb-false}
 use Rattle.pcrl.specs.Tests.{and, or, negated, Every}
 use Rattle.pcrl.specs.Bytes.{letter, digit, name-byte}
-use Rattle.pcrl.specs.Tokens.{sign, marks, front, Lexeme, name-of, numeral-of, mark-of, first-token}
+use Rattle.pcrl.specs.Tokens.{sign, punctuation, front, Lexeme, name-of, numeral-of, mark-of, first-token}
 use Rattle.lexer.specs.Classes.{one-of, alone-bytes, alone, lead-bytes, leads, sign-cell}
 use Rattle.lexer.specs.Cells.{first-long-mark, long-marks, cell-token, Reads, Fits}
 use Rattle.lexer.proofs.Match.{and-left, and-right, or-no, all-of, at-key}
@@ -47,13 +47,13 @@ module _ (b : ℕ) (l : List ℕ) where
   digit-step false true e f h = rw (e, f, first-token)
   digit-step false false e f h = absurd h
 
-  mark-step : (x y z : Bool) → letter b ≡ x → digit b ≡ y → T (and (negated x) (and (negated y) z)) → (first-token b l ≡ mark-of marks (b ∷ l)) × T z
+  mark-step : (x y z : Bool) → letter b ≡ x → digit b ≡ y → T (and (negated x) (and (negated y) z)) → (first-token b l ≡ mark-of punctuation (b ∷ l)) × T z
   unfolding first-token
   mark-step true y z e f h = absurd h
   mark-step false true z e f h = absurd h
   mark-step false false z e f h = (rw (e, f, first-token), h)
 
-  of-mark : (p : ℕ → Bool) → T (neither p b) → (first-token b l ≡ mark-of marks (b ∷ l)) × T (p b)
+  of-mark : (p : ℕ → Bool) → T (neither p b) → (first-token b l ≡ mark-of punctuation (b ∷ l)) × T (p b)
   of-mark p h = mark-step (letter b) (digit b) (p b) refl refl h
 
 module _ (s : List ℕ) (at : ℕ) (h : at < length s) where
@@ -66,25 +66,25 @@ module _ (s : List ℕ) (at : ℕ) (h : at < length s) where
   pub of-numeral : T (and (negated (letter (getD s at 0))) (digit (getD s at 0))) → first-token (getD s at 0) (drop (at + 1) s) ≡ numeral-of (front digit (drop at s))
   of-numeral t = here _ (λ w. numeral-of (front digit w)) (digit-step (getD s at 0) (drop (at + 1) s) (letter (getD s at 0)) (digit (getD s at 0)) refl refl t)
 
-  pub of-long-mark : leads (getD s at 0) ≡ true → first-token (getD s at 0) (drop (at + 1) s) ≡ mark-of marks (drop at s)
-  of-long-mark e = here _ (mark-of marks) (of-mark (getD s at 0) (drop (at + 1) s) (λ b. true) (one-of-test (neither (λ b. true)) lead-bytes tt (getD s at 0) e) .0)
+  pub of-long-mark : leads (getD s at 0) ≡ true → first-token (getD s at 0) (drop (at + 1) s) ≡ mark-of punctuation (drop at s)
+  of-long-mark e = here _ (mark-of punctuation) (of-mark (getD s at 0) (drop (at + 1) s) (λ b. true) (one-of-test (neither (λ b. true)) lead-bytes tt (getD s at 0) e) .0)
 
   pub reads-mark : alone (getD s at 0) ≡ true → Reads s (first-token (getD s at 0) (drop (at + 1) s)) (record { cell = getD s at 0; len = 1 })
-  unfolding marks
+  unfolding punctuation
   reads-mark e =
       let low = leb→le 1 (getD s at 0) (one-of-test (leb 1) alone-bytes tt (getD s at 0) e) in
       let high = leb→le (getD s at 0) 127 (one-of-test (λ b. leb b 127) alone-bytes tt (getD s at 0) e) in
-      let (f, t) = of-mark (getD s at 0) (drop (at + 1) s) (λ b. lone b marks) (one-of-test (neither (λ b. lone b marks)) alone-bytes tt (getD s at 0) e) in
+      let (f, t) = of-mark (getD s at 0) (drop (at + 1) s) (λ b. lone b punctuation) (one-of-test (neither (λ b. lone b punctuation)) alone-bytes tt (getD s at 0) e) in
       reads-some s (first-token (getD s at 0) (drop (at + 1) s)) (record { cell = getD s at 0; len = 1 }) (sign (getD s at 0 ∷ [])) 1
-      (f ∙ lone-mark (getD s at 0) (drop (at + 1) s) marks t)
+      (f ∙ lone-mark (getD s at 0) (drop (at + 1) s) punctuation t)
       (λ z. omega arith)
       (cell-mark s (getD s at 0) (omega arith))
       refl
 
-  pub reads-other : T (neither (λ b. unlike b marks) (getD s at 0)) → Reads s (first-token (getD s at 0) (drop (at + 1) s)) (record { cell = 0; len = 1 })
+  pub reads-other : T (neither (λ b. unlike b punctuation) (getD s at 0)) → Reads s (first-token (getD s at 0) (drop (at + 1) s)) (record { cell = 0; len = 1 })
   reads-other n =
-      let (f, t) = of-mark (getD s at 0) (drop (at + 1) s) (λ b. unlike b marks) n in
-      reads-none s (first-token (getD s at 0) (drop (at + 1) s)) (record { cell = 0; len = 1 }) (f ∙ no-mark (getD s at 0) (drop (at + 1) s) marks t) refl
+      let (f, t) = of-mark (getD s at 0) (drop (at + 1) s) (λ b. unlike b punctuation) n in
+      reads-none s (first-token (getD s at 0) (drop (at + 1) s)) (record { cell = 0; len = 1 }) (f ∙ no-mark (getD s at 0) (drop (at + 1) s) punctuation t) refl
 
 -- ---- marks of two bytes
 pub no-pair : (a b : ℕ) → (a ≡ 45 → b ≡ 62 → ⊥) → (a ≡ 60 → b ≡ 124 → ⊥) → (a ≡ 124 → b ≡ 62 → ⊥)
@@ -106,16 +106,16 @@ no-second a = sym (no-pair a 0 (λ p q. omega arith) (λ p q. omega arith) (λ p
 
 -- the marks of one byte
 abbrev short-marks : List (List ℕ)
-short-marks = drop 6 marks
+short-marks = drop 6 punctuation
 
 module _ (a : ℕ) where
-  pair-missing : (l : List ℕ) → Missing first-long-mark long-marks (a ∷ getD l 0 0 ∷ []) → mark-of marks (a ∷ l) ≡ mark-of short-marks (a ∷ l)
-  unfolding marks long-marks
+  pair-missing : (l : List ℕ) → Missing first-long-mark long-marks (a ∷ getD l 0 0 ∷ []) → mark-of punctuation (a ∷ l) ≡ mark-of short-marks (a ∷ l)
+  unfolding punctuation long-marks
   pair-missing [] m = no-pair-end a long-marks short-marks tt
   pair-missing (x ∷ l) m = no-pair-mark a x l long-marks short-marks tt (m .unknown)
 
-  pair-found : (l : List ℕ) → Found first-long-mark long-marks (a ∷ getD l 0 0 ∷ []) → mark-of marks (a ∷ l) ≡ some (sign (a ∷ getD l 0 0 ∷ []), 2)
-  unfolding marks long-marks
+  pair-found : (l : List ℕ) → Found first-long-mark long-marks (a ∷ getD l 0 0 ∷ []) → mark-of punctuation (a ∷ l) ≡ some (sign (a ∷ getD l 0 0 ∷ []), 2)
+  unfolding punctuation long-marks
   pair-found [] f = absurd (let q = f .cell in let z = no-second a in omega arith)
   pair-found (x ∷ l) f = pair-mark a x l long-marks short-marks tt (f .known)
 
@@ -127,43 +127,43 @@ module _ (s : List ℕ) (at m : ℕ) (h : at < length s) (f : m ≡ sign-cell fi
   cell-is : m ≡ sign-cell first-long-mark long-marks (getD s at 0 ∷ getD (drop (at + 1) s) 0 0 ∷ [])
   cell-is = f ∙ ap (λ (x : ℕ). sign-cell first-long-mark long-marks (getD s at 0 ∷ x ∷ [])) (sym second)
 
-  at-place : (x : Option Lexeme) → mark-of marks (getD s at 0 ∷ drop (at + 1) s) ≡ x → mark-of marks (drop at s) ≡ x
-  at-place x q = ap (mark-of marks) (drop-at s at h) ∙ q
+  at-place : (x : Option Lexeme) → mark-of punctuation (getD s at 0 ∷ drop (at + 1) s) ≡ x → mark-of punctuation (drop at s) ≡ x
+  at-place x q = ap (mark-of punctuation) (drop-at s at h) ∙ q
 
   module _ (z : m ≡ 0) where
-    one-byte : mark-of marks (drop at s) ≡ mark-of short-marks (getD s at 0 ∷ drop (at + 1) s)
+    one-byte : mark-of punctuation (drop at s) ≡ mark-of short-marks (getD s at 0 ∷ drop (at + 1) s)
     one-byte =
         ⊎-elim (λ q. absurd (let c = q .cell in let i = cell-is in omega arith))
         (λ q. at-place _ (pair-missing (getD s at 0) (drop (at + 1) s) q))
         (look-up first-long-mark long-marks (getD s at 0 ∷ getD (drop (at + 1) s) 0 0 ∷ []))
 
-    pub reads-no-pair : leads (getD s at 0) ≡ true → (getD s at 0 ≡ 61 → ⊥) → Reads s (mark-of marks (drop at s)) (record { cell = 0; len = 1 })
-    unfolding marks
+    pub reads-no-pair : leads (getD s at 0) ≡ true → (getD s at 0 ≡ 61 → ⊥) → Reads s (mark-of punctuation (drop at s)) (record { cell = 0; len = 1 })
+    unfolding punctuation
     reads-no-pair e n =
         let other : T (unlike (getD s at 0) short-marks) = or-no (eqb (getD s at 0) 61) (unlike (getD s at 0) short-marks) (λ t. n (eqb→eq (getD s at 0) 61 t))
         (one-of-test (λ b. or (eqb b 61) (unlike b short-marks)) lead-bytes tt (getD s at 0) e) in
-        reads-none s (mark-of marks (drop at s)) (record { cell = 0; len = 1 }) (one-byte ∙ no-mark (getD s at 0) (drop (at + 1) s) short-marks other) refl
+        reads-none s (mark-of punctuation (drop at s)) (record { cell = 0; len = 1 }) (one-byte ∙ no-mark (getD s at 0) (drop (at + 1) s) short-marks other) refl
 
-    pub reads-equals : getD s at 0 ≡ 61 → Reads s (mark-of marks (drop at s)) (record { cell = 61; len = 1 })
-    unfolding marks
+    pub reads-equals : getD s at 0 ≡ 61 → Reads s (mark-of punctuation (drop at s)) (record { cell = 61; len = 1 })
+    unfolding punctuation
     reads-equals q =
-        reads-some s (mark-of marks (drop at s)) (record { cell = 61; len = 1 }) (sign (61 ∷ [])) 1
+        reads-some s (mark-of punctuation (drop at s)) (record { cell = 61; len = 1 }) (sign (61 ∷ [])) 1
         (one-byte ∙ ap (λ (b : ℕ). mark-of short-marks (b ∷ drop (at + 1) s)) q ∙ lone-mark 61 (drop (at + 1) s) short-marks tt)
         (λ i. omega arith)
         (cell-mark s 61 (omega arith))
         refl
 
   module _ (z : m ≡ 0 → ⊥) where
-    reads-found : Found first-long-mark long-marks (getD s at 0 ∷ getD (drop (at + 1) s) 0 0 ∷ []) → Reads s (mark-of marks (drop at s)) (record { cell = m; len = 2 })
+    reads-found : Found first-long-mark long-marks (getD s at 0 ∷ getD (drop (at + 1) s) 0 0 ∷ []) → Reads s (mark-of punctuation (drop at s)) (record { cell = m; len = 2 })
     unfolding long-marks
     reads-found q =
-        reads-some s (mark-of marks (drop at s)) (record { cell = m; len = 2 }) (sign (getD s at 0 ∷ getD (drop (at + 1) s) 0 0 ∷ [])) 2
+        reads-some s (mark-of punctuation (drop at s)) (record { cell = m; len = 2 }) (sign (getD s at 0 ∷ getD (drop (at + 1) s) 0 0 ∷ [])) 2
         (at-place _ (pair-found (getD s at 0) (drop (at + 1) s) q))
         z
         (ap (cell-token s) (cell-is ∙ q .cell) ∙ cell-long-mark s (q .place) (omega (arith, q .inside)) ∙ ap sign (q .here))
         refl
 
-    pub reads-pair : Reads s (mark-of marks (drop at s)) (record { cell = m; len = 2 })
+    pub reads-pair : Reads s (mark-of punctuation (drop at s)) (record { cell = m; len = 2 })
     reads-pair = ⊎-elim (λ q. reads-found q) (λ q. absurd (z (cell-is ∙ q .cell))) (look-up first-long-mark long-marks (getD s at 0 ∷ getD (drop (at + 1) s) 0 0 ∷ []))
 
     pub pair-fits : Fits (length s) at (record { cell = m; len = 2 })

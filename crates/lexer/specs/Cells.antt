@@ -32,8 +32,8 @@ unfoldable pub long-marks : List (List ℕ)
 long-marks = map bytes ("->" ∷ "<|" ∷ "|>" ∷ "==" ∷ "/\\" ∷ "\\/" ∷ [])
 
 -- the mark or word of a cell below 256
-unfoldable pub written : ℕ → List ℕ
-written c =
+unfoldable pub spelling : ℕ → List ℕ
+spelling c =
     elim (ltb c first-long-mark) [
       | true ↦ c ∷ []
       | false ↦ elim (ltb c first-word) [ true ↦ getD long-marks (c - first-long-mark) [] | false ↦ getD words (c - first-word) [] ]
@@ -43,7 +43,7 @@ written c =
 unfoldable pub cell-token : List ℕ → ℕ → Token
 cell-token s c =
     elim (ltb c first-numeral) [
-      | true ↦ sign (written c)
+      | true ↦ sign (spelling c)
       | false ↦ elim (ltb c first-name) [ true ↦ numeral (c - first-numeral) | false ↦ name (front name-byte (drop (c - first-name) s)) ]
     ]
 

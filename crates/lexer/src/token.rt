@@ -171,7 +171,7 @@ fn long_mark(a: u8, b: u8) -> u16
 fn equals_at(s: &[u8], at: usize) -> Taken
     requires { ⌜ (at < length (now s)) × (getD (now s) at 0 ≡ byte "=") ⌝ }
     ensures { λ r. ⌜ Fits (length (now (s .entry))) at r ⌝ }
-    ensures { λ r. ⌜ Reads (now (s .entry)) (T.mark-of T.marks (drop at (now (s .entry)))) r ⌝ }
+    ensures { λ r. ⌜ Reads (now (s .entry)) (T.mark-of T.punctuation (drop at (now (s .entry)))) r ⌝ }
 {
     if peek(s, at + 1) == b'=' {
         Taken { cell: SAME, len: 2 }
@@ -187,7 +187,7 @@ fn equals_at(s: &[u8], at: usize) -> Taken
 fn long_mark_at(s: &[u8], at: usize) -> Taken
     requires { ⌜ (at < length (now s)) × (leads (getD (now s) at 0) ≡ true) ⌝ }
     ensures { λ r. ⌜ Fits (length (now (s .entry))) at r ⌝ }
-    ensures { λ r. ⌜ Reads (now (s .entry)) (T.mark-of T.marks (drop at (now (s .entry)))) r ⌝ }
+    ensures { λ r. ⌜ Reads (now (s .entry)) (T.mark-of T.punctuation (drop at (now (s .entry)))) r ⌝ }
 {
     let a = peek(s, at);
     if a == b'=' {

@@ -5,7 +5,6 @@ use mathlib.Core.Bool.{true, false}
 use Prim.Native.Nat.{ℕ, _+_, _-_, _*_, _≤_, _<_}
 use lib.ListN.{length, take, getD}
 use Rattle.pcrl.specs.Limits.{frame-width, max-sorts, max-functions, max-actions, max-processes}
-use Rattle.pcrl.specs.Result.{accepted}
 use Rattle.pcrl.specs.Parts.{count}
 use Rattle.pcrl.specs.Sheet.{Sheet}
 use Rattle.pcrl.specs.Heads.{table-of}

@@ -10,7 +10,7 @@ use lib.ListN.{length, take, getD, length-append, length-take}
 use Rattle.pcrl.specs.Limits.{max-summands, max-stream}
 use Rattle.pcrl.specs.Tests.{Every}
 use Rattle.pcrl.specs.Reader.{all}
-use Rattle.pcrl.specs.Blocks.{joined}
+use Rattle.pcrl.specs.Blocks.{concatenated}
 use Rattle.pcrl.specs.Sheet.{Sheet}
 use Rattle.pcrl.specs.Parts.{as-params}
 use Rattle.pcrl.specs.Table.{Summand, Equation, equation, no-equation, summands-of, summand-count}
@@ -18,7 +18,7 @@ use Rattle.pcrl.specs.Stream.{encode-list, encode-summand}
 use Rattle.pcrl.specs.Right.{SummandWithin}
 use Rattle.pcrl.specs.Heads.{heads, fuel, table-of}
 use Rattle.laws.specs.Every.{every-at, at-every}
-use Rattle.codec.specs.Cut.{joined-zero}
+use Rattle.codec.specs.Cut.{concatenated-zero}
 use Rattle.theory.specs.Equations.{equation-count}
 use Rattle.nodes.specs.declared.Outline.{Outline}
 use Rattle.nodes.specs.Layout.{byte-limit}
@@ -28,8 +28,8 @@ use Rattle.putting.specs.declared.Done.{Done}
 use Rattle.putting.specs.Slots.{Slots}
 use Rattle.contexts.specs.Spots.{Ready, SummandFits}
 use Rattle.heads.specs.Writing.{HeadsCounted, SummandsWritten}
-use Rattle.emit.proofs.Putting.{joined-last}
-use Rattle.emit.proofs.Signed.{joined-all}
+use Rattle.emit.proofs.Putting.{concatenated-last}
+use Rattle.emit.proofs.Signed.{concatenated-all}
 use Rattle.parts.proofs.TableParams.{all-map}
 use Rattle.listing.specs.declared.Source.{Source}
 use Rattle.listing.specs.Summands.{SummandsFit, summands-bytes}
@@ -101,8 +101,8 @@ module _ (procs cells starts counts firsts : List ℕ) (n : Outline) (rows : Lis
 -- those of the first k equations are written
 pub record SoFar (H : Sheet) (k w : ℕ) (o : List ℕ) (v : ℕ) (o′ : List ℕ) : Type 0 where
   pub within : (j : ℕ) → j < k → Every SummandWithin (summands-at H j)
-  pub place : v ≡ w + length (joined k (bytes-at H))
-  pub adds : take v o′ ≡ take w o ++ joined k (bytes-at H)
+  pub place : v ≡ w + length (concatenated k (bytes-at H))
+  pub adds : take v o′ ≡ take w o ++ concatenated k (bytes-at H)
 
 pub equation-put : (cells starts counts firsts : List ℕ) (f : ℕ) (s : Source) (slots : List ℕ) (w : ℕ) (o : List ℕ) (r : Done) (o′ : List ℕ) → Slots (as-params (bits (s .scope) (s .marks)) 0) slots (s .scope)
     → SummandsWritten cells starts counts firsts f (s .at) (s .first) slots (s .scope) (s .next) w o r o′ → EquationPut cells starts counts firsts f s w o r o′
@@ -113,15 +113,15 @@ equation-put cells starts counts firsts f s slots w o r o′ held put H k ready 
     subst (λ (hs : List Summand). ListPut hs w o r o′) (sym is) (record { right = done .0; wrong = done .1 })
 
 -- ---- ALL OF THEM
-pub bytes-are : (H : Sheet) → joined (length (table-of H .equations)) (bytes-at H) ≡ summands-bytes (table-of H .equations)
+pub bytes-are : (H : Sheet) → concatenated (length (table-of H .equations)) (bytes-at H) ≡ summands-bytes (table-of H .equations)
 unfolding bytes-at summands-at summands-bytes summands-of equation
-bytes-are H = joined-all (λ (e : Equation). encode-list encode-summand (e .summands)) no-equation (table-of H .equations) ∙ sym (all-map (encode-list encode-summand) (λ (e : Equation). e .summands) (table-of H .equations))
+bytes-are H = concatenated-all (λ (e : Equation). encode-list encode-summand (e .summands)) no-equation (table-of H .equations) ∙ sym (all-map (encode-list encode-summand) (λ (e : Equation). e .summands) (table-of H .equations))
 
-joined-grows : (f : ℕ → List ℕ) (k n : ℕ) → k ≤ n → length (joined k f) ≤ length (joined n f)
-joined-grows f k zero h = let z : k ≡ 0 = omega arith in subst (λ (i : ℕ). length (joined i f) ≤ length (joined 0 f)) (sym z) (omega arith)
-joined-grows f k (suc n) h = elim (decLe k n) [
-  | yes l ↦ omega (arith, joined-grows f k n l, ap length (joined-last n f), length-append (joined n f) (f n))
-  | no l ↦ let z : k ≡ suc n = omega arith in subst (λ (i : ℕ). length (joined i f) ≤ length (joined (suc n) f)) (sym z) (omega arith)
+concatenated-grows : (f : ℕ → List ℕ) (k n : ℕ) → k ≤ n → length (concatenated k f) ≤ length (concatenated n f)
+concatenated-grows f k zero h = let z : k ≡ 0 = omega arith in subst (λ (i : ℕ). length (concatenated i f) ≤ length (concatenated 0 f)) (sym z) (omega arith)
+concatenated-grows f k (suc n) h = elim (decLe k n) [
+  | yes l ↦ omega (arith, concatenated-grows f k n l, ap length (concatenated-last n f), length-append (concatenated n f) (f n))
+  | no l ↦ let z : k ≡ suc n = omega arith in subst (λ (i : ℕ). length (concatenated i f) ≤ length (concatenated (suc n) f)) (sym z) (omega arith)
 ]
 
 module _ (procs cells starts counts firsts : List ℕ) (n : Outline) (rows : List ℕ) (total f w : ℕ) (o : List ℕ) where
@@ -130,7 +130,7 @@ module _ (procs cells starts counts firsts : List ℕ) (n : Outline) (rows : Lis
 
   pub written-start : Written 0 w o
   written-start H g few =
-      let none = joined-zero (bytes-at H) in
+      let none = concatenated-zero (bytes-at H) in
       record { within = λ j h. absurd (omega arith); place = omega (arith, ap length none); adds = sym (append-nil (take w o)) ∙ ap (λ (l : List ℕ). take w o ++ l) (sym none) }
 
   list-put : (k : ℕ) (s : Source) (v : ℕ) (p : List ℕ) (r : Done) (q : List ℕ) → k < total → Sources procs starts firsts n rows k s → EquationPut cells starts counts firsts f s v p r q
@@ -143,9 +143,9 @@ module _ (procs cells starts counts firsts : List ℕ) (n : Outline) (rows : Lis
   written-more k s v p r q l src put good end start sofar H g few =
       let a = sofar H g few in
       let b = list-put k s v p r q l src put H g few .right good in
-      let e = joined k (bytes-at H) in
+      let e = concatenated k (bytes-at H) in
       let d = bytes-at H k in
-      let more : joined (k + 1) (bytes-at H) ≡ e ++ d = ap (λ (i : ℕ). joined i (bytes-at H)) (add-one k) ∙ joined-last k (bytes-at H) in
+      let more : concatenated (k + 1) (bytes-at H) ≡ e ++ d = ap (λ (i : ℕ). concatenated i (bytes-at H)) (add-one k) ∙ concatenated-last k (bytes-at H) in
       let size = length-append e d in
       let sizes = ap length more in
       let both = length-append (take v p) d in
@@ -175,9 +175,9 @@ module _ (procs cells starts counts firsts : List ℕ) (n : Outline) (rows : Lis
         let a = sofar H g few in
         let es = equation-count H in
         let short = list-put k s v p r q l src put H g few .wrong bad (fits-at H sw k (omega (arith, g .total-is))) in
-        let more : joined (k + 1) (bytes-at H) ≡ joined k (bytes-at H) ++ bytes-at H k = ap (λ (i : ℕ). joined i (bytes-at H)) (add-one k) ∙ joined-last k (bytes-at H) in
-        let grows = joined-grows (bytes-at H) (k + 1) (length (table-of H .equations)) (omega (arith, g .total-is)) in
-        omega (arith, a .place, ap length more, length-append (joined k (bytes-at H)) (bytes-at H k), ap length (bytes-are H));
+        let more : concatenated (k + 1) (bytes-at H) ≡ concatenated k (bytes-at H) ++ bytes-at H k = ap (λ (i : ℕ). concatenated i (bytes-at H)) (add-one k) ∙ concatenated-last k (bytes-at H) in
+        let grows = concatenated-grows (bytes-at H) (k + 1) (length (table-of H .equations)) (omega (arith, g .total-is)) in
+        omega (arith, a .place, ap length more, length-append (concatenated k (bytes-at H)) (bytes-at H k), ap length (bytes-are H));
   }
 
   pub written-done : (k v : ℕ) (p : List ℕ) → k ≤ total → total ≤ k → v ≤ length o → Written k v p → PutsAll procs cells starts counts firsts n rows total f w o (record { ok = true; w = v }) p
@@ -185,7 +185,7 @@ module _ (procs cells starts counts firsts : List ℕ) (n : Outline) (rows : Lis
     right = λ e.
         let s = sofar H g few in
         let z : k ≡ length (table-of H .equations) = omega (arith, g .total-is, equation-count H) in
-        let bytes : joined k (bytes-at H) ≡ summands-bytes (table-of H .equations) = ap (λ (i : ℕ). joined i (bytes-at H)) z ∙ bytes-are H in
+        let bytes : concatenated k (bytes-at H) ≡ summands-bytes (table-of H .equations) = ap (λ (i : ℕ). concatenated i (bytes-at H)) z ∙ bytes-are H in
         (record { few = few; each = at-within H (λ j h. s .within j (omega arith)) }, s .place ∙ ap (λ (l : List ℕ). w + length l) bytes, s .adds ∙ ap (λ (l : List ℕ). take w o ++ l) bytes, end);
     wrong = λ e. absurd (let z : _≡_ {A = ℕ} 0 1 = cc in omega arith);
   }

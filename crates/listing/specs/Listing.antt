@@ -2,9 +2,9 @@
 use mathlib.Core.Path.{_≡_}
 use mathlib.Core.List.{List, _++_}
 use mathlib.Core.Bool.{Bool, true, false}
-use Prim.Native.Nat.{ℕ, zero, suc, _+_, _*_, _≤_, _<_, min}
+use Prim.Native.Nat.{ℕ, _+_, _*_, _≤_, _<_, min}
 use lib.ListN.{length, take, drop, getD}
-use Rattle.pcrl.specs.Limits.{max-summands, max-equations, max-processes}
+use Rattle.pcrl.specs.Limits.{max-summands, max-equations}
 use Rattle.pcrl.specs.Tests.{Every}
 use Rattle.pcrl.specs.Sheet.{Proc, Sheet}
 use Rattle.pcrl.specs.Parts.{new-count, as-params, all-new-parts, count}
@@ -12,7 +12,6 @@ use Rattle.pcrl.specs.Table.{Summand, equation, summand-count}
 use Rattle.pcrl.specs.Stream.{encode-list, encode-summand}
 use Rattle.pcrl.specs.Right.{SummandWithin}
 use Rattle.pcrl.specs.Heads.{heads, fuel, table-of}
-use Rattle.theory.specs.Standing.{Standing}
 use Rattle.nodes.specs.declared.Outline.{Outline}
 use Rattle.nodes.specs.Layout.{byte-limit, seq-kind, enc}
 use Rattle.nodes.specs.Nodes.{kind-of}

@@ -3,7 +3,7 @@ ghost use mathlib.Core.Path.{_≡_};
 ghost use Prim.Native.Nat.{_+_, _≤_, _<_};
 ghost use lib.ListN.{length};
 ghost use Rattle.pcrl.specs.Limits.{max-processes, max-equations, max-stream};
-ghost use Rattle.nodes.specs.Layout.{cell-limit, byte-limit};
+ghost use Rattle.nodes.specs.Layout.{byte-limit};
 ghost use Rattle.nodes.specs.Scoped.{max-scope};
 ghost use Rattle.counting.specs.Limits.{max-fuel};
 ghost use Rattle.listing.specs.Listing.{Bounded, WrittenSource, PartSource, Sources, EquationPut, CountsAll, PutsAll};

@@ -1,7 +1,7 @@
 -- The bits of a number as marks, and what the walks that mark say.
 use mathlib.Core.Path.{_≡_}
 use mathlib.Core.List.{List, [], _∷_, _++_}
-use mathlib.Core.Bool.{Bool, true, false}
+use mathlib.Core.Bool.{Bool, false}
 use Prim.Native.Nat.{ℕ, zero, suc, _%_, _/_, _≤_, _<_}
 use lib.Dec.{eqb}
 use lib.ListN.{length, drop}

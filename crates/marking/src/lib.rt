@@ -1,6 +1,6 @@
 // The variables that stand free in a part, as bits of a u32.
 ghost use mathlib.Core.Path.{_≡_};
-ghost use Prim.Native.Nat.{ℕ, _≤_, _<_, _^_};
+ghost use Prim.Native.Nat.{_≤_, _<_};
 ghost use Rattle.pcrl.specs.Parts.{count as count-of};
 ghost use Rattle.nodes.specs.Layout.{cell-limit};
 ghost use Rattle.nodes.specs.Scoped.{max-scope};

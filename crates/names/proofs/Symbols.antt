@@ -11,7 +11,7 @@ use borrow.Author.Tests.{ltb-false}
 use Rattle.pcrl.specs.Bytes.{name-byte}
 use Rattle.pcrl.specs.Tokens.{name, numeral, sign, front}
 use Rattle.pcrl.specs.Tree.{Name}
-use Rattle.lexer.specs.Cells.{first-numeral, first-name, written, cell-token}
+use Rattle.lexer.specs.Cells.{first-numeral, first-name, spelling, cell-token}
 use Rattle.parser.specs.Cells.{Symbol, tag, token, ors, ands, first-token, first-ors, first-ands, symbol-of}
 use Rattle.names.specs.NameCells.{name-at}
 use Rattle.names.specs.Standing.{symbols}
@@ -25,7 +25,7 @@ abbrev by-tests : List ℕ → ℕ → Bool → Bool → Bool → Bool → Bool 
 by-tests s c t o a n m =
     elim t [
       | true ↦ tag c
-      | false ↦ or-operands c o a (token (elim n [ true ↦ sign (written c) | false ↦ elim m [ true ↦ numeral (c - first-numeral) | false ↦ name (front name-byte (drop (c - first-name) s)) ] ]))
+      | false ↦ or-operands c o a (token (elim n [ true ↦ sign (spelling c) | false ↦ elim m [ true ↦ numeral (c - first-numeral) | false ↦ name (front name-byte (drop (c - first-name) s)) ] ]))
     ]
 
 pub tag-cell : (s : List ℕ) (c t : ℕ) → symbol-of s c ≡ tag t → c ≡ t

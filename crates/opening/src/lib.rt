@@ -13,7 +13,7 @@ ghost use Prim.Native.Nat.{ℕ, _+_, _≤_, _<_};
 ghost use lib.ListN.{length, getD, drop};
 ghost use Rattle.pcrl.specs.Limits.{max-size, max-stream, max-variables, max-conditions};
 ghost use Rattle.pcrl.specs.Tests.{Every};
-ghost use Rattle.pcrl.specs.Sheet.{Data, Sig, size};
+ghost use Rattle.pcrl.specs.Sheet.{Data, Sig};
 ghost use Rattle.pcrl.specs.Stream.{variable-code, encode-numbers, encode-list, encode-cond};
 ghost use Rattle.pcrl.specs.Right.{AreSorts, RightCond};
 ghost use Rattle.terms.specs.Stands.{Stands};

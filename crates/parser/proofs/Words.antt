@@ -11,7 +11,7 @@ use Rattle.pcrl.specs.Tokens.{Token, name, numeral, sign, front}
 use Rattle.pcrl.specs.Tree.{Name}
 use Rattle.pcrl.specs.Reader.{Got, missing, found, bind}
 use Rattle.pcrl.specs.Grammar.{a-name, a-numeral, on-numeral}
-use Rattle.lexer.specs.Cells.{written, cell-token}
+use Rattle.lexer.specs.Cells.{spelling, cell-token}
 use Rattle.parser.specs.Cells.{Symbol, token, ors, ands, first-ors, first-ands, symbol-of, enc-name, enc-numeral}
 use Rattle.parser.specs.Reading.{rest, Put, Few, Writes, Reads, lost, took}
 use Rattle.lexer.proofs.Cells.{cell-sign, numeral-cell, name-cell}
@@ -62,7 +62,7 @@ module _ (s toks : List ℕ) (at : ℕ) where
   rest-numeral : 256 ≤ getD toks at 0 → getD toks at 0 < 1024 → rest s toks at ≡ numeral (getD toks at 0 - 256) ∷ rest s toks (at + 1)
   rest-numeral g h = rest-next s toks at (live toks at (omega arith)) ∙ ap (λ t. t ∷ rest s toks (at + 1)) (numeral-cell s (getD toks at 0) g h)
 
-  rest-sign : at < length toks → getD toks at 0 < 256 → rest s toks at ≡ sign (written (getD toks at 0)) ∷ rest s toks (at + 1)
+  rest-sign : at < length toks → getD toks at 0 < 256 → rest s toks at ≡ sign (spelling (getD toks at 0)) ∷ rest s toks (at + 1)
   rest-sign l h = rest-next s toks at l ∙ ap (λ t. t ∷ rest s toks (at + 1)) (cell-sign s (getD toks at 0) h)
 
   pub name-next : 1024 ≤ getD toks at 0 → a-name (rest s toks at) ≡ found (name-at s (getD toks at 0)) (rest s toks (at + 1))

@@ -11,17 +11,17 @@ use Rattle.pcrl.specs.Sheet.{Process, Sheet, no-process, params}
 use Rattle.pcrl.specs.Lists.{tabulate}
 use Rattle.pcrl.specs.Parts.{NewPart, all-new-parts, Kind, absent, written, part, kind-new, kind-in, kind}
 use Rattle.pcrl.specs.Table.{Equation, params-of}
-use Rattle.pcrl.specs.Blocks.{joined}
+use Rattle.pcrl.specs.Blocks.{concatenated}
 use Rattle.pcrl.specs.Stream.{encode-numbers, encode-list}
 use Rattle.pcrl.specs.Heads.{equation-of, table-of}
-use Rattle.codec.specs.Cut.{joined-alike}
+use Rattle.codec.specs.Cut.{concatenated-alike}
 use Rattle.nodes.specs.declared.Outline.{Outline}
 use Rattle.nodes.specs.Layout.{byte-limit}
 use Rattle.nodes.specs.Held.{proc-width}
 use Rattle.emit.specs.Putting.{Puts}
 use Rattle.emit.specs.Bytes.{row-bytes}
 use Rattle.emit.proofs.Putting.{puts-then, puts-as}
-use Rattle.emit.proofs.Signed.{joined-all, row-is}
+use Rattle.emit.proofs.Signed.{concatenated-all, row-is}
 use Rattle.parts.specs.declared.Noted.{Noted}
 use Rattle.parts.specs.Rows.{row-width, no-part, part-params, params-bytes}
 use Rattle.parts.specs.Sheets.{Placed, AllPut, PutsAll, all-params, PutsParams}
@@ -111,7 +111,7 @@ all-map w g (a ∷ l) = ap (λ (m : List ℕ). w (g a) ++ m) (all-map w g l)
 
 -- what is put: the count, the rows of the written processes, the parameters of the parts
 pub params-put : (procs cells starts : List ℕ) (n : Outline) (total b : ℕ) (rows : List ℕ) (w : ℕ) (o : List ℕ) (v : ℕ) (p : List ℕ) (x : ℕ) (q : List ℕ) (r : Noted) (rows′ o′ : List ℕ)
-    → b ≡ total % byte-limit → Puts (b ∷ []) w o v p → Puts (joined (n .procs) (λ k. row-bytes procs (proc-width * k))) v p x q → PutsAll procs cells starts n rows x q r rows′ o′
+    → b ≡ total % byte-limit → Puts (b ∷ []) w o v p → Puts (concatenated (n .procs) (λ k. row-bytes procs (proc-width * k))) v p x q → PutsAll procs cells starts n rows x q r rows′ o′
     → PutsParams procs cells starts n total rows w o r rows′ o′
 unfolding encode-list all-params params-bytes
 params-put procs cells starts n total b rows w o v p x q r rows′ o′ eb f g h H placed et few room =
@@ -121,13 +121,13 @@ params-put procs cells starts n total b rows w o v p x q r rows′ o′ eb f g h
     let lists = all-params H in
     let many : length lists ≡ total = length-append (map (λ (y : Process). y .params) (H .procs)) (map part-params parts) ∙ ap₂ _+_ (length-map (H .procs) (λ (y : Process). y .params)) (length-map parts part-params) ∙ sym et in
     let byte : b ≡ length lists = eb ∙ mod-eq-of-lt (omega arith) ∙ sym many in
-    let rows-are : joined (n .procs) (λ k. row-bytes procs (proc-width * k)) ≡ all encode-numbers (map (λ (y : Process). y .params) (H .procs)) =
-    joined-alike (n .procs) (λ k. row-bytes procs (proc-width * k)) (λ k. encode-numbers (getD (H .procs) k no-process .params)) (λ k l. row-is (getD (H .procs) k no-process .params) procs (proc-width * k) (placed .held .proc-at k l .params))
-    ∙ ap (λ (k : ℕ). joined k (λ i. encode-numbers (getD (H .procs) i no-process .params))) c
-    ∙ joined-all (λ (y : Process). encode-numbers (y .params)) no-process (H .procs)
+    let rows-are : concatenated (n .procs) (λ k. row-bytes procs (proc-width * k)) ≡ all encode-numbers (map (λ (y : Process). y .params) (H .procs)) =
+    concatenated-alike (n .procs) (λ k. row-bytes procs (proc-width * k)) (λ k. encode-numbers (getD (H .procs) k no-process .params)) (λ k l. row-is (getD (H .procs) k no-process .params) procs (proc-width * k) (placed .held .proc-at k l .params))
+    ∙ ap (λ (k : ℕ). concatenated k (λ i. encode-numbers (getD (H .procs) i no-process .params))) c
+    ∙ concatenated-all (λ (y : Process). encode-numbers (y .params)) no-process (H .procs)
     ∙ sym (all-map encode-numbers (λ (y : Process). y .params) (H .procs)) in
     let parts-are : all params-bytes parts ≡ all encode-numbers (map part-params parts) = sym (all-map encode-numbers part-params parts) in
-    let bytes : (b ∷ []) ++ (joined (n .procs) (λ k. row-bytes procs (proc-width * k)) ++ all params-bytes parts) ≡ encode-list encode-numbers (params-of (table-of H .equations)) =
+    let bytes : (b ∷ []) ++ (concatenated (n .procs) (λ k. row-bytes procs (proc-width * k)) ++ all params-bytes parts) ≡ encode-list encode-numbers (params-of (table-of H .equations)) =
     ap₂ (λ (y : ℕ) (l : List ℕ). (y ∷ []) ++ l) byte (ap₂ (λ (l m : List ℕ). l ++ m) rows-are parts-are ∙ sym (all-append encode-numbers (map (λ (y : Process). y .params) (H .procs)) (map part-params parts)))
     ∙ ap (encode-list encode-numbers) (sym (params-are H)) in
     record { count-is = rest .count-is; rows-of = rest .rows-of; puts = puts-as w o (r .w) o′ bytes (puts-then f (puts-then g (rest .puts))) }

@@ -1,8 +1,8 @@
 -- The new equations of a whole sheet: how many, their rows, and the lists of parameters of all equations.
 use mathlib.Core.Path.{_≡_}
-use mathlib.Core.List.{List, [], _∷_, _++_, map}
-use Prim.Native.Nat.{ℕ, _+_, _*_, _≤_, _<_, min}
-use lib.ListN.{length, take, getD}
+use mathlib.Core.List.{List, _++_, map}
+use Prim.Native.Nat.{ℕ, _+_, _*_, _≤_, min}
+use lib.ListN.{length, take}
 use Rattle.pcrl.specs.Limits.{frame-width, max-equations}
 use Rattle.pcrl.specs.Tests.{Every}
 use Rattle.pcrl.specs.Reader.{all}

@@ -10,7 +10,7 @@ use Rattle.pcrl.specs.Sheet.{Proc, Sheet}
 use Rattle.pcrl.specs.Sorts.{Scope, Sorted}
 use Rattle.pcrl.specs.Parts.{NewPart, new-parts}
 use Rattle.nodes.specs.Layout.{cell-limit, byte-limit, Item, enc, encs}
-use Rattle.nodes.specs.Scoped.{max-scope, Scoped}
+use Rattle.nodes.specs.Scoped.{Scoped}
 use Rattle.emit.specs.Putting.{Puts}
 use Rattle.parts.specs.declared.PartWalk.{PartWalk}
 use Rattle.parts.specs.declared.Noted.{Noted}

@@ -1,6 +1,5 @@
 // "The new equation has as many parameters as are marked, in that order."
 ghost use mathlib.Core.Path.{_≡_};
-ghost use Prim.Native.Nat.{_≤_};
 ghost use lib.ListN.{length};
 ghost use Rattle.pcrl.specs.Parts.{marked};
 ghost use Rattle.pcrl.specs.Stream.{encode-numbers};

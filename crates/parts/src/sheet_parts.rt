@@ -3,7 +3,7 @@ ghost use mathlib.Core.Path.{_≡_};
 ghost use Prim.Native.Nat.{_*_, _≤_, _<_};
 ghost use lib.ListN.{length};
 ghost use Rattle.pcrl.specs.Limits.{max-processes};
-ghost use Rattle.pcrl.specs.Blocks.{joined};
+ghost use Rattle.pcrl.specs.Blocks.{concatenated};
 ghost use Rattle.nodes.specs.Layout.{cell-limit};
 ghost use Rattle.nodes.specs.Held.{proc-width};
 ghost use Rattle.nodes.specs.Scoped.{max-scope};
@@ -64,7 +64,7 @@ fn load(procs: &[u8], p: usize, sorts: &mut [u8]) -> usize
 // The rows of the written processes.
 pub fn put_written(procs: &[u8], n: usize, out: &mut [u8], w: usize) -> usize
     requires { ⌜ n ≤ max-processes ⌝ }
-    ensures { λ r. ⌜ Puts (joined n (λ k. row-bytes (now (procs .entry)) (proc-width * k))) w (now (out .entry)) r (now (out .exit)) ⌝ }
+    ensures { λ r. ⌜ Puts (concatenated n (λ k. row-bytes (now (procs .entry)) (proc-width * k))) w (now (out .entry)) r (now (out .exit)) ⌝ }
 {
     let mut v = w;
     let mut k: usize = 0;

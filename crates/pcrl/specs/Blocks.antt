@@ -63,11 +63,11 @@ unfoldable pub blocks-for : ℕ → ℕ
 blocks-for n = (n + (block-stream - 1)) / block-stream
 
 -- f 0, f 1, .., n of them, one after another
-unfoldable pub joined : ℕ → (ℕ → List ℕ) → List ℕ
-joined n f = all f (tabulate n (λ i. i))
+unfoldable pub concatenated : ℕ → (ℕ → List ℕ) → List ℕ
+concatenated n f = all f (tabulate n (λ i. i))
 
 unfoldable pub file-of-stream : List ℕ → List ℕ
-file-of-stream s = let n = blocks-for (length s) in joined n (λ i. block i n (take block-stream (drop (i * block-stream) s)))
+file-of-stream s = let n = blocks-for (length s) in concatenated n (λ i. block i n (take block-stream (drop (i * block-stream) s)))
 
 -- the file of a table
 unfoldable pub file-of : Table → List ℕ
@@ -112,7 +112,7 @@ unfolding RightBlocks RightBlock
 right-blocks? file = every? (λ i. same? (block-at file i) (block i (block-count file) (stream-at file i))) (tabulate (block-count file) (λ i. i))
 
 unfoldable pub stream-of : List ℕ → List ℕ
-stream-of file = joined (block-count file) (stream-at file)
+stream-of file = concatenated (block-count file) (stream-at file)
 
 -- "fewest blocks, zeros after it": s are the stream bytes of all blocks, rest those behind the table's
 unfoldable pub Filled : List ℕ → Table → List ℕ → Type 0

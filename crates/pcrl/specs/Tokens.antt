@@ -29,8 +29,8 @@ unfoldable pub words : List (List ℕ)
 words = map bytes ("sort" ∷ "func" ∷ "act" ∷ "proc" ∷ "init" ∷ "sum" ∷ "delta" ∷ "tau" ∷ [])
 
 -- "`( ) , ; : # = + . -> <| |>`", and by #102 "`!`, `==`, `/\` and `\/`"; the longer ones first
-unfoldable pub marks : List (List ℕ)
-marks = map bytes ("->" ∷ "<|" ∷ "|>" ∷ "==" ∷ "/\\" ∷ "\\/" ∷ "(" ∷ ")" ∷ "," ∷ ";" ∷ ":" ∷ "#" ∷ "=" ∷ "+" ∷ "." ∷ "!" ∷ [])
+unfoldable pub punctuation : List (List ℕ)
+punctuation = map bytes ("->" ∷ "<|" ∷ "|>" ∷ "==" ∷ "/\\" ∷ "\\/" ∷ "(" ∷ ")" ∷ "," ∷ ";" ∷ ":" ∷ "#" ∷ "=" ∷ "+" ∷ "." ∷ "!" ∷ [])
 
 -- how many bytes at the front pass a test, one after another
 unfoldable pub run : (ℕ → Bool) → List ℕ → ℕ
@@ -69,7 +69,7 @@ unfoldable pub first-token : ℕ → List ℕ → Option Lexeme
 first-token b s =
     elim (letter b) [
       | true ↦ name-of (front name-byte (b ∷ s))
-      | false ↦ elim (digit b) [ true ↦ numeral-of (front digit (b ∷ s)) | false ↦ mark-of marks (b ∷ s) ]
+      | false ↦ elim (digit b) [ true ↦ numeral-of (front digit (b ∷ s)) | false ↦ mark-of punctuation (b ∷ s) ]
     ]
 
 -- a token before those that stand behind it, if all are tokens

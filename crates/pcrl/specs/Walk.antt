@@ -1,8 +1,6 @@
 -- "The walk": a program reads a sheet and takes step 0 up to 8 times. Its text, byte for byte.
 use mathlib.Core.List.{List, [], _∷_, _++_}
-use mathlib.Core.Bool.{true, false}
-use Prim.Native.Nat.{ℕ, zero, suc, _+_, _/_, _%_}
-use lib.Dec.{ltb}
+use Prim.Native.Nat.{ℕ, zero, suc, _+_}
 use Rattle.pcrl.specs.Text.{bytes, decimal}
 use Rattle.pcrl.specs.Limits.{frame-width, stack-limit}
 use Rattle.pcrl.specs.Result.{Result, refused, accepted}
@@ -29,26 +27,26 @@ label-text (named n Ds []) = n
 label-text (named n Ds (v ∷ vs)) = n ++ (bytes "(" ++ (values-text (v ∷ vs) ++ bytes ")"))
 
 -- "a line feed ends each line"
-unfoldable pub line : List ℕ → List ℕ
-line text = text ++ bytes "\n"
+unfoldable pub text-line : List ℕ → List ℕ
+text-line text = text ++ bytes "\n"
 
 -- "Each line is step number (from 1), label, depth after." "One blank stands between fields."
 unfoldable pub step-line : ℕ → Label → ℕ → List ℕ
-step-line i l depth = line (decimal i ++ (bytes " " ++ (label-text l ++ (bytes " " ++ decimal depth))))
+step-line i l depth = text-line (decimal i ++ (bytes " " ++ (label-text l ++ (bytes " " ++ decimal depth))))
 
 -- after 8 steps: "`ended`, else `more`"
 unfoldable pub closing : Stack → List ℕ
-closing [] = line (bytes "ended")
-closing (f ∷ s) = line (bytes "more")
+closing [] = text-line (bytes "ended")
+closing (f ∷ s) = text-line (bytes "more")
 
 -- what is printed for an answer, where `next` are the lines from its stack on
 unfoldable pub answer-lines : ℕ → (Stack → List ℕ) → Asked → List ℕ
 answer-lines i next a = elim (a .answer) [
-  | Answer.ended ↦ line (bytes "ended")
-  | Answer.nothing ↦ line (bytes "stuck")
+  | Answer.ended ↦ text-line (bytes "ended")
+  | Answer.nothing ↦ text-line (bytes "stuck")
   | Answer.stepped l depth ↦ step-line i l depth ++ next (a .stack)
   -- a walk of 8 steps does not come to 64 frames
-  | Answer.refused n ↦ line (bytes "stuck")
+  | Answer.refused n ↦ text-line (bytes "stuck")
 ]
 
 -- The lines of a walk from its i-th step on, where n steps may be taken: "It closes with `ended`, else `more` after 8, else `stuck`."
@@ -57,7 +55,7 @@ walk-lines T zero i s = closing s
 walk-lines T (suc n) i s = answer-lines i (walk-lines T n (suc i)) (ask frame-width stack-limit T 0 s)
 
 unfoldable pub walk-made : Result Table → List ℕ
-walk-made (refused n) = line (bytes "refused " ++ decimal n)
+walk-made (refused n) = text-line (bytes "refused " ++ decimal n)
 walk-made (accepted T) = walk-lines T walk-steps 1 (start-stack frame-width T)
 
 -- Walk a sheet.

@@ -12,7 +12,7 @@ use Rattle.pcrl.specs.Tests.{same?, among}
 use Rattle.pcrl.specs.Tokens.{Token, sign}
 use Rattle.laws.specs.Tests.{where-no}
 use Rattle.printing.specs.Watched.{Kind, equals, not, other, kind, Watch, nothing, next, watched, unmet, apart, met-stays}
-use Rattle.lexer.specs.Cells.{first-numeral, first-name, long-marks, written, cell-token}
+use Rattle.lexer.specs.Cells.{first-numeral, first-name, long-marks, spelling, cell-token}
 use Rattle.lexer.proofs.Runs.{drop-at}
 use Rattle.lexer.proofs.Cells.{cell-sign, cell-mark, numeral-cell, name-cell, sign-once}
 use Rattle.printer.specs.Watching.{kind-of, watch-of, met-number}
@@ -40,7 +40,7 @@ module _ (s : List ℕ) where
   value-kind c over under = sym (ap kind (numeral-cell s c over under))
 
   equals-written : cell-token s equals-cell ≡ sign (bytes "==")
-  unfolding written long-marks
+  unfolding spelling long-marks
   equals-written = cell-sign s equals-cell (omega arith)
 
   pub equals-kind : (c : ℕ) → c ≡ equals-cell → kind-of 2 ≡ kind (cell-token s c)
@@ -55,7 +55,7 @@ module _ (s : List ℕ) where
   unfolding kind-of
   other-kind c low a b =
       let is = cell-sign s c low in
-      sym (ap kind is ∙ no-mark (written c)
+      sym (ap kind is ∙ no-mark (spelling c)
       (λ e. a (sign-once s c equals-cell tt (is ∙ ap sign e ∙ sym equals-written)))
       (λ e. b (sign-once s c (byte "!") tt (is ∙ ap sign e ∙ sym (cell-mark s (byte "!") (omega arith))))))
 

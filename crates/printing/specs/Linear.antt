@@ -28,13 +28,13 @@ sums n (D ∷ Ds) p = sum n D (sums (suc n) Ds p)
 unfoldable pub linear-summand : ℕ → Summand → Proc
 linear-summand n h = sums n (h .vars) (conditions (h .conds) (calls-behind (atom (h .act) (h .terms)) (h .calls)))
 
-unfoldable pub joined : Proc → List Proc → Proc
-joined p [] = p
-joined p (q ∷ ps) = alt p (joined q ps)
+unfoldable pub alternatives : Proc → List Proc → Proc
+alternatives p [] = p
+alternatives p (q ∷ ps) = alt p (alternatives q ps)
 
 unfoldable pub linear-right : List Proc → Proc
 linear-right [] = delta
-linear-right (p ∷ ps) = joined p ps
+linear-right (p ∷ ps) = alternatives p ps
 
 unfoldable pub linear-process : Equation → Process
 linear-process q = record { params = q .params; right = linear-right (map (linear-summand (length (q .params))) (q .summands)) }

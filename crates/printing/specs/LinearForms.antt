@@ -7,7 +7,7 @@ use Rattle.pcrl.specs.Sheet.{Data, Act, Proc, delta, atom, alt, cond, sum, call
 use Rattle.pcrl.specs.Parts.{if-after, new-parts}
 use Rattle.pcrl.specs.Table.{Summand}
 use Rattle.pcrl.specs.Circles.{at-head}
-use Rattle.printing.specs.Linear.{calls-behind, wants, conditions, sums, linear-summand, joined, linear-right}
+use Rattle.printing.specs.Linear.{calls-behind, wants, conditions, sums, linear-summand, alternatives, linear-right}
 
 -- what each form hands on
 pub record Forms (P : Proc → Type 0) : Type 0 where
@@ -37,8 +37,8 @@ module _ (P : Proc → Type 0) (forms : Forms P) where
   unfolding linear-summand
   of-summand n h = of-sums n (h .vars) _ (of-conditions (h .conds) _ (forms .of-calls (h .act) (h .terms) (h .calls)))
 
-  of-joined : (n : ℕ) (h : Summand) (hs : List Summand) → P (joined (linear-summand n h) (map (linear-summand n) hs))
-  unfolding joined
+  of-joined : (n : ℕ) (h : Summand) (hs : List Summand) → P (alternatives (linear-summand n h) (map (linear-summand n) hs))
+  unfolding alternatives
   of-joined n h [] = of-summand n h
   of-joined n h (g ∷ hs) = forms .of-alt _ _ (of-summand n h) (of-joined n g hs)
 

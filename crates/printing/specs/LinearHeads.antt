@@ -12,7 +12,7 @@ use Rattle.pcrl.specs.Parts.{as-params}
 use Rattle.pcrl.specs.Table.{Summand, Table}
 use Rattle.pcrl.specs.Heads.{with-var, with-cond, with-calls, look, calls-of, heads-by}
 use Rattle.printing.specs.Plain.{Plain, PlainAll, PlainTerm, PlainCond, PlainCall, PlainSummand}
-use Rattle.printing.specs.Linear.{calls-behind, wants, conditions, sums, linear-summand, joined, linear-right}
+use Rattle.printing.specs.Linear.{calls-behind, wants, conditions, sums, linear-summand, alternatives, linear-right}
 
 -- PUTTING VARIABLES FOR THEMSELVES
 
@@ -98,8 +98,8 @@ module _ (known : List Data → ℕ → ℕ → List Summand) where
         rw (append-nil (h .vars), append-nil (h .conds)) at o
 
     heads-joined : (Δ : List ℕ) (c : ℕ) (h : Summand) (hs : List Summand) → PlainSummand T Δ h → Every (PlainSummand T Δ) hs
-        → heads-by known (own (length Δ)) (length Δ) c (joined (linear-summand (length Δ) h) (map (linear-summand (length Δ)) hs)) ≡ h ∷ hs
-    unfolding joined heads-by OneHead Every
+        → heads-by known (own (length Δ)) (length Δ) c (alternatives (linear-summand (length Δ) h) (map (linear-summand (length Δ)) hs)) ≡ h ∷ hs
+    unfolding alternatives heads-by OneHead Every
     heads-joined Δ c h [] p k = head-of-summand Δ h p c
     heads-joined Δ c h (g ∷ hs) p k = rw (head-of-summand Δ h p c, heads-joined Δ _ g hs (k .0) (k .1))
 

@@ -14,7 +14,7 @@ use Rattle.laws.specs.Every.{every-weaken, every-map}
 use Rattle.laws.specs.Each.{each-flip}
 use Rattle.theory.specs.Scopes.{binding-next}
 use Rattle.printing.specs.Plain.{every-of-each}
-use Rattle.printing.specs.Linear.{calls-behind, wants, conditions, sums, linear-summand, joined, linear-right, linear-process, linear-sheet}
+use Rattle.printing.specs.Linear.{calls-behind, wants, conditions, sums, linear-summand, alternatives, linear-right, linear-process, linear-sheet}
 
 module _ (U : Table) where
   abbrev H : Sheet
@@ -72,8 +72,8 @@ module _ (U : Table) where
 
   -- RIGHT SIDES
 
-  joined-sorted : (Γ : Scope) (p : Proc) (ps : List Proc) → Sorted H Γ p → Every (Sorted H Γ) ps → Sorted H Γ (joined p ps)
-  unfolding joined Every Sorted
+  joined-sorted : (Γ : Scope) (p : Proc) (ps : List Proc) → Sorted H Γ p → Every (Sorted H Γ) ps → Sorted H Γ (alternatives p ps)
+  unfolding alternatives Every Sorted
   joined-sorted Γ p [] h k = h
   joined-sorted Γ p (q ∷ ps) h k = (h, joined-sorted Γ q ps (k .0) (k .1))
 

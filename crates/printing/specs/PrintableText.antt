@@ -8,7 +8,7 @@ use lib.Dec.{T, leb, leb→le, le→leb, eqb, eqb→eq}
 use Rattle.pcrl.specs.Text.{byte, decimal}
 use Rattle.pcrl.specs.Tests.{within, among, Every}
 use Rattle.pcrl.specs.Bytes.{letter, digit, name-byte, printable, Printable}
-use Rattle.pcrl.specs.Tokens.{Token, name, numeral, sign, words, marks}
+use Rattle.pcrl.specs.Tokens.{Token, name, numeral, sign, words, punctuation}
 use Rattle.pcrl.specs.Render.{blank-byte, write, goes-on, between, render}
 use Rattle.laws.specs.Tests.{is-true, of-true, both-pass, pass-both, one-passes, or-left}
 use Rattle.laws.specs.Every.{every-weaken, every-append}
@@ -48,15 +48,15 @@ words-printable : Every Printable words
 unfolding Every words Printable
 words-printable = (omega arith, (omega arith, (omega arith, (omega arith, (omega arith, (omega arith, (omega arith, (omega arith, tt))))))))
 
-marks-printable : Every Printable marks
-unfolding Every marks Printable
+marks-printable : Every Printable punctuation
+unfolding Every punctuation Printable
 marks-printable = (omega arith, (omega arith, (omega arith, (omega arith, (omega arith, (omega arith, omega arith))))))
 
 write-printable : (t : Token) → SpelledToken t → Printable (write t)
 unfolding write SpelledToken SpelledName Printable
 write-printable (name n) v = every-weaken _ _ name-byte-printable n (v .0 .1)
 write-printable (numeral k) v = every-weaken _ _ digit-printable (decimal k) (spelled k v .0)
-write-printable (sign w) v = elim (one-passes (among w words) (among w marks) v) [ inl h ↦ among-every Printable words words-printable w h | inr h ↦ among-every Printable marks marks-printable w h ]
+write-printable (sign w) v = elim (one-passes (among w words) (among w punctuation) v) [ inl h ↦ among-every Printable words words-printable w h | inr h ↦ among-every Printable punctuation marks-printable w h ]
 
 between-tokens : (t u : Token) → Printable (between t u)
 unfolding between Printable Every

@@ -2,8 +2,7 @@
 -- variable's name is new.
 use mathlib.Core.Path.{_≡_, refl, ap, ap₂, sym, subst, _∙_}
 use mathlib.Core.List.{List, [], _∷_, _++_}
-use mathlib.Core.Bool.{Bool, true}
-use mathlib.Core.Logic.{_≢_}
+use mathlib.Core.Bool.{Bool}
 use mathlib.Core.Option.{none, some}
 use Prim.Native.Nat.{ℕ, suc, _+_, _<_, _≤_}
 use native.Mathlib.Omega.{arith}
@@ -11,21 +10,19 @@ use lib.Dec.{T}
 use lib.ListN.{length, getD, drop, length-drop, length-map, List·getD-map}
 use Rattle.pcrl.specs.Text.{bytes, byte}
 use Rattle.pcrl.specs.Limits.{max-numeral}
-use Rattle.pcrl.specs.Tests.{negated, same?, among, distinct, Every}
-use Rattle.pcrl.specs.Bytes.{letter}
-use Rattle.pcrl.specs.Tokens.{words}
+use Rattle.pcrl.specs.Tests.{negated, among, distinct, Every}
 use Rattle.pcrl.specs.Tree.{Name, SortLine, FuncLine, ActLine, ProcLine}
 use Rattle.pcrl.specs.Sheet.{Action, no-action, Sig, sort-name}
 use Rattle.pcrl.specs.Names.{Names, names-of, number-of, declared, new-variable}
 use Rattle.pcrl.specs.Table.{Table}
-use Rattle.pcrl.specs.Right.{RightSizes, free-name, RightName, RightAction, action-names, RightSig}
+use Rattle.pcrl.specs.Right.{RightSizes, action-names, RightSig}
 use Rattle.pcrl.specs.Letters.{indexed}
 use Rattle.pcrl.specs.Printer.{func-name, proc-name, var-name, sort-line-of, func-line-of, act-line-of, proc-line-of, printed, taken}
 use Rattle.laws.specs.Lists.{map-twice}
-use Rattle.laws.specs.Tests.{both-pass, pass-both}
+use Rattle.laws.specs.Tests.{pass-both}
 use Rattle.laws.specs.Every.{every-weaken, every-both, every-append, every-left, every-right}
 use Rattle.theory.specs.Distinct.{Unlike, each-unlike}
-use Rattle.printing.specs.Indexed.{indexed-first, indexed-apart, indexed-injective, indexed-new}
+use Rattle.printing.specs.Indexed.{indexed-apart, indexed-injective, indexed-new}
 use Rattle.printing.specs.Plain.{PlainTable}
 use Rattle.printing.specs.Lookups.{number-none, number-place, distinct-append, distinct-across, in-turn, names-numbered, every-in-turn, number-in-turn, distinct-in-turn}
 

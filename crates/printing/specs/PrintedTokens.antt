@@ -6,7 +6,7 @@ use native.Mathlib.Decide.{ℕ-discrete}
 use native.Mathlib.Omega.{arith}
 use Rattle.pcrl.specs.Limits.{max-numeral}
 use Rattle.pcrl.specs.Tests.{same?, among, Every}
-use Rattle.pcrl.specs.Tokens.{Token, the, words, marks}
+use Rattle.pcrl.specs.Tokens.{Token, the, words, punctuation}
 use Rattle.pcrl.specs.Tree.{Name, RawData, Atom, Choice, Conditional, Sequence, Part, SortLine, FuncLine, ActLine, ProcLine, InitLine, RawSheet}
 use Rattle.pcrl.specs.Print.{bracketed, joined, print-data, print-conjunction, print-comparison, print-negation, print-atom, print-datas, print-given, print-choice, print-conditional, print-sequence, print-part, line, print-lines, print-sorts, print-values, print-sort, print-func, print-takes, print-act, print-param, print-params, print-proc, print-init, print-sheet}
 use Rattle.pcrl.specs.Sheet.{Operation}
@@ -27,7 +27,7 @@ unfolding Every
 then-sign s ts us w h k = every-append SpelledToken ts (the s ∷ us) h (w, k)
 
 signs : (SpelledToken (the "(") × SpelledToken (the ")")) × (SpelledToken (the ",") × SpelledToken (the "#"))
-unfolding SpelledToken among words marks same? ℕ-discrete
+unfolding SpelledToken among words punctuation same? ℕ-discrete
 signs = ((tt, tt), (tt, tt))
 
 in-brackets-spelled : (ts : List Token) → Spelled ts → Spelled (bracketed ts)
@@ -94,7 +94,7 @@ SpelledUse f (Operation.equal D) = Unit {0}
 SpelledUse f Operation.unsorted = Unit {0}
 
 pub operation-spelled : (f : ℕ → Name) (o : Operation) (ss : List Shown) → SpelledUse f o → Every SpelledShown ss → SpelledShown (shown-by f o ss)
-unfolding SpelledUse shown-by Has print-data Every SpelledToken among words marks same? ℕ-discrete
+unfolding SpelledUse shown-by Has print-data Every SpelledToken among words punctuation same? ℕ-discrete
 operation-spelled f (Operation.written g) ss n h =
     let given = given-spelled (map as-data ss) (every-map SpelledShown SpelledData as-data (λ s k. k .anywhere) ss h) in
     shown-spelled (atom-shown (applied (f g) (in-brackets (map as-data ss)))) (rw (applied-given (f g) (in-brackets (map as-data ss))) (n, given))
@@ -122,11 +122,11 @@ abbrev pub SpelledConditional : Conditional → Type 0
 SpelledConditional c = Spelled (print-conditional c)
 
 pub tau-spelled : SpelledPart Part.tau
-unfolding print-choice Every SpelledToken among words marks same? ℕ-discrete
+unfolding print-choice Every SpelledToken among words punctuation same? ℕ-discrete
 tau-spelled = (tt, tt)
 
 pub delta-spelled : SpelledSequence (Sequence.last Part.delta)
-unfolding print-choice Every SpelledToken among words marks same? ℕ-discrete
+unfolding print-choice Every SpelledToken among words punctuation same? ℕ-discrete
 delta-spelled = (tt, tt)
 
 pub named-spelled : (x : Name) (ds : List RawData) → SpelledName x → Every SpelledData ds → SpelledPart (Part.named x (in-brackets ds))
@@ -134,11 +134,11 @@ unfolding print-choice Every SpelledToken
 named-spelled x ds n h = (n, given-spelled ds h)
 
 pub then-spelled : (p : Part) (q : Sequence) → SpelledPart p → SpelledSequence q → SpelledSequence (Sequence.then p q)
-unfolding print-choice Every SpelledToken among words marks same? ℕ-discrete
+unfolding print-choice Every SpelledToken among words punctuation same? ℕ-discrete
 then-spelled p q h k = then-sign "." (print-part p) (print-sequence q) tt h k
 
 cond-spelled : (p : Sequence) (c : RawData) (q : Sequence) → SpelledSequence p → SpelledData c → SpelledSequence q → SpelledConditional (Conditional.cond p c q)
-unfolding print-choice Every SpelledToken among words marks same? ℕ-discrete
+unfolding print-choice Every SpelledToken among words punctuation same? ℕ-discrete
 cond-spelled p c q h k l = then-sign "<|" (print-sequence p) _ tt h (then-sign "|>" (print-data c) (print-sequence q) tt k l)
 
 pub wanting-spelled : (w : ℕ) (c : RawData) (p : Sequence) → SpelledData c → SpelledSequence p → SpelledConditional (wanting w c p)
@@ -152,11 +152,11 @@ side-spelled (Conditional.plain p) h = h
 side-spelled (Conditional.cond p c q) h = in-brackets-spelled _ h
 
 pub sum-spelled : (v D : Name) (c : Conditional) → SpelledName v → SpelledName D → SpelledConditional c → SpelledConditional (Conditional.plain (Sequence.last (Part.sum v D (Choice.only c))))
-unfolding print-choice Every SpelledToken among words marks same? ℕ-discrete
+unfolding print-choice Every SpelledToken among words punctuation same? ℕ-discrete
 sum-spelled v D c n m h = (tt, in-brackets-spelled _ (n, (tt, (m, (tt, h)))))
 
 choice-spelled : (c : Conditional) (cs : List Conditional) → SpelledConditional c → Every SpelledConditional cs → Spelled (print-choice (choice-of c cs))
-unfolding choice-of print-choice Every SpelledToken among words marks same? ℕ-discrete
+unfolding choice-of print-choice Every SpelledToken among words punctuation same? ℕ-discrete
 choice-spelled c [] h k = h
 choice-spelled c (d ∷ cs) h k = then-sign "+" (print-conditional c) (print-choice (choice-of d cs)) tt h (choice-spelled d cs (k .0) (k .1))
 
@@ -176,12 +176,12 @@ unfolding print-values Every SpelledToken
 values-spelled vs h = joined-spelled "," (λ v. Token.numeral v ∷ []) (signs .1 .0) vs (every-weaken _ _ (λ v n. (n, tt)) vs h)
 
 takes-spelled : (Ds : List Name) → Every SpelledName Ds → Spelled (print-takes Ds)
-unfolding print-takes Every SpelledToken among words marks same? ℕ-discrete
+unfolding print-takes Every SpelledToken among words punctuation same? ℕ-discrete
 takes-spelled [] h = tt
 takes-spelled (D ∷ Ds) h = (tt, sorts-spelled (D ∷ Ds) h)
 
 params-spelled : (ps : List (Name × Name)) → Every (λ (p : Name × Name). SpelledName (p .0) × SpelledName (p .1)) ps → Spelled (print-params ps)
-unfolding print-params print-param Every SpelledToken among words marks same? ℕ-discrete
+unfolding print-params print-param Every SpelledToken among words punctuation same? ℕ-discrete
 params-spelled [] h = tt
 params-spelled (p ∷ ps) h = in-brackets-spelled _ (joined-spelled "," print-param tt (p ∷ ps) (every-weaken _ _ (λ q n. (n .0, (tt, (n .1, tt)))) (p ∷ ps) h))
 
@@ -190,7 +190,7 @@ unfolding print-sort Every SpelledToken
 sort-spelled l n h = (n, (h, tt))
 
 pub func-spelled : (l : FuncLine) → SpelledName (l .name) → Every SpelledName (l .takes) → SpelledName (l .gives) → Every (λ v. v ≤ max-numeral) (l .values) → Spelled (print-func l)
-unfolding print-func Every SpelledToken among words marks same? ℕ-discrete
+unfolding print-func Every SpelledToken among words punctuation same? ℕ-discrete
 func-spelled l n h m k = (n, (tt, then-sign "->" (print-sorts (l .takes)) _ tt (sorts-spelled (l .takes) h) (m, (tt, values-spelled (l .values) k))))
 
 pub act-spelled : (l : ActLine) → SpelledName (l .name) → Every SpelledName (l .takes) → Spelled (print-act l)
@@ -198,7 +198,7 @@ unfolding print-act Every SpelledToken
 act-spelled l n h = (n, takes-spelled (l .takes) h)
 
 pub proc-spelled : (l : ProcLine) → SpelledName (l .name) → Every (λ (p : Name × Name). SpelledName (p .0) × SpelledName (p .1)) (l .params) → Spelled (print-choice (l .right)) → Spelled (print-proc l)
-unfolding print-proc Every SpelledToken among words marks same? ℕ-discrete
+unfolding print-proc Every SpelledToken among words punctuation same? ℕ-discrete
 proc-spelled l n h k = (n, then-sign "=" (print-params (l .params)) (print-choice (l .right)) tt (params-spelled (l .params) h) k)
 
 pub init-spelled : (l : InitLine) → SpelledName (l .name) → Spelled (print-given (l .data-given)) → Spelled (print-init l)
@@ -206,7 +206,7 @@ unfolding print-init Every SpelledToken
 init-spelled l n h = (n, h)
 
 line-spelled : (s : String) (ts : List Token) → SpelledToken (the s) → Spelled ts → Spelled (line s ts)
-unfolding line Every SpelledToken among words marks same? ℕ-discrete
+unfolding line Every SpelledToken among words punctuation same? ℕ-discrete
 line-spelled s ts t h = (t, then-sign ";" ts [] tt h tt)
 
 lines-spelled : {A : Type 0} (s : String) (w : A → List Token) (ls : List A) → SpelledToken (the s) → Every (λ l. Spelled (w l)) ls → Spelled (print-lines s w ls)
@@ -214,7 +214,7 @@ lines-spelled s w ls t h = every-all SpelledToken (λ l. line s (w l)) ls (every
 
 pub sheet-spelled : (R : RawSheet) → Every (λ l. Spelled (print-sort l)) (R .sorts) → Every (λ l. Spelled (print-func l)) (R .funcs) → Every (λ l. Spelled (print-act l)) (R .acts)
     → Every (λ l. Spelled (print-proc l)) (R .procs) → Spelled (print-init (R .start)) → Spelled (print-sheet R)
-unfolding print-sheet SpelledToken among words marks same? ℕ-discrete
+unfolding print-sheet SpelledToken among words punctuation same? ℕ-discrete
 sheet-spelled R a b c d e =
     every-append SpelledToken _ _ (lines-spelled "sort" print-sort (R .sorts) tt a)
     (every-append SpelledToken _ _ (lines-spelled "func" print-func (R .funcs) tt b)

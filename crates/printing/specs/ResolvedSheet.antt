@@ -25,7 +25,7 @@ use Rattle.printing.specs.Plain.{Plain, PlainEquation, PlainTable}
 use Rattle.printing.specs.NumberedLaws.{shown-numbered}
 use Rattle.printing.specs.Lookups.{in-turn, in-turn-snoc}
 use Rattle.printing.specs.PrintedNames.{N, sorts-are, sort-found, proc-found, variables, var-new, declared-distinct, distinct-declared}
-use Rattle.printing.specs.Linear.{linear-summand, joined, linear-right, linear-process, linear-sheet}
+use Rattle.printing.specs.Linear.{linear-summand, alternatives, linear-right, linear-process, linear-sheet}
 use Rattle.printing.specs.Sided.{retold, retold-summand, retold-equation, retold-table}
 use Rattle.printing.specs.ResolvedData.{terms-given}
 use Rattle.printing.specs.ResolvedSummands.{summand-becomes}
@@ -94,8 +94,8 @@ module _ (U : Table) (plain : PlainTable U) where
 
   module _ (scope : List Name) (Γ : List ℕ) where
     choice-becomes : (c : Conditional) (cs : List Conditional) (p : Proc) (ps : List Proc) → resolve-conditional names S scope Γ c ≡ some p
-        → Each (λ c p. resolve-conditional names S scope Γ c ≡ some p) cs ps → resolve-choice names S scope Γ (choice-of c cs) ≡ some (joined p ps)
-    unfolding choice-of joined resolve-choice Each
+        → Each (λ c p. resolve-conditional names S scope Γ c ≡ some p) cs ps → resolve-choice names S scope Γ (choice-of c cs) ≡ some (alternatives p ps)
+    unfolding choice-of alternatives resolve-choice Each
     choice-becomes c [] p [] h k = h
     choice-becomes c [] p (q ∷ ps) h k = absurd k
     choice-becomes c (d ∷ cs) p [] h k = absurd k

@@ -10,7 +10,7 @@ use Rattle.pcrl.specs.Sorts.{Scope, binding, Bool-sort, IsOperation, IsFunc, Ha
 use Rattle.pcrl.specs.Table.{Summand, Equation, Table}
 use Rattle.laws.specs.Tests.{pass-both}
 use Rattle.laws.specs.Every.{map-every}
-use Rattle.printing.specs.Linear.{calls-behind, wants, conditions, sums, linear-summand, joined, linear-right, linear-process, linear-sheet}
+use Rattle.printing.specs.Linear.{calls-behind, wants, conditions, sums, linear-summand, alternatives, linear-right, linear-process, linear-sheet}
 use Rattle.printing.specs.Sided.{all-values, sided-use, sided, all-sided, Sided, told-number, retold, retold-all, retold-cond, retold-call, retold-summand, retold-equation, retold-table, SidedSummand, SidedTable}
 
 -- DATA
@@ -87,15 +87,15 @@ module _ (H : Sheet) where
 
   -- RIGHT SIDES
 
-  joined-parts : (Γ : Scope) (p : Proc) (ps : List Proc) → Sorted H Γ (joined p ps) → Every (Sorted H Γ) (p ∷ ps)
-  unfolding joined Every Sorted
-  joined-parts Γ p [] h = (h, tt)
-  joined-parts Γ p (q ∷ ps) h = (h .0, joined-parts Γ q ps (h .1))
+  concatenated-parts : (Γ : Scope) (p : Proc) (ps : List Proc) → Sorted H Γ (alternatives p ps) → Every (Sorted H Γ) (p ∷ ps)
+  unfolding alternatives Every Sorted
+  concatenated-parts Γ p [] h = (h, tt)
+  concatenated-parts Γ p (q ∷ ps) h = (h .0, concatenated-parts Γ q ps (h .1))
 
   right-parts : (Γ : Scope) (ps : List Proc) → Sorted H Γ (linear-right ps) → Every (Sorted H Γ) ps
   unfolding linear-right Every
   right-parts Γ [] h = tt
-  right-parts Γ (p ∷ ps) h = joined-parts Γ p ps h
+  right-parts Γ (p ∷ ps) h = concatenated-parts Γ p ps h
 
   equation-sided : (q : Equation) → Sorted H (getElem? (q .params)) (linear-process (retold-equation q) .right) → Every SidedSummand (q .summands)
   unfolding linear-process retold-equation

@@ -11,7 +11,7 @@ use lib.ListN.{length, getD}
 use Rattle.pcrl.specs.Limits.{max-name, max-numeral}
 use Rattle.pcrl.specs.Tests.{or, negated, among, Every}
 use Rattle.pcrl.specs.Bytes.{separator, letter, name-byte}
-use Rattle.pcrl.specs.Tokens.{Token, name, numeral, sign, words, marks, Lexeme, name-of, first-token, before, followed, tokens-behind, tokens}
+use Rattle.pcrl.specs.Tokens.{Token, name, numeral, sign, words, punctuation, Lexeme, name-of, first-token, before, followed, tokens-behind, tokens}
 use Rattle.pcrl.specs.Render.{blank-byte, write, goes-on, between, render}
 use Rattle.laws.specs.Tests.{is-true, of-true}
 use Rattle.grammar.specs.TokenLaws.{ValidName, ValidToken}
@@ -22,7 +22,7 @@ use Rattle.printing.specs.Indexed.{SpelledName}
 unfoldable pub SpelledToken : Token → Type 0
 SpelledToken (name n) = SpelledName n
 SpelledToken (numeral v) = v ≤ max-numeral
-SpelledToken (sign w) = T (or (among w words) (among w marks))
+SpelledToken (sign w) = T (or (among w words) (among w punctuation))
 
 -- From bytes that begin with the token, and then do not go on with it, tokens are taken only if it is valid, and then those behind it too.
 pub record Needed (t : Token) : Type 0 where

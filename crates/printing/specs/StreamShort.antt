@@ -2,15 +2,14 @@
 -- most four bytes for each token, and what stands before them is bounded by the limits of a right table.
 use mathlib.Core.Path.{_≡_, refl, ap}
 use mathlib.Core.List.{List, [], _∷_, _++_, map}
-use mathlib.Core.Option.{none, some}
 use Prim.Native.Nat.{ℕ, zero, suc, _+_, _*_, _≤_}
 use native.Mathlib.Omega.{arith}
-use lib.ListN.{length, getD, length-append, length-map, getElem?}
-use Rattle.pcrl.specs.Limits.{max-bytes, max-name, max-sorts, max-size, max-functions, max-actions, max-arity, frame-width, max-equations, max-stream}
-use Rattle.pcrl.specs.Tests.{Between, Every, Each}
+use lib.ListN.{length, getD, length-append}
+use Rattle.pcrl.specs.Limits.{max-bytes, frame-width, max-stream}
+use Rattle.pcrl.specs.Tests.{Every, Each}
 use Rattle.pcrl.specs.Reader.{all}
 use Rattle.pcrl.specs.Tokens.{Token, name, numeral, the}
-use Rattle.pcrl.specs.Tree.{Name, RawData, Comparison, Negation, Conditional, Sequence, Part, FuncLine}
+use Rattle.pcrl.specs.Tree.{Name, RawData, Comparison, Negation, Conditional, Sequence, Part}
 use Rattle.pcrl.specs.Lists.{together}
 use Rattle.pcrl.specs.Sheet.{Data, val, var, app, Datas, nil, cons, list-of, Act, tau, action, Func, Action, Sig, Operation, operation, sort-name, takes-of}
 use Rattle.pcrl.specs.Sorts.{Bool-sort}
@@ -21,8 +20,8 @@ use Rattle.pcrl.specs.Print.{bracketed, joined, print-data, print-conjunction, 
 use Rattle.pcrl.specs.Printer.{Shown, as-data, as-conjunction, as-comparison, as-negation, or-behind, and-behind, listed, in-brackets, applied, operand, shown-by, func-name, var-name, shown, all-shown, raw-data, raw-act, raw-call, raw-sequence, raw-conditional, raw-sums, raw-summand, side, wanting, choice-of, right-of, numbered, func-line-of, param-of, proc-line-of, printed}
 use Rattle.laws.specs.Every.{every-weaken, every-getD}
 use Rattle.laws.specs.Each.{each-length}
-use Rattle.laws.specs.TermLength.{Narrow, data-length}
-use Rattle.grammar.specs.PrintLaws.{or-behind-prints, and-behind-prints, applied-given, joined-length, sheet-length}
+use Rattle.laws.specs.TermLength.{data-length}
+use Rattle.grammar.specs.PrintLaws.{or-behind-prints, and-behind-prints, joined-length, sheet-length}
 use Rattle.printing.specs.Plain.{PlainUse, Plain, PlainAll, plain-data}
 use Rattle.printing.specs.ShownLaws.{Property, HandsOn, Has, Everywhere, everywhere}
 

@@ -6,7 +6,6 @@ ghost use lib.ListN.{length, drop, take};
 ghost use lib.Seq.{paste};
 ghost use Rattle.pcrl.specs.Limits.{max-nodes};
 ghost use Rattle.nodes.specs.Layout.{cell-limit, byte-limit};
-ghost use Rattle.nodes.specs.Scoped.{max-scope};
 ghost use Rattle.laws.specs.TermLength.{max-term};
 ghost use Rattle.putting.specs.Slots.{slot-width};
 ghost use Rattle.putting.specs.Puts.{Shares, NodePut, Puts, PutsAll, SlotPut, Fills};

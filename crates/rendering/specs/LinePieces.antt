@@ -23,7 +23,7 @@ use Rattle.pcrl.specs.Render.{blank-byte, write, render}
 use Rattle.pcrl.specs.Letters.{letters, indexed}
 use Rattle.pcrl.specs.Printer.{numbered, atom-shown, as-data, taken, func-name, proc-name, var-name, sort-line-of, func-line-of, act-line-of, param-of, proc-line-of, init-line-of, printed, table-text}
 use Rattle.laws.specs.Tests.{is-true, eqb-other}
-use Rattle.laws.specs.Every.{every-of-all, every-append, every-drop, every-getD, every-weaken}
+use Rattle.laws.specs.Every.{every-of-all, every-append, every-getD, every-weaken}
 use Rattle.grammar.specs.Spelled.{Spelled, spelled}
 use Rattle.rendering.specs.Rendering.{Avoids, Marked, Unequal, name-before}
 use Rattle.rendering.specs.Pieces.{Renders, RendersAll, all-bytes, nothing, token, joins, mark, closed, equated, word, nothing-all, joins-all}

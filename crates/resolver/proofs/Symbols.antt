@@ -12,7 +12,7 @@ use lib.ListN.{length, drop, getD, drop-of-length-le, length-map, List·getD-eq-
 use lib.Seq.{drop-cons}
 use Rattle.pcrl.specs.Tokens.{Token, name, numeral, sign}
 use Rattle.laws.specs.Lists.{map-drop}
-use Rattle.lexer.specs.Cells.{cell-token, written, first-name, first-numeral}
+use Rattle.lexer.specs.Cells.{cell-token, spelling, first-name, first-numeral}
 use Rattle.parser.specs.Cells.{Symbol, tag, token, ors, ands, first-token, first-ors, first-ands, symbol-of}
 use Rattle.names.specs.NameCells.{name-at}
 use Rattle.names.specs.Standing.{symbols}
@@ -87,7 +87,7 @@ unfolding cell-token name-at
 numeral-is s c v e = by (ltb c first-numeral) refl (ltb c first-name) refl (token-is s c (numeral v) e)
   where
     by : (a : Bool) → ltb c first-numeral ≡ a → (b : Bool) → ltb c first-name ≡ b
-        → elim a as (λ (y : Bool). Token) [ true ↦ sign (written c) | false ↦ elim b as (λ (y : Bool). Token) [ true ↦ numeral (c - first-numeral) | false ↦ name (name-at s c) ] ] ≡ numeral v
+        → elim a as (λ (y : Bool). Token) [ true ↦ sign (spelling c) | false ↦ elim b as (λ (y : Bool). Token) [ true ↦ numeral (c - first-numeral) | false ↦ name (name-at s c) ] ] ≡ numeral v
         → NumeralCell c v
     by true p b q f = let z : _≡_ {A = ℕ} 0 1 = cc in absurd (omega arith)
     by false p true q f = record { least = ltb-false c first-numeral p; most = ltb-true c first-name q; value = cc }

@@ -1,8 +1,8 @@
 -- What the parts of question 7 answer, for every raw sheet whose lines stand in the cells.
 use mathlib.Core.Path.{_≡_}
 use mathlib.Core.List.{List, [], _++_}
-use mathlib.Core.Bool.{Bool, true, false}
-use mathlib.Core.Option.{Option, none, some}
+use mathlib.Core.Bool.{false}
+use mathlib.Core.Option.{Option, some}
 use Prim.Native.Nat.{ℕ, suc, _+_, _-_, _*_, _≤_, _<_}
 use lib.ListN.{length, take, drop, getD}
 use Rattle.pcrl.specs.Limits.{max-open, max-sorts, max-functions, max-actions, max-processes, frame-width}

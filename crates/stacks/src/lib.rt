@@ -1,6 +1,6 @@
 // Stacks in lent bytes, a frame behind another: question 15, and the top frame replaced by the calls of a step.
 ghost use mathlib.Core.Path.{_≡_};
-ghost use mathlib.Core.List.{List, _++_};
+ghost use mathlib.Core.List.{_++_};
 ghost use Prim.Native.Nat.{ℕ, _+_, _-_, _*_, _/_, _<_, _≤_};
 ghost use lib.ListN.{length, getD, take, drop, set, replicate};
 ghost use Rattle.pcrl.specs.Limits.{frame-width, stack-limit};

@@ -20,7 +20,7 @@ use native.Mathlib.Decide.{ℕ-discrete}
 use Rattle.firing.specs.Fires.{act-of}
 use Rattle.firing.specs.Known.{ActsAt}
 use Rattle.labels.specs.Labels.{label-of}
-use Rattle.pcrl.specs.Walk.{values-text, label-text, line, step-line}
+use Rattle.pcrl.specs.Walk.{values-text, label-text, text-line, step-line}
 use Rattle.texts.specs.Pieces.{bracketed}
 
 pub no-value : (n v w : ℕ) → n ≡ 0 → [] ≡ bracketed (take n (v ∷ w ∷ []))
@@ -68,5 +68,5 @@ action-text S a vs h = named-text (getD (S .acts) a no-action .name) (map (sort-
 
 -- a line from its pieces
 pub line-is : (i : ℕ) (l : Label) (d : ℕ) → ((((decimal i ++ bytes " ") ++ label-text l) ++ bytes " ") ++ decimal d) ++ bytes "\n" ≡ step-line i l d
-unfolding step-line line
+unfolding step-line text-line
 line-is i l d = simp append-assoc

@@ -1,7 +1,7 @@
 // Pieces of the walk's text, written into lent bytes one behind another, as far as there is room.
 ghost use mathlib.Core.Path.{_≡_};
-ghost use mathlib.Core.List.{List, [], _∷_};
-ghost use Prim.Native.Nat.{ℕ, _+_, _%_, _<_, _≤_};
+ghost use mathlib.Core.List.{[], _∷_};
+ghost use Prim.Native.Nat.{_+_, _%_, _<_, _≤_};
 ghost use lib.ListN.{length, getD, take};
 ghost use Rattle.pcrl.specs.Sheet.{Sig, no-action};
 ghost use Rattle.pcrl.specs.Table.{Table};

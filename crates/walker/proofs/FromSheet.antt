@@ -10,7 +10,7 @@ use Rattle.pcrl.specs.Result.{Result, refused, accepted, after}
 use Rattle.pcrl.specs.Table.{Table}
 use Rattle.pcrl.specs.Blocks.{max-file, file-of, RightLength, right-length?, Room, room?}
 use Rattle.pcrl.specs.Answers.{table-made, stream-filed, file-made, output-after, stream-read, table-checked}
-use Rattle.pcrl.specs.Walk.{line, walk-made, walk-text}
+use Rattle.pcrl.specs.Walk.{text-line, walk-made, walk-text}
 use Rattle.laws.specs.Questions.{past-question, past-answer, question-passes, question-fails}
 use Rattle.codec.specs.FileLaws.{read-written}
 use Rattle.theory.specs.Made.{made-all}
@@ -71,12 +71,12 @@ module _ (s : List ℕ) (room : ℕ) (enough : Enough s room) (a : Made) (e : a 
       let made : file-made s room ≡ refused n = rw h in
       ap (λ (m : Made). m .refused) (e ∙ ap made-answer made)
 
-  pub sheet-refused : ¬ (a .refused ≡ 0) → line (bytes "refused " ++ decimal (a .refused)) ≡ walk-text s
+  pub sheet-refused : ¬ (a .refused ≡ 0) → text-line (bytes "refused " ++ decimal (a .refused)) ≡ walk-text s
   unfolding walk-text walk-made
   sheet-refused h = go (table-made s) refl
     where
-      go : (x : Result Table) → table-made s ≡ x → line (bytes "refused " ++ decimal (a .refused)) ≡ walk-text s
-      go (refused n) e₁ = ap (λ (k : ℕ). line (bytes "refused " ++ decimal k)) (refused-made n e₁) ∙ sym (ap walk-made e₁)
+      go : (x : Result Table) → table-made s ≡ x → text-line (bytes "refused " ++ decimal (a .refused)) ≡ walk-text s
+      go (refused n) e₁ = ap (λ (k : ℕ). text-line (bytes "refused " ++ decimal k)) (refused-made n e₁) ∙ sym (ap walk-made e₁)
       go (accepted T) e₁ = absurd (h (done-made T e₁ .zero))
 
   pub room-enough : ¬ (a .refused ≡ 11)

@@ -7,9 +7,9 @@ use Rattle.pcrl.specs.Text.{bytes, decimal}
 use Rattle.pcrl.specs.Result.{Result, refused, accepted}
 use Rattle.pcrl.specs.Table.{Table}
 use Rattle.pcrl.specs.Answers.{start-stack}
-use Rattle.pcrl.specs.Walk.{line, walk-steps, walk-lines, walk-made}
+use Rattle.pcrl.specs.Walk.{text-line, walk-steps, walk-lines, walk-made}
 
-pub made-refused : (x : Result Table) (n : ℕ) → x ≡ refused n → line (bytes "refused " ++ decimal n) ≡ walk-made x
+pub made-refused : (x : Result Table) (n : ℕ) → x ≡ refused n → text-line (bytes "refused " ++ decimal n) ≡ walk-made x
 unfolding walk-made
 made-refused x n e = sym (ap walk-made e)
 

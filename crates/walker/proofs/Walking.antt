@@ -13,7 +13,7 @@ use Rattle.pcrl.specs.Right.{RightTable}
 use Rattle.pcrl.specs.Stack.{Frame, Stack, RightFrames, frames-of, stack-of}
 use Rattle.pcrl.specs.Ask.{Answer, Asked, ask}
 use Rattle.pcrl.specs.Answers.{start-stack}
-use Rattle.pcrl.specs.Walk.{walk-steps, walk-lines, answer-lines, step-line, closing, line}
+use Rattle.pcrl.specs.Walk.{walk-steps, walk-lines, answer-lines, step-line, closing, text-line}
 use Rattle.theory.specs.Lending.{Holds, passes-15, holds-right, holds-stack, frames-right, stack-of-frames}
 use Rattle.theory.specs.Asked.{answer-is, still-holds}
 use Rattle.theory.specs.StepRight.{step-right, start-stack-right}
@@ -37,28 +37,28 @@ refused-by (suc n) k l d h = refl
 
 -- what is printed for an answer
 module _ (i : ℕ) (next : Stack → List ℕ) (a : Asked) where
-  for-ended : a .answer ≡ Answer.ended → answer-lines i next a ≡ line (bytes "ended")
+  for-ended : a .answer ≡ Answer.ended → answer-lines i next a ≡ text-line (bytes "ended")
   unfolding answer-lines
-  for-ended e = subst (λ (x : Answer). answer-lines i next (record { answer = x; stack = a .stack }) ≡ line (bytes "ended")) (sym e) refl
+  for-ended e = subst (λ (x : Answer). answer-lines i next (record { answer = x; stack = a .stack }) ≡ text-line (bytes "ended")) (sym e) refl
 
-  for-nothing : a .answer ≡ Answer.nothing → answer-lines i next a ≡ line (bytes "stuck")
+  for-nothing : a .answer ≡ Answer.nothing → answer-lines i next a ≡ text-line (bytes "stuck")
   unfolding answer-lines
-  for-nothing e = subst (λ (x : Answer). answer-lines i next (record { answer = x; stack = a .stack }) ≡ line (bytes "stuck")) (sym e) refl
+  for-nothing e = subst (λ (x : Answer). answer-lines i next (record { answer = x; stack = a .stack }) ≡ text-line (bytes "stuck")) (sym e) refl
 
-  for-refused : (n : ℕ) → a .answer ≡ Answer.refused n → answer-lines i next a ≡ line (bytes "stuck")
+  for-refused : (n : ℕ) → a .answer ≡ Answer.refused n → answer-lines i next a ≡ text-line (bytes "stuck")
   unfolding answer-lines
-  for-refused n e = subst (λ (x : Answer). answer-lines i next (record { answer = x; stack = a .stack }) ≡ line (bytes "stuck")) (sym e) refl
+  for-refused n e = subst (λ (x : Answer). answer-lines i next (record { answer = x; stack = a .stack }) ≡ text-line (bytes "stuck")) (sym e) refl
 
   for-step : (l : Label) (n : ℕ) → a .answer ≡ Answer.stepped l n → answer-lines i next a ≡ step-line i l n ++ next (a .stack)
   unfolding answer-lines
   for-step l n e = subst (λ (x : Answer). answer-lines i next (record { answer = x; stack = a .stack }) ≡ step-line i l n ++ next (a .stack)) (sym e) refl
 
-closing-ended : (s : Stack) → length s ≡ 0 → closing s ≡ line (bytes "ended")
+closing-ended : (s : Stack) → length s ≡ 0 → closing s ≡ text-line (bytes "ended")
 unfolding closing
 closing-ended [] h = refl
 closing-ended (f ∷ s) h = absurd (omega arith)
 
-closing-more : (s : Stack) → 0 < length s → closing s ≡ line (bytes "more")
+closing-more : (s : Stack) → 0 < length s → closing s ≡ text-line (bytes "more")
 unfolding closing
 closing-more [] h = absurd (omega arith)
 closing-more (f ∷ s) h = refl
@@ -108,15 +108,15 @@ module _ (T : Table) (right : RightTable T) (out₀ : List ℕ) where
       told : answer .answer ≡ answer-told (T .sig) r
       told = sym (a .answer)
 
-      pub ends-refused : 0 < r .refused → (out′ : List ℕ) (p : ℕ) → Wrote out at (line (bytes "stuck")) out′ p → Wrote out₀ 0 (walk-lines T walk-steps 1 (start-stack frame-width T)) out′ p
+      pub ends-refused : 0 < r .refused → (out′ : List ℕ) (p : ℕ) → Wrote out at (text-line (bytes "stuck")) out′ p → Wrote out₀ 0 (walk-lines T walk-steps 1 (start-stack frame-width T)) out′ p
       unfolding answer-told
       ends-refused n out′ p w = closes _ out′ p (turn h ∙ for-refused (taken + 1) next answer (r .refused) (told ∙ refused-by (r .refused) (r .kind) _ _ n)) w
 
-      pub ends-ended : r .refused ≡ 0 → r .kind ≡ 0 → (out′ : List ℕ) (p : ℕ) → Wrote out at (line (bytes "ended")) out′ p → Wrote out₀ 0 (walk-lines T walk-steps 1 (start-stack frame-width T)) out′ p
+      pub ends-ended : r .refused ≡ 0 → r .kind ≡ 0 → (out′ : List ℕ) (p : ℕ) → Wrote out at (text-line (bytes "ended")) out′ p → Wrote out₀ 0 (walk-lines T walk-steps 1 (start-stack frame-width T)) out′ p
       unfolding answer-by answer-kind
       ends-ended e k out′ p w = closes _ out′ p (turn h ∙ for-ended (taken + 1) next answer (told ∙ plain-told (T .sig) r 0 0 e k)) w
 
-      pub ends-stuck : r .refused ≡ 0 → r .kind ≡ 1 → (out′ : List ℕ) (p : ℕ) → Wrote out at (line (bytes "stuck")) out′ p → Wrote out₀ 0 (walk-lines T walk-steps 1 (start-stack frame-width T)) out′ p
+      pub ends-stuck : r .refused ≡ 0 → r .kind ≡ 1 → (out′ : List ℕ) (p : ℕ) → Wrote out at (text-line (bytes "stuck")) out′ p → Wrote out₀ 0 (walk-lines T walk-steps 1 (start-stack frame-width T)) out′ p
       unfolding answer-by answer-kind
       ends-stuck e k out′ p w = closes _ out′ p (turn h ∙ for-nothing (taken + 1) next answer (told ∙ plain-told (T .sig) r 0 1 e k)) w
 
@@ -142,8 +142,8 @@ module _ (T : Table) (right : RightTable T) (out₀ : List ℕ) where
     unfolding walk-lines
     stops h = let e : walk-steps - taken ≡ 0 = omega arith in ap (λ (n : ℕ). walk-lines T n (taken + 1) s) e
 
-    pub closes-ended : walk-steps ≤ taken → d ≡ 0 → (out′ : List ℕ) (p : ℕ) → Wrote out at (line (bytes "ended")) out′ p → Wrote out₀ 0 (walk-lines T walk-steps 1 (start-stack frame-width T)) out′ p
+    pub closes-ended : walk-steps ≤ taken → d ≡ 0 → (out′ : List ℕ) (p : ℕ) → Wrote out at (text-line (bytes "ended")) out′ p → Wrote out₀ 0 (walk-lines T walk-steps 1 (start-stack frame-width T)) out′ p
     closes-ended h z out′ p w = closes _ out′ p (stops h ∙ closing-ended s (sym (holds .depth) ∙ z)) w
 
-    pub closes-more : walk-steps ≤ taken → 0 < d → (out′ : List ℕ) (p : ℕ) → Wrote out at (line (bytes "more")) out′ p → Wrote out₀ 0 (walk-lines T walk-steps 1 (start-stack frame-width T)) out′ p
+    pub closes-more : walk-steps ≤ taken → 0 < d → (out′ : List ℕ) (p : ℕ) → Wrote out at (text-line (bytes "more")) out′ p → Wrote out₀ 0 (walk-lines T walk-steps 1 (start-stack frame-width T)) out′ p
     closes-more h z out′ p w = let e = holds .depth in closes _ out′ p (stops h ∙ closing-more s (omega arith)) w

@@ -1,6 +1,6 @@
 -- A walk after an answer: a step counts, and gives the new depth.
 use mathlib.Core.Bool.{Bool, true, false}
-use Prim.Native.Nat.{ℕ, _+_}
+use Prim.Native.Nat.{_+_}
 use lib.Dec.{ltb, eqb}
 use Rattle.pcrl.specs.Tests.{and}
 use Rattle.pcrl.specs.Walk.{walk-steps}

@@ -21,7 +21,7 @@ use Rattle.pcrl.specs.Result.{Result, refused, accepted}
 use Rattle.pcrl.specs.Ask.{Answer}
 use Rattle.pcrl.specs.Answers.{table-made}
 use Rattle.pcrl.specs.Text.{decimal}
-use Rattle.pcrl.specs.Walk.{values-text, label-text, line, step-line, closing, answer-lines, walk-steps, walk-lines, walk-made, walk-text}
+use Rattle.pcrl.specs.Walk.{values-text, label-text, text-line, step-line, closing, answer-lines, walk-steps, walk-lines, walk-made, walk-text}
 use Rattle.laws.specs.Every.{every-at}
 use Rattle.laws.specs.Each.{each-length, each-every, each-flip}
 use Rattle.laws.specs.Any.{every-any}
@@ -73,7 +73,7 @@ label-short (of-name n Ds [] a b c) = omega arith
 label-short (of-name n Ds (v ∷ vs) a b c) = let d = values-short (v ∷ vs) b c in simp length-append (omega arith)
 
 line-short : (i : ℕ) {l : Label} (d : ℕ) → i < 10 → ShortLabel l → d < 100 → length (step-line i l d) ≤ line-limit
-unfolding step-line line
+unfolding step-line text-line
 line-short i {l} d h k m = let a = one i h in let b = label-short k in let c = two d m in simp length-append (omega arith)
 
 module _ (T : Table) (right : RightTable T) where
@@ -118,7 +118,7 @@ module _ (T : Table) (right : RightTable T) where
   -- the lines for an answer, where m bounds those that follow
   answer-short : (i m : ℕ) (next : Stack → List ℕ) (s : Stack) → i < 10 → RightStack frame-width T s → ((t : Stack) → RightStack frame-width T t → length (next t) ≤ m + word-limit) → {a : Answer} {t : Stack} → AnswerIs frame-width stack-limit T 0 s a t
       → length (answer-lines i next (record { answer = a; stack = t })) ≤ line-limit + m + word-limit
-  unfolding answer-lines line
+  unfolding answer-lines text-line
   answer-short i m next s h k f (at-end e) = omega arith
   answer-short i m next s h k f (too-large e d) = omega arith
   answer-short i m next s h k f (too-deep e d) = omega arith
@@ -129,7 +129,7 @@ module _ (T : Table) (right : RightTable T) where
       simp length-append (omega arith)
 
   lines-short : (n i : ℕ) (s : Stack) → i + n ≤ 9 → RightStack frame-width T s → length (walk-lines T n i s) ≤ n * line-limit + word-limit
-  unfolding walk-lines closing line
+  unfolding walk-lines closing text-line
   lines-short zero i [] h k = omega arith
   lines-short zero i (f ∷ s) h k = omega arith
   lines-short (suc n) i s h k =
@@ -137,7 +137,7 @@ module _ (T : Table) (right : RightTable T) where
       omega arith
 
 pub text-short : (s : List ℕ) → length (walk-text s) ≤ text-limit
-unfolding walk-text walk-made line
+unfolding walk-text walk-made text-line
 text-short s = go (table-made s) refl
   where
     go : (x : Result Table) → table-made s ≡ x → length (walk-made x) ≤ text-limit

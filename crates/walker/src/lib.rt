@@ -1,8 +1,8 @@
 // The walk: step 0 up to 8 times, and its text, from a table file and from a sheet.
 ghost use mathlib.Core.Path.{_≡_};
-ghost use mathlib.Core.List.{List, _++_};
+ghost use mathlib.Core.List.{_++_};
 ghost use mathlib.Core.Bool.{true, false};
-ghost use Prim.Native.Nat.{ℕ, _+_, _*_, _/_, _%_, _<_, _≤_, min};
+ghost use Prim.Native.Nat.{_+_, _*_, _/_, _%_, _<_, _≤_, min};
 ghost use lib.ListN.{length, take};
 ghost use Rattle.pcrl.specs.Limits.{frame-width, stack-limit, max-stream};
 ghost use Rattle.pcrl.specs.Table.{Table};
@@ -10,7 +10,7 @@ ghost use Rattle.pcrl.specs.Right.{RightTable};
 ghost use Rattle.pcrl.specs.Stack.{RightFrames, frames-of};
 ghost use Rattle.pcrl.specs.Answers.{table-checked, start-stack};
 ghost use Rattle.pcrl.specs.Text.{decimal, bytes};
-ghost use Rattle.pcrl.specs.Walk.{walk-steps, line, walk-lines, walk-made, walk-text, step-line};
+ghost use Rattle.pcrl.specs.Walk.{walk-steps, text-line, walk-lines, walk-made, walk-text, step-line};
 ghost use Rattle.pcrl.specs.Blocks.{block-bytes, block-stream, max-file};
 ghost use Rattle.tables.specs.Indexed.{Indexed};
 ghost use Rattle.stacks.specs.Lent.{frames-in, stack-bytes};
@@ -176,7 +176,7 @@ fn put_walk(s: &[u8], index: tables::Index, frames: &mut [u8], out: &mut [u8]) -
 
 // "only `refused` and the number"
 fn put_refused(out: &mut [u8], n: u8) -> usize
-    ensures { λ p. ⌜ Wrote (now (out .entry)) 0 (line (bytes "refused " ++ decimal n)) (now (out .exit)) p ⌝ }
+    ensures { λ p. ⌜ Wrote (now (out .entry)) 0 (text-line (bytes "refused " ++ decimal n)) (now (out .exit)) p ⌝ }
 {
     let a = texts::put_bytes(out, 0, b"refused ");
     let b = texts::put_decimal(out, a, wide(n));

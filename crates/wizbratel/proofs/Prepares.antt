@@ -27,7 +27,7 @@ use denote.Triple.Statement.{Contract, Triple}
 use denote.Triple.Call.{calls-at}
 use denote.Triple.Clauses.{ensured, lasts}
 use Rattle.frames.specs.Lists.{over, no-frame, no-frames, taken}
-use Rattle.frames.specs.declared.Frame.{Frame}
+use Rattle.frames.specs.declared.LentFrame.{LentFrame}
 use Rattle.frames.specs.declared.Stack.{Stack}
 use Rattle.frames.specs.declared.Ready.{Ready}
 use Rattle.frames.proofs.Over.{over-over, over-again, taken-le}
@@ -68,7 +68,7 @@ module _ {M : Type 1} (𝓤 : URA M) (H : Heap 𝓤) (A : Atoms 𝓤) (W : Given
       regoal ! (λ (u : Val). lands C Λ E d u rest p) (ap only told) refl $ k r e (subst (Is P.the-row r) told is)))))
 
 -- the frames taken out, and those that stand there after both exchanges
-pub there-and-back : (xs : List Frame) (p : Ready) (old : Stack) (r : Ready) → Prepared (length xs) p → old .frames ≡ over (p .count) xs (p .stack .frames) → r .count ≡ taken (length xs)
+pub there-and-back : (xs : List LentFrame) (p : Ready) (old : Stack) (r : Ready) → Prepared (length xs) p → old .frames ≡ over (p .count) xs (p .stack .frames) → r .count ≡ taken (length xs)
     → (over (taken (length xs)) xs (old .frames) ≡ old .frames) × (over (taken (length xs)) (r .stack .frames) xs ≡ over (r .count) (r .stack .frames) (over (p .count) (p .stack .frames) xs))
 there-and-back xs p old r ep e er =
     let n = length xs in

@@ -15,8 +15,8 @@ use Rattle.laws.specs.Questions.{question-fails}
 use Rattle.stacks.specs.Lent.{frame-bytes, frames-in}
 use Rattle.stacks.proofs.Views.{length-frames-in}
 use Rattle.stepping.specs.Promises.{Replied}
-use Rattle.frames.specs.declared.Frame.{Frame}
-use Rattle.frames.specs.Lists.{over, taken, frames-of}
+use Rattle.frames.specs.declared.LentFrame.{LentFrame}
+use Rattle.frames.specs.Lists.{over, taken, lent-frames}
 use Rattle.frames.proofs.Over.{over-zero, over-all, frames-length, taken-all, taken-none}
 
 -- one refusal for all frames that are not 64
@@ -65,30 +65,30 @@ module _ (file : List ℕ) (d : ℕ) where
       go (refused n) = (n, λ fs h. refl)
       go (accepted T) = (15, λ fs h. ap (reply frame-width stack-limit fs d) (question-fails 15 (ℕ-discrete (length fs) stack-limit) _ h))
 
-module _ {A : Type 0} (X : List pcrl.Frame → Reply A) (m : ℕ) (xs ys : List Frame) (len : length xs ≡ m) (bytes : List ℕ) where
+module _ {A : Type 0} (X : List pcrl.Frame → Reply A) (m : ℕ) (xs ys : List LentFrame) (len : length xs ≡ m) (bytes : List ℕ) where
   -- no 64 frames are lent
   module _ (d : ℕ) (u : Unread X d) (h : ¬ (m ≡ stack-limit)) (few : length bytes / frame-bytes frame-width ≡ 0) where
     in-bytes : X (frames-in frame-width bytes) ≡ record { answer = refused (u .0); frames = frames-in frame-width bytes; depth = d }
     in-bytes = u .1 (frames-in frame-width bytes) (λ e. omega (arith, length-frames-in frame-width bytes))
 
-    in-structs : X (frames-of xs) ≡ record { answer = refused (u .0); frames = frames-of xs; depth = d }
-    in-structs = u .1 (frames-of xs) (λ e. h (sym len ∙ sym (frames-length xs) ∙ e))
+    in-structs : X (lent-frames xs) ≡ record { answer = refused (u .0); frames = lent-frames xs; depth = d }
+    in-structs = u .1 (lent-frames xs) (λ e. h (sym len ∙ sym (frames-length xs) ∙ e))
 
-    pub none-answer : X (frames-in frame-width bytes) .answer ≡ X (frames-of xs) .answer
+    pub none-answer : X (frames-in frame-width bytes) .answer ≡ X (lent-frames xs) .answer
     none-answer = ap (λ (x : Reply A). x .answer) in-bytes ∙ sym (ap (λ (x : Reply A). x .answer) in-structs)
 
-    pub none-replied : (r d′ : ℕ) (gs : List pcrl.Frame) → Replied (X (frames-in frame-width bytes)) r gs d′ → Replied (X (frames-of xs)) r (frames-of (over (taken m) ys xs)) d′
+    pub none-replied : (r d′ : ℕ) (gs : List pcrl.Frame) → Replied (X (frames-in frame-width bytes)) r gs d′ → Replied (X (lent-frames xs)) r (lent-frames (over (taken m) ys xs)) d′
     none-replied r d′ gs a =
         let same : over (taken m) ys xs ≡ xs = ap (λ (c : ℕ). over c ys xs) (taken-none m h) ∙ over-zero ys xs in
         record {
           answer = a .answer ∙ ap (λ (x : Result A). refusal x) none-answer;
-          frames = ap frames-of same ∙ sym (ap (λ (x : Reply A). x .frames) in-structs);
+          frames = ap lent-frames same ∙ sym (ap (λ (x : Reply A). x .frames) in-structs);
           depth = a .depth ∙ ap (λ (x : Reply A). x .depth) in-bytes ∙ sym (ap (λ (x : Reply A). x .depth) in-structs);
         }
 
   -- 64 frames are lent, and the bytes hold them
-  pub all-replied : m ≡ stack-limit → length ys ≡ stack-limit → frames-in frame-width bytes ≡ frames-of xs → (gs : List pcrl.Frame) → frames-of ys ≡ gs → (r d′ : ℕ)
-      → Replied (X (frames-in frame-width bytes)) r gs d′ → Replied (X (frames-of xs)) r (frames-of (over (taken m) ys xs)) d′
+  pub all-replied : m ≡ stack-limit → length ys ≡ stack-limit → frames-in frame-width bytes ≡ lent-frames xs → (gs : List pcrl.Frame) → lent-frames ys ≡ gs → (r d′ : ℕ)
+      → Replied (X (frames-in frame-width bytes)) r gs d′ → Replied (X (lent-frames xs)) r (lent-frames (over (taken m) ys xs)) d′
   all-replied h g e gs f r d′ a =
       let now : over (taken m) ys xs ≡ ys = ap (λ (c : ℕ). over c ys xs) (taken-all m h) ∙ over-all stack-limit ys xs g (len ∙ h) in
-      subst (λ (hs : List pcrl.Frame). Replied (X (frames-of xs)) r hs d′) (sym (ap frames-of now ∙ f)) (subst (λ (fs : List pcrl.Frame). Replied (X fs) r gs d′) e a)
+      subst (λ (hs : List pcrl.Frame). Replied (X (lent-frames xs)) r hs d′) (sym (ap lent-frames now ∙ f)) (subst (λ (fs : List pcrl.Frame). Replied (X fs) r gs d′) e a)

@@ -3,8 +3,8 @@ use mathlib.Core.Path.{_≡_, sym, ap, ap₂, _∙_}
 use mathlib.Core.List.{List, _++_}
 use Prim.Native.Nat.{ℕ}
 use lib.ListN.{drop, take-append-drop}
-use Rattle.frames.specs.declared.Frame.{Frame}
-use Rattle.frames.specs.Lists.{frames-of}
+use Rattle.frames.specs.declared.LentFrame.{LentFrame}
+use Rattle.frames.specs.Lists.{lent-frames}
 use Rattle.wizbratel.specs.Tables.{MakePromise, PrintPromise}
 use Rattle.wizbratel.specs.Promises.{CheckPromise, CheckTablePromise, StartPromise, AskPromise, AskAllPromise, WalkPromise}
 
@@ -20,16 +20,16 @@ make-determines sheet out w r q out′ out″ w′ w″ p u = (p .answer ∙ sym
 pub print-determines : (file out : List ℕ) (w r q : ℕ) (out′ out″ : List ℕ) (w′ w″ : ℕ) → PrintPromise file out w r out′ w′ → PrintPromise file out w q out″ w″ → (r ≡ q) × (out′ ≡ out″) × (w′ ≡ w″)
 print-determines file out w r q out′ out″ w′ w″ p u = (p .answer ∙ sym (u .answer), p .output ∙ sym (u .output), p .count ∙ sym (u .count))
 
-pub start-determines : (file : List ℕ) (fs : List Frame) (d r q : ℕ) (gs hs : List Frame) (d′ d″ : ℕ) → StartPromise file fs d r gs d′ → StartPromise file fs d q hs d″
-    → (r ≡ q) × (frames-of gs ≡ frames-of hs) × (d′ ≡ d″)
+pub start-determines : (file : List ℕ) (fs : List LentFrame) (d r q : ℕ) (gs hs : List LentFrame) (d′ d″ : ℕ) → StartPromise file fs d r gs d′ → StartPromise file fs d q hs d″
+    → (r ≡ q) × (lent-frames gs ≡ lent-frames hs) × (d′ ≡ d″)
 start-determines file fs d r q gs hs d′ d″ p u = (p .answer ∙ sym (u .answer), p .frames ∙ sym (u .frames), p .depth ∙ sym (u .depth))
 
-pub ask-determines : (file : List ℕ) (fs : List Frame) (d k : ℕ) (out : List ℕ) (r q : ℕ) (gs hs : List Frame) (d′ d″ : ℕ) (out′ out″ : List ℕ)
-    → AskPromise file fs d k out r gs d′ out′ → AskPromise file fs d k out q hs d″ out″ → (r ≡ q) × (frames-of gs ≡ frames-of hs) × (d′ ≡ d″) × (out′ ≡ out″)
+pub ask-determines : (file : List ℕ) (fs : List LentFrame) (d k : ℕ) (out : List ℕ) (r q : ℕ) (gs hs : List LentFrame) (d′ d″ : ℕ) (out′ out″ : List ℕ)
+    → AskPromise file fs d k out r gs d′ out′ → AskPromise file fs d k out q hs d″ out″ → (r ≡ q) × (lent-frames gs ≡ lent-frames hs) × (d′ ≡ d″) × (out′ ≡ out″)
 ask-determines file fs d k out r q gs hs d′ d″ out′ out″ p u = (p .0 .answer ∙ sym (u .0 .answer), p .0 .frames ∙ sym (u .0 .frames), p .0 .depth ∙ sym (u .0 .depth), p .1 ∙ sym (u .1))
 
-pub ask-all-determines : (file : List ℕ) (fs : List Frame) (d : ℕ) (ks out : List ℕ) (r q : ℕ) (gs hs : List Frame) (d′ d″ : ℕ) (out′ out″ : List ℕ)
-    → AskAllPromise file fs d ks out r gs d′ out′ → AskAllPromise file fs d ks out q hs d″ out″ → (r ≡ q) × (frames-of gs ≡ frames-of hs) × (d′ ≡ d″) × (out′ ≡ out″)
+pub ask-all-determines : (file : List ℕ) (fs : List LentFrame) (d : ℕ) (ks out : List ℕ) (r q : ℕ) (gs hs : List LentFrame) (d′ d″ : ℕ) (out′ out″ : List ℕ)
+    → AskAllPromise file fs d ks out r gs d′ out′ → AskAllPromise file fs d ks out q hs d″ out″ → (r ≡ q) × (lent-frames gs ≡ lent-frames hs) × (d′ ≡ d″) × (out′ ≡ out″)
 ask-all-determines file fs d ks out r q gs hs d′ d″ out′ out″ p u = (p .0 .answer ∙ sym (u .0 .answer), p .0 .frames ∙ sym (u .0 .frames), p .0 .depth ∙ sym (u .0 .depth), p .1 ∙ sym (u .1))
 
 pub walk-determines : (sheet out : List ℕ) (r q : ℕ) (out′ out″ : List ℕ) → WalkPromise sheet out r out′ → WalkPromise sheet out q out″ → (r ≡ q) × (out′ ≡ out″)

@@ -8,7 +8,6 @@ use lib.ListN.{length, take, drop}
 use Rattle.pcrl.specs.Limits.{max-stream}
 use Rattle.pcrl.specs.Result.{Result, refused, accepted, refusal, after}
 use Rattle.pcrl.specs.Table.{Table}
-use Rattle.pcrl.specs.Heads.{table-of}
 use Rattle.pcrl.specs.Stream.{encode}
 use Rattle.pcrl.specs.Right.{Within}
 use Rattle.pcrl.specs.Blocks.{max-file, blocks-for, file-of-stream, Room, room?}

@@ -1,11 +1,11 @@
 -- Over the functions' own promises: what `wizbratel_print_table` wrote is a sheet from which `wizbratel_make_table` makes the same file again,
 -- or, of a table without hex F2, the file with its sorts' names; after a refusal every lent byte is as it was.
-use mathlib.Core.Path.{_≡_, refl, sym, ap, subst, _∙_}
+use mathlib.Core.Path.{_≡_, sym, ap, subst, _∙_}
 use mathlib.Core.List.{List}
 use Prim.Native.Nat.{ℕ, _≤_}
 use native.Mathlib.Omega.{arith}
 use lib.ListN.{length, getD, take, drop}
-use Rattle.pcrl.specs.Result.{Result, refused, accepted, refusal}
+use Rattle.pcrl.specs.Result.{refused, accepted, refusal}
 use Rattle.pcrl.specs.Table.{Table, renewed}
 use Rattle.pcrl.specs.Stream.{names-code}
 use Rattle.pcrl.specs.Blocks.{file-of}

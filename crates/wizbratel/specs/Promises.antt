@@ -9,8 +9,8 @@ use Rattle.pcrl.specs.Walk.{walk-text}
 use Rattle.asking.specs.Encoding.{answer-after, answers-after}
 use Rattle.stepping.specs.Promises.{Replied, put-questions}
 use Rattle.texts.specs.Wrote.{Wrote}
-use Rattle.frames.specs.declared.Frame.{Frame}
-use Rattle.frames.specs.Lists.{frames-of}
+use Rattle.frames.specs.declared.LentFrame.{LentFrame}
+use Rattle.frames.specs.Lists.{lent-frames}
 
 -- `wizbratel_check_sheet`: the number of the first of questions 1 to 10 that fails, or 0
 abbrev pub CheckPromise : (sheet : List ℕ) (r : ℕ) → Type 0
@@ -21,18 +21,18 @@ abbrev pub CheckTablePromise : (file : List ℕ) (r : ℕ) → Type 0
 CheckTablePromise file r = r ≡ refusal (table-checked file)
 
 -- `wizbratel_start`, on a file, the lent frames and the lent depth
-abbrev pub StartPromise : (file : List ℕ) (fs : List Frame) (d r : ℕ) (fs′ : List Frame) (d′ : ℕ) → Type 0
-StartPromise file fs d r fs′ d′ = Replied (started file (frames-of fs) d) r (frames-of fs′) d′
+abbrev pub StartPromise : (file : List ℕ) (fs : List LentFrame) (d r : ℕ) (fs′ : List LentFrame) (d′ : ℕ) → Type 0
+StartPromise file fs d r fs′ d′ = Replied (started file (lent-frames fs) d) r (lent-frames fs′) d′
 
 -- `wizbratel_ask`, with the bytes lent for the answer, before and after
-abbrev pub AskPromise : (file : List ℕ) (fs : List Frame) (d k : ℕ) (out : List ℕ) (r : ℕ) (fs′ : List Frame) (d′ : ℕ) (out′ : List ℕ) → Type 0
-AskPromise file fs d k out r fs′ d′ out′ = (Replied (asked file (frames-of fs) d k) r (frames-of fs′) d′) × (out′ ≡ answer-after (asked file (frames-of fs) d k .answer) out)
+abbrev pub AskPromise : (file : List ℕ) (fs : List LentFrame) (d k : ℕ) (out : List ℕ) (r : ℕ) (fs′ : List LentFrame) (d′ : ℕ) (out′ : List ℕ) → Type 0
+AskPromise file fs d k out r fs′ d′ out′ = (Replied (asked file (lent-frames fs) d k) r (lent-frames fs′) d′) × (out′ ≡ answer-after (asked file (lent-frames fs) d k .answer) out)
 
 -- `wizbratel_ask_all`: as many of the questions as there is room for answers
-abbrev pub AskAllPromise : (file : List ℕ) (fs : List Frame) (d : ℕ) (ks out : List ℕ) (r : ℕ) (fs′ : List Frame) (d′ : ℕ) (out′ : List ℕ) → Type 0
+abbrev pub AskAllPromise : (file : List ℕ) (fs : List LentFrame) (d : ℕ) (ks out : List ℕ) (r : ℕ) (fs′ : List LentFrame) (d′ : ℕ) (out′ : List ℕ) → Type 0
 AskAllPromise file fs d ks out r fs′ d′ out′ =
-    (Replied (asked-all file (frames-of fs) d (put-questions ks out)) r (frames-of fs′) d′)
-    × (out′ ≡ answers-after (asked-all file (frames-of fs) d (put-questions ks out) .answer) out)
+    (Replied (asked-all file (lent-frames fs) d (put-questions ks out)) r (lent-frames fs′) d′)
+    × (out′ ≡ answers-after (asked-all file (lent-frames fs) d (put-questions ks out) .answer) out)
 
 -- `wizbratel_walk`: the text as far as there is room
 abbrev pub WalkPromise : (sheet out : List ℕ) (r : ℕ) (out′ : List ℕ) → Type 0

@@ -5,8 +5,8 @@ ghost use lib.ListN.{length};
 ghost use Rattle.pcrl.specs.Answers.{started, asked, asked-all};
 ghost use Rattle.asking.specs.Encoding.{answer-after, answers-after};
 ghost use Rattle.stepping.specs.Promises.{Replied, put-questions};
-ghost use Rattle.frames.specs.declared.Frame.{Frame};
-ghost use Rattle.frames.specs.Lists.{over, taken, frames-of};
+ghost use Rattle.frames.specs.declared.LentFrame.{LentFrame};
+ghost use Rattle.frames.specs.Lists.{over, taken, lent-frames};
 ghost use Rattle.wizbratel.specs.Tables.{MakePromise, PrintPromise};
 ghost use Rattle.wizbratel.specs.Promises.{CheckPromise, CheckTablePromise, StartPromise, AskPromise, AskAllPromise, WalkPromise};
 use asking::ANSWER;
@@ -60,7 +60,7 @@ pub extern "C" fn wizbratel_check_table(file: &[u8]) -> u8
 #[no_mangle]
 pub extern "C" fn wizbratel_start(
     file: &[u8],
-    frames: &mut [frames::Frame],
+    frames: &mut [frames::LentFrame],
     depth: &mut usize,
 ) -> u8
     ensures { λ r. ⌜ StartPromise (now (file .entry)) (now (frames .entry)) (now (depth .entry)) r (now (frames .exit)) (now (depth .exit)) ⌝ }
@@ -78,7 +78,7 @@ pub extern "C" fn wizbratel_start(
 #[no_mangle]
 pub extern "C" fn wizbratel_ask(
     file: &[u8],
-    frames: &mut [frames::Frame],
+    frames: &mut [frames::LentFrame],
     depth: &mut usize,
     k: u64,
     answer: &mut [u8; ANSWER],
@@ -98,7 +98,7 @@ pub extern "C" fn wizbratel_ask(
 #[no_mangle]
 pub extern "C" fn wizbratel_ask_all(
     file: &[u8],
-    frames: &mut [frames::Frame],
+    frames: &mut [frames::LentFrame],
     depth: &mut usize,
     questions: &[u64],
     answers: &mut [u8],
@@ -124,7 +124,7 @@ pub extern "C" fn wizbratel_walk(sheet: &[u8], out: &mut [u8]) -> usize
 
 // A start on frames by value, of a slice of n.
 fn start_stack(depth: &mut usize, file: &[u8], n: usize, s: frames::Stack) -> frames::Ready
-    ensures { λ r. ⌜ (r .count ≡ taken n) × ((xs : List Frame) → length xs ≡ n → over (taken n) xs (s .frames) ≡ s .frames → Replied (started (now (file .entry)) (frames-of xs) (now (depth .entry))) (r .refused) (frames-of (over (taken n) (r .stack .frames) xs)) (now (depth .exit))) ⌝ }
+    ensures { λ r. ⌜ (r .count ≡ taken n) × ((xs : List LentFrame) → length xs ≡ n → over (taken n) xs (s .frames) ≡ s .frames → Replied (started (now (file .entry)) (lent-frames xs) (now (depth .entry))) (r .refused) (lent-frames (over (taken n) (r .stack .frames) xs)) (now (depth .exit))) ⌝ }
 {
     if n != LIMIT {
         let mut none = [0u8; 1];
@@ -157,7 +157,7 @@ fn ask_stack(
     k: u64,
     s: frames::Stack,
 ) -> frames::Ready
-    ensures { λ r. ⌜ (r .count ≡ taken n) × ((xs : List Frame) → length xs ≡ n → over (taken n) xs (s .frames) ≡ s .frames → (Replied (asked (now (file .entry)) (frames-of xs) (now (depth .entry)) k) (r .refused) (frames-of (over (taken n) (r .stack .frames) xs)) (now (depth .exit))) × (now (out .exit) ≡ answer-after (asked (now (file .entry)) (frames-of xs) (now (depth .entry)) k .answer) (now (out .entry)))) ⌝ }
+    ensures { λ r. ⌜ (r .count ≡ taken n) × ((xs : List LentFrame) → length xs ≡ n → over (taken n) xs (s .frames) ≡ s .frames → (Replied (asked (now (file .entry)) (lent-frames xs) (now (depth .entry)) k) (r .refused) (lent-frames (over (taken n) (r .stack .frames) xs)) (now (depth .exit))) × (now (out .exit) ≡ answer-after (asked (now (file .entry)) (lent-frames xs) (now (depth .entry)) k .answer) (now (out .entry)))) ⌝ }
 {
     if n != LIMIT {
         let mut none = [0u8; 1];
@@ -190,7 +190,7 @@ fn ask_all_stack(
     ks: &[u64],
     s: frames::Stack,
 ) -> frames::Ready
-    ensures { λ r. ⌜ (r .count ≡ taken n) × ((xs : List Frame) → length xs ≡ n → over (taken n) xs (s .frames) ≡ s .frames → (Replied (asked-all (now (file .entry)) (frames-of xs) (now (depth .entry)) (put-questions (now (ks .entry)) (now (out .entry)))) (r .refused) (frames-of (over (taken n) (r .stack .frames) xs)) (now (depth .exit))) × (now (out .exit) ≡ answers-after (asked-all (now (file .entry)) (frames-of xs) (now (depth .entry)) (put-questions (now (ks .entry)) (now (out .entry))) .answer) (now (out .entry)))) ⌝ }
+    ensures { λ r. ⌜ (r .count ≡ taken n) × ((xs : List LentFrame) → length xs ≡ n → over (taken n) xs (s .frames) ≡ s .frames → (Replied (asked-all (now (file .entry)) (lent-frames xs) (now (depth .entry)) (put-questions (now (ks .entry)) (now (out .entry)))) (r .refused) (lent-frames (over (taken n) (r .stack .frames) xs)) (now (depth .exit))) × (now (out .exit) ≡ answers-after (asked-all (now (file .entry)) (lent-frames xs) (now (depth .entry)) (put-questions (now (ks .entry)) (now (out .entry))) .answer) (now (out .entry)))) ⌝ }
 {
     if n != LIMIT {
         let mut none = [0u8; 1];

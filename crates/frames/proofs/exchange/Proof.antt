@@ -36,11 +36,11 @@ use denote.Triple.Spec.{Meets, tripleOf}
 use denote.Triple.Walked.{says, needs, Stays, stay-slice, stay-none, walkOf, goes-slice, goes-none, Walks, ends-at, walked, walk-meets}
 use denote.Exit.{yes}
 use Rattle.frames.specs.Lists.{blank, over}
-use Rattle.frames.specs.declared.Frame.{Frame}
+use Rattle.frames.specs.declared.LentFrame.{LentFrame}
 use Rattle.frames.specs.declared.Stack.{Stack}
 use Rattle.frames.proofs.Over.{over-zero, over-len, over-at, over-step}
-use Rattle.frames.proofs.Frame as T
-use Rattle.frames.proofs.Frame.Laws as T′
+use Rattle.frames.proofs.LentFrame as T
+use Rattle.frames.proofs.LentFrame.Laws as T′
 use Rattle.frames.proofs.Stack as S
 use Rattle.frames.proofs.Stack.Laws as S′
 use Rattle.frames.proofs.exchange.Key.{name as #frames·exchange}
@@ -84,42 +84,42 @@ stack-len : (s : Stack) (vs : List Val) → Is S.the-row s vs → length (s .fra
 stack-len s vs g = let h = LL.owed S.the-type S′.the-laws s vs g .0 in sym (length-map (s .frames) (T.the-field .into)) ∙ h .1 .0 .1
 
 -- the machine values
-abbrev frameVal : Frame → Val
+abbrev frameVal : LentFrame → Val
 frameVal x = LL.tuple-val T.the-type T′.the-laws (T.the-type .to x)
 
 abbrev stackVal : Stack → Val
 stackVal x = LL.tuple-val S.the-type S′.the-laws (S.the-type .to x)
 
-abbrev arrVal : List Frame → Val
+abbrev arrVal : List LentFrame → Val
 arrVal xs = S′.the-laws .0 .val (map (T.the-field .into) xs)
 
 abbrev arr : Ty
 arr = tyArray T′.mir 64
 
 -- frames as an array of structs, and as the field of a struct
-each-in : (xs : List Frame) (us : List Val) → shadow (each (T.the-field .row .Denot) (T.the-field .row .own) (map (T.the-field .into) xs) us) → shadow (each Frame (T.the-row .own) xs us)
+each-in : (xs : List LentFrame) (us : List Val) → shadow (each (T.the-field .row .Denot) (T.the-field .row .own) (map (T.the-field .into) xs) us) → shadow (each LentFrame (T.the-row .own) xs us)
 each-in [] [] p = p
 each-in [] (u ∷ us) p = p
 each-in (x ∷ xs) [] p = p
 each-in (x ∷ xs) (u ∷ us) p = (p .0, each-in xs us (p .1))
 
-each-out : (xs : List Frame) (us : List Val) → shadow (each Frame (T.the-row .own) xs us) → shadow (each (T.the-field .row .Denot) (T.the-field .row .own) (map (T.the-field .into) xs) us)
+each-out : (xs : List LentFrame) (us : List Val) → shadow (each LentFrame (T.the-row .own) xs us) → shadow (each (T.the-field .row .Denot) (T.the-field .row .own) (map (T.the-field .into) xs) us)
 each-out [] [] p = p
 each-out [] (u ∷ us) p = p
 each-out (x ∷ xs) [] p = p
 each-out (x ∷ xs) (u ∷ us) p = (p .0, each-out xs us (p .1))
 
-array-in : (xs : List Frame) (vs : List Val) → Is (Array (T.the-field .row) 64) (map (T.the-field .into) xs) vs → Is (Array T.the-row 64) xs vs
+array-in : (xs : List LentFrame) (vs : List Val) → Is (Array (T.the-field .row) 64) (map (T.the-field .into) xs) vs → Is (Array T.the-row 64) xs vs
 array-in xs vs p = (p .0, ((p .1 .0 .0, sym (length-map xs (T.the-field .into)) ∙ p .1 .0 .1), each-in xs (p .0) (p .1 .1)))
 
-array-out : (xs : List Frame) (vs : List Val) → Is (Array T.the-row 64) xs vs → Is (Array (T.the-field .row) 64) (map (T.the-field .into) xs) vs
+array-out : (xs : List LentFrame) (vs : List Val) → Is (Array T.the-row 64) xs vs → Is (Array (T.the-field .row) 64) (map (T.the-field .into) xs) vs
 array-out xs vs p = (p .0, ((p .1 .0 .0, length-map xs (T.the-field .into) ∙ p .1 .0 .1), each-out xs (p .0) (p .1 .1)))
 
-abbrev stackOf : List Frame → Stack
+abbrev stackOf : List LentFrame → Stack
 stackOf xs = record { frames = xs }
 
 -- a local array of frames is its frames, side by side, and back
-module _ {M : Type 1} (𝓤 : URA M) (H : Heap 𝓤) (A : Atoms 𝓤) (W : Given 𝓤 H A) (xs : List Frame) (b o : ℕ) where
+module _ {M : Type 1} (𝓤 : URA M) (H : Heap 𝓤) (A : Atoms 𝓤) (W : Given 𝓤 H A) (xs : List LentFrame) (b o : ℕ) where
   apart : Is (Array T.the-row 64) xs (arrVal xs ∷ []) → ent 𝓤 (H .at fullShare arr b o (arrVal xs)) (sem 𝓤 H A (row T.the-row fullShare xs b o))
   unfolding partOf
   apart is =
@@ -137,12 +137,12 @@ module _ {M : Type 1} (𝓤 : URA M) (H : Heap 𝓤) (A : Atoms 𝓤) (W : Given
       rewrite ! 0 (λ (ws : List Val). ‵ (cellAt fullShare (arr ∷ []) ws b o)) told refl $ use1 W (‵ (fat fullShare arr b o (arrVal xs))) (W .laws .raw-at fullShare arr b o (arrVal xs)) $
       k (subst (Is (Array T.the-row 64) xs) told is)))
 
-module _ {M : Type 1} (𝓤 : URA M) (H : Heap 𝓤) (A : Atoms 𝓤) (W : Given 𝓤 H A) (mem : Memory → SProp 𝓤) (run : Routine → Fun 𝓤) (κ : Lft) (q : Share) (b o : ℕ) (γ : GName) (xs : List Frame) (n : ℕ) (s : Stack)
+module _ {M : Type 1} (𝓤 : URA M) (H : Heap 𝓤) (A : Atoms 𝓤) (W : Given 𝓤 H A) (mem : Memory → SProp 𝓤) (run : Routine → Fun 𝓤) (κ : Lft) (q : Share) (b o : ℕ) (γ : GName) (xs : List LentFrame) (n : ℕ) (s : Stack)
     (room : Room T.the-row (length xs)) (gn : n < 2 ^ 64) (gs : Is S.the-row s (stackVal s ∷ [])) (nx : n ≤ length xs) (n64 : n ≤ 64) (s64 : length (s .frames) ≡ 64) where
   abbrev Arg : Type 0
-  Arg = RefT (List Frame) × (ℕ × (Stack × Unit {0}))
+  Arg = RefT (List LentFrame) × (ℕ × (Stack × Unit {0}))
 
-  abbrev slice : List Frame → RefT (List Frame)
+  abbrev slice : List LentFrame → RefT (List LentFrame)
   slice l = record { ptr = (b, o); name = γ; now = l }
 
   abbrev x : Arg
@@ -155,10 +155,10 @@ module _ {M : Type 1} (𝓤 : URA M) (H : Heap 𝓤) (A : Atoms 𝓤) (W : Given
   Post = walkOf 𝓤 H A f.ended stayed (f.clauses 𝓤 H A mem run) .post (((κ, tt), (q, tt), tt, x, at), tt)
 
   -- the slice and the local array after i frames
-  abbrev sliceAt : ℕ → List Frame
+  abbrev sliceAt : ℕ → List LentFrame
   sliceAt i = over i (s .frames) xs
 
-  abbrev stackAt : ℕ → List Frame
+  abbrev stackAt : ℕ → List LentFrame
   stackAt i = over i xs (s .frames)
 
   -- where the loop is: i frames have changed places
@@ -225,17 +225,17 @@ module _ {M : Type 1} (𝓤 : URA M) (H : Heap 𝓤) (A : Atoms 𝓤) (W : Given
       in-array = subst (λ (m : ℕ). i .0 < m) (sym (array-len (i .0) (i .1))) (omega arith)
 
       -- the two frames that change places
-      abbrev v : Frame
+      abbrev v : LentFrame
       v = getD (sliceAt (i .0)) (i .0) blank
 
-      abbrev w : Frame
+      abbrev w : LentFrame
       w = getD (stackAt (i .0)) (i .0) blank
 
       next-slice : set (sliceAt (i .0)) (i .0) w ≡ sliceAt (i .0 + 1)
-      next-slice = ap (λ (g : Frame). set (sliceAt (i .0)) (i .0) g) (over-at (i .0) xs (s .frames) (omega arith) blank (omega (arith, s64))) ∙ over-step (i .0) (s .frames) xs (omega (arith, s64)) blank (omega (arith, s64)) (omega arith)
+      next-slice = ap (λ (g : LentFrame). set (sliceAt (i .0)) (i .0) g) (over-at (i .0) xs (s .frames) (omega arith) blank (omega (arith, s64))) ∙ over-step (i .0) (s .frames) xs (omega (arith, s64)) blank (omega (arith, s64)) (omega arith)
 
       next-array : set (stackAt (i .0)) (i .0) v ≡ stackAt (i .0 + 1)
-      next-array = ap (λ (g : Frame). set (stackAt (i .0)) (i .0) g) (over-at (i .0) (s .frames) xs (omega (arith, s64)) blank (omega arith)) ∙ over-step (i .0) xs (s .frames) (omega arith) blank (omega arith) (omega (arith, s64))
+      next-array = ap (λ (g : LentFrame). set (stackAt (i .0)) (i .0) g) (over-at (i .0) (s .frames) xs (omega (arith, s64)) blank (omega arith)) ∙ over-step (i .0) xs (s .frames) (omega arith) blank (omega arith) (omega (arith, s64))
 
       abbrev next : Upto
       next = (i .0 + 1, omega arith)
@@ -272,7 +272,7 @@ module _ {M : Type 1} (𝓤 : URA M) (H : Heap 𝓤) (A : Atoms 𝓤) (W : Given
         assigns-last ! (bin ! (load ! (from ! (stop !)) (look ! 33 refl)) (lit ! tt) (record { fits = omega arith })) (from ! (stop !)) (store ! 33 refl (tt, record { fits = omega arith })) $
         move ! (0 ∷ 4 ∷ 2 ∷ 3 ∷ 1 ∷ 5 ∷ []) $ elem-put ! T.the-row fullShare (stackAt (i .0)) (i .0) (v i l) (frameVal (v i l) ∷ []) l₄ 0 (in-array i l) $
         move ! (1 ∷ 2 ∷ 3 ∷ []) $ elem-put ! T.the-row fullShare (sliceAt (i .0)) (i .0) (w i l) (frameVal (w i l) ∷ []) b o (in-slice i l) $
-        rewrite ! 0 (λ (ys : List Frame). ‵ (row T.the-row fullShare ys b o)) (next-slice i l) refl $ rewrite ! 1 (λ (ys : List Frame). ‵ (row T.the-row fullShare ys l₄ 0)) (next-array i l) refl $
+        rewrite ! 0 (λ (ys : List LentFrame). ‵ (row T.the-row fullShare ys b o)) (next-slice i l) refl $ rewrite ! 1 (λ (ys : List LentFrame). ‵ (row T.the-row fullShare ys l₄ 0)) (next-array i l) refl $
         forget ! 7 refl $ forget ! 9 refl $ forget ! 11 refl $ forget ! 13 refl $ forget ! 15 refl $ forget ! 17 refl $ forget ! 19 refl $ forget ! 21 refl $ forget ! 23 refl $ forget ! 25 refl $ forget ! 27 refl $
         again ! Nearer At i (next i l) (omega arith))))
         (λ past. jumps ! $ exec ! C Λ En Mir.t-4 (atRet En Post) $ move ! (1 ∷ []) $ made-whole 𝓤 H A W (stackAt (i .0)) l₄ 0 (array-len (i .0) (i .1)) (λ is.
@@ -296,9 +296,9 @@ module _ {M : Type 1} (𝓤 : URA M) (H : Heap 𝓤) (A : Atoms 𝓤) (W : Given
         assigns ! (of-opd ! (load ! (from ! (fld ! refl (stop !))) (look-in ! 28 (sub ! 0 refl (whole !))))) (from ! (stop !)) (init ! 26 refl (S′.the-laws .0 .lawful 𝓤 H A W .typed (map (T.the-field .into) (s .frames)) _ fields .0)) $
         assigns ! (of-opd ! (lit ! tt)) (from ! (stop !)) (init ! 24 refl (tt, record { fits = lit< tt })) $
         move ! (37 ∷ []) $ fsplit ! $ fsplit ! $ move ! (1 ∷ []) $ fsplit ! $ move ! (40 ∷ []) $ split ! $ move ! (2 ∷ 3 ∷ 0 ∷ []) $
-        opens-slice ! tt T.the-row xs b o $ rewrite ! 0 (λ (ys : List Frame). ‵ (row T.the-row fullShare ys b o)) (sym (over-zero (s .frames) xs)) refl $
+        opens-slice ! tt T.the-row xs b o $ rewrite ! 0 (λ (ys : List LentFrame). ‵ (row T.the-row fullShare ys b o)) (sym (over-zero (s .frames) xs)) refl $
         move ! (33 ∷ []) $ use1 W (‵ (row T.the-row fullShare (s .frames) l₄ 0)) (apart 𝓤 H A W (s .frames) l₄ 0 (array-in (s .frames) _ fields)) $
-        rewrite ! 0 (λ (ys : List Frame). ‵ (row T.the-row fullShare ys l₄ 0)) (sym (over-zero xs (s .frames))) refl $
+        rewrite ! 0 (λ (ys : List LentFrame). ‵ (row T.the-row fullShare ys l₄ 0)) (sym (over-zero xs (s .frames))) refl $
         keep ! (1 ∷ 0 ∷ 2 ∷ 3 ∷ 4 ∷ 8 ∷ 9 ∷ 10 ∷ 11 ∷ 12 ∷ 13 ∷ 14 ∷ 15 ∷ 16 ∷ 17 ∷ 18 ∷ 19 ∷ 20 ∷ 21 ∷ 22 ∷ 23 ∷ 24 ∷ 25 ∷ 26 ∷ 27 ∷ 28 ∷ 29 ∷ 30 ∷ 31 ∷ 32 ∷ 33 ∷ 34 ∷ 35 ∷ 36 ∷ 37 ∷ 38 ∷ 39 ∷ 40 ∷ 41 ∷ 42 ∷ []) $
         first ! $ blocks ! $ loops ! 𝓣 Nearer Nearer-wf At turns (0, zero-le)
 

@@ -12,12 +12,12 @@ use Rattle.pcrl.specs.Stack as pcrl
 use Rattle.stacks.specs.Lent.{frames-in, stack-bytes}
 use Rattle.stacks.proofs.Views.{no-frame, length-frames-in, getD-frames-in}
 use Rattle.frames.specs.Lists as lists
-use Rattle.frames.specs.Lists.{blank, frame-of, frames-of}
+use Rattle.frames.specs.Lists.{blank, frame-of, lent-frames}
 use Rattle.frames.proofs.Over.{frames-length, upto, upto-step, upto-end}
 use Rattle.frames.proofs.FrameLists.{frames-set}
 
 abbrev Inv-loop : tie.InvT-loop
-Inv-loop bytes t₀ i₀ t i = (i ≤ stack-limit) × ((length (t₀ .frames) ≡ stack-limit) × (frames-of (t .frames) ≡ upto (frames-in frame-width bytes) (frames-of (t₀ .frames)) i))
+Inv-loop bytes t₀ i₀ t i = (i ≤ stack-limit) × ((length (t₀ .frames) ≡ stack-limit) × (lent-frames (t .frames) ≡ upto (frames-in frame-width bytes) (lent-frames (t₀ .frames)) i))
 
 abbrev μ-loop : tie.MeasureT-loop
 μ-loop bytes t₀ i₀ t i = stack-limit - i
@@ -47,7 +47,7 @@ loop-again : tie.Need-loop-again Inv-loop μ-loop
 loop-again c =
     let a = c .before .before .before .before .before .args in
     let i = c .before .before .loop .i in
-    let hs = frames-of (c .before .before .before .empty .result .frames) in (
+    let hs = lent-frames (c .before .before .before .empty .result .frames) in (
       omega (arith, c .before .loop-test),
       (
         c .before .before .loop .inv .1 .0,
@@ -61,7 +61,7 @@ returns : tie.Need-returns Inv-loop μ-loop
 returns c =
     let a = c .before .before .before .before .args in
     let e : c .before .loop .i ≡ stack-limit = omega arith in
-    c .before .loop .inv .1 .1 ∙ upto-end (frames-in frame-width (a .bytes .now)) (frames-of (c .before .before .empty .result .frames)) (c .before .loop .i) (omega (arith, length-frames-in frame-width (a .bytes .now), c .before .before .before .before .pre)) (omega (arith, frames-length (c .before .before .empty .result .frames), c .before .loop .inv .1 .0))
+    c .before .loop .inv .1 .1 ∙ upto-end (frames-in frame-width (a .bytes .now)) (lent-frames (c .before .before .empty .result .frames)) (c .before .loop .i) (omega (arith, length-frames-in frame-width (a .bytes .now), c .before .before .before .before .pre)) (omega (arith, frames-length (c .before .before .empty .result .frames), c .before .loop .inv .1 .0))
 
 pub from-bytes-spec : {M : Type 1} → statement M
 from-bytes-spec =

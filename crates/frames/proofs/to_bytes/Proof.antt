@@ -11,13 +11,13 @@ use Rattle.pcrl.specs.Limits.{frame-width, stack-limit}
 use Rattle.pcrl.specs.Stack as pcrl
 use Rattle.stacks.specs.Lent.{frames-in, stack-bytes}
 use Rattle.stacks.proofs.Views.{no-frame, length-frames-in}
-use Rattle.frames.specs.Lists.{blank, frame-of, frames-of}
+use Rattle.frames.specs.Lists.{blank, frame-of, lent-frames}
 use Rattle.frames.proofs.Over.{frames-length, upto, upto-step, upto-end}
 use Rattle.frames.proofs.FrameLists.{frames-at-place}
 use Rattle.frames.proofs.Exchanges.{stack-len}
 
 abbrev Inv-loop : tie.InvT-loop
-Inv-loop bytes₀ s i₀ bytes i = (i ≤ stack-limit) × ((length bytes ≡ length bytes₀) × (frames-in frame-width bytes ≡ upto (frames-of (s .frames)) (frames-in frame-width bytes₀) i))
+Inv-loop bytes₀ s i₀ bytes i = (i ≤ stack-limit) × ((length bytes ≡ length bytes₀) × (frames-in frame-width bytes ≡ upto (lent-frames (s .frames)) (frames-in frame-width bytes₀) i))
 
 abbrev μ-loop : tie.MeasureT-loop
 μ-loop bytes₀ s i₀ bytes i = stack-limit - i
@@ -45,7 +45,7 @@ loop-again c =
     let a = c .before .before .before .before .before .before .before .before .args in
     let i = c .before .before .before .before .before .before .loop .i in
     let s64 = stack-len (a .t1) _ (c .before .before .before .before .before .before .before .before .good .0) in
-    let gs = frames-of (a .t1 .frames) in
+    let gs = lent-frames (a .t1 .frames) in
     let hs = frames-in frame-width (a .bytes .now) in (
       omega arith,
       (
@@ -63,7 +63,7 @@ returns c =
     let a = c .before .before .before .args in
     let e : c .before .loop .i ≡ stack-limit = omega arith in
     let s64 = stack-len (a .t1) _ (c .before .before .before .good .0) in
-    c .before .loop .inv .1 .1 ∙ upto-end (frames-of (a .t1 .frames)) (frames-in frame-width (a .bytes .now)) (c .before .loop .i) (omega (arith, frames-length (a .t1 .frames))) (omega (arith, length-frames-in frame-width (a .bytes .now), c .before .before .before .pre))
+    c .before .loop .inv .1 .1 ∙ upto-end (lent-frames (a .t1 .frames)) (frames-in frame-width (a .bytes .now)) (c .before .loop .i) (omega (arith, frames-length (a .t1 .frames))) (omega (arith, length-frames-in frame-width (a .bytes .now), c .before .before .before .pre))
 
 pub to-bytes-spec : {M : Type 1} → statement M
 to-bytes-spec =

@@ -7,7 +7,7 @@ use mathlib.Core.Path.{_≡_, refl, sym, ap, _∙_}
 use mathlib.Core.List.{List, _++_}
 use Prim.Native.Nat.{ℕ, _%_}
 use Rattle.pcrl.specs.Text.{bytes, decimal}
-use Rattle.pcrl.specs.Walk.{line}
+use Rattle.pcrl.specs.Walk.{text-line}
 use Rattle.texts.proofs.Writing.{wrote-more, wrote-as}
 
 slice-aggregate-put-bytes : tie.Need-slice-aggregate-put-bytes
@@ -29,7 +29,7 @@ same-length : tie.Need-same-length
 same-length c = search needs
 
 returns : tie.Need-returns
-unfolding line
+unfolding text-line
 returns c =
     let a = c .before .before .before .before .before .before .before .before .before .before .before .before .before .before .before .args in
     let n : c .before .before .before .before .before .before .before .wide .result % 256 ≡ a .n = omega (arith, c .before .before .before .before .before .before .before .wide .ensures) in

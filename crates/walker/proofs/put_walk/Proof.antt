@@ -12,7 +12,7 @@ use Rattle.pcrl.specs.Table.{Table}
 use Rattle.pcrl.specs.Right.{RightTable}
 use Rattle.pcrl.specs.Stack.{frames-of}
 use Rattle.pcrl.specs.Answers.{start-stack}
-use Rattle.pcrl.specs.Walk.{walk-steps, step-line, line}
+use Rattle.pcrl.specs.Walk.{walk-steps, step-line, text-line}
 use Rattle.tables.specs.Indexed.{Indexed}
 use Rattle.stacks.specs.Lent.{frames-in}
 use Rattle.asking.specs.Replies.{label-told}
@@ -50,7 +50,7 @@ same-length-2 : tie.Need-same-length-2 Inv-loop μ-loop
 same-length-2 c = c .before .before .put-bytes .kept .0 ∙ c .before .before .before .before .before .before .before .before .before .before .before .before .before .loop .inv .0 .1 .0
 
 returns : tie.Need-returns Inv-loop μ-loop
-unfolding line
+unfolding text-line
 returns c = λ T right x e.
     let g = c .before .before .before .before .before .before .before .before .before .before .before .before .before .loop .inv .1 T right x e in
     ends-refused T right (c .before .before .before .before .before .before .before .before .before .before .before .before .before .before .before .before .before .before .args .out .now) _ (c .before .before .before .before .before .before .before .before .before .before .before .before .before .loop .w .depth) (c .before .before .before .before .before .before .before .before .before .before .before .before .before .loop .w .taken) (c .before .before .before .before .before .before .before .before .before .before .before .before .before .loop .out) (c .before .before .before .before .before .before .before .before .before .before .before .before .before .loop .at) g (omega (arith, c .before .before .before .before .before .before .before .before .before .before .before .if1)) (c .before .before .before .before .before .before .before .before .before .ask-first .result) (frames-in frame-width (c .before .before .before .before .before .before .before .before .before .ask-first .last .1 .1 .0)) (c .before .before .before .before .before .before .before .before .before .ask-first .ensures .1 T right x (g .right)) (omega (arith, c .before .before .before .before .before .if2)) _ _ (c .before .before .put-bytes .ensures)
@@ -68,7 +68,7 @@ same-length-4 : tie.Need-same-length-4 Inv-loop μ-loop
 same-length-4 c = c .before .before .put-bytes2 .kept .0 ∙ c .before .before .before .before .before .before .before .before .before .before .before .before .before .before .before .loop .inv .0 .1 .0
 
 returns-2 : tie.Need-returns-2 Inv-loop μ-loop
-unfolding line
+unfolding text-line
 returns-2 c = λ T right x e.
     let g = c .before .before .before .before .before .before .before .before .before .before .before .before .before .before .before .loop .inv .1 T right x e in
     ends-ended T right (c .before .before .before .before .before .before .before .before .before .before .before .before .before .before .before .before .before .before .before .before .args .out .now) _ (c .before .before .before .before .before .before .before .before .before .before .before .before .before .before .before .loop .w .depth) (c .before .before .before .before .before .before .before .before .before .before .before .before .before .before .before .loop .w .taken) (c .before .before .before .before .before .before .before .before .before .before .before .before .before .before .before .loop .out) (c .before .before .before .before .before .before .before .before .before .before .before .before .before .before .before .loop .at) g (omega (arith, c .before .before .before .before .before .before .before .before .before .before .before .before .before .if1)) (c .before .before .before .before .before .before .before .before .before .before .before .ask-first .result) (frames-in frame-width (c .before .before .before .before .before .before .before .before .before .before .before .ask-first .last .1 .1 .0)) (c .before .before .before .before .before .before .before .before .before .before .before .ask-first .ensures .1 T right x (g .right)) (omega (arith, c .before .before .before .before .before .before .before .if2)) (omega (arith, c .before .before .before .before .before .if3)) _ _ (c .before .before .put-bytes2 .ensures)
@@ -86,7 +86,7 @@ same-length-6 : tie.Need-same-length-6 Inv-loop μ-loop
 same-length-6 c = c .before .before .put-bytes3 .kept .0 ∙ c .before .before .before .before .before .before .before .before .before .before .before .before .before .before .before .before .before .loop .inv .0 .1 .0
 
 returns-3 : tie.Need-returns-3 Inv-loop μ-loop
-unfolding line
+unfolding text-line
 returns-3 c = λ T right x e.
     let g = c .before .before .before .before .before .before .before .before .before .before .before .before .before .before .before .before .before .loop .inv .1 T right x e in
     ends-stuck T right (c .before .before .before .before .before .before .before .before .before .before .before .before .before .before .before .before .before .before .before .before .before .before .args .out .now) _ (c .before .before .before .before .before .before .before .before .before .before .before .before .before .before .before .before .before .loop .w .depth) (c .before .before .before .before .before .before .before .before .before .before .before .before .before .before .before .before .before .loop .w .taken) (c .before .before .before .before .before .before .before .before .before .before .before .before .before .before .before .before .before .loop .out) (c .before .before .before .before .before .before .before .before .before .before .before .before .before .before .before .before .before .loop .at) g (omega (arith, c .before .before .before .before .before .before .before .before .before .before .before .before .before .before .before .if1)) (c .before .before .before .before .before .before .before .before .before .before .before .before .before .ask-first .result) (frames-in frame-width (c .before .before .before .before .before .before .before .before .before .before .before .before .before .ask-first .last .1 .1 .0)) (c .before .before .before .before .before .before .before .before .before .before .before .before .before .ask-first .ensures .1 T right x (g .right)) (omega (arith, c .before .before .before .before .before .before .before .before .before .if2)) (omega (arith, c .before .before .before .before .before .if4)) _ _ (c .before .before .put-bytes3 .ensures)
@@ -135,7 +135,7 @@ same-length-8 : tie.Need-same-length-8 Inv-loop μ-loop
 same-length-8 c = c .before .before .put-bytes4 .kept .0 ∙ c .before .before .before .before .before .before .before .before .before .loop .inv .0 .1 .0
 
 returns-4 : tie.Need-returns-4 Inv-loop μ-loop
-unfolding line
+unfolding text-line
 returns-4 c = λ T right x e.
     closes-ended T right (c .before .before .before .before .before .before .before .before .before .before .before .before .before .before .args .out .now) _ (c .before .before .before .before .before .before .before .before .before .loop .w .depth) (c .before .before .before .before .before .before .before .before .before .loop .w .taken) (c .before .before .before .before .before .before .before .before .before .loop .out) (c .before .before .before .before .before .before .before .before .before .loop .at) (c .before .before .before .before .before .before .before .before .before .loop .inv .1 T right x e) (omega (arith, c .before .before .before .before .before .before .before .if1)) (omega (arith, c .before .before .before .before .before .if5)) _ _ (c .before .before .put-bytes4 .ensures)
 
@@ -152,7 +152,7 @@ same-length-10 : tie.Need-same-length-10 Inv-loop μ-loop
 same-length-10 c = c .before .before .put-bytes5 .kept .0 ∙ c .before .before .before .before .before .before .before .before .before .loop .inv .0 .1 .0
 
 returns-5 : tie.Need-returns-5 Inv-loop μ-loop
-unfolding line
+unfolding text-line
 returns-5 c = λ T right x e.
     closes-more T right (c .before .before .before .before .before .before .before .before .before .before .before .before .before .before .args .out .now) _ (c .before .before .before .before .before .before .before .before .before .loop .w .depth) (c .before .before .before .before .before .before .before .before .before .loop .w .taken) (c .before .before .before .before .before .before .before .before .before .loop .out) (c .before .before .before .before .before .before .before .before .before .loop .at) (c .before .before .before .before .before .before .before .before .before .loop .inv .1 T right x e) (omega (arith, c .before .before .before .before .before .before .before .if1)) (omega (arith, c .before .before .before .before .before .if5)) _ _ (c .before .before .put-bytes5 .ensures)
 

@@ -10,7 +10,7 @@ use Rattle.pcrl.specs.Stack as pcrl
 use Rattle.pcrl.specs.Answers.{Reply, started}
 use Rattle.stacks.specs.Lent.{frames-in}
 use Rattle.stacks.proofs.Views.{length-frames-in}
-use Rattle.frames.specs.Lists.{over, frames-of}
+use Rattle.frames.specs.Lists.{over, lent-frames}
 use Rattle.frames.proofs.Over.{over-all, frames-length, taken-all, taken-none}
 use Rattle.frames.proofs.Exchanges.{stack-len}
 use Rattle.wizbratel.proofs.Replying.{started-unread, none-replied, all-replied}
@@ -64,7 +64,7 @@ returns-2 c =
       sym (taken-all (a .n) h),
       λ xs len kept.
           let same : a .s .frames ≡ xs = sym kept ∙ ap (λ (m : ℕ). over m xs (a .s .frames)) (taken-all (a .n) h) ∙ over-all stack-limit xs (a .s .frames) (len ∙ h) s64 in
-          let held : frames-in frame-width old ≡ frames-of xs = c .before .before .before .before .before .before .before .to-bytes .ensures ∙ ap frames-of same in
+          let held : frames-in frame-width old ≡ lent-frames xs = c .before .before .before .before .before .before .before .to-bytes .ensures ∙ ap lent-frames same in
           all-replied X (a .n) xs ys len old h l held (frames-in frame-width new) (c .from-bytes .ensures) (c .before .before .before .start2 .result .refused) (c .before .before .before .start2 .result .depth) (c .before .before .before .start2 .ensures),
     )
 

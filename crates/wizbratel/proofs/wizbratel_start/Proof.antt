@@ -39,13 +39,13 @@ use denote.Triple.Table.{entered, cited}
 use denote.Triple.Walked.{says, Stays, stay-none-slice, stay-slice, gave-ref, walkOf, goes-none-slice, goes-slice, goes-gave-ref, Walks, ends-at, walked, walk-meets}
 use Rattle.pcrl.specs.Answers.{started}
 use Rattle.stepping.specs.Promises.{Replied}
-use Rattle.frames.specs.Lists.{over, taken, frames-of}
-use Rattle.frames.specs.declared.Frame.{Frame}
+use Rattle.frames.specs.Lists.{over, taken, lent-frames}
+use Rattle.frames.specs.declared.LentFrame.{LentFrame}
 use Rattle.frames.specs.declared.Stack.{Stack}
 use Rattle.frames.specs.declared.Ready.{Ready}
 use Rattle.frames.proofs.Over.{over-len, taken-le}
 use Rattle.frames.proofs.Exchanges.{stackVal, stack-len, Exchange, held, exchanges}
-use Rattle.frames.proofs.Frame as T
+use Rattle.frames.proofs.LentFrame as T
 use Rattle.frames.proofs.Stack as S
 use Rattle.frames.proofs.Stack.Laws as S′
 use Rattle.frames.proofs.Ready as P
@@ -70,12 +70,12 @@ abbrev stayed : Stays (f.ended .signature .params) (f.ended .kept)
 stayed = (stay-none-slice (0 ∷ []) tt (plain (λ _. u8)) yes, (stay-slice (1 ∷ []) tt (plain (λ _. T.the-row)), (gave-ref (2 ∷ []) tt (plain (λ _. usize)), tt)))
 
 -- what is promised: of the frames xs before, zs after
-abbrev Promised : (file : List ℕ) (xs : List Frame) (d : ℕ) (v : ℕ) (zs : List Frame) (d′ : ℕ) → Type 0
-Promised file xs d v zs d′ = Replied (started file (frames-of xs) d) v (frames-of zs) d′
+abbrev Promised : (file : List ℕ) (xs : List LentFrame) (d : ℕ) (v : ℕ) (zs : List LentFrame) (d′ : ℕ) → Type 0
+Promised file xs d v zs d′ = Replied (started file (lent-frames xs) d) v (lent-frames zs) d′
 
 -- what `start_stack` says of its result
 abbrev Stepped : (file : List ℕ) (d : ℕ) (n : ℕ) (s : Stack) (r : Ready) (d′ : ℕ) → Type 0
-Stepped file d n s r d′ = (r .count ≡ taken n) × ((xs : List Frame) → length xs ≡ n → over (taken n) xs (s .frames) ≡ s .frames → Promised file xs d (r .refused) (over (taken n) (r .stack .frames) xs) d′)
+Stepped file d n s r d′ = (r .count ≡ taken n) × ((xs : List LentFrame) → length xs ≡ n → over (taken n) xs (s .frames) ≡ s .frames → Promised file xs d (r .refused) (over (taken n) (r .stack .frames) xs) d′)
 
 -- the last values of `start_stack`: the depth
 abbrev Lasts : Type 0
@@ -84,13 +84,13 @@ Lasts = ℕ × (Unit {0} × (Unit {0} × (Unit {0} × (Unit {0}))))
 abbrev StartStack : {M : Type 1} (𝓤 : URA M) (H : Heap 𝓤) (A : Atoms 𝓤) (mem : Memory → SProp 𝓤) (run : Routine → Fun 𝓤) → Contract 𝓤
 StartStack 𝓤 H A mem run = tripleOf 𝓤 H A core.signature (core.spec 𝓤 H A mem run)
 
-module _ {M : Type 1} (𝓤 : URA M) (H : Heap 𝓤) (A : Atoms 𝓤) (W : Given 𝓤 H A) (mem : Memory → SProp 𝓤) (run : Routine → Fun 𝓤) (κ₁ κ₂ κ₃ : Lft) (q₁ q₂ q₃ : Share) (t : RefT (List ℕ)) (b o : ℕ) (γ : GName) (xs : List Frame) (dp : RefT ℕ)
+module _ {M : Type 1} (𝓤 : URA M) (H : Heap 𝓤) (A : Atoms 𝓤) (W : Given 𝓤 H A) (mem : Memory → SProp 𝓤) (run : Routine → Fun 𝓤) (κ₁ κ₂ κ₃ : Lft) (q₁ q₂ q₃ : Share) (t : RefT (List ℕ)) (b o : ℕ) (γ : GName) (xs : List LentFrame) (dp : RefT ℕ)
     (t-room : Room u8 (length (t .now))) (room : Room T.the-row (length xs)) where
   abbrev n : ℕ
   n = length xs
 
   abbrev Arg : Type 0
-  Arg = RefT (List ℕ) × (RefT (List Frame) × (RefT ℕ × Unit {0}))
+  Arg = RefT (List ℕ) × (RefT (List LentFrame) × (RefT ℕ × Unit {0}))
 
   abbrev x : Arg
   x = (t, (record { ptr = (b, o); name = γ; now = xs }, (dp, tt)))
@@ -113,7 +113,7 @@ module _ {M : Type 1} (𝓤 : URA M) (H : Heap 𝓤) (A : Atoms 𝓤) (W : Given
   abbrev Post : Val → SProp 𝓤
   Post = walkOf 𝓤 H A f.ended stayed (f.clauses 𝓤 H A mem run) .post (((κ₁, (κ₂, (κ₃, tt))), (q₁, (q₂, (q₃, tt))), tt, x, at), tt)
 
-  exits : (v : ℕ) (zs : List Frame) (d′ : ℕ) → Promised (t .now) xs (dp .now) v zs d′ → length zs ≡ n → v < 2 ^ 8 → ent 𝓤 (⋆ 𝓤 H A (‵ (held κ₂ b o γ n zs) ∷ ‵ (flft κ₂ q₂) ∷ ‵ Table ∷ ‵ (flft κ₁ q₁) ∷ ‵ (fres (dp .name) (usize .coded .code d′)) ∷ ‵ (flft κ₃ q₃) ∷ [])) (Post (vint w8 v))
+  exits : (v : ℕ) (zs : List LentFrame) (d′ : ℕ) → Promised (t .now) xs (dp .now) v zs d′ → length zs ≡ n → v < 2 ^ 8 → ent 𝓤 (⋆ 𝓤 H A (‵ (held κ₂ b o γ n zs) ∷ ‵ (flft κ₂ q₂) ∷ ‵ Table ∷ ‵ (flft κ₁ q₁) ∷ ‵ (fres (dp .name) (usize .coded .code d′)) ∷ ‵ (flft κ₃ q₃) ∷ [])) (Post (vint w8 v))
   exits v zs d′ e len fits =
       qed W (‵ (held κ₂ b o γ n zs) ∷ ‵ (flft κ₂ q₂) ∷ ‵ Table ∷ ‵ (flft κ₁ q₁) ∷ ‵ (fres (dp .name) (usize .coded .code d′)) ∷ ‵ (flft κ₃ q₃) ∷ []) ∵
       suffices ! _ (ends-at 𝓤 H A f.ended stayed (f.clauses 𝓤 H A mem run) W (((κ₁, (κ₂, (κ₃, tt))), (q₁, (q₂, (q₃, tt))), tt, x, at), tt) (vint w8 v) v (tt, (zs, (d′, tt))) (tt, (len, (tt, tt)))) $ says ! e $
@@ -180,7 +180,7 @@ module _ {M : Type 1} (𝓤 : URA M) (H : Heap 𝓤) (A : Atoms 𝓤) (W : Given
       where
         -- the promise, by what the callees say
         answered : (p : Ready) (old : Stack) (r : Ready) (d′ : ℕ) → Prepared n p → old .frames ≡ over (p .count) xs (p .stack .frames) → Stepped (t .now) (dp .now) n old r d′ → Promised (t .now) xs (dp .now) (r .refused) (over (r .count) (r .stack .frames) (over (p .count) (p .stack .frames) xs)) d′
-        answered p old r d′ ep e er = let (kept, same) = there-and-back xs p old r ep e (er .0) in subst (λ (zs : List Frame). Promised (t .now) xs (dp .now) (r .refused) zs d′) same (er .1 xs refl kept)
+        answered p old r d′ ep e er = let (kept, same) = there-and-back xs p old r ep e (er .0) in subst (λ (zs : List LentFrame). Promised (t .now) xs (dp .now) (r .refused) zs d′) same (er .1 xs refl kept)
 
 module _ {M : Type 1} (𝓤 : URA M) (H : Heap 𝓤) (A : Atoms 𝓤) (W : Given 𝓤 H A) (mem : Memory → SProp 𝓤) (run : Routine → Fun 𝓤) (C : Calls 𝓤 H) (Λ : Loops 𝓤 H) (fm : FmC 𝓤 H (W .laws) C)
     (known-p : Triple 𝓤 (C #frames·prepare) (Prepare 𝓤 H A mem run)) (known-e : Triple 𝓤 (C #frames·exchange) (Exchange 𝓤 H A mem run)) (known-s : Triple 𝓤 (C #wizbratel·start-stack) (StartStack 𝓤 H A mem run)) where

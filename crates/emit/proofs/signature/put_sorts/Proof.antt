@@ -4,15 +4,15 @@ use mathlib.Core.Path.{_∙_}
 use mathlib.Core.List.{[]}
 use Prim.Native.Nat.{_-_, _≤_}
 use native.Mathlib.Omega.{arith}
-use Rattle.pcrl.specs.Blocks.{joined}
+use Rattle.pcrl.specs.Blocks.{concatenated}
 use Rattle.emit.specs.Putting.{Puts}
 use Rattle.emit.specs.Bytes.{sort-bytes, sorts-bytes, counted-bytes}
-use Rattle.emit.proofs.Putting.{puts-none, puts-then, joined-none, joined-more, counted-put}
+use Rattle.emit.proofs.Putting.{puts-none, puts-then, concatenated-none, concatenated-more, counted-put}
 use Rattle.emit.proofs.signature.put_sorts.Statement.{statement}
 use Rattle.emit.proofs.signature.put_sorts.Tie as tie
 
 abbrev Inv-loop : tie.InvT-loop
-Inv-loop s sizes names n out₀ w a v₀ d₀ out v d = (d ≤ n) × Puts (joined d (sort-bytes s sizes names)) v₀ out₀ v out
+Inv-loop s sizes names n out₀ w a v₀ d₀ out v d = (d ≤ n) × Puts (concatenated d (sort-bytes s sizes names)) v₀ out₀ v out
 
 abbrev μ-loop : tie.MeasureT-loop
 μ-loop s sizes names n out₀ w a v₀ d₀ out v d = n - d
@@ -30,7 +30,7 @@ loop-holds : tie.Need-loop-holds Inv-loop μ-loop
 loop-holds c =
     let a = c .before .before .before .before .before .before .before .before .before .before .before .before .before .args in
     let count = c .before .before .put2 in
-    (omega arith, joined-none [] (sort-bytes (a .s .now) (a .sizes .now) (a .names .now)) (count .result) (count .last .0) (count .result) (count .last .0) (puts-none (count .result) (count .last .0)))
+    (omega arith, concatenated-none [] (sort-bytes (a .s .now) (a .sizes .now) (a .names .now)) (count .result) (count .last .0) (count .result) (count .last .0) (puts-none (count .result) (count .last .0)))
 
 put-sort-requires : tie.Need-put-sort-requires Inv-loop μ-loop
 put-sort-requires c κs = search needs
@@ -47,7 +47,7 @@ loop-again c =
     let count = c .before .before .before .before .before .before .before .before .put2 in
     let l = c .before .before .before .before .before .loop in
     let sort = c .before .before .put-sort in
-    (omega arith, joined-more [] (sort-bytes (a .s .now) (a .sizes .now) (a .names .now)) (count .result) (count .last .0) (l .d) (l .v) (l .out) (sort .result) (sort .last .1 .1 .1 .1 .0) (l .inv .1) (sort .ensures))
+    (omega arith, concatenated-more [] (sort-bytes (a .s .now) (a .sizes .now) (a .names .now)) (count .result) (count .last .0) (l .d) (l .v) (l .out) (sort .result) (sort .last .1 .1 .1 .1 .0) (l .inv .1) (sort .ensures))
 
 same-length : tie.Need-same-length Inv-loop μ-loop
 same-length c = c .before .loop .inv .1 .same ∙ c .before .before .before .before .put2 .kept .0 ∙ c .before .before .before .before .before .before .before .before .before .put .kept .0

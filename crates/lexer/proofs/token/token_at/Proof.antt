@@ -11,7 +11,7 @@ use lib.Dec.{T}
 use lib.ListN.{getD, drop}
 use Rattle.pcrl.specs.Tests.{and, negated}
 use Rattle.pcrl.specs.Bytes.{letter, digit}
-use Rattle.pcrl.specs.Tokens.{Lexeme, marks, first-token}
+use Rattle.pcrl.specs.Tokens.{Lexeme, punctuation, first-token}
 use Rattle.laws.specs.Tests.{is-true}
 use Rattle.lexer.specs.Classes.{alone, leads}
 use Rattle.lexer.specs.Cells.{Reads}
@@ -29,7 +29,7 @@ abbrev plain-digit : ℕ → Bool
 plain-digit b = and (negated (letter b)) (digit b)
 
 abbrev other : ℕ → Bool
-other = neither (λ b. unlike b marks)
+other = neither (λ b. unlike b punctuation)
 
 shared-slice-read-b : tie.Need-shared-slice-read-b
 shared-slice-read-b c = search needs
@@ -53,23 +53,23 @@ returns-2 : tie.Need-returns-2
 returns-2 c = let a = c .before .before .before .before .before .before .before .before .args in let b = getD (a .s .now) (a .at) 0 in let d : T (letter b) = ⊎-elim (λ w. from-all letter 65 26 tt b (omega arith) (omega arith)) (λ w. from-all letter 97 26 tt b (omega arith) (omega arith)) (c .before .if9 .came) in (c .name-at .ensures .0, subst⁻¹ (λ (x : Option Lexeme). Reads (a .s .now) x (c .name-at .result)) (of-name (a .s .now) (a .at) (omega arith) (is-true (letter b) d)) (c .name-at .ensures .1))
 
 returns-3 : tie.Need-returns-3
-unfolding marks
+unfolding punctuation
 returns-3 c = let a = c .before .before .before .before .before .args in let b = getD (a .s .now) (a .at) 0 in (omega arith, reads-other (a .s .now) (a .at) (omega arith) (ranged-test other keys 0 40 tt b (omega arith) (omega arith) (c .before .before .match .rest)))
 
 returns-4 : tie.Need-returns-4
-unfolding marks
+unfolding punctuation
 returns-4 c = let a = c .before .before .before .before .before .before .before .args in let b = getD (a .s .now) (a .at) 0 in (omega arith, reads-other (a .s .now) (a .at) (omega arith) (from-all other 42 1 tt b (omega arith) (omega arith)))
 
 returns-5 : tie.Need-returns-5
-unfolding marks
+unfolding punctuation
 returns-5 c = let a = c .before .before .before .before .before .before .args in let b = getD (a .s .now) (a .at) 0 in (omega arith, reads-other (a .s .now) (a .at) (omega arith) (from-all other 62 3 tt b (omega arith) (omega arith)))
 
 returns-6 : tie.Need-returns-6
-unfolding marks
+unfolding punctuation
 returns-6 c = let a = c .before .before .before .before .before .before .before .before .args in let b = getD (a .s .now) (a .at) 0 in (omega arith, reads-other (a .s .now) (a .at) (omega arith) (ranged-test other keys 91 6 tt b (omega arith) (omega arith) (c .before .before .before .before .before .match .rest)))
 
 returns-7 : tie.Need-returns-7
-unfolding marks
+unfolding punctuation
 returns-7 c = let a = c .before .before .before .before .before .before .before .before .before .args in let b = getD (a .s .now) (a .at) 0 in (omega arith, reads-other (a .s .now) (a .at) (omega arith) (ranged-test other keys 123 133 tt b (omega arith) (omega (arith, c .before .before .before .before .before .before .before .shared-slice-known2 .given (a .at))) (c .before .before .before .before .before .before .match .rest)))
 
 returns-8 : tie.Need-returns-8
