@@ -14,6 +14,7 @@ use Rattle.laws.specs.Every.{every-at, at-every}
 use Rattle.laws.specs.Says.{Says, said-yes, said-no, says-as}
 use Rattle.nodes.specs.declared.Outline.{Outline}
 use Rattle.nodes.specs.Held.{HeldSig, HeldProcs, proc-width}
+use Rattle.pcrl.specs.Limits.{frame-width}
 use Rattle.checker.specs.Known.{KnownSheet}
 use Rattle.checker.specs.Sorts.{TermSays, ParamsInScope, ProcessesSay, FunctionsSay, SheetSays}
 use Rattle.checker.proofs.FunctionValues.{below-next, known-sizes}
@@ -29,7 +30,7 @@ module _ (procs : List ℕ) (start : ℕ) where
       below-next (λ j. getD (set scope i v) j 0 ≡ getD procs (start + 1 + j) 0) i
       (λ j k. getD-set-other scope i j v 0 (λ z. omega arith) ∙ before j k) (getD-set-same scope i v 0 l ∙ e)
 
-  pub params-done : (i : ℕ) (scope : List ℕ) → 4 ≤ i → ParamsSoFar i scope → ParamsInScope procs start scope
+  pub params-done : (i : ℕ) (scope : List ℕ) → frame-width ≤ i → ParamsSoFar i scope → ParamsInScope procs start scope
   params-done i scope h all Ds s few j l = getElem?-below Ds j 0 l ∙ ap some (sym (all j (omega arith) ∙ s .each j l))
 
 -- ---- what is known of a held sheet

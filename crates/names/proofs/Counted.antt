@@ -30,7 +30,7 @@ module _ (s cells : List ℕ) (L : Lines) (room : Rooms L) (R : RawSheet) (st : 
   SizeRight p = Between 1 max-size (numeral-at cells (p + 2))
 
   abbrev FewParams : ℕ → Type 0
-  FewParams p = item-count cells 3 (p + 2) 5 ≤ frame-width
+  FewParams p = item-count cells 3 (p + 2) (frame-width + 1) ≤ frame-width
 
   module _ (places : List ℕ) (few : L .«sort_count» ≤ 7) (are : places ≡ take (L .«sort_count») (L .sorts)) where
     sort-lines : LinesAt enc-sort s cells places (R .sorts)
@@ -59,11 +59,11 @@ module _ (s cells : List ℕ) (L : Lines) (room : Rooms L) (R : RawSheet) (st : 
               omega (arith, st .act-count),
               (
                 omega (arith, st .proc-count),
-                every-line (λ p l. At s cells (enc-proc l) p) FewParams (λ (l : ProcLine). length (l .params) ≤ frame-width) (λ p l x b. let z = params-at s cells l p x 5 in omega arith) procs (R .procs) proc-lines h,
+                every-line (λ p l. At s cells (enc-proc l) p) FewParams (λ (l : ProcLine). length (l .params) ≤ frame-width) (λ p l x b. let z = params-at s cells l p x (frame-width + 1) in omega arith) procs (R .procs) proc-lines h,
               ),
             ),
           ),
         ),
       )
       counted-says false f a e h = λ c.
-          h (every-place (λ p l. At s cells (enc-proc l) p) FewParams (λ (l : ProcLine). length (l .params) ≤ frame-width) (λ p l x b. let z = params-at s cells l p x 5 in omega arith) procs (R .procs) proc-lines (c .1 .1 .1 .1 .1))
+          h (every-place (λ p l. At s cells (enc-proc l) p) FewParams (λ (l : ProcLine). length (l .params) ≤ frame-width) (λ p l x b. let z = params-at s cells l p x (frame-width + 1) in omega arith) procs (R .procs) proc-lines (c .1 .1 .1 .1 .1))

@@ -107,15 +107,15 @@ module _ (s cells names : List ℕ) (kinds : Kinds) (at : ℕ) where
       }
 
   -- as many items as parameters
-  params-many : (ps : List (Name × Name)) (m : ℕ) (rest : List Symbol) → m ≡ item-count cells 3 at 4 → length ps ≤ frame-width → drop at (symbols s cells) ≡ enc-items enc-param ps ++ rest → m ≡ length ps
-  params-many ps m rest h l e = let c = count-is s cells enc-param 2 (λ x. refl) ps at 4 rest e in omega arith
+  params-many : (ps : List (Name × Name)) (m : ℕ) (rest : List Symbol) → m ≡ item-count cells 3 at frame-width → length ps ≤ frame-width → drop at (symbols s cells) ≡ enc-items enc-param ps ++ rest → m ≡ length ps
+  params-many ps m rest h l e = let c = count-is s cells enc-param 2 (λ x. refl) ps at frame-width rest e in omega arith
 
   is-new : (N : Names) (scope : List Name) (v : ℕ) (x : Name) (t : Bool) → declared N ≡ bytes "Bool" ∷ scope-at s names (total-of kinds) → name-at s v ≡ x
       → t ≡ and (negated (among (name-at s v) (bytes "Bool" ∷ scope-at s names (total-of kinds)))) (negated (among (name-at s v) scope)) → new-variable N scope x ≡ t
   unfolding new-variable
   is-new N scope v x t d e h = rw (d, ← e) (sym h)
 
-  module _ (rows scope : List ℕ) (m k v : ℕ) (t : Bool) (g : ParamsGone rows scope k) (many : m ≡ item-count cells 3 at 4) (less : k < m) (there : v ≡ getD cells (at + 3 * k + 1) 0)
+  module _ (rows scope : List ℕ) (m k v : ℕ) (t : Bool) (g : ParamsGone rows scope k) (many : m ≡ item-count cells 3 at frame-width) (less : k < m) (there : v ≡ getD cells (at + 3 * k + 1) 0)
       (new : t ≡ and (negated (among (name-at s v) (bytes "Bool" ∷ scope-at s names (total-of kinds)))) (negated (among (name-at s v) (scope-at s scope k)))) where
     -- the name is not new
     pub params-old : (rows′ scope′ : List ℕ) (r : Params) → t ≡ false → r .ok ≡ false → ParamsRead s cells names kinds at rows′ scope′ r
@@ -165,7 +165,7 @@ module _ (s cells names : List ℕ) (kinds : Kinds) (at : ℕ) where
               (eq-or-lt-of-le {n = i} {m = k} (omega arith))
 
   -- all of them
-  pub params-end : (rows scope : List ℕ) (k m : ℕ) (r : Params) → m ≡ item-count cells 3 at 4 → k ≡ m → 0 < length rows → ParamsGone rows scope k → r .ok ≡ true → r .count ≡ m → r .at ≡ at + 3 * m + 1
+  pub params-end : (rows scope : List ℕ) (k m : ℕ) (r : Params) → m ≡ item-count cells 3 at frame-width → k ≡ m → 0 < length rows → ParamsGone rows scope k → r .ok ≡ true → r .count ≡ m → r .at ≡ at + 3 * m + 1
       → ParamsRead s cells names kinds at (set rows 0 m) scope r
   unfolding resolve-params
   params-end rows scope k m r many km room g o c i N ps rest e d a h =

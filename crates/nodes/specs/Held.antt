@@ -18,7 +18,7 @@ abbrev pub act-width : ℕ
 act-width = 3
 
 abbrev pub proc-width : ℕ
-proc-width = 5
+proc-width = 1 + frame-width
 
 -- at p: how many sorts, then the sorts. What stands in the row past them does not matter.
 pub record SortsAt (Ds s : List ℕ) (p : ℕ) : Type 0 where

@@ -55,7 +55,7 @@ pub const FUNC_ROW: usize = 4;
 
 pub const ACT_ROW: usize = 3;
 
-pub const PROC_ROW: usize = 5;
+pub const PROC_ROW: usize = limits::FRAME;
 
 // Where in a function's row the sort stands that it gives.
 pub const GIVES: usize = 3;

@@ -112,8 +112,8 @@ module _ (s raw procs names : List ℕ) (kinds : Kinds) (funcs : List ℕ) where
         gone-stops (resolve-proc N S) no-process (λ q j. ProcAt (length (N .procs)) q rows (take w out) starts j) (ProcessesHeld (length (N .procs)) R out′ (room ls)) ls (drop (k + 1) ls) k x (R .ok)
         (g N S ls d gi l f t (omega arith) .gone) e (answered-no _ (resolve-proc N S x) (r .ok) (a N S x (here .0) d gi (rw place (here .1)) few deep) lost) z
 
-    module _ (v : ℕ) (few-starts : k < length starts) (few-cells : length out < cell-limit) (start : w < cell-limit → v ≡ w) (kept : Kept (5 * k) rows rows′)
-        (placed : (Ds : List ℕ) → length Ds ≤ frame-width → SortsAt Ds row 0 → SortsAt Ds rows′ (5 * k)) where
+    module _ (v : ℕ) (few-starts : k < length starts) (few-cells : length out < cell-limit) (start : w < cell-limit → v ≡ w) (kept : Kept (proc-width * k) rows rows′)
+        (placed : (Ds : List ℕ) → length Ds ≤ frame-width → SortsAt Ds row 0 → SortsAt Ds rows′ (proc-width * k)) where
       -- a process that is done keeps its row and its cells
       done-kept : (m : ℕ) (e : List ℕ) → take (r .w) out′ ≡ take w out ++ e → (q : Process) (j : ℕ) → j < k → ProcAt m q rows (take w out) starts j → ProcAt m q rows′ (take (r .w) out′) (set starts k v) j
       done-kept m e c q j i p =
@@ -121,7 +121,7 @@ module _ (s raw procs names : List ℕ) (kinds : Kinds) (funcs : List ℕ) where
           let s₀ : getD (set starts k v) j 0 ≡ getD starts j 0 = getD-set-other starts k j v 0 (λ z. omega arith) in
           record {
             few = few;
-            params = sorts-kept (5 * k) rows rows′ (q .params) (proc-width * j) kept (omega arith) (p .params);
+            params = sorts-kept (proc-width * k) rows rows′ (q .params) (proc-width * j) kept (omega arith) (p .params);
             right = rw (s₀, c) (term-kept (q .right) (getD starts j 0) (take w out) e (p .right));
             scoped = p .scoped;
           }

@@ -4,13 +4,14 @@ use elements::peek;
 use elements::wide;
 use limits::FRAME_WIDTH;
 use limits::TAU;
+use limits::VARIABLES;
 use terms::Next;
 ghost use mathlib.Core.Path.{_≡_};
 ghost use mathlib.Core.List.{List, _++_};
 ghost use mathlib.Core.Bool.{true};
 ghost use Prim.Native.Nat.{ℕ, _+_, _≤_, _<_};
 ghost use lib.ListN.{length, take, drop};
-ghost use Rattle.pcrl.specs.Limits.{max-conditions, max-calls, frame-width};
+ghost use Rattle.pcrl.specs.Limits.{max-variables, max-conditions, max-calls, frame-width};
 ghost use Rattle.pcrl.specs.Tests.{at-most?};
 ghost use Rattle.pcrl.specs.Sheet.{Sig};
 ghost use Rattle.pcrl.specs.Reader.{counted};
@@ -20,7 +21,7 @@ ghost use Rattle.terms.specs.Ends.{rests, ended};
 ghost use Rattle.summands.specs.Parts.{read-label, read-body};
 
 // Per summand.
-const VARIABLES: u8 = limits::MAX_VARIABLES as u8;
+const SUMS: u8 = limits::MAX_VARIABLES as u8;
 
 const CONDITIONS: u8 = limits::MAX_CONDITIONS as u8;
 
@@ -155,13 +156,13 @@ fn read_body(
 
 // Sorts of the variables in scope.
 pub struct Scope {
-    pub sorts: [u8; 8],
+    pub sorts: [u8; VARIABLES],
     pub n: usize,
 }
 
 fn more(c: Scope, part: &[u8]) -> Scope
-    requires { ⌜ (c .n + length (now part) ≤ 8) × (length (c .sorts) ≡ 8) ⌝ }
-    ensures { λ r. ⌜ (take (r .n) (r .sorts) ≡ take (c .n) (c .sorts) ++ now (part .entry)) × ((r .n ≡ c .n + length (now (part .entry))) × (length (r .sorts) ≡ 8)) ⌝ }
+    requires { ⌜ (c .n + length (now part) ≤ frame-width + max-variables) × (length (c .sorts) ≡ frame-width + max-variables) ⌝ }
+    ensures { λ r. ⌜ (take (r .n) (r .sorts) ≡ take (c .n) (c .sorts) ++ now (part .entry)) × ((r .n ≡ c .n + length (now (part .entry))) × (length (r .sorts) ≡ frame-width + max-variables)) ⌝ }
 {
     let mut a = c.sorts;
     let mut n = c.n;
@@ -189,12 +190,12 @@ fn read_summand(
     if FRAME_WIDTH < own.len() {
         return Next { ok: false, at: 0 };
     }
-    let v = terms::read_list(s, at, 0, VARIABLES, 0, sizes.len());
+    let v = terms::read_list(s, at, 0, SUMS, 0, sizes.len());
     if !v.ok {
         return Next { ok: false, at: 0 };
     }
     let none = Scope {
-        sorts: [0u8; 8],
+        sorts: [0u8; VARIABLES],
         n: 0,
     };
     let b = at + 1;

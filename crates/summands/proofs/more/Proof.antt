@@ -4,14 +4,13 @@ use mathlib.Core.List.{_++_}
 use Prim.Native.Nat.{_+_, _-_, _≤_}
 use native.Mathlib.Omega.{arith}
 use lib.ListN.{length, length-set, take}
-use Rattle.pcrl.specs.Grammar.{part}
-use Rattle.pcrl.specs.Tokens.{before}
+use Rattle.pcrl.specs.Limits.{frame-width, max-variables}
 use Rattle.summands.proofs.Summand.{copy-done, copy-one, copy-start}
 use Rattle.summands.proofs.more.Statement.{statement}
 use Rattle.summands.proofs.more.Tie as tie
 
 abbrev Inv-loop : tie.InvT-loop
-Inv-loop part a₀ n₀ k₀ a n k = (take n a ≡ take n₀ a₀ ++ take k part) × (n ≡ n₀ + k) × (length a ≡ 8) × (k ≤ length part) × (n₀ + length part ≤ 8)
+Inv-loop part a₀ n₀ k₀ a n k = (take n a ≡ take n₀ a₀ ++ take k part) × (n ≡ n₀ + k) × (length a ≡ frame-width + max-variables) × (k ≤ length part) × (n₀ + length part ≤ frame-width + max-variables)
 
 abbrev μ-loop : tie.MeasureT-loop
 μ-loop part a₀ n₀ k₀ a n k = length part - k

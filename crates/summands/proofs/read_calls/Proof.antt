@@ -19,7 +19,7 @@ use Rattle.summands.proofs.read_calls.Statement.{statement}
 use Rattle.summands.proofs.read_calls.Tie as tie
 
 abbrev Inv-loop : tie.InvT-loop
-Inv-loop s sizes funcs params scope at n i₀ left₀ i left = (left ≤ 8) × ((S : Sig) (Ps : List (List ℕ)) → KnownData S s sizes funcs → KnownParams Ps s params → rests (counted (at-most? max-calls) (read-call S Ps scope) (drop at s)) ≡ rests (times (read-call S Ps scope) left (drop i s)))
+Inv-loop s sizes funcs params scope at n i₀ left₀ i left = (left ≤ max-calls) × ((S : Sig) (Ps : List (List ℕ)) → KnownData S s sizes funcs → KnownParams Ps s params → rests (counted (at-most? max-calls) (read-call S Ps scope) (drop at s)) ≡ rests (times (read-call S Ps scope) left (drop i s)))
 
 abbrev μ-loop : tie.MeasureT-loop
 μ-loop s sizes funcs params scope at n i₀ left₀ i left = left

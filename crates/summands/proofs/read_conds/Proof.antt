@@ -18,7 +18,7 @@ use Rattle.summands.proofs.read_conds.Statement.{statement}
 use Rattle.summands.proofs.read_conds.Tie as tie
 
 abbrev Inv-loop : tie.InvT-loop
-Inv-loop s sizes funcs scope at n i₀ left₀ i left = (left ≤ 8) × ((S : Sig) → KnownData S s sizes funcs → rests (counted (at-most? max-conditions) (read-cond S scope) (drop at s)) ≡ rests (times (read-cond S scope) left (drop i s)))
+Inv-loop s sizes funcs scope at n i₀ left₀ i left = (left ≤ max-conditions) × ((S : Sig) → KnownData S s sizes funcs → rests (counted (at-most? max-conditions) (read-cond S scope) (drop at s)) ≡ rests (times (read-cond S scope) left (drop i s)))
 
 abbrev μ-loop : tie.MeasureT-loop
 μ-loop s sizes funcs scope at n i₀ left₀ i left = left

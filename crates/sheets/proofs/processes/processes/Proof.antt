@@ -6,6 +6,7 @@ use native.Mathlib.Omega.{arith}
 use borrow.Author.Tests.{not-true, not-false}
 use lib.ListN.{length, drop, set, length-drop}
 use lib.Seq.{length-take-le}
+use Rattle.nodes.specs.Held.{proc-width}
 use Rattle.names.specs.NameList.{names-in, kinds-in}
 use Rattle.sheets.proofs.ProcessesLaws.{with-row, row-kept, row-placed, Stays, stays-on, ProcsGone, procs-start, procs-end, procs-stop, procs-go}
 use Rattle.sheets.proofs.processes.processes.Statement.{statement}
@@ -59,8 +60,8 @@ process-requires c κs =
     let loop = c .before .before .before .before .before .before .loop in
     let here = c .before .before .before .before .before .loop-test .taken in
     let few = start .pre .2 in
-    let at = 5 * loop .k in
-    let row = length-take-le (at + 5 - at) (drop at (loop .rows)) (omega (arith, loop .inv .0 .rows-many, length-drop at (loop .rows))) in
+    let at = proc-width * loop .k in
+    let row = length-take-le (at + proc-width - at) (drop at (loop .rows)) (omega (arith, loop .inv .0 .rows-many, length-drop at (loop .rows))) in
     (start .pre .0, start .pre .1, c .before .before .wide-cell .ensures .1, omega (arith, row))
 
 add-k : tie.Need-add-k Inv-loop μ-loop
@@ -76,17 +77,17 @@ loop-again c =
     let held = c .before .before .before .before .before .before .before .before .before .before .before .before .loop .inv .0 in
     let row = process .last .1 .1 .1 .1 .1 .0 in
     let loop = c .before .before .before .before .before .before .before .before .before .before .before .before .loop in
-    let at = 5 * loop .k in
-    let room : at + (at + 5 - at) ≤ length (loop .rows) = omega (arith, c .before .before .before .before .before .before .before .before .before .before .before .loop-test .taken, c .before .before .before .before .before .before .before .before .before .before .before .before .before .before .before .before .before .before .before .pre .2, loop .inv .0 .rows-many) in
-    let many : length row ≡ at + 5 - at = process .kept .1 .1 .1 .1 .1 .0 ∙ length-take-le (at + 5 - at) (drop at (loop .rows)) (omega (arith, room, length-drop at (loop .rows))) in
-    let rows = with-row (loop .rows) row at (at + 5 - at) room many in
+    let at = proc-width * loop .k in
+    let room : at + (at + proc-width - at) ≤ length (loop .rows) = omega (arith, c .before .before .before .before .before .before .before .before .before .before .before .loop-test .taken, c .before .before .before .before .before .before .before .before .before .before .before .before .before .before .before .before .before .before .before .pre .2, loop .inv .0 .rows-many) in
+    let many : length row ≡ at + proc-width - at = process .kept .1 .1 .1 .1 .1 .0 ∙ length-take-le (at + proc-width - at) (drop at (loop .rows)) (omega (arith, room, length-drop at (loop .rows))) in
+    let rows = with-row (loop .rows) row at (at + proc-width - at) room many in
     let out = process .last .1 .1 .1 .1 .1 .1 .0 in
     let few = start .pre .2 in
     let taken = c .before .before .before .before .before .before .before .before .before .before .before .loop-test .taken in
     let cells = process .kept .1 .1 .1 .1 .1 .1 .0 in (
-      stays-on (start .args .out .now) (c .before .before .before .before .before .before .before .before .before .before .before .before .loop .rows) rows (c .before .before .before .before .before .before .before .before .before .before .before .before .loop .out) out (c .before .before .before .before .before .before .before .before .before .before .before .before .loop .starts) (c .before .before .before .before .before .before .before .before .before .before .before .before .loop .k) (c .before .before .before .before .before .before .before .before .before .before .short .result) (c .before .before .before .before .before .before .before .before .before .before .before .before .loop .ok) held (row-kept (loop .rows) row at (at + 5 - at) room many .same) cells,
+      stays-on (start .args .out .now) (c .before .before .before .before .before .before .before .before .before .before .before .before .loop .rows) rows (c .before .before .before .before .before .before .before .before .before .before .before .before .loop .out) out (c .before .before .before .before .before .before .before .before .before .before .before .before .loop .starts) (c .before .before .before .before .before .before .before .before .before .before .before .before .loop .k) (c .before .before .before .before .before .before .before .before .before .before .short .result) (c .before .before .before .before .before .before .before .before .before .before .before .before .loop .ok) held (row-kept (loop .rows) row at (at + proc-width - at) room many .same) cells,
       procs-go (start .args .s .now) (start .args .raw .now) (start .args .procs .now) (names-in (start .args .declared .now)) (kinds-in (start .args .declared .now)) (start .args .funcs .now) (c .before .before .before .before .before .before .before .before .before .before .before .before .loop .rows) rows row (c .before .before .before .before .before .before .before .before .before .before .before .before .loop .out) out (c .before .before .before .before .before .before .before .before .before .before .before .before .loop .starts) (c .before .before .before .before .before .before .before .before .before .before .before .before .loop .w) (c .before .before .before .before .before .before .before .before .before .before .before .before .loop .k) (c .before .before .before .before .before .before .before .before .wide-cell .result) (process .result) taken cells (c .before .before .before .before .before .before .before .before .wide-cell .ensures .0) (c .before .before .before .before .before .before .before .before .before .before .before .before .loop .inv .1) (process .ensures)
-          (c .before .before .before .before .before .before .before .before .before .before .short .result) (omega (arith, held .starts-many)) (omega (arith, start .pre .3, held .cells-same)) (c .before .before .before .before .before .before .before .before .before .before .short .ensures) (row-kept (loop .rows) row at (at + 5 - at) room many) (λ Ds h. row-placed (loop .rows) row at (at + 5 - at) room many Ds (omega arith)) (not-false _ (c .if1 .left)),
+          (c .before .before .before .before .before .before .before .before .before .before .short .result) (omega (arith, held .starts-many)) (omega (arith, start .pre .3, held .cells-same)) (c .before .before .before .before .before .before .before .before .before .before .short .ensures) (row-kept (loop .rows) row at (at + proc-width - at) room many) (λ Ds h. row-placed (loop .rows) row at (at + proc-width - at) room many Ds (omega arith)) (not-false _ (c .if1 .left)),
     )
 
 same-length : tie.Need-same-length Inv-loop μ-loop
@@ -106,10 +107,10 @@ returns-2 c =
     let start = c .before .before .before .before .before .before .before .before .before .before .before .before .before .before .before .before .before .before .before in
     let row = process .last .1 .1 .1 .1 .1 .0 in
     let loop = c .before .before .before .before .before .before .before .before .before .before .before .before .loop in
-    let at = 5 * loop .k in
-    let room : at + (at + 5 - at) ≤ length (loop .rows) = omega (arith, c .before .before .before .before .before .before .before .before .before .before .before .loop-test .taken, c .before .before .before .before .before .before .before .before .before .before .before .before .before .before .before .before .before .before .before .pre .2, loop .inv .0 .rows-many) in
-    let many : length row ≡ at + 5 - at = process .kept .1 .1 .1 .1 .1 .0 ∙ length-take-le (at + 5 - at) (drop at (loop .rows)) (omega (arith, room, length-drop at (loop .rows))) in
-    let rows = with-row (loop .rows) row at (at + 5 - at) room many in
+    let at = proc-width * loop .k in
+    let room : at + (at + proc-width - at) ≤ length (loop .rows) = omega (arith, c .before .before .before .before .before .before .before .before .before .before .before .loop-test .taken, c .before .before .before .before .before .before .before .before .before .before .before .before .before .before .before .before .before .before .before .pre .2, loop .inv .0 .rows-many) in
+    let many : length row ≡ at + proc-width - at = process .kept .1 .1 .1 .1 .1 .0 ∙ length-take-le (at + proc-width - at) (drop at (loop .rows)) (omega (arith, room, length-drop at (loop .rows))) in
+    let rows = with-row (loop .rows) row at (at + proc-width - at) room many in
     let out = process .last .1 .1 .1 .1 .1 .1 .0 in
     let cells = process .kept .1 .1 .1 .1 .1 .1 .0 in
     procs-stop (start .args .s .now) (start .args .raw .now) (start .args .procs .now) (names-in (start .args .declared .now)) (kinds-in (start .args .declared .now)) (start .args .funcs .now) (c .before .before .before .before .before .before .before .before .before .before .before .before .loop .rows) rows row (c .before .before .before .before .before .before .before .before .before .before .before .before .loop .out) out (c .before .before .before .before .before .before .before .before .before .before .before .before .loop .starts) (c .before .before .before .before .before .before .before .before .before .before .before .before .loop .w) (c .before .before .before .before .before .before .before .before .before .before .before .before .loop .k) (c .before .before .before .before .before .before .before .before .wide-cell .result) (process .result) (c .before .before .before .before .before .before .before .before .before .before .before .loop-test .taken) cells (c .before .before .before .before .before .before .before .before .wide-cell .ensures .0) (c .before .before .before .before .before .before .before .before .before .before .before .before .loop .inv .1) (process .ensures)
