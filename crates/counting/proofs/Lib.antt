@@ -1,4 +1,3 @@
 pub mod AtHead
 pub mod Laws
-pub mod TwoParts
 pub mod Rows

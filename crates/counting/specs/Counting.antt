@@ -1,7 +1,6 @@
 -- What the counting of heads says, for every term whose cells stand at a place.
 use mathlib.Core.Path.{_≡_}
 use mathlib.Core.List.{List, _++_}
-use mathlib.Core.Logic.{_⊎_}
 use mathlib.Core.Bool.{Bool, true, false}
 use Prim.Native.Nat.{ℕ, suc, _+_, _*_, _≤_, _<_}
 use lib.Dec.{eqb}
@@ -10,8 +9,7 @@ use Rattle.pcrl.specs.Sheet.{Data, Proc, Sheet, right}
 use Rattle.pcrl.specs.Parts.{new-count, first-new}
 use Rattle.pcrl.specs.Circles.{at-head}
 use Rattle.pcrl.specs.Heads.{heads}
-use Rattle.nodes.specs.declared.Node.{Node}
-use Rattle.nodes.specs.Layout.{enc, alt-kind, atom-kind, call-kind, seq-kind}
+use Rattle.nodes.specs.Layout.{enc, atom-kind, call-kind}
 use Rattle.nodes.specs.Bits.{bit}
 use Rattle.checker.specs.Circles.{SetOf}
 use Rattle.counting.specs.declared.Counted.{Counted}
@@ -31,10 +29,6 @@ leaf-of K kind number = pick (eqb kind atom-kind) 1 (pick (eqb kind call-kind) (
 abbrev pub Counts : List ℕ → List ℕ → ℕ → Counted → Type 0
 Counts cells K at r = (b : Bool) (p : Proc) (rest : List ℕ) → drop at cells ≡ enc b p ++ rest
     → (r .heads ≡ cut (count-by (λ k. getD K k 0) p)) × (drop (r .next) cells ≡ rest) × (r .own ≡ cut (new-count b p))
-
--- a choice or a sequence: a node with two subterms and no data
-abbrev pub TwoParts : Node → Type 0
-TwoParts d = (d .kind ≡ alt-kind) ⊎ (d .kind ≡ seq-kind)
 
 -- the right sides of a sheet's processes stand in the cells
 abbrev pub Placed : Sheet → List ℕ → List ℕ → Type 0

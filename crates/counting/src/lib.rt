@@ -5,17 +5,15 @@ ghost use Prim.Native.Nat.{ℕ, _+_, _*_, _≤_, _<_};
 ghost use lib.ListN.{length, getD, replicate};
 ghost use Rattle.pcrl.specs.Sheet.{Sheet};
 ghost use Rattle.nodes.specs.Layout.{cell-limit};
-ghost use Rattle.nodes.specs.Views.{Views};
 ghost use Rattle.checker.specs.Circles.{HeadsOf};
 ghost use Rattle.counting.specs.Limits.{most-heads, row-width, max-fuel, counts-room, cut, row};
-ghost use Rattle.counting.specs.Counting.{leaf-of, Counts, TwoParts, Placed, Tallied, PartOf, SameIn, Unchanged, NextCount};
+ghost use Rattle.counting.specs.Counting.{leaf-of, Counts, Placed, Tallied, PartOf, SameIn, Unchanged, NextCount};
 use checker::circles::HeadSets;
 use checker::circles::heads_of;
 use elements::cell;
 use elements::cut_sum;
 use limits::MAX_PROCESSES;
 use limits::MAX_SUMMANDS;
-use nodes::Node;
 use nodes::with_bit;
 
 // From here on counts are not told apart: a table has fewer summands and fewer equations.
@@ -106,28 +104,6 @@ pub fn count(cells: &[u16], at: usize, counts: &[u16], base: usize) -> Counted
         next: p,
         heads: n,
         own: m,
-    }
-}
-
-// The count of a choice or a sequence, whose first part has the count a.
-pub fn whole(cells: &[u16], counts: &[u16], base: usize, d: Node, a: Counted) -> Counted
-    requires { ⌜ (base < cell-limit) × (a .heads ≤ most-heads) × (a .own ≤ most-heads) × (d .own ≤ most-heads) ⌝ }
-    ensures { λ r. ⌜ (a .next ≤ r .next) × (a .heads ≤ r .heads) × (r .heads ≤ most-heads) × (r .own ≤ most-heads) ⌝ }
-    ensures { λ r. ⌜ ((at : ℕ) → Views (now (cells .entry)) at d → TwoParts d → Counts (now (cells .entry)) (row base (now (counts .entry))) (d .next) a → Counts (now (cells .entry)) (row base (now (counts .entry))) at r) ⌝ }
-{
-    if d.kind == nodes::SEQ {
-        let s = nodes::skip(cells, a.next);
-        return Counted {
-            next: s.next,
-            heads: a.heads,
-            own: add(a.own, s.own),
-        };
-    }
-    let b = count(cells, a.next, counts, base);
-    Counted {
-        next: b.next,
-        heads: add(a.heads, b.heads),
-        own: add(add(d.own, a.own), b.own),
     }
 }
 

@@ -88,6 +88,7 @@ module _ (cells starts counts firsts : List ℕ) (g : Ahead) (lo : Looked cells 
           deep = m .deep;
           queue = m .queue;
           kept = m .kept;
+          fuel-is = m .fuel-is;
           start-in = m .start-in;
           inside = m .inside;
           same = m .same;
@@ -135,10 +136,11 @@ module _ (cells starts counts firsts : List ℕ) (g : Ahead) (lo : Looked cells 
           both = omega (arith, length-append (b .hs₂) (m .waiting), m .both, many, all-many);
           deep = omega (arith, m .deep);
           queue =
-              queue-push H F cells (S .s) l l′ (S .q) (m .n) (g .s) (g .s) B B (g .d) e (b .hs₂) (m .waiting) (m .here) (heads - g .a .heads) lk ls bound few (se .1) (rd .cells-few) near (lo .inside) (lo .on) (lo .views) (se .0 ∙ ap (λ (i : ℕ). record { second = true; at = i; c = e .c }) (sym (ap (λ (y : Side). y .at) (se .0)))) (m .spotted) on₂
+              queue-push H F cells (S .s) l l′ (S .s .fuel) (S .q) (m .n) (g .s) (g .s) B B (g .d) e (b .hs₂) (m .waiting) (m .here) (heads - g .a .heads) lk ls bound few (se .1) (rd .cells-few) near (lo .inside) (lo .on) (lo .views) (se .0 ∙ ap (λ (i : ℕ). record { second = true; at = i; c = e .c }) (sym (ap (λ (y : Side). y .at) (se .0)))) (m .fuel-is) (m .spotted) on₂
               (omega (arith, many, all-many)) (omega arith) (omega (arith, rm .few)) (deeper-same (g .s))
               (subst (λ (j : ℕ). later-cells * j + later-cells ≤ length l) (m .deep) room) el (subst (λ (j : ℕ). LaterPut l j (g .s) e (heads - g .a .heads) l′) (m .deep) put) (m .queue);
           kept = m .kept;
+          fuel-is = m .fuel-is;
           start-in = m .start-in;
           inside = m .inside;
           same = m .same;

@@ -4,7 +4,6 @@ pub mod Stacking
 pub mod Walking
 pub mod Passing
 pub mod Reaching
-pub mod Tallying
 pub mod Remembering
 pub mod Standing
 pub mod Choosing

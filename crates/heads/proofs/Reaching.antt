@@ -13,10 +13,8 @@ use Rattle.counting.specs.declared.Counted.{Counted}
 use Rattle.counting.specs.Limits.{most-heads, row-width, row}
 use Rattle.counting.specs.Counting.{Counts}
 use Rattle.contexts.specs.declared.Spot.{Spot}
-use Rattle.heads.specs.declared.tally.Tally.{Tally}
 use Rattle.heads.specs.Progress.{Parted, Looked, side-spot, Behind, Past}
 use Rattle.heads.specs.Memory.{work-limit, spot-on, Reaches, OnlySide, Passed}
-use Rattle.heads.specs.Tallying.{Tallies}
 use Rattle.heads.proofs.Passing.{past-then, past-second, past-first}
 
 module _ (cells counts : List ℕ) (base heads : ℕ) where
@@ -76,35 +74,33 @@ module _ (cells counts : List ℕ) (base heads : ℕ) where
         subst (λ (x : ℕ). Past cells counts heads s (side-spot s (record { second = true; at = d .next; c = x }))) same k
 
     -- on to where the passing goes on
-    pub reaches-side : {at q r : ℕ} (n m deep : ℕ) → (heads ≤ a .heads → Reaches cells counts base heads (d .next) deep 0) → Reaches cells counts base heads at p n → n < byte-limit → OnlySide d (record { a = a; deep = deep }) heads q → Passed a n m → Reaches cells counts base heads q r 0
-        → Reaches cells counts base heads at r m
-    reaches-side {at} {q} {r} n m deep inner k small (is′, inl (none, e)) ps l =
+    pub reaches-side : {at q r : ℕ} (n m : ℕ) → Reaches cells counts base heads at p n → n < byte-limit → OnlySide d a heads q → Passed a n m → Reaches cells counts base heads q r 0 → Reaches cells counts base heads at r m
+    reaches-side {at} {q} {r} n m k small (is′, inl (none, e)) ps l =
         let same : ((n + a .own) % byte-limit + 0) % byte-limit ≡ m = omega (arith, ps .1 none) in
         reaches-by refl same (reaches-then ((n + a .own) % byte-limit) 0 (reaches-then n (a .own) k (reaches-second none)) (subst (λ (x : ℕ). Reaches cells counts base heads x r 0) e l))
-    reaches-side {at} {q} {r} n m deep inner k small (is′, inr (some, most, e)) ps l =
-        let same : (((n + 0) % byte-limit + 0) % byte-limit + 0) % byte-limit ≡ m = omega (arith, ps .2 some) in
-        reaches-by refl same (reaches-then (((n + 0) % byte-limit + 0) % byte-limit) 0 (reaches-then ((n + 0) % byte-limit) 0 (reaches-then n 0 k (reaches-first most)) (inner most)) (subst (λ (x : ℕ). Reaches cells counts base heads x r 0) e l))
+    reaches-side {at} {q} {r} n m k small (is′, inr (some, most, e)) ps l =
+        let same : ((n + 0) % byte-limit + 0) % byte-limit ≡ m = omega (arith, ps .2 some) in
+        reaches-by refl same (reaches-then ((n + 0) % byte-limit) 0 (reaches-then n 0 k (reaches-first most)) (subst (λ (x : ℕ). Reaches cells counts base heads x r 0) e l))
 
   -- past what is idle
   pub reaches-idle : {at p q : ℕ} → p < length cells → Reaches cells counts base heads at p 0 → Behind cells (row base counts) p q → Reaches cells counts base heads at q 0
   reaches-idle {at} {p} {q} inside k bh = reaches-by refl refl (reaches-then 0 0 k (reaches-second p (bh .d) (record { next = q; heads = 0; own = 0 }) inside (bh .on) (bh .views) (bh .is) (bh .further) (bh .counted) refl))
 
 -- where the passing from `at` on is: the node there, the count of its first part, and where it goes on
-pub record Reached (cells counts : List ℕ) (base heads at p : ℕ) (d : Node) (k : Tally) (own work q : ℕ) : Type 0 where
+pub record Reached (cells counts : List ℕ) (base heads at p : ℕ) (d : Node) (a : Counted) (own work q : ℕ) : Type 0 where
   pub inside : p < length cells
   pub on : On p d
   pub views : Views cells p d
-  pub far : Parted (d .kind) → d .next ≤ k .a .next
-  pub counted : 0 < d .next → d .next ≤ k .a .next → Tallies cells counts base (d .next) k
-  pub few : k .a .own ≤ most-heads
+  pub far : Parted (d .kind) → d .next ≤ a .next
+  pub counted : 0 < d .next → d .next ≤ a .next → Counts cells (row base counts) (d .next) a
+  pub few : a .own ≤ most-heads
   pub small : own < byte-limit
   pub light : work ≤ work-limit
-  pub side : p < q → (q < length cells) × OnlySide d k heads q
+  pub side : p < q → (q < length cells) × OnlySide d a heads q
   pub reaches : Reaches cells counts base heads at p own
 
-pub reached-more : {cells counts : List ℕ} {base heads at p : ℕ} {d : Node} {k : Tally} {own work q : ℕ} → Reached cells counts base heads at p d k own work q → p < q → (r m : ℕ) → Passed (k .a) own m → Reaches cells counts base heads q r 0 → Reaches cells counts base heads at r m
-reached-more {cells} {counts} {base} {heads} {at} {p} {d} {k} {own} {work} {q} i t r m ps l =
+pub reached-more : {cells counts : List ℕ} {base heads at p : ℕ} {d : Node} {a : Counted} {own work q : ℕ} → Reached cells counts base heads at p d a own work q → p < q → (r m : ℕ) → Passed a own m → Reaches cells counts base heads q r 0 → Reaches cells counts base heads at r m
+reached-more {cells} {counts} {base} {heads} {at} {p} {d} {a} {own} {work} {q} i t r m ps l =
     let os = i .side t .1 in
     let far = i .far (inl (inl (os .0))) in
-    let ct = i .counted (omega (arith, i .on .on)) far in
-    reaches-side cells counts base heads p d (k .a) (i .inside) (i .on) (i .views) (os .0) far (ct .counted) own m (k .deep) (ct .deeper heads) (i .reaches) (i .small) os ps l
+    reaches-side cells counts base heads p d a (i .inside) (i .on) (i .views) (os .0) far (i .counted (omega (arith, i .on .on)) far) own m (i .reaches) (i .small) os ps l

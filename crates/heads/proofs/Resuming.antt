@@ -36,15 +36,15 @@ module _ (cells starts counts firsts : List ℕ) (S : Start) (s : Spot) (heads l
 
     kept-so-far : x .ok ≡ true → Kept (S .s) (S .A) B
     kept-so-far ok =
-        kept-then (S .s) (S .A) (a .before) B (moved .kept) (kept-up (S .s) s (a .before) B (queue-base H F cells (S .s) l (S .q) (moved .n) s (a .before) (moved .waiting) (moved .queue)) (leaf .1 ok))
+        kept-then (S .s) (S .A) (a .before) B (moved .kept) (kept-up (S .s) s (a .before) B (queue-base H F cells (S .s) l (S .s .fuel) (S .q) (moved .n) s (a .before) (moved .waiting) (moved .queue)) (leaf .1 ok))
 
     -- the last one that waits
-    popped : S .q < q → (y : Later) → y ≡ entry l (q - 1)
-        → (bs : List Summand) × (rest : List Summand) × (moved .waiting ≡ bs ++ rest) × Waits H F cells s (a .before) y bs × Queue H F cells (S .s) l (S .q) (q - 1 - S .q) (y .s) (a .before) rest
+    popped : S .q < q → (y : Later) → y ≡ entry l (q - 1) (s .fuel)
+        → (bs : List Summand) × (rest : List Summand) × (moved .waiting ≡ bs ++ rest) × Waits H F cells s (a .before) y bs × Queue H F cells (S .s) l (S .s .fuel) (S .q) (q - 1 - S .q) (y .s) (a .before) rest
     popped some y ey =
         let k = q - 1 - S .q in
         let z : q - 1 ≡ S .q + k = omega arith in
-        queue-pop H F cells (S .s) l (S .q) (moved .n) k s (a .before) (moved .waiting) y (omega (arith, moved .deep)) (sym (ey ∙ ap (entry l) z)) (moved .queue)
+        queue-pop H F cells (S .s) l (S .s .fuel) (S .q) (moved .n) k s (a .before) (moved .waiting) y (omega (arith, moved .deep)) (sym (ey ∙ ap (λ (i : ℕ). entry l i (s .fuel)) z ∙ ap (entry l (S .q + k)) (moved .fuel-is))) (moved .queue)
 
   pub resume-fails : x .ok ≡ false → WrittenBy cells starts counts firsts S (record { ok = false; w = x .w }) B o
   resume-fails bad H F hs rd sp ro =
@@ -60,17 +60,17 @@ module _ (cells starts counts firsts : List ℕ) (S : Start) (s : Spot) (heads l
   pub resume-none : heads < left → q ≤ S .q → (z : Done) → WrittenBy cells starts counts firsts S z B o
   resume-none more low z H F hs rd sp ro =
       let m = moved H F hs rd sp ro in
-      let e = queue-none H F cells (S .s) l (S .q) (m .n) s (a .before) (m .waiting) (omega (arith, m .deep)) (m .queue) in
+      let e = queue-none H F cells (S .s) l (S .s .fuel) (S .q) (m .n) s (a .before) (m .waiting) (omega (arith, m .deep)) (m .queue) in
       absurd (omega (arith, ap length e, m .both))
 
   pub resume-empty : heads ≡ 0 → (z : Done) → WrittenBy cells starts counts firsts S z B o
   resume-empty none z H F hs rd sp ro = let m = moved H F hs rd sp ro in absurd (omega (arith, m .some))
 
-  pub resume-out : S .q < q → (y : Later) → y ≡ entry l (q - 1) → length cells ≤ y .s .at → (z : Done) → WrittenBy cells starts counts firsts S z B o
+  pub resume-out : S .q < q → (y : Later) → y ≡ entry l (q - 1) (s .fuel) → length cells ≤ y .s .at → (z : Done) → WrittenBy cells starts counts firsts S z B o
   resume-out some y ey out z H F hs rd sp ro = let k = popped H F hs rd sp ro some y ey in absurd (omega (arith, k .3 .inside))
 
   -- into the second side
-  pub resume-goes : x .ok ≡ true → heads < left → S .q < q → (y : Later) → y ≡ entry l (q - 1) → (d : Node) → On (y .s .at) d → Views cells (y .s .at) d
+  pub resume-goes : x .ok ≡ true → heads < left → S .q < q → (y : Later) → y ≡ entry l (q - 1) (s .fuel) → (d : Node) → On (y .s .at) d → Views cells (y .s .at) d
       → Toward cells starts counts firsts S (record { over = false; t = y .s; d = d; e = y .e; heads = y .heads; left = left - heads; q = q - 1; done = x }) B l o
   unfolding entry unpacked
   resume-goes ok more some y ey d on vw = (
@@ -93,8 +93,9 @@ module _ (cells starts counts firsts : List ℕ) (S : Start) (s : Spot) (heads l
           some = w .some;
           both = omega (arith, ap length e, length-append bs rest, w .many, m .both);
           deep = omega arith;
-          queue = queue-kept H F cells (S .s) l (S .q) n (y .s) (a .before) B rest kp z;
+          queue = queue-kept H F cells (S .s) l (S .s .fuel) (S .q) n (y .s) (a .before) B rest kp z;
           kept = kept-so-far H F hs rd sp ro ok;
+          fuel-is = ap (λ (u : Later). u .s .fuel) ey ∙ m .fuel-is;
           start-in = m .start-in;
           inside = a .inside;
           same = a .same ∙ m .same;

@@ -1,5 +1,5 @@
--- What is left falls: heads, then calls that may be followed, then cells.
-use mathlib.Core.Path.{_≡_, refl, sym, ap, _∙_, subst}
+-- What is left falls: heads, then cells.
+use mathlib.Core.Path.{_≡_, refl, sym, ap, subst}
 use mathlib.Core.Logic.{_⊎_, inl, inr}
 use mathlib.Core.Bool.{Bool, true, false}
 use Prim.Native.Nat.{ℕ, suc, _+_, _-_, _*_, _<_, _≤_}
@@ -25,26 +25,7 @@ weigh-less l ok ok′ left left′ at at′ e h less = subst (λ (b : Bool). wei
     go false z = omega arith
     go true z = let y = goes (less z) in omega arith
 
--- heads, and calls that may be followed, of which there are at most f
-pub rank : ℕ → ℕ → ℕ → ℕ
-rank f left fuel = left * (f + 1) + fuel
-
-rank-less : (f left left′ fuel fuel′ : ℕ) → left′ < left → fuel′ ≤ f → rank f left′ fuel′ < rank f left fuel
-unfolding rank
-rank-less f left left′ fuel fuel′ h g = let k : suc left′ ≤ left = omega arith in let y : suc left′ * (f + 1) ≤ left * (f + 1) = mul-le-mul-right (f + 1) k in omega (arith, y, suc-mul left′ (f + 1))
-
--- a spot further down
-pub lower : (f left fuel fuel′ at at′ a b : ℕ) → a ≤ at → b ≡ fuel → (fuel′ < fuel) ⊎ ((fuel′ ≡ fuel) × (at < at′)) → (rank f left fuel′ < rank f left b) ⊎ ((rank f left fuel′ ≡ rank f left b) × (a < at′))
-unfolding rank
-lower f left fuel fuel′ at at′ a b h e (inl z) = inl (omega (arith, z, e))
-lower f left fuel fuel′ at at′ a b h e (inr (z, k)) = inr (ap (λ (x : ℕ). left * (f + 1) + x) (z ∙ sym e), omega (arith, h, k))
-
 -- a side that stands further on than a place behind s
-pub nearer : (f left left′ a b x y g h u v : ℕ) → a ≤ b → y ≡ x → u ≤ f → h ≡ u → v ≡ g → (left′ < left) ⊎ ((left′ ≡ left) × (u ≡ v) × (b < x)) → (rank f left′ h < rank f left g) ⊎ ((rank f left′ h ≡ rank f left g) × (a < y))
-nearer f left left′ a b x y g h u v le e few eh ev (inl z) = inl (rank-less f left left′ g h z (omega arith))
-nearer f left left′ a b x y g h u v le e few eh ev (inr (z, k, l)) = let w : h ≡ g = eh ∙ k ∙ ev in inr (cc, omega (arith, le, e, l))
-
--- none more may be followed
-pub fuel-low : (fuel fuel′ at at′ : ℕ) → (fuel′ < fuel) ⊎ ((fuel′ ≡ fuel) × (at < at′)) → fuel′ ≤ fuel
-fuel-low fuel fuel′ at at′ (inl z) = omega arith
-fuel-low fuel fuel′ at at′ (inr (z, k)) = omega (arith, z)
+pub nearer : (left left′ a b x y : ℕ) → a ≤ b → y ≡ x → (left′ < left) ⊎ ((left′ ≡ left) × (b < x)) → (left′ < left) ⊎ ((left′ ≡ left) × (a < y))
+nearer left left′ a b x y h e (inl z) = inl z
+nearer left left′ a b x y h e (inr (z, k)) = inr (z, omega (arith, e))

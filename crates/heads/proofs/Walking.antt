@@ -113,6 +113,7 @@ module _ (cells starts counts firsts : List ℕ) where
     deep = omega arith;
     queue = (deeper-same s, refl);
     kept = kept-same s A;
+    fuel-is = refl;
     start-in = lw;
     inside = lw;
     same = refl;
@@ -139,12 +140,12 @@ module _ (cells starts counts firsts : List ℕ) where
 
     pub moved-roomy : Roomy S hs → Roomy (start s B v o heads q (length l)) (m .here)
     moved-roomy ro =
-        let k = queue-many H F cells (S .s) l (S .q) (m .n) s B (m .waiting) (m .queue) in
+        let k = queue-many H F cells (S .s) l (S .s .fuel) (S .q) (m .n) s B (m .waiting) (m .queue) in
         record { many = m .many; some = m .some; few = omega (arith, moved-left, m .both, ro .many, ro .few); room-for = omega (arith, moved-left, m .both, m .deep, m .long, k, ro .many, ro .room-for) }
 
     -- deeper, with the same heads
-    pub moved-to : (t : Spot) (C : Arrays) → Spotted H F cells t C (m .here) → Deeper s t → Kept s B C → Moved cells starts counts firsts H F S t heads left q v C l o hs
-    moved-to t C sp dp kp = record {
+    pub moved-to : (t : Spot) (C : Arrays) → Spotted H F cells t C (m .here) → Deeper s t → Kept s B C → t .fuel ≡ s .fuel → Moved cells starts counts firsts H F S t heads left q v C l o hs
+    moved-to t C sp dp kp ef = record {
       done = m .done;
       here = m .here;
       waiting = m .waiting;
@@ -157,8 +158,9 @@ module _ (cells starts counts firsts : List ℕ) where
       some = m .some;
       both = m .both;
       deep = m .deep;
-      queue = queue-in H F cells (S .s) l (S .q) (m .n) s t C (m .waiting) dp (queue-kept H F cells (S .s) l (S .q) (m .n) s B C (m .waiting) kp (m .queue));
-      kept = kept-then (S .s) (S .A) B C (m .kept) (kept-up (S .s) s B C (queue-base H F cells (S .s) l (S .q) (m .n) s B (m .waiting) (m .queue)) kp);
+      queue = queue-in H F cells (S .s) l (S .s .fuel) (S .q) (m .n) s t C (m .waiting) dp (queue-kept H F cells (S .s) l (S .s .fuel) (S .q) (m .n) s B C (m .waiting) kp (m .queue));
+      kept = kept-then (S .s) (S .A) B C (m .kept) (kept-up (S .s) s B C (queue-base H F cells (S .s) l (S .s .fuel) (S .q) (m .n) s B (m .waiting) (m .queue)) kp);
+      fuel-is = ef ∙ m .fuel-is;
       start-in = m .start-in;
       inside = m .inside;
       same = m .same;
@@ -191,15 +193,15 @@ module _ (cells starts counts firsts : List ℕ) where
     pub goes-past : (t : Spot) → Past cells counts heads s t → Onward cells starts counts firsts S t heads left q v B l o
     goes-past t pt H F hs rd sp ro =
         let m = on H F hs rd sp ro in
-        moved-to H F S s heads left q v B l o hs m t B (pt .spotted H F B (m .here) (rd .procs-few) (rd .tallied) (m .many) (m .spotted)) (pt .deeper) (kept-same s B)
+        moved-to H F S s heads left q v B l o hs m t B (pt .spotted H F B (m .here) (rd .procs-few) (rd .tallied) (m .many) (m .spotted)) (pt .deeper) (kept-same s B) (pt .fuel-same)
 
     -- a term that ends outside the cells: there is none
     pub goes-stuck : length cells ≤ s .at → (x : Done) (C : Arrays) (o′ : List ℕ) → WrittenBy cells starts counts firsts S x C o′
     goes-stuck out x C o′ H F hs rd sp ro = let m = on H F hs rd sp ro in absurd (stuck H F cells s B (m .here) out (m .spotted))
 
-    pub goes-step : (t : Spot) (C : Arrays) → Leads cells starts counts firsts s B t C → Stands cells starts counts firsts S t heads left q v C l o
-    goes-step t C ld = (
-      λ ok H F hs rd sp ro. let m = on H F hs rd sp ro in moved-to H F S s heads left q v B l o hs m t C (ld .2 H F (m .here) rd (m .spotted) .0 ok) (ld .0) (ld .1),
+    pub goes-step : (t : Spot) (C : Arrays) → Leads cells starts counts firsts s B t C → (t .ok ≡ true → t .fuel ≡ s .fuel) → Stands cells starts counts firsts S t heads left q v C l o
+    goes-step t C ld ef = (
+      λ ok H F hs rd sp ro. let m = on H F hs rd sp ro in moved-to H F S s heads left q v B l o hs m t C (ld .2 H F (m .here) rd (m .spotted) .0 ok) (ld .0) (ld .1) (ef ok),
       λ bad H F hs rd sp ro. let m = on H F hs rd sp ro in beyond-out H F S s heads left q v B l o hs m (ld .2 H F (m .here) rd (m .spotted) .1 bad) C v,
     )
 
@@ -221,8 +223,9 @@ module _ (cells starts counts firsts : List ℕ) where
           some = m .some;
           both = m .both;
           deep = m .deep;
-          queue = queue-same H F cells (S .s) l l′ (S .q) (m .n) s B (m .waiting) (subst (λ (j : ℕ). later-cells * j ≤ length l) (m .deep) high) el e (m .queue);
+          queue = queue-same H F cells (S .s) l l′ (S .s .fuel) (S .q) (m .n) s B (m .waiting) (subst (λ (j : ℕ). later-cells * j ≤ length l) (m .deep) high) el e (m .queue);
           kept = m .kept;
+          fuel-is = m .fuel-is;
           start-in = m .start-in;
           inside = m .inside;
           same = m .same;
@@ -230,9 +233,9 @@ module _ (cells starts counts firsts : List ℕ) where
         }
 
   -- down into the side
-  pub toward-down : (S : Start) (k : Turn) (slots vars conds calls l o : List ℕ) → Toward cells starts counts firsts S k (arrays slots vars conds calls) l o → k .over ≡ false → (r : Spot) (conds′ : List ℕ) → SideDown cells (k .d) (k .t) (k .e) slots conds r conds′
+  pub toward-down : (S : Start) (k : Turn) (slots vars conds calls l o : List ℕ) → Toward cells starts counts firsts S k (arrays slots vars conds calls) l o → k .over ≡ false → (r : Spot) (conds′ : List ℕ) → SideDown cells (k .d) (k .t) (k .e) slots conds r conds′ → (r .ok ≡ true → r .fuel ≡ k .t .fuel)
       → Stands cells starts counts firsts S r (k .heads) (k .left) (k .q) (k .done .w) (arrays slots vars conds′ calls) l o
-  toward-down S k slots vars conds calls l o tw still r conds′ sd =
+  toward-down S k slots vars conds calls l o tw still r conds′ sd ef =
       let B = arrays slots vars conds calls in
       let C = arrays slots vars conds′ calls in
       let z = sd vars calls in (
@@ -251,8 +254,9 @@ module _ (cells starts counts firsts : List ℕ) where
               some = a .some;
               both = a .both;
               deep = a .deep;
-              queue = queue-in H F cells (S .s) l (S .q) (a .n) (k .t) r C (a .waiting) (z .0) (queue-kept H F cells (S .s) l (S .q) (a .n) (k .t) B C (a .waiting) (z .1) (a .queue));
-              kept = kept-then (S .s) (S .A) B C (a .kept) (kept-up (S .s) (k .t) B C (queue-base H F cells (S .s) l (S .q) (a .n) (k .t) B (a .waiting) (a .queue)) (z .1));
+              queue = queue-in H F cells (S .s) l (S .s .fuel) (S .q) (a .n) (k .t) r C (a .waiting) (z .0) (queue-kept H F cells (S .s) l (S .s .fuel) (S .q) (a .n) (k .t) B C (a .waiting) (z .1) (a .queue));
+              kept = kept-then (S .s) (S .A) B C (a .kept) (kept-up (S .s) (k .t) B C (queue-base H F cells (S .s) l (S .s .fuel) (S .q) (a .n) (k .t) B (a .waiting) (a .queue)) (z .1));
+              fuel-is = ef ok ∙ a .fuel-is;
               start-in = a .start-in;
               inside = a .inside;
               same = a .same;

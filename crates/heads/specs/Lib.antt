@@ -2,4 +2,3 @@ pub mod Writing
 pub mod Stack
 pub mod Progress
 pub mod Memory
-pub mod Tallying

@@ -12,7 +12,6 @@ use Rattle.counting.specs.Limits.{row-width, row}
 use Rattle.counting.specs.Counting.{Counts}
 use Rattle.contexts.specs.declared.Spot.{Spot}
 use Rattle.heads.specs.declared.remembered.Arrival.{Arrival}
-use Rattle.heads.specs.declared.tally.Tally.{Tally}
 use Rattle.heads.specs.Progress.{side-spot, Past}
 
 -- the cells of an entry, how many entries there are, and the cells of all
@@ -43,9 +42,9 @@ pub record Finds (cells counts : List ℕ) (base heads p : ℕ) (f : Arrival) : 
   pub reaches : Reaches cells counts base heads p (f .at) (f .own)
   pub counted : f .next ≤ f .a .next → Counts cells (row base counts) (f .next) (f .a)
 
--- the one side of `+` that has all heads stands at r, or what has all heads of the first side
-abbrev pub OnlySide : Node → Tally → ℕ → ℕ → Type 0
-OnlySide d k heads r = (d .kind ≡ alt-kind) × (((k .a .heads ≡ 0) × (r ≡ k .a .next)) ⊎ ((0 < k .a .heads) × (heads ≤ k .a .heads) × (r ≡ k .deep)))
+-- the one side of `+` that has all heads stands at r
+abbrev pub OnlySide : Node → Counted → ℕ → ℕ → Type 0
+OnlySide d a heads r = (d .kind ≡ alt-kind) × (((a .heads ≡ 0) × (r ≡ a .next)) ⊎ ((0 < a .heads) × (heads ≤ a .heads) × (r ≡ d .next)))
 
 -- the new equations passed, with those of a first side without heads
 abbrev pub Passed : Counted → ℕ → ℕ → Type 0

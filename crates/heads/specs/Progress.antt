@@ -52,24 +52,9 @@ Parting kind = (kind ≡ alt-kind) ⊎ (kind ≡ cond-kind)
 abbrev pub Parted : ℕ → Type 0
 Parted kind = Parting kind ⊎ (kind ≡ seq-kind)
 
--- a call without data where no variable is in scope: the right side needs no slots
-abbrev pub Bare : Node → Spot → Type 0
-Bare d s = (d .datas ≡ 0) × (s .n ≡ 0) × (0 < s .fuel)
-
--- neither a leaf nor a choice, or a bare call
-pub record StepsDown (d : Node) (s : Spot) : Type 0 where
-  pub no-atom : d .kind ≡ atom-kind → ⊥
-  pub no-alt : d .kind ≡ alt-kind → ⊥
-  pub no-cond : d .kind ≡ cond-kind → ⊥
-  pub bare : d .kind ≡ call-kind → Bare d s
-
--- is it so?
-abbrev pub Inner : Node → Spot → Bool → Type 0
-Inner d s r = (r ≡ true → StepsDown d s) × (r ≡ false → Leaf (d .kind) ⊎ Parting (d .kind))
-
--- fewer calls may be followed, or the term stands further on
-abbrev pub Lower : Spot → Spot → Type 0
-Lower s r = (r .fuel < s .fuel) ⊎ ((r .fuel ≡ s .fuel) × (s .at < r .at))
+-- is it neither?
+abbrev pub Inner : ℕ → Bool → Type 0
+Inner kind r = (r ≡ true → (kind ≡ atom-kind → ⊥) × (kind ≡ call-kind → ⊥) × (kind ≡ alt-kind → ⊥) × (kind ≡ cond-kind → ⊥)) × (r ≡ false → Leaf kind ⊎ Parting kind)
 
 -- the node at a spot, and the count of the first part of a choice or a sequence
 pub record Looked (cells counts : List ℕ) (g : Ahead) : Type 0 where
@@ -143,8 +128,9 @@ module _ (cells starts counts firsts : List ℕ) where
     pub some : 0 < heads
     pub both : heads + length waiting ≡ left
     pub deep : q ≡ S .q + n
-    pub queue : Queue H F cells (S .s) l (S .q) n s B waiting
+    pub queue : Queue H F cells (S .s) l (S .s .fuel) (S .q) n s B waiting
     pub kept : Kept (S .s) (S .A) B
+    pub fuel-is : s .fuel ≡ S .s .fuel
     pub start-in : S .w ≤ length (S .o)
     pub inside : v ≤ length o′
     pub same : length o′ ≡ length (S .o)
@@ -172,8 +158,9 @@ module _ (cells starts counts firsts : List ℕ) where
     pub some : 0 < heads
     pub both : heads + length waiting ≡ left
     pub deep : q ≡ S .q + n
-    pub queue : Queue H F cells (S .s) l (S .q) n t B waiting
+    pub queue : Queue H F cells (S .s) l (S .s .fuel) (S .q) n t B waiting
     pub kept : Kept (S .s) (S .A) B
+    pub fuel-is : t .fuel ≡ S .s .fuel
     pub start-in : S .w ≤ length (S .o)
     pub inside : v ≤ length o′
     pub same : length o′ ≡ length (S .o)
@@ -201,7 +188,7 @@ module _ (cells starts counts firsts : List ℕ) where
 
 -- less is left, or the side stands further on
 abbrev pub Nearer : Spot → ℕ → Turn → Type 0
-Nearer s left r = (r .e .c < byte-limit) × ((r .left < left) ⊎ ((r .left ≡ left) × (r .t .fuel ≡ s .fuel) × (s .at < r .e .at)))
+Nearer s left r = (r .e .c < byte-limit) × ((r .left < left) ⊎ ((r .left ≡ left) × (s .at < r .e .at)))
 
 -- bounds, for calls that have room
 abbrev pub Bounded : Spot → Type 0

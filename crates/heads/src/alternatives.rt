@@ -5,17 +5,15 @@ ghost use Prim.Native.Nat.{ℕ, _≤_, _<_};
 ghost use lib.ListN.{length};
 ghost use Rattle.nodes.specs.Layout.{cell-limit, byte-limit};
 ghost use Rattle.counting.specs.Limits.{most-heads, max-fuel, row};
+ghost use Rattle.counting.specs.Counting.{Counts};
 ghost use Rattle.heads.specs.Progress.{Choice, Parted, Looked, SecondSide, side-spot, Idle, Behind, Past};
 ghost use Rattle.heads.specs.Memory.{work-limit, Reaches, OnlySide, Passed, Finds, Remembers};
-ghost use Rattle.heads.specs.Tallying.{Tallies};
 use crate::remembered::Arrival;
 use crate::remembered::ENTRIES;
 use crate::remembered::WORK;
 use crate::remembered::find;
 use crate::remembered::found_at;
 use crate::remembered::remember;
-use crate::tally::Tally;
-use crate::tally::tally_of;
 use contexts::Side;
 use contexts::Spot;
 use counting::Counted;
@@ -49,21 +47,19 @@ fn parted(kind: usize) -> bool
 }
 
 // The count of the first part of a choice or a sequence.
-fn first_part(cells: &[u16], counts: &[u16], base: usize, d: Node, remembered: &mut [u16]) -> Tally
-    requires { ⌜ (base < cell-limit) × Remembers (now cells) (now counts) (now remembered) ⌝ }
-    ensures { λ r. ⌜ (r .a .heads ≤ most-heads) × (r .a .own ≤ most-heads) × (Parted (d .kind) → d .next ≤ r .a .next) ⌝ }
-    ensures { λ r. ⌜ (0 < d .next → d .next ≤ r .a .next → Tallies (now (cells .entry)) (now (counts .entry)) base (d .next) r) ⌝ }
-    ensures { λ r. ⌜ Remembers (now (cells .entry)) (now (counts .entry)) (now (remembered .exit)) ⌝ }
+fn first_part(cells: &[u16], counts: &[u16], base: usize, d: Node) -> Counted
+    requires { ⌜ base < cell-limit ⌝ }
+    ensures { λ r. ⌜ (r .heads ≤ most-heads) × (r .own ≤ most-heads) × (Parted (d .kind) → d .next ≤ r .next) ⌝ }
+    ensures { λ r. ⌜ (0 < d .next → d .next ≤ r .next → Counts (now (cells .entry)) (row base (now (counts .entry))) (d .next) r) ⌝ }
 {
     if parted(d.kind) {
-        return tally_of(cells, counts, base, d.next, &mut *remembered);
+        return counting::count(cells, d.next, counts, base);
     }
-    let none = Counted {
+    Counted {
         next: 0,
         heads: 0,
         own: 0,
-    };
-    Tally { a: none, deep: 0 }
+    }
 }
 
 pub fn second_side(g: Ahead) -> Side
@@ -149,24 +145,24 @@ fn pass_idle(cells: &[u16], counts: &[u16], base: usize, at: usize) -> usize
     p
 }
 
-// The side of `+` that has all heads, or what has all heads of the first side, if there are cells for it; else the same place.
-fn only_side(d: Node, k: Tally, heads: usize, l: usize, p: usize) -> usize
-    ensures { λ r. ⌜ (p < r → (r < l) × OnlySide d k heads r) ⌝ }
+// The side of `+` that has all heads, if there are cells for it; else the same place.
+fn only_side(d: Node, a: Counted, heads: usize, l: usize, p: usize) -> usize
+    ensures { λ r. ⌜ (p < r → (r < l) × OnlySide d a heads r) ⌝ }
 {
     if d.kind != nodes::ALT {
         return p;
     }
-    if k.a.heads == 0 {
-        if k.a.next < l {
-            return k.a.next;
+    if a.heads == 0 {
+        if a.next < l {
+            return a.next;
         }
         return p;
     }
-    if k.a.heads < heads {
+    if a.heads < heads {
         return p;
     }
-    if k.deep < l {
-        return k.deep;
+    if d.next < l {
+        return d.next;
     }
     p
 }
@@ -194,34 +190,26 @@ fn weigh(work: usize, p: usize, next: usize) -> usize
 }
 
 // From a place on as long as one side of `+` has all heads.
-fn reach(
-    cells: &[u16],
-    counts: &[u16],
-    base: usize,
-    heads: usize,
-    at: usize,
-    remembered: &mut [u16],
-) -> Arrival
-    requires { ⌜ (at < length (now cells)) × (base < cell-limit) × Remembers (now cells) (now counts) (now remembered) ⌝ }
-    ensures { λ r. ⌜ Finds (now (cells .entry)) (now (counts .entry)) base heads at r × Remembers (now (cells .entry)) (now (counts .entry)) (now (remembered .exit)) ⌝ }
+fn reach(cells: &[u16], counts: &[u16], base: usize, heads: usize, at: usize) -> Arrival
+    requires { ⌜ (at < length (now cells)) × (base < cell-limit) ⌝ }
+    ensures { λ r. ⌜ Finds (now (cells .entry)) (now (counts .entry)) base heads at r ⌝ }
 {
     let mut p = pass_idle(cells, counts, base, at);
     let mut d = nodes::node_at(cells, p);
-    let mut k = first_part(cells, counts, base, d, &mut *remembered);
+    let mut a = first_part(cells, counts, base, d);
     let mut own: usize = 0;
     let mut work = weigh(0, at, p);
-    let mut q = only_side(d, k, heads, cells.len(), p);
+    let mut q = only_side(d, a, heads, cells.len(), p);
     while p < q {
-        own = passed(own, k.a);
-        work = weigh(work, p, k.a.next);
+        own = passed(own, a);
+        work = weigh(work, p, a.next);
         let r = pass_idle(cells, counts, base, q);
         work = weigh(work, q, r);
         p = r;
         d = nodes::node_at(cells, p);
-        k = first_part(cells, counts, base, d, &mut *remembered);
-        q = only_side(d, k, heads, cells.len(), p);
+        a = first_part(cells, counts, base, d);
+        q = only_side(d, a, heads, cells.len(), p);
     }
-    let a = k.a;
     Arrival {
         at: p,
         own: own,
@@ -247,7 +235,7 @@ fn recall(
     if i < ENTRIES {
         return found_at(&*remembered, i);
     }
-    let f = reach(cells, counts, base, heads, at, &mut *remembered);
+    let f = reach(cells, counts, base, heads, at);
     if f.work >= WORK {
         remember(cells, counts, &mut *remembered, at, base, heads, f);
     }
@@ -304,7 +292,6 @@ pub fn look(cells: &[u16], counts: &[u16], s: Spot, heads: usize, remembered: &m
         let m = f.a;
         return Ahead { s: t, d: b, a: m };
     }
-    let k = first_part(cells, counts, base, b, &mut *remembered);
-    let a = k.a;
+    let a = first_part(cells, counts, base, b);
     Ahead { s: t, d: b, a: a }
 }

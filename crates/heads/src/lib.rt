@@ -10,11 +10,9 @@ ghost use Rattle.contexts.specs.Spots.{variable-limit};
 ghost use Rattle.heads.specs.Writing.{HeadsWritten, HeadsCounted, SummandsWritten};
 
 pub mod alternatives; // the first alternatives that have no heads are passed
-pub mod downward; // one step down in the walk's own loop
 pub mod numbering; // the numbers of the first new equations
 pub mod params; // the slots of an equation's parameters
 pub mod remembered; // what is found from a place on
-pub mod tally; // the count of a term and of the first parts of its first parts
 pub mod waiting; // what is walked later
 pub mod walk; // one walk over the term and the right sides that it calls at the head
 

@@ -27,22 +27,22 @@ fn narrow(n: usize) -> u16
 
 // Small numbers stand together in one cell.
 pub fn put_later(later: &mut [u16], q: usize, s: Spot, e: Side, heads: usize)
-    requires { ⌜ (later-cells * q + later-cells ≤ length (now later)) × (s .n ≤ 64) × (s .m ≤ 64) × (s .nv ≤ 64) × (s .nc ≤ 64) × (s .nk ≤ 64) × (e .c < byte-limit) × (s .fuel ≤ 64) ⌝ }
+    requires { ⌜ (later-cells * q + later-cells ≤ length (now later)) × (s .n ≤ 64) × (s .m ≤ 64) × (s .nv ≤ 64) × (s .nc ≤ 64) × (s .nk ≤ 64) × (e .c < byte-limit) ⌝ }
     ensures { λ r. ⌜ LaterPut (now (later .entry)) q s e heads (now (later .exit)) ⌝ }
 {
     let i = LATER * q;
     later[i] = narrow(s.at);
     later[i + 1] = narrow(s.n * 64 + s.m);
-    later[i + 2] = narrow(s.fuel * 2048 + s.nv * 256 + s.nc * 16 + s.nk);
+    later[i + 2] = narrow(s.nv * 256 + s.nc * 16 + s.nk);
     later[i + 3] = narrow(s.lc);
     later[i + 4] = narrow(s.top);
     later[i + 5] = narrow(e.at);
     later[i + 6] = narrow(e.c * 256 + heads % 256);
 }
 
-pub fn later_at(later: &[u16], q: usize) -> Later
+pub fn later_at(later: &[u16], q: usize, fuel: usize) -> Later
     requires { ⌜ later-cells * q + later-cells ≤ length (now later) ⌝ }
-    ensures { λ r. ⌜ r ≡ entry (now (later .entry)) q ⌝ }
+    ensures { λ r. ⌜ r ≡ entry (now (later .entry)) q fuel ⌝ }
 {
     let i = LATER * q;
     let at = cell(later, i);
@@ -55,11 +55,11 @@ pub fn later_at(later: &[u16], q: usize) -> Later
     let s = Spot {
         ok: true,
         at: at,
-        fuel: y / 2048,
+        fuel: fuel,
         n: x / 64,
         m: x % 64,
         c: z / 256,
-        nv: y / 256 % 8,
+        nv: y / 256,
         nc: y / 16 % 16,
         lc: lc,
         nk: y % 16,

@@ -1,20 +1,18 @@
-// One walk over a term and the right sides that it calls at the head: each head is written as a summand. Only calls that need slots are
-// walked by a call of the walk itself; the second sides of choices wait on a stack.
+// One walk over a term and the right sides that it calls at the head: each head is written as a summand. Only calls are walked by a
+// call of the walk itself; the second sides of choices wait on a stack.
 ghost use mathlib.Core.Path.{_≡_};
 ghost use mathlib.Core.Bool.{true, false};
 ghost use mathlib.Core.Logic.{_⊎_};
-ghost use Prim.Native.Nat.{ℕ, _*_, _≤_};
+ghost use Prim.Native.Nat.{_*_, _≤_};
 ghost use lib.ListN.{length, take};
 ghost use Rattle.contexts.specs.Spots.{arrays, Bound};
 ghost use Rattle.heads.specs.Stack.{later-cells, Steady};
 ghost use Rattle.heads.specs.Memory.{Remembers};
-ghost use Rattle.heads.specs.Progress.{Rooms, Looked, Leaf, Parting, Bounded, start, WrittenBy, aside-turn, Chosen, Resumed, Nearer, Turned};
+ghost use Rattle.heads.specs.Progress.{Rooms, Looked, Leaf, Parting, Inner, Bounded, start, WrittenBy, aside-turn, Chosen, Resumed, Nearer, Turned};
 use crate::alternatives::Ahead;
 use crate::alternatives::choice;
 use crate::alternatives::look;
 use crate::alternatives::second_side;
-use crate::downward::down;
-use crate::downward::inner;
 use crate::waiting::LATER;
 use crate::waiting::later_at;
 use crate::waiting::put_later;
@@ -34,6 +32,22 @@ struct Turn {
     left: usize,
     q: usize,
     done: Done,
+}
+
+// Neither a leaf (an action or a call) nor a choice: the walk goes one step down.
+fn inner(kind: usize) -> bool
+    ensures { λ r. ⌜ Inner kind r ⌝ }
+{
+    if kind == nodes::ATOM {
+        return false;
+    }
+    if kind == nodes::CALL {
+        return false;
+    }
+    if choice(kind) {
+        return false;
+    }
+    true
 }
 
 // The walk is over; where it stood says nothing.
@@ -128,7 +142,7 @@ fn resumed(
     if heads == 0 {
         return over(g, false, x.w);
     }
-    let l = later_at(later, q - 1);
+    let l = later_at(later, q - 1, g.s.fuel);
     let t = l.s;
     if t.at >= cells.len() {
         return over(g, false, x.w);
@@ -232,10 +246,10 @@ fn next_turn(
     w: usize,
     remembered: &mut [u16],
 ) -> Turn
-    requires { ⌜ ((fuel : ℕ) × Steady (length (now calls)) (length (now slots)) fuel q0 (g .s) q (now later)) × Rooms (length (now vars)) (length (now conds)) (length (now after)) (length (now calls)) × (w ≤ length (now out)) ⌝ }
+    requires { ⌜ Steady (length (now calls)) (length (now slots)) (g .s .fuel) q0 (g .s) q (now later) × Rooms (length (now vars)) (length (now conds)) (length (now after)) (length (now calls)) × (w ≤ length (now out)) ⌝ }
     requires { ⌜ Looked (now cells) (now counts) g × (Leaf (g .d .kind) ⊎ Parting (g .d .kind)) × Remembers (now cells) (now counts) (now remembered) ⌝ }
     ensures { λ r. ⌜ (w ≤ r .done .w) × (r .done .w ≤ length (now (out .entry))) × (take (later-cells * q0) (now (later .exit)) ≡ take (later-cells * q0) (now (later .entry))) ⌝ }
-    ensures { λ r. ⌜ (r .over ≡ false → ((fuel : ℕ) → Steady (length (now (calls .entry))) (length (now (slots .entry))) fuel q0 (g .s) q (now (later .entry)) → Steady (length (now (calls .entry))) (length (now (slots .entry))) fuel q0 (r .t) (r .q) (now (later .exit))) × Nearer (g .s) left r) ⌝ }
+    ensures { λ r. ⌜ (r .over ≡ false → Steady (length (now (calls .entry))) (length (now (slots .entry))) (g .s .fuel) q0 (r .t) (r .q) (now (later .exit)) × Nearer (g .s) left r) ⌝ }
     ensures { λ r. ⌜ Turned (now (cells .entry)) (now (starts .entry)) (now (counts .entry)) (now (firsts .entry)) q0 (g .s) heads left q w (arrays (now (slots .entry)) (now (vars .entry)) (now (conds .entry)) (now (calls .entry))) (now (later .entry)) (now (out .entry)) r (arrays (now (slots .entry)) (now (vars .exit)) (now (conds .exit)) (now (calls .exit))) (now (later .exit)) (now (out .exit)) ⌝ }
     ensures { λ r. ⌜ Remembers (now (cells .entry)) (now (counts .entry)) (now (remembered .exit)) ⌝ }
 {
@@ -297,12 +311,12 @@ pub fn walk(
             return Done { ok: false, w: v };
         }
         let g = look(cells, counts, s, heads, &mut *remembered);
-        if inner(g.d, g.s) {
-            s = down(
+        if inner(g.d.kind) {
+            s = contexts::step(
                 cells,
-                starts,
-                firsts,
-                g,
+                g.d,
+                g.s,
+                second_side(g),
                 &mut *slots,
                 &mut *vars,
                 &mut *after,

@@ -1,6 +1,5 @@
 -- `heads::alternatives::look` meets its contract.
 use native.Mathlib.Omega.{arith}
-use mathlib.Core.Path.{sym, _∙_}
 use borrow.Author.Tests.{not-true}
 use Rattle.heads.proofs.Passing.{past-same}
 use Rattle.heads.proofs.Remembering.{found-past, found-looked, found-used}
@@ -22,8 +21,8 @@ returns c = let a = c .before .before .before .before .before .before .before .a
 recall-requires : tie.Need-recall-requires
 recall-requires c κs = let q = c .before .before .before .before .before .before .before .before .pre in (q .0, omega arith, q .3)
 
-add-t21 : tie.Need-add-t21
-add-t21 c = let q = c .before .before .before .before .before .before .before .before .before .before .before .before .before .pre in omega arith
+add-t20 : tie.Need-add-t20
+add-t20 c = let q = c .before .before .before .before .before .before .before .before .before .before .before .before .before .pre in omega arith
 
 beside-requires : tie.Need-beside-requires
 beside-requires c κs = tt
@@ -41,13 +40,13 @@ returns-2 : tie.Need-returns-2
 returns-2 c = let a = c .before .before .before .before .before .before .before .before .before .before .before .before .before .before .before .before .before .before .args in let f = c .before .before .before .before .before .before .before .before .before .recall .result in let fd = c .before .before .before .before .before .before .before .before .before .recall .ensures .0 in let t = c .before .before .before .before .beside in let b = c .before .before .before .node-at2 in (found-looked (a .cells .now) (a .counts .now) (a .heads) (a .s) f fd (c .before .before .before .before .before .before .before .before .before .before .before .before .before .before .before .before .before .before .pre .2) (t .result) (t .ensures) (b .result) (b .ensures .0) (b .ensures .1) (f .a) (found-used (a .cells .now) (a .counts .now) (a .heads) (a .s) f fd (c .before .before .before .before .before .before .before .before .before .before .before .before .before .before .before .before .before .before .pre .2) (t .result) (t .ensures) (b .result) (b .ensures .0) (b .ensures .1) (c .before .before .usable .ensures (c .before .if2 .taken))), (found-past (a .cells .now) (a .counts .now) (a .heads) (a .s) f fd (c .before .before .before .before .before .before .before .before .before .before .before .before .before .before .before .before .before .before .pre .2) (t .result) (t .ensures) (b .result) (b .ensures .0) (b .ensures .1), c .before .before .before .before .before .before .before .before .before .recall .ensures .1))
 
 first-part-requires : tie.Need-first-part-requires
-first-part-requires c κs = (let q = c .before .before .before .before .before .before .before .before .before .before .before .before .before .before .before .before .before .before .pre in omega arith, c .before .before .before .before .before .before .before .before .before .recall .ensures .1)
+first-part-requires c κs = let q = c .before .before .before .before .before .before .before .before .before .before .before .before .before .before .before .before .before .pre in omega arith
 
 same-length-2 : tie.Need-same-length-2
-same-length-2 c = c .before .before .before .first-part .ensures .1 .1 .long ∙ sym (c .before .before .before .before .before .before .before .before .before .before .before .before .before .before .before .before .before .before .before .before .before .before .pre .3 .long)
+same-length-2 c = c .before .before .before .before .before .before .before .before .before .recall .kept .1 .1 .1 .1 .1 .0
 
 returns-3 : tie.Need-returns-3
-returns-3 c = let a = c .before .before .before .before .before .before .before .before .before .before .before .before .before .before .before .before .before .before .before .before .before .before .args in let f = c .before .before .before .before .before .before .before .before .before .before .before .before .before .recall .result in let fd = c .before .before .before .before .before .before .before .before .before .before .before .before .before .recall .ensures .0 in let t = c .before .before .before .before .before .before .before .before .beside in let b = c .before .before .before .before .before .before .before .node-at2 in let k = c .before .before .before .first-part in (found-looked (a .cells .now) (a .counts .now) (a .heads) (a .s) f fd (c .before .before .before .before .before .before .before .before .before .before .before .before .before .before .before .before .before .before .before .before .before .before .pre .2) (t .result) (t .ensures) (b .result) (b .ensures .0) (b .ensures .1) (k .result .a) (λ x. (k .ensures .0 .2 x, k .ensures .1 .0 (omega (arith, b .ensures .0 .on)) (k .ensures .0 .2 x) .counted)), (found-past (a .cells .now) (a .counts .now) (a .heads) (a .s) f fd (c .before .before .before .before .before .before .before .before .before .before .before .before .before .before .before .before .before .before .before .before .before .before .pre .2) (t .result) (t .ensures) (b .result) (b .ensures .0) (b .ensures .1), k .ensures .1 .1))
+returns-3 c = let a = c .before .before .before .before .before .before .before .before .before .before .before .before .before .before .before .before .before .before .args in let f = c .before .before .before .before .before .before .before .before .before .recall .result in let fd = c .before .before .before .before .before .before .before .before .before .recall .ensures .0 in let t = c .before .before .before .before .beside in let b = c .before .before .before .node-at2 in let k = c .first-part in (found-looked (a .cells .now) (a .counts .now) (a .heads) (a .s) f fd (c .before .before .before .before .before .before .before .before .before .before .before .before .before .before .before .before .before .before .pre .2) (t .result) (t .ensures) (b .result) (b .ensures .0) (b .ensures .1) (k .result) (λ x. (k .ensures .0 .2 x, k .ensures .1 (omega (arith, b .ensures .0 .on)) (k .ensures .0 .2 x))), (found-past (a .cells .now) (a .counts .now) (a .heads) (a .s) f fd (c .before .before .before .before .before .before .before .before .before .before .before .before .before .before .before .before .before .before .pre .2) (t .result) (t .ensures) (b .result) (b .ensures .0) (b .ensures .1), c .before .before .before .before .before .before .before .before .before .recall .ensures .1))
 
 pub look-spec : {M : Type 1} → statement M
-look-spec = tie.close (tie.spec mul-base node-at-requires parted-requires returns recall-requires add-t21 beside-requires node-at-requires-2 usable-requires same-length returns-2 first-part-requires same-length-2 returns-3)
+look-spec = tie.close (tie.spec mul-base node-at-requires parted-requires returns recall-requires add-t20 beside-requires node-at-requires-2 usable-requires same-length returns-2 first-part-requires same-length-2 returns-3)

@@ -1,6 +1,6 @@
 -- `heads::alternatives::recall` meets its contract.
 use native.Mathlib.Omega.{arith}
-use mathlib.Core.Path.{refl, sym, _∙_}
+use mathlib.Core.Path.{refl}
 use Rattle.heads.proofs.Remembering.{recalled}
 use Rattle.heads.proofs.alternatives.recall.Statement.{statement}
 use Rattle.heads.proofs.alternatives.recall.Tie as tie
@@ -18,22 +18,22 @@ returns : tie.Need-returns
 returns c = let a = c .before .before .before .before .before .before .before .before .args in let rm = c .before .before .before .before .before .before .before .before .pre .2 in (recalled (a .cells .now) (a .counts .now) (a .remembered .now) (c .before .before .before .find .result) (a .at) (a .base) (a .heads) (c .found-at .result) rm (omega arith) (c .before .before .before .find .ensures (omega arith)) (c .found-at .ensures), rm)
 
 reach-requires : tie.Need-reach-requires
-reach-requires c κs = let q = c .before .before .before .before .before .before .before .pre in (q .0, q .1, q .2)
+reach-requires c κs = (c .before .before .before .before .before .before .pre .0, c .before .before .before .before .before .before .pre .1)
 
 remember-requires : tie.Need-remember-requires
-remember-requires c κs = (c .before .before .before .before .before .reach .ensures .1, c .before .before .before .before .before .reach .ensures .0)
+remember-requires c κs = (c .before .before .before .before .before .before .before .before .before .before .pre .2, c .before .before .before .reach .ensures)
 
 same-length-2 : tie.Need-same-length-2
-same-length-2 c = c .before .before .remember .ensures .long ∙ sym (c .before .before .before .before .before .before .before .before .before .before .before .before .before .before .before .before .pre .2 .long)
+same-length-2 c = c .before .before .remember .kept .1 .1 .0
 
 returns-2 : tie.Need-returns-2
-returns-2 c = (c .before .before .before .before .before .before .before .before .reach .ensures .0, c .before .before .remember .ensures)
+returns-2 c = (c .before .before .before .before .before .before .reach .ensures, c .before .before .remember .ensures)
 
 same-length-3 : tie.Need-same-length-3
-same-length-3 c = c .before .before .before .before .reach .ensures .1 .long ∙ sym (c .before .before .before .before .before .before .before .before .before .before .before .before .pre .2 .long)
+same-length-3 c = refl
 
 returns-3 : tie.Need-returns-3
-returns-3 c = (c .before .before .before .before .reach .ensures .0, c .before .before .before .before .reach .ensures .1)
+returns-3 c = (c .before .before .reach .ensures, c .before .before .before .before .before .before .before .before .before .pre .2)
 
 pub recall-spec : {M : Type 1} → statement M
 recall-spec = tie.close (tie.spec find-requires found-at-requires same-length returns reach-requires remember-requires same-length-2 returns-2 same-length-3 returns-3)

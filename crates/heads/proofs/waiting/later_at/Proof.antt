@@ -49,7 +49,7 @@ at-5 = omega arith
 at-6 : 6 < later-cells
 at-6 = omega arith
 
-read : (l : List ℕ) (q a x y d t n z : ℕ)
+read : (l : List ℕ) (q fuel a x y d t n z : ℕ)
     → a ≡ getD l (later-cells * q) 0
     → x ≡ getD l (later-cells * q + 1) 0
     → y ≡ getD l (later-cells * q + 2) 0
@@ -58,12 +58,12 @@ read : (l : List ℕ) (q a x y d t n z : ℕ)
     → n ≡ getD l (later-cells * q + 5) 0
     → z ≡ getD l (later-cells * q + 6) 0
     → _≡_ {A = Later} (record {
-      s = record { ok = true; at = a; fuel = y / 2048; n = x / 64; m = x % 64; c = z / 256; nv = y / 256 % 8; nc = y / 16 % 16; lc = d; nk = y % 16; top = t };
+      s = record { ok = true; at = a; fuel = fuel; n = x / 64; m = x % 64; c = z / 256; nv = y / 256; nc = y / 16 % 16; lc = d; nk = y % 16; top = t };
       e = record { second = true; at = n; c = z / 256 };
       heads = z % 256;
-    }) (entry l q)
+    }) (entry l q fuel)
 unfolding entry unpacked
-read l q a x y d t n z e₁ e₂ e₃ e₄ e₅ e₆ e₇ =
+read l q fuel a x y d t n z e₁ e₂ e₃ e₄ e₅ e₆ e₇ =
     let f₁ = e₁ ∙ at-first l q in
     let f₂ = e₂ ∙ at-slab l q 1 at-1 in
     let f₃ = e₃ ∙ at-slab l q 2 at-2 in
@@ -121,7 +121,7 @@ cell-requires-7 c κs = tt
 returns : tie.Need-returns
 returns c =
     let o = c .before .before .before .before .before .before .before .before in
-    read (o .args .later .now) (o .args .q) (c .before .before .before .before .before .before .cell .result) (c .before .before .before .before .before .cell2 .result) (c .before .before .before .before .cell3 .result) (c .before .before .before .cell4 .result) (c .before .before .cell5 .result) (c .before .cell6 .result) (c .cell7 .result) (c .before .before .before .before .before .before .cell .ensures .0) (c .before .before .before .before .before .cell2 .ensures .0) (c .before .before .before .before .cell3 .ensures .0) (c .before .before .before .cell4 .ensures .0) (c .before .before .cell5 .ensures .0) (c .before .cell6 .ensures .0) (c .cell7 .ensures .0)
+    read (o .args .later .now) (o .args .q) (o .args .fuel) (c .before .before .before .before .before .before .cell .result) (c .before .before .before .before .before .cell2 .result) (c .before .before .before .before .cell3 .result) (c .before .before .before .cell4 .result) (c .before .before .cell5 .result) (c .before .cell6 .result) (c .cell7 .result) (c .before .before .before .before .before .before .cell .ensures .0) (c .before .before .before .before .before .cell2 .ensures .0) (c .before .before .before .before .cell3 .ensures .0) (c .before .before .before .cell4 .ensures .0) (c .before .before .cell5 .ensures .0) (c .before .cell6 .ensures .0) (c .cell7 .ensures .0)
 
 pub later-at-spec : {M : Type 1} → statement M
 later-at-spec =

@@ -46,17 +46,11 @@ by-256-and x y h = record { fits = omega arith }
 by-16 : (x : ℕ) → x ≤ 64 → Fits w64 (x * 16)
 by-16 x h = record { fits = omega arith }
 
-by-2048 : (w : ℕ) → w ≤ 64 → Fits w64 (w * 2048)
-by-2048 w h = record { fits = omega arith }
+by-both : (x y : ℕ) → x ≤ 64 → y ≤ 64 → Fits w64 (x * 256 + y * 16)
+by-both x y h g = record { fits = omega arith }
 
-by-two : (w x : ℕ) → w ≤ 64 → x ≤ 64 → Fits w64 (w * 2048 + x * 256)
-by-two w x h g = record { fits = omega arith }
-
-by-three : (w x y : ℕ) → w ≤ 64 → x ≤ 64 → y ≤ 64 → Fits w64 (w * 2048 + x * 256 + y * 16)
-by-three w x y h g k = record { fits = omega arith }
-
-by-four : (w x y z : ℕ) → w ≤ 64 → x ≤ 64 → y ≤ 64 → z ≤ 64 → Fits w64 (w * 2048 + x * 256 + y * 16 + z)
-by-four w x y z h g k l = record { fits = omega arith }
+by-three : (x y z : ℕ) → x ≤ 64 → y ≤ 64 → z ≤ 64 → Fits w64 (x * 256 + y * 16 + z)
+by-three x y z h g k = record { fits = omega arith }
 
 byte : (x : ℕ) → x ≤ 64 → x < byte-limit
 byte x h = omega arith
@@ -124,7 +118,7 @@ inside-0 q n h = omega arith
 seven : (s : Spot) (e : Side) (heads : ℕ) (a b c d f g h : ℕ)
     → a ≡ s .at % cell-limit
     → b ≡ (s .n * 64 + s .m) % cell-limit
-    → c ≡ (s .fuel * 2048 + s .nv * 256 + s .nc * 16 + s .nk) % cell-limit
+    → c ≡ (s .nv * 256 + s .nc * 16 + s .nk) % cell-limit
     → d ≡ s .lc % cell-limit
     → f ≡ s .top % cell-limit
     → g ≡ e .at % cell-limit
@@ -176,49 +170,49 @@ slice-write-later-2 : tie.Need-slice-write-later-2
 slice-write-later-2 c = let o = c .before .before .before .before .before in inside-1 (o .args .later .now) (o .args .q) (c .before .before .before .narrow .result) (o .pre .0)
 
 add-later-2 : tie.Need-add-later-2
-add-later-2 c = let o = c .before .before .before .before .before .before .before .before .before .before in fit (o .args .q) (length (o .args .later .now)) 2 at-2 (o .pre .0) (few o)
+add-later-2 c = let o = c .before .before .before .before .before .before .before .before .before in fit (o .args .q) (length (o .args .later .now)) 2 at-2 (o .pre .0) (few o)
 
 mul-later-3 : tie.Need-mul-later-3
-mul-later-3 c = let o = c .before .before .before .before .before .before .before .before .before .before in double (o .args .q) (length (o .args .later .now)) 2 at-2 (o .pre .0) (few o)
+mul-later-3 c = let o = c .before .before .before .before .before .before .before .before .before in double (o .args .q) (length (o .args .later .now)) 2 at-2 (o .pre .0) (few o)
 
 slice-write-later-3 : tie.Need-slice-write-later-3
-slice-write-later-3 c = let o = c .before .before .before .before .before .before .before .before .before .before in inside-2 (o .args .later .now) (o .args .q) (c .before .before .before .before .before .before .before .before .narrow .result) (c .before .before .before .before .before .narrow2 .result) (o .pre .0)
+slice-write-later-3 c = let o = c .before .before .before .before .before .before .before .before .before in inside-2 (o .args .later .now) (o .args .q) (c .before .before .before .before .before .before .before .narrow .result) (c .before .before .before .before .narrow2 .result) (o .pre .0)
 
 add-later-3 : tie.Need-add-later-3
-add-later-3 c = let o = c .before .before .before .before .before .before .before .before .before .before .before in fit (o .args .q) (length (o .args .later .now)) 3 at-3 (o .pre .0) (few o)
+add-later-3 c = let o = c .before .before .before .before .before .before .before .before .before .before in fit (o .args .q) (length (o .args .later .now)) 3 at-3 (o .pre .0) (few o)
 
 mul-later-4 : tie.Need-mul-later-4
-mul-later-4 c = let o = c .before .before .before .before .before .before .before .before .before .before .before in double (o .args .q) (length (o .args .later .now)) 3 at-3 (o .pre .0) (few o)
+mul-later-4 c = let o = c .before .before .before .before .before .before .before .before .before .before in double (o .args .q) (length (o .args .later .now)) 3 at-3 (o .pre .0) (few o)
 
 slice-write-later-4 : tie.Need-slice-write-later-4
-slice-write-later-4 c = let o = c .before .before .before .before .before .before .before .before .before .before .before in inside-3 (o .args .later .now) (o .args .q) (c .before .before .before .before .before .before .before .before .before .narrow .result) (c .before .before .before .before .before .before .narrow2 .result) (c .before .narrow3 .result) (o .pre .0)
+slice-write-later-4 c = let o = c .before .before .before .before .before .before .before .before .before .before in inside-3 (o .args .later .now) (o .args .q) (c .before .before .before .before .before .before .before .before .narrow .result) (c .before .before .before .before .before .narrow2 .result) (c .before .narrow3 .result) (o .pre .0)
 
 add-later-4 : tie.Need-add-later-4
-add-later-4 c = let o = c .before .before .before .before .before .before .before .before .before .before .before .before in fit (o .args .q) (length (o .args .later .now)) 4 at-4 (o .pre .0) (few o)
+add-later-4 c = let o = c .before .before .before .before .before .before .before .before .before .before .before in fit (o .args .q) (length (o .args .later .now)) 4 at-4 (o .pre .0) (few o)
 
 mul-later-5 : tie.Need-mul-later-5
-mul-later-5 c = let o = c .before .before .before .before .before .before .before .before .before .before .before .before in double (o .args .q) (length (o .args .later .now)) 4 at-4 (o .pre .0) (few o)
+mul-later-5 c = let o = c .before .before .before .before .before .before .before .before .before .before .before in double (o .args .q) (length (o .args .later .now)) 4 at-4 (o .pre .0) (few o)
 
 slice-write-later-5 : tie.Need-slice-write-later-5
-slice-write-later-5 c = let o = c .before .before .before .before .before .before .before .before .before .before .before .before in inside-4 (o .args .later .now) (o .args .q) (c .before .before .before .before .before .before .before .before .before .before .narrow .result) (c .before .before .before .before .before .before .before .narrow2 .result) (c .before .before .narrow3 .result) (c .before .narrow4 .result) (o .pre .0)
+slice-write-later-5 c = let o = c .before .before .before .before .before .before .before .before .before .before .before in inside-4 (o .args .later .now) (o .args .q) (c .before .before .before .before .before .before .before .before .before .narrow .result) (c .before .before .before .before .before .before .narrow2 .result) (c .before .before .narrow3 .result) (c .before .narrow4 .result) (o .pre .0)
 
 add-later-5 : tie.Need-add-later-5
-add-later-5 c = let o = c .before .before .before .before .before .before .before .before .before .before .before .before .before in fit (o .args .q) (length (o .args .later .now)) 5 at-5 (o .pre .0) (few o)
+add-later-5 c = let o = c .before .before .before .before .before .before .before .before .before .before .before .before in fit (o .args .q) (length (o .args .later .now)) 5 at-5 (o .pre .0) (few o)
 
 mul-later-6 : tie.Need-mul-later-6
-mul-later-6 c = let o = c .before .before .before .before .before .before .before .before .before .before .before .before .before in double (o .args .q) (length (o .args .later .now)) 5 at-5 (o .pre .0) (few o)
+mul-later-6 c = let o = c .before .before .before .before .before .before .before .before .before .before .before .before in double (o .args .q) (length (o .args .later .now)) 5 at-5 (o .pre .0) (few o)
 
 slice-write-later-6 : tie.Need-slice-write-later-6
-slice-write-later-6 c = let o = c .before .before .before .before .before .before .before .before .before .before .before .before .before in inside-5 (o .args .later .now) (o .args .q) (c .before .before .before .before .before .before .before .before .before .before .before .narrow .result) (c .before .before .before .before .before .before .before .before .narrow2 .result) (c .before .before .before .narrow3 .result) (c .before .before .narrow4 .result) (c .before .narrow5 .result) (o .pre .0)
+slice-write-later-6 c = let o = c .before .before .before .before .before .before .before .before .before .before .before .before in inside-5 (o .args .later .now) (o .args .q) (c .before .before .before .before .before .before .before .before .before .before .narrow .result) (c .before .before .before .before .before .before .before .narrow2 .result) (c .before .before .before .narrow3 .result) (c .before .before .narrow4 .result) (c .before .narrow5 .result) (o .pre .0)
 
 add-later-6 : tie.Need-add-later-6
-add-later-6 c = let o = c .before .before .before .before .before .before .before .before .before .before .before .before .before .before .before in fit (o .args .q) (length (o .args .later .now)) 6 at-6 (o .pre .0) (few o)
+add-later-6 c = let o = c .before .before .before .before .before .before .before .before .before .before .before .before .before .before in fit (o .args .q) (length (o .args .later .now)) 6 at-6 (o .pre .0) (few o)
 
 mul-later-7 : tie.Need-mul-later-7
-mul-later-7 c = let o = c .before .before .before .before .before .before .before .before .before .before .before .before .before .before .before in double (o .args .q) (length (o .args .later .now)) 6 at-6 (o .pre .0) (few o)
+mul-later-7 c = let o = c .before .before .before .before .before .before .before .before .before .before .before .before .before .before in double (o .args .q) (length (o .args .later .now)) 6 at-6 (o .pre .0) (few o)
 
 slice-write-later-7 : tie.Need-slice-write-later-7
-slice-write-later-7 c = let o = c .before .before .before .before .before .before .before .before .before .before .before .before .before .before .before in inside-6 (o .args .later .now) (o .args .q) (c .before .before .before .before .before .before .before .before .before .before .before .before .before .narrow .result) (c .before .before .before .before .before .before .before .before .before .before .narrow2 .result) (c .before .before .before .before .before .narrow3 .result) (c .before .before .before .before .narrow4 .result) (c .before .before .before .narrow5 .result) (c .before .before .narrow6 .result) (o .pre .0)
+slice-write-later-7 c = let o = c .before .before .before .before .before .before .before .before .before .before .before .before .before .before in inside-6 (o .args .later .now) (o .args .q) (c .before .before .before .before .before .before .before .before .before .before .before .before .narrow .result) (c .before .before .before .before .before .before .before .before .before .narrow2 .result) (c .before .before .before .before .before .narrow3 .result) (c .before .before .before .before .narrow4 .result) (c .before .before .before .narrow5 .result) (c .before .before .narrow6 .result) (o .pre .0)
 
 mul-narrow : tie.Need-mul-narrow
 mul-narrow c = let o = c .before .before .before in by-64 (o .args .s .n) (o .pre .1)
@@ -227,37 +221,31 @@ add-narrow : tie.Need-add-narrow
 add-narrow c = let o = c .before .before .before .before in by-64-and (o .args .s .n) (o .args .s .m) (o .pre .1) (o .pre .2)
 
 mul-narrow-2 : tie.Need-mul-narrow-2
-mul-narrow-2 c = let o = c .before .before .before .before .before .before in by-2048 (o .args .s .fuel) (o .pre .7)
+mul-narrow-2 c = let o = c .before .before .before .before .before .before in by-256 (o .args .s .nv) (byte (o .args .s .nv) (o .pre .3))
 
 mul-narrow-3 : tie.Need-mul-narrow-3
-mul-narrow-3 c = let o = c .before .before .before .before .before .before .before in by-256 (o .args .s .nv) (byte (o .args .s .nv) (o .pre .3))
+mul-narrow-3 c = let o = c .before .before .before .before .before .before .before in by-16 (o .args .s .nc) (o .pre .4)
 
 add-narrow-2 : tie.Need-add-narrow-2
-add-narrow-2 c = let o = c .before .before .before .before .before .before .before in by-two (o .args .s .fuel) (o .args .s .nv) (o .pre .7) (o .pre .3)
-
-mul-narrow-4 : tie.Need-mul-narrow-4
-mul-narrow-4 c = let o = c .before .before .before .before .before .before .before .before in by-16 (o .args .s .nc) (o .pre .4)
+add-narrow-2 c = let o = c .before .before .before .before .before .before .before in by-both (o .args .s .nv) (o .args .s .nc) (o .pre .3) (o .pre .4)
 
 add-narrow-3 : tie.Need-add-narrow-3
-add-narrow-3 c = let o = c .before .before .before .before .before .before .before .before in by-three (o .args .s .fuel) (o .args .s .nv) (o .args .s .nc) (o .pre .7) (o .pre .3) (o .pre .4)
+add-narrow-3 c = let o = c .before .before .before .before .before .before .before .before in by-three (o .args .s .nv) (o .args .s .nc) (o .args .s .nk) (o .pre .3) (o .pre .4) (o .pre .5)
+
+mul-narrow-4 : tie.Need-mul-narrow-4
+mul-narrow-4 c = let o = c .before .before .before .before .before .before .before .before .before .before .before .before .before in by-256 (o .args .e .c) (o .pre .6)
 
 add-narrow-4 : tie.Need-add-narrow-4
-add-narrow-4 c = let o = c .before .before .before .before .before .before .before .before .before in by-four (o .args .s .fuel) (o .args .s .nv) (o .args .s .nc) (o .args .s .nk) (o .pre .7) (o .pre .3) (o .pre .4) (o .pre .5)
-
-mul-narrow-5 : tie.Need-mul-narrow-5
-mul-narrow-5 c = let o = c .before .before .before .before .before .before .before .before .before .before .before .before .before .before in by-256 (o .args .e .c) (o .pre .6)
-
-add-narrow-5 : tie.Need-add-narrow-5
-add-narrow-5 c = let o = c .before .before .before .before .before .before .before .before .before .before .before .before .before .before in by-256-and (o .args .e .c) (o .args .heads) (o .pre .6)
+add-narrow-4 c = let o = c .before .before .before .before .before .before .before .before .before .before .before .before .before in by-256-and (o .args .e .c) (o .args .heads) (o .pre .6)
 
 same-length : tie.Need-same-length
-same-length c = let o = c .before .before .before .before .before .before .before .before .before .before .before .before .before .before .before in length-7 (o .args .later .now) (o .args .q) (c .before .before .before .before .before .before .before .before .before .before .before .before .before .narrow .result) (c .before .before .before .before .before .before .before .before .before .before .narrow2 .result) (c .before .before .before .before .before .narrow3 .result) (c .before .before .before .before .narrow4 .result) (c .before .before .before .narrow5 .result) (c .before .before .narrow6 .result) (c .narrow7 .result)
+same-length c = let o = c .before .before .before .before .before .before .before .before .before .before .before .before .before .before in length-7 (o .args .later .now) (o .args .q) (c .before .before .before .before .before .before .before .before .before .before .before .before .narrow .result) (c .before .before .before .before .before .before .before .before .before .narrow2 .result) (c .before .before .before .before .before .narrow3 .result) (c .before .before .before .before .narrow4 .result) (c .before .before .before .narrow5 .result) (c .before .before .narrow6 .result) (c .narrow7 .result)
 
 returns : tie.Need-returns
 returns c =
-    let o = c .before .before .before .before .before .before .before .before .before .before .before .before .before .before .before in
-    let k = put-right (o .args .later .now) (o .args .q) (c .before .before .before .before .before .before .before .before .before .before .before .before .before .narrow .result) (c .before .before .before .before .before .before .before .before .before .before .narrow2 .result) (c .before .before .before .before .before .narrow3 .result) (c .before .before .before .before .narrow4 .result) (c .before .before .before .narrow5 .result) (c .before .before .narrow6 .result) (c .narrow7 .result) (o .pre .0) in
-    (k .0, k .1 ∙ seven (o .args .s) (o .args .e) (o .args .heads) (c .before .before .before .before .before .before .before .before .before .before .before .before .before .narrow .result) (c .before .before .before .before .before .before .before .before .before .before .narrow2 .result) (c .before .before .before .before .before .narrow3 .result) (c .before .before .before .before .narrow4 .result) (c .before .before .before .narrow5 .result) (c .before .before .narrow6 .result) (c .narrow7 .result) (c .before .before .before .before .before .before .before .before .before .before .before .before .before .narrow .ensures) (c .before .before .before .before .before .before .before .before .before .before .narrow2 .ensures) (c .before .before .before .before .before .narrow3 .ensures) (c .before .before .before .before .narrow4 .ensures) (c .before .before .before .narrow5 .ensures) (c .before .before .narrow6 .ensures) (c .narrow7 .ensures))
+    let o = c .before .before .before .before .before .before .before .before .before .before .before .before .before .before in
+    let k = put-right (o .args .later .now) (o .args .q) (c .before .before .before .before .before .before .before .before .before .before .before .before .narrow .result) (c .before .before .before .before .before .before .before .before .before .narrow2 .result) (c .before .before .before .before .before .narrow3 .result) (c .before .before .before .before .narrow4 .result) (c .before .before .before .narrow5 .result) (c .before .before .narrow6 .result) (c .narrow7 .result) (o .pre .0) in
+    (k .0, k .1 ∙ seven (o .args .s) (o .args .e) (o .args .heads) (c .before .before .before .before .before .before .before .before .before .before .before .before .narrow .result) (c .before .before .before .before .before .before .before .before .before .narrow2 .result) (c .before .before .before .before .before .narrow3 .result) (c .before .before .before .before .narrow4 .result) (c .before .before .before .narrow5 .result) (c .before .before .narrow6 .result) (c .narrow7 .result) (c .before .before .before .before .before .before .before .before .before .before .before .before .narrow .ensures) (c .before .before .before .before .before .before .before .before .before .narrow2 .ensures) (c .before .before .before .before .before .narrow3 .ensures) (c .before .before .before .before .narrow4 .ensures) (c .before .before .before .narrow5 .ensures) (c .before .before .narrow6 .ensures) (c .narrow7 .ensures))
 
 pub put-later-spec : {M : Type 1} → statement M
 put-later-spec =
@@ -276,9 +264,7 @@ put-later-spec =
     mul-narrow-2
     mul-narrow-3
     add-narrow-2
-    mul-narrow-4
     add-narrow-3
-    add-narrow-4
     narrow-requires-3
     add-later-2
     mul-later-3
@@ -295,8 +281,8 @@ put-later-spec =
     add-later-5
     mul-later-6
     slice-write-later-6
-    mul-narrow-5
-    add-narrow-5
+    mul-narrow-4
+    add-narrow-4
     narrow-requires-7
     add-later-6
     mul-later-7

@@ -3,6 +3,7 @@ use native.Mathlib.Omega.{arith}
 use Prim.Native.Nat.{_+_, _-_, _*_, _≤_, ℕ, _<_}
 use mathlib.Core.Path.{_≡_, refl, sym, _∙_, subst}
 use mathlib.Core.Bool.{true, false}
+use mathlib.Core.Logic.{inr}
 use borrow.Author.Tests.{not-true, not-false}
 use lib.ListN.{length, take}
 use Rattle.pcrl.specs.Limits.{max-variables}
@@ -13,11 +14,12 @@ use Rattle.putting.proofs.Bytes.{kept-front}
 use Rattle.contexts.specs.Spots.{arrays, Bound}
 use Rattle.contexts.specs.Steps.{call-room, terms-room}
 use Rattle.heads.specs.Stack.{later-cells, Steady}
-use Rattle.heads.specs.Progress.{start, WrittenBy, Nearer}
+use Rattle.heads.specs.Progress.{start, WrittenBy}
 use Rattle.heads.specs.Memory.{Remembers}
-use Rattle.heads.proofs.Stacking.{steady-start, steady-to, steady-lengths, steady-later}
+use Rattle.heads.proofs.Stacking.{steady-start, steady-to, steady-own, steady-lengths, steady-later, steady-back}
 use Rattle.heads.proofs.Walking.{goes-start, goes-stuck, goes-past, goes-step, goes-later, toward-down, Stands}
-use Rattle.heads.proofs.Standing.{weigh, weigh-less, rank, lower, nearer, fuel-low}
+use Rattle.heads.proofs.Standing.{weigh, weigh-less, nearer}
+use Rattle.heads.proofs.Remembering.{rest-at}
 use Rattle.heads.proofs.Calling.{leaf-kind, is-call, call-fails, call-out}
 use borrow.Fn.Kinds.{In}
 use borrow.Fn.PlainCycle.{Measures, is, falls, and}
@@ -33,11 +35,12 @@ use Rattle.heads.proofs.walk.+leaf+next_turn+walk.Lts-walk as walk-lts
 use Rattle.contexts.proofs.down_call.Reads as down-call-reads
 use Rattle.contexts.proofs.down_side.Reads as down-side-reads
 use Rattle.contexts.proofs.emit.Reads as emit-reads
+use Rattle.contexts.proofs.step.Reads as step-reads
 use Rattle.heads.proofs.alternatives.choice.Reads as choice-reads
 use Rattle.heads.proofs.alternatives.look.Reads as look-reads
+use Rattle.heads.proofs.alternatives.second_side.Reads as second-side-reads
 use Rattle.heads.proofs.walk.chosen.Reads as chosen-reads
-use Rattle.heads.proofs.downward.down.Reads as down-reads
-use Rattle.heads.proofs.downward.inner.Reads as inner-reads
+use Rattle.heads.proofs.walk.inner.Reads as inner-reads
 use Rattle.heads.proofs.walk.resumed.Reads as resumed-reads
 use Rattle.heads.proofs.walk.+leaf+next_turn+walk.{statement}
 use Rattle.heads.proofs.walk.+leaf+next_turn+walk.Tie.{close}
@@ -77,7 +80,7 @@ abbrev next-turn-calls : ℕ → next-turn-lts.Claims
 next-turn-calls t = (choice-reads.Asked, choice-reads.Learnt, chosen-reads.Asked, chosen-reads.Learnt, leaf-below t, leaf.Post, resumed-reads.Asked, resumed-reads.Learnt)
 
 abbrev walk-calls : ℕ → walk-lts.Claims
-walk-calls t = (look-reads.Asked, look-reads.Learnt, inner-reads.Asked, inner-reads.Learnt, down-reads.Asked, down-reads.Learnt, next-turn-below t, next-turn.Post, down-side-reads.Asked, down-side-reads.Learnt)
+walk-calls t = (look-reads.Asked, look-reads.Learnt, inner-reads.Asked, inner-reads.Learnt, second-side-reads.Asked, second-side-reads.Learnt, step-reads.Asked, step-reads.Learnt, next-turn-below t, next-turn.Post, down-side-reads.Asked, down-side-reads.Learnt)
 
 -- Orders among plain numbers: where they are cited, `omega` would read every record of the places.
 
@@ -95,9 +98,6 @@ then {a} {b} {c} h g = omega arith
 
 on-from : {a b c : ℕ} → a ≤ b → b < c → a < c
 on-from {a} {b} {c} h g = omega arith
-
-at-most : {a b : ℕ} → a ≡ b → a ≤ b
-at-most {a} {b} e = omega arith
 
 itself : {a : ℕ} → a ≤ a
 itself {a} = omega arith
@@ -117,7 +117,7 @@ call-falls f g {t} h e = omega arith
 leaf-falls : (f : ℕ) {t : ℕ} → 3 * f + 1 ≡ t → 3 * f < t
 leaf-falls f {t} h = omega arith
 
-turn-falls : {f g t : ℕ} → 3 * f + 2 ≡ t → g ≤ f → 3 * g + 1 < t
+turn-falls : {f g t : ℕ} → 3 * f + 2 ≡ t → g ≡ f → 3 * g + 1 < t
 turn-falls {f} {g} {t} h e = omega arith
 
 leaf-emit-requires : (t : ℕ) → leaf-lts.Need-emit-requires (leaf-calls t) (leaf-at t) leaf.Post
@@ -220,7 +220,7 @@ next-turn-chosen-requires : (t : ℕ) → next-turn-lts.Need-chosen-requires (ne
 next-turn-chosen-requires t c κs =
     let begin = c .before .before .before .before .before .before .before .before .before .before .before .before .before .before .before in
     let a = begin .args in
-    let y = begin .pre .1 .0 .0 .1 in
+    let y = begin .pre .1 .0 .0 in
     let rooms = begin .pre .1 .0 .1 in
     let lk = length (a .calls .now) in
     let ls = length (a .slots .now) in
@@ -233,7 +233,7 @@ next-turn-returns : (t : ℕ) → next-turn-lts.Need-returns (next-turn-calls t)
 next-turn-returns t c =
     let begin = c .before .before .before .before .before .before .before .before .before .before .before .before .before .before .before .before .before .before in
     let a = begin .args in
-    let y = begin .pre .1 .0 .0 .1 in
+    let y = begin .pre .1 .0 .0 in
     let rooms = begin .pre .1 .0 .1 in
     let fits = begin .pre .1 .0 .2 in
     let lo = begin .pre .1 .1 .0 in
@@ -245,14 +245,14 @@ next-turn-returns t c =
     let ch = c .before .before .chosen .ensures in
     let z = ch .1 (a .cells .now) (a .counts .now) lo (c .before .before .before .before .before .choice .ensures .0 (c .before .before .before .before .if1 .taken)) in (
       (up-to {a = a .w} itself (ch .0 .0), under fits (ch .0 .0), kept-front (later-cells * a .q0) (later-cells * a .q) l (c .before .before .chosen .last .1 .1 .1 .0) (front (y .low)) (ch .0 .1)),
-      (λ still. (λ f v. z .1 lk ls f (a .q0) (rooms .calls-fit) v still, z .0 still), (λ S eq on. z .2 (a .starts .now) (a .firsts .now) B o S on, begin .pre .1 .1 .2)),
+      (λ still. (z .1 lk ls (a .g .s .fuel) (a .q0) (rooms .calls-fit) y still, z .0 still), (λ S eq on. z .2 (a .starts .now) (a .firsts .now) B o S on, begin .pre .1 .1 .2)),
     )
 
 next-turn-leaf-requires : (t : ℕ) → next-turn-lts.Need-leaf-requires (next-turn-calls t) (next-turn-at t) next-turn.Post
 next-turn-leaf-requires t c κs =
     let begin = c .before .before .before .before .before .before .before .before .before .before .before .before .before .before .before .before .before .before .before .before .before in
     let a = begin .args in
-    let y = begin .pre .1 .0 .0 .1 in
+    let y = begin .pre .1 .0 .0 in
     let rooms = begin .pre .1 .0 .1 in
     let fits = begin .pre .1 .0 .2 in
     let lo = begin .pre .1 .1 .0 in
@@ -261,7 +261,7 @@ next-turn-leaf-requires t c κs =
 next-turn-resumed-requires : (t : ℕ) → next-turn-lts.Need-resumed-requires (next-turn-calls t) (next-turn-at t) next-turn.Post
 next-turn-resumed-requires t c κs =
     let begin = c .before .before .before .before .before .before .before .before .before .before .before .before .before .before .before .before .before .before .before .before .before .before .before .before .before .before .before .before .before .before .before .before .before .before .before .before .before in
-    let y = begin .pre .1 .0 .0 .1 in
+    let y = begin .pre .1 .0 .0 in
     up-to (y .high) (c .before .before .before .before .before .before .before .before .before .before .before .before .before .before .before .leaf .kept .1 .1 .1 .1 .1 .1 .1 .1 .1 .1 .1 .0)
 
 next-turn-same-length-2 : (t : ℕ) → next-turn-lts.Need-same-length-2 (next-turn-calls t) (next-turn-at t) next-turn.Post
@@ -289,7 +289,7 @@ next-turn-returns-2 : (t : ℕ) → next-turn-lts.Need-returns-2 (next-turn-call
 next-turn-returns-2 t c =
     let begin = c .before .before .before .before .before .before .before .before .before .before .before .before .before .before .before .before .before .before .before .before .before .before .before .before .before .before .before .before .before .before .before .before .before .before .before .before .before .before in
     let a = begin .args in
-    let y = begin .pre .1 .0 .0 .1 in
+    let y = begin .pre .1 .0 .0 in
     let lk = length (a .calls .now) in
     let ls = length (a .slots .now) in
     let l = a .later .now in
@@ -305,10 +305,7 @@ next-turn-returns-2 t c =
     let C = arrays (a .slots .now) (c .before .before .before .before .before .before .before .before .before .before .before .before .before .before .before .before .leaf .last .1 .1 .1 .1 .1 .1 .1 .0) (c .before .before .before .before .before .before .before .before .before .before .before .before .before .before .before .before .leaf .last .1 .1 .1 .1 .1 .1 .1 .1 .0) (c .before .before .before .before .before .before .before .before .before .before .before .before .before .before .before .before .leaf .last .1 .1 .1 .1 .1 .1 .1 .1 .1 .1 .0) in (
       (up-to (lf .0 .0) (rs .0), under (lf .0 .1) (rs .0), kept-front (later-cells * a .q0) (later-cells * a .q) l l′ (front (y .low)) (lf .0 .2)),
       (
-        λ still.
-            let on : (f : ℕ) → Steady lk ls f (a .q0) (a .g .s) (a .q) l → Steady lk ls f (a .q0) (c .resumed .result .t) (c .resumed .result .q) l′ × Nearer (a .g .s) (a .left) (c .resumed .result) =
-            λ f v. rs .1 .0 lk ls f (steady-later lk ls f (a .q0) (a .g .s) (a .q) l v l′ el (lf .0 .2)) still in
-            (λ f v. on f v .0, on (begin .pre .1 .0 .0 .0) y .1),
+        λ still. rs .1 .0 lk ls (a .g .s .fuel) (steady-later lk ls (a .g .s .fuel) (a .q0) (a .g .s) (a .q) l y l′ el (lf .0 .2)) still,
         (
           λ S eq on. rs .1 .1 (a .starts .now) (a .counts .now) (a .firsts .now) C o′ S eq (record {
             before = B;
@@ -333,7 +330,7 @@ walk-Inv-loop cells starts counts firsts heads0 slots₀ vars₀ conds₀ after�
     × Remembers cells counts remembered
 
 abbrev walk-μ-loop : walk-lts.MeasureT-loop
-walk-μ-loop cells starts counts firsts heads0 slots₀ vars₀ conds₀ after₀ calls₀ later₀ q0 out₀ w remembered₀ s₀ heads₀ left₀ q₀ v₀ slots vars conds after calls later out remembered s heads left q v = weigh (length cells) (s .ok) (rank (s₀ .fuel) left (s .fuel)) (s .at)
+walk-μ-loop cells starts counts firsts heads0 slots₀ vars₀ conds₀ after₀ calls₀ later₀ q0 out₀ w remembered₀ s₀ heads₀ left₀ q₀ v₀ slots vars conds after calls later out remembered s heads left q v = weigh (length cells) (s .ok) left (s .at)
 
 walk-loop-holds : (t : ℕ) → walk-lts.Need-loop-holds (walk-calls t) (walk-at t) walk.Post walk-Inv-loop walk-μ-loop
 walk-loop-holds t c =
@@ -343,7 +340,7 @@ walk-loop-holds t c =
     let pre = begin .pre .1 in (
       (refl, refl, refl, refl, refl, refl, refl, refl),
       (itself, pre .2, refl),
-      λ ok. steady-start (length (a .calls .now)) (length (a .slots .now)) (a .s0 .fuel) (a .q0) (a .s0) (a .q0) (a .later .now) (pre .0) itself (pre .3),
+      λ ok. steady-start (length (a .calls .now)) (length (a .slots .now)) (a .s0 .fuel) (a .q0) (a .s0) (a .q0) (a .later .now) (pre .0) refl (pre .3),
       λ ok₀. (λ ok. goes-start (a .cells .now) (a .starts .now) (a .counts .now) (a .firsts .now) (a .s0) B₀ (a .w) (a .out .now) (a .heads0) (a .q0) (a .later .now) (pre .2), λ bad. never (sym bad ∙ ok₀)),
       pre .4,
     )
@@ -395,60 +392,63 @@ walk-look-requires t c κs =
 walk-inner-requires : (t : ℕ) → walk-lts.Need-inner-requires (walk-calls t) (walk-at t) walk.Post walk-Inv-loop walk-μ-loop
 walk-inner-requires t c κs = tt
 
-walk-down-requires : (t : ℕ) → walk-lts.Need-down-requires (walk-calls t) (walk-at t) walk.Post walk-Inv-loop walk-μ-loop
-walk-down-requires t c κs =
-    let begin = c .before .before .before .before .before .before .before .before .before .before .before .before .before .before .before .before .before .before .before .before .before .before .before .before .before .before in
+walk-second-side-requires : (t : ℕ) → walk-lts.Need-second-side-requires (walk-calls t) (walk-at t) walk.Post walk-Inv-loop walk-μ-loop
+walk-second-side-requires t c κs = c .before .before .before .before .look .ensures .1 .0 .small (c .before .before .before .before .before .before .before .before .before .loop .inv .2 (c .before .before .before .before .before .before .before .before .loop-test .taken) .bound .c-small)
+
+walk-step-requires : (t : ℕ) → walk-lts.Need-step-requires (walk-calls t) (walk-at t) walk.Post walk-Inv-loop walk-μ-loop
+walk-step-requires t c κs =
+    let begin = c .before .before .before .before .before .before .before .before .before .before .before .before .before .before .before .before .before .before .before .before .before .before .before .before .before .before .before in
     let a = begin .args in
     let rooms = begin .pre .1 .1 in
-    let here = c .before .before .before .before .before .before .before .before .before .before .before .before .before .loop in
+    let here = c .before .before .before .before .before .before .before .before .before .before .before .before .before .before .loop in
     let i = here .inv in
-    let ok = c .before .before .before .before .before .before .before .before .before .before .before .before .loop-test .taken in
+    let ok = c .before .before .before .before .before .before .before .before .before .before .before .before .before .loop-test .taken in
     let y = i .2 ok in
-    let g = c .before .before .before .before .before .before .before .before .look .result in
-    let lo = c .before .before .before .before .before .before .before .before .look .ensures .0 in
-    let past = c .before .before .before .before .before .before .before .before .look .ensures .1 .0 in
+    let g = c .before .before .before .before .before .before .before .before .before .look .result in
+    let lo = c .before .before .before .before .before .before .before .before .before .look .ensures .0 in
+    let past = c .before .before .before .before .before .before .before .before .before .look .ensures .1 .0 in
     let lk = length (here .calls) in
     let ls = length (here .slots) in
-    let ys = steady-to lk ls (a .s0 .fuel) (a .q0) (here .s) (here .q) (here .later) y (g .s) (past .stays lk ls (y .bound)) (at-most (past .fuel-same)) in
-    ((a .counts .now, lo), c .before .before .before .before .before .inner .ensures .0 (c .before .before .before .before .if2 .taken), ys .bound, up-to (rooms .vars-room) (i .0 .1), up-to (rooms .after-fit) (i .0 .3))
+    let ys = steady-to lk ls (a .s0 .fuel) (a .q0) (here .s) (here .q) (here .later) y (g .s) (past .stays lk ls (y .bound)) (past .fuel-same) in
+    ((lo .inside, lo .on, lo .views, ys .bound), (up-to (rooms .vars-room) (i .0 .1), up-to (rooms .after-fit) (i .0 .3), c .before .before .before .before .second-side .ensures .1, rest-at (a .cells .now) (a .counts .now) g (c .before .before .before .before .second-side .result) lo (c .before .before .before .before .second-side .ensures)))
 
 walk-loop-less : (t : ℕ) → walk-lts.Need-loop-less (walk-calls t) (walk-at t) walk.Post walk-Inv-loop walk-μ-loop
 walk-loop-less t c =
-    let begin = c .before .before .before .before .before .before .before .before .before .before .before .before .before .before .before .before .before .before .before .before .before .before .before .before .before .before .before .before .before .before .before .before .before .before .before in
+    let begin = c .before .before .before .before .before .before .before .before .before .before .before .before .before .before .before .before .before .before .before .before .before .before .before .before .before .before .before .before .before .before .before .before .before .before .before .before in
     let a = begin .args in
-    let here = c .before .before .before .before .before .before .before .before .before .before .before .before .before .before .before .before .before .before .before .before .before .before .loop in
-    let ok = c .before .before .before .before .before .before .before .before .before .before .before .before .before .before .before .before .before .before .before .before .before .loop-test .taken in
-    let past = c .before .before .before .before .before .before .before .before .before .before .before .before .before .before .before .before .before .look .ensures .1 .0 in
-    let t = c .before .before .before .before .before .before .before .before .down .result in
-    let sp = c .before .before .before .before .before .before .before .before .down .ensures in
-    let g = c .before .before .before .before .before .before .before .before .before .before .before .before .before .before .before .before .before .look .result in
-    weigh-less (length (a .cells .now)) (here .s .ok) (t .ok) (rank (a .s0 .fuel) (here .left) (here .s .fuel)) (rank (a .s0 .fuel) (here .left) (t .fuel)) (here .s .at) (t .at) ok (c .before .before .before .before .before .before .before .before .before .before .before .before .before .before .before .before .before .before .before .if1 .left) (λ on. lower (a .s0 .fuel) (here .left) (g .s .fuel) (t .fuel) (g .s .at) (t .at) (here .s .at) (here .s .fuel) (past .further) (sym (past .fuel-same)) (sp .0 .1 on))
+    let here = c .before .before .before .before .before .before .before .before .before .before .before .before .before .before .before .before .before .before .before .before .before .before .before .loop in
+    let ok = c .before .before .before .before .before .before .before .before .before .before .before .before .before .before .before .before .before .before .before .before .before .before .loop-test .taken in
+    let past = c .before .before .before .before .before .before .before .before .before .before .before .before .before .before .before .before .before .before .look .ensures .1 .0 in
+    let t = c .before .before .before .before .before .before .before .before .step .result in
+    let sp = c .before .before .before .before .before .before .before .before .step .ensures in
+    weigh-less (length (a .cells .now)) (here .s .ok) (t .ok) (here .left) (here .left) (here .s .at) (t .at) ok (c .before .before .before .before .before .before .before .before .before .before .before .before .before .before .before .before .before .before .before .before .if1 .left) (λ on. inr (refl, on-from (past .further) (sp .1 .0 on .1)))
 
 walk-loop-again : (t : ℕ) → walk-lts.Need-loop-again (walk-calls t) (walk-at t) walk.Post walk-Inv-loop walk-μ-loop
 walk-loop-again t c =
-    let begin = c .before .before .before .before .before .before .before .before .before .before .before .before .before .before .before .before .before .before .before .before .before .before .before .before .before .before .before .before .before .before .before .before .before .before .before in
+    let begin = c .before .before .before .before .before .before .before .before .before .before .before .before .before .before .before .before .before .before .before .before .before .before .before .before .before .before .before .before .before .before .before .before .before .before .before .before in
     let a = begin .args in
     let B₀ = arrays (a .slots .now) (a .vars .now) (a .conds .now) (a .calls .now) in
     let S = start (a .s0) B₀ (a .w) (a .out .now) (a .heads0) (a .q0) (length (a .later .now)) in
-    let here = c .before .before .before .before .before .before .before .before .before .before .before .before .before .before .before .before .before .before .before .before .before .before .loop in
+    let here = c .before .before .before .before .before .before .before .before .before .before .before .before .before .before .before .before .before .before .before .before .before .before .before .loop in
     let i = here .inv in
     let B = arrays (here .slots) (here .vars) (here .conds) (here .calls) in
-    let ok = c .before .before .before .before .before .before .before .before .before .before .before .before .before .before .before .before .before .before .before .before .before .loop-test .taken in
+    let ok = c .before .before .before .before .before .before .before .before .before .before .before .before .before .before .before .before .before .before .before .before .before .before .loop-test .taken in
     let y = i .2 ok in
-    let g = c .before .before .before .before .before .before .before .before .before .before .before .before .before .before .before .before .before .look .result in
-    let past = c .before .before .before .before .before .before .before .before .before .before .before .before .before .before .before .before .before .look .ensures .1 .0 in
+    let g = c .before .before .before .before .before .before .before .before .before .before .before .before .before .before .before .before .before .before .look .result in
+    let past = c .before .before .before .before .before .before .before .before .before .before .before .before .before .before .before .before .before .before .look .ensures .1 .0 in
     let lk = length (here .calls) in
     let ls = length (here .slots) in
-    let ys = steady-to lk ls (a .s0 .fuel) (a .q0) (here .s) (here .q) (here .later) y (g .s) (past .stays lk ls (y .bound)) (at-most (past .fuel-same)) in
-    let t = c .before .before .before .before .before .before .before .before .down .result in
-    let sp = c .before .before .before .before .before .before .before .before .down .ensures in
-    let es : length (c .before .before .before .before .before .before .before .before .down .last .1 .1 .1 .1 .0) ≡ ls = c .before .before .before .before .before .before .before .before .down .kept .1 .1 .1 .1 .0 in
-    let ec : length (c .before .before .before .before .before .before .before .before .down .last .1 .1 .1 .1 .1 .1 .1 .0) ≡ lk = c .before .before .before .before .before .before .before .before .down .kept .1 .1 .1 .1 .1 .1 .1 .0 in (
-      (es ∙ i .0 .0, c .before .before .before .before .before .before .before .before .down .kept .1 .1 .1 .1 .1 .0 ∙ i .0 .1, i .0 .2, c .before .before .before .before .before .before .before .before .down .kept .1 .1 .1 .1 .1 .1 .0 ∙ i .0 .3, ec ∙ i .0 .4, i .0 .5, i .0 .6, c .before .before .before .before .before .before .before .before .before .before .before .before .before .before .before .before .before .look .kept .1 .1 .1 .1 .0 ∙ i .0 .7),
+    let ys = steady-to lk ls (a .s0 .fuel) (a .q0) (here .s) (here .q) (here .later) y (g .s) (past .stays lk ls (y .bound)) (past .fuel-same) in
+    let t = c .before .before .before .before .before .before .before .before .step .result in
+    let sp = c .before .before .before .before .before .before .before .before .step .ensures in
+    let n = c .before .before .before .before .before .before .before .before .before .before .before .before .before .before .before .inner .ensures .0 (c .before .before .before .before .before .before .before .before .before .before .before .before .before .before .if2 .taken) in
+    let es : length (c .before .before .before .before .before .before .before .before .step .last .1 .1 .1 .1 .0) ≡ ls = c .before .before .before .before .before .before .before .before .step .kept .1 .1 .1 .1 .0 in
+    let ec : length (c .before .before .before .before .before .before .before .before .step .last .1 .1 .1 .1 .1 .1 .1 .0) ≡ lk = c .before .before .before .before .before .before .before .before .step .kept .1 .1 .1 .1 .1 .1 .1 .0 in (
+      (es ∙ i .0 .0, c .before .before .before .before .before .before .before .before .step .kept .1 .1 .1 .1 .1 .0 ∙ i .0 .1, i .0 .2, c .before .before .before .before .before .before .before .before .step .kept .1 .1 .1 .1 .1 .1 .0 ∙ i .0 .3, ec ∙ i .0 .4, i .0 .5, i .0 .6, c .before .before .before .before .before .before .before .before .before .before .before .before .before .before .before .before .before .before .look .kept .1 .1 .1 .1 .0 ∙ i .0 .7),
       (i .1 .0, i .1 .1, i .1 .2),
-      λ on. steady-lengths lk (length (c .before .before .before .before .before .before .before .before .down .last .1 .1 .1 .1 .1 .1 .1 .0)) ls (length (c .before .before .before .before .before .before .before .before .down .last .1 .1 .1 .1 .0)) (a .s0 .fuel) (a .q0) t (here .q) (here .later) (sym ec) (sym es) (steady-to lk ls (a .s0 .fuel) (a .q0) (g .s) (here .q) (here .later) ys t (sp .0 .0) (fuel-low (g .s .fuel) (t .fuel) (g .s .at) (t .at) (sp .0 .1 on))),
-      λ ok₀. goes-step (a .cells .now) (a .starts .now) (a .counts .now) (a .firsts .now) S (g .s) (here .heads) (here .left) (here .q) (here .v) B (here .later) (here .out) (goes-past (a .cells .now) (a .starts .now) (a .counts .now) (a .firsts .now) S (here .s) (here .heads) (here .left) (here .q) (here .v) B (here .later) (here .out) (i .3 ok₀ .0 ok) (g .s) past) t (arrays (c .before .before .before .before .before .before .before .before .down .last .1 .1 .1 .1 .0) (c .before .before .before .before .before .before .before .before .down .last .1 .1 .1 .1 .1 .0) (here .conds) (c .before .before .before .before .before .before .before .before .down .last .1 .1 .1 .1 .1 .1 .1 .0)) (sp .1 (a .counts .now) (here .conds)),
-      c .before .before .before .before .before .before .before .before .before .before .before .before .before .before .before .before .before .look .ensures .1 .1,
+      λ on. steady-lengths lk (length (c .before .before .before .before .before .before .before .before .step .last .1 .1 .1 .1 .1 .1 .1 .0)) ls (length (c .before .before .before .before .before .before .before .before .step .last .1 .1 .1 .1 .0)) (a .s0 .fuel) (a .q0) t (here .q) (here .later) (sym ec) (sym es) (steady-to lk ls (a .s0 .fuel) (a .q0) (g .s) (here .q) (here .later) ys t (sp .0) (sp .1 .0 on .0)),
+      λ ok₀. goes-step (a .cells .now) (a .starts .now) (a .counts .now) (a .firsts .now) S (g .s) (here .heads) (here .left) (here .q) (here .v) B (here .later) (here .out) (goes-past (a .cells .now) (a .starts .now) (a .counts .now) (a .firsts .now) S (here .s) (here .heads) (here .left) (here .q) (here .v) B (here .later) (here .out) (i .3 ok₀ .0 ok) (g .s) past) t (arrays (c .before .before .before .before .before .before .before .before .step .last .1 .1 .1 .1 .0) (c .before .before .before .before .before .before .before .before .step .last .1 .1 .1 .1 .1 .0) (here .conds) (c .before .before .before .before .before .before .before .before .step .last .1 .1 .1 .1 .1 .1 .1 .0)) (sp .1 .1 (here .conds) (a .starts .now) (a .counts .now) (a .firsts .now) (n .0) (n .1) (n .2) (n .3)) (λ u. sp .1 .0 u .0),
+      c .before .before .before .before .before .before .before .before .before .before .before .before .before .before .before .before .before .before .look .ensures .1 .1,
     )
 
 walk-next-turn-requires : (t : ℕ) → walk-lts.Need-next-turn-requires (walk-calls t) (walk-at t) walk.Post walk-Inv-loop walk-μ-loop
@@ -465,8 +465,8 @@ walk-next-turn-requires t c κs =
     let past = c .before .before .before .before .before .before .before .before .before .before .before .before .look .ensures .1 .0 in
     let lk = length (here .calls) in
     let ls = length (here .slots) in
-    let ys = steady-to lk ls (a .s0 .fuel) (a .q0) (here .s) (here .q) (here .later) y (g .s) (past .stays lk ls (y .bound)) (at-most (past .fuel-same)) in
-    (turn-falls {f = a .s0 .fuel} (begin .pre .0) (ys .fuel-in), (((a .s0 .fuel, ys), record { vars-room = up-to (rooms .vars-room) (i .0 .1); conds-fit = up-to (rooms .conds-fit) (i .0 .2); after-fit = up-to (rooms .after-fit) (i .0 .3); calls-fit = under (rooms .calls-fit) (i .0 .4) }, up-to (i .1 .1) (i .0 .6)), (lo, c .before .before .before .before .before .before .before .before .before .inner .ensures .1 (c .before .before .before .before .before .before .before .before .if2 .left), c .before .before .before .before .before .before .before .before .before .before .before .before .look .ensures .1 .1)))
+    let ys = steady-to lk ls (a .s0 .fuel) (a .q0) (here .s) (here .q) (here .later) y (g .s) (past .stays lk ls (y .bound)) (past .fuel-same) in
+    (turn-falls {f = a .s0 .fuel} (begin .pre .0) (ys .fuel-is), ((steady-own lk ls (a .s0 .fuel) (a .q0) (g .s) (here .q) (here .later) ys, record { vars-room = up-to (rooms .vars-room) (i .0 .1); conds-fit = up-to (rooms .conds-fit) (i .0 .2); after-fit = up-to (rooms .after-fit) (i .0 .3); calls-fit = under (rooms .calls-fit) (i .0 .4) }, up-to (i .1 .1) (i .0 .6)), (lo, c .before .before .before .before .before .before .before .before .before .inner .ensures .1 (c .before .before .before .before .before .before .before .before .if2 .left), c .before .before .before .before .before .before .before .before .before .before .before .before .look .ensures .1 .1)))
 
 walk-same-length-9 : (t : ℕ) → walk-lts.Need-same-length-9 (walk-calls t) (walk-at t) walk.Post walk-Inv-loop walk-μ-loop
 walk-same-length-9 t c = c .before .before .before .before .before .before .before .before .before .before .before .before .before .before .before .before .before .before .before .before .before .before .before .before .before .before .before .before .before .before .before .before .before .before .loop .inv .0 .0
@@ -510,20 +510,12 @@ walk-returns-2 t c =
 walk-down-side-requires : (t : ℕ) → walk-lts.Need-down-side-requires (walk-calls t) (walk-at t) walk.Post walk-Inv-loop walk-μ-loop
 walk-down-side-requires t c κs =
     let begin = c .before .before .before .before .before .before .before .before .before .before .before .before .before .before .before .before .before .before .before .before .before .before .before .before .before .before .before .before .before .before .before .before .before .before .before .before .before .before .before .before .before .before .before .before .before .before .before .before .before in
-    let a = begin .args in
     let rooms = begin .pre .1 .1 in
     let here = c .before .before .before .before .before .before .before .before .before .before .before .before .before .before .before .before .before .before .before .before .before .before .before .before .before .before .before .before .before .before .before .before .before .before .before .before .loop in
     let i = here .inv in
-    let ok = c .before .before .before .before .before .before .before .before .before .before .before .before .before .before .before .before .before .before .before .before .before .before .before .before .before .before .before .before .before .before .before .before .before .before .before .loop-test .taken in
-    let y = i .2 ok in
-    let g = c .before .before .before .before .before .before .before .before .before .before .before .before .before .before .before .before .before .before .before .before .before .before .before .before .before .before .before .before .before .before .before .look .result in
-    let past = c .before .before .before .before .before .before .before .before .before .before .before .before .before .before .before .before .before .before .before .before .before .before .before .before .before .before .before .before .before .before .before .look .ensures .1 .0 in
-    let lk = length (here .calls) in
-    let ls = length (here .slots) in
-    let ys = steady-to lk ls (a .s0 .fuel) (a .q0) (here .s) (here .q) (here .later) y (g .s) (past .stays lk ls (y .bound)) (at-most (past .fuel-same)) in
     let nt = c .before .before .before .before .before .before .before .before .before .before .before .before .before .before .before .before .before .before .next-turn .ensures in
     let nt-res = c .before .before .before .before .before .before .before .before .before .before .before .before .before .before .before .before .before .before .next-turn .result in
-    let b = nt .1 .0 (c .before .before .if3 .left) .0 (a .s0 .fuel) ys .bound in
+    let b = nt .1 .0 (c .before .before .if3 .left) .0 .bound in
     (b .lc-few, up-to (up-to (rooms .conds-fit) (i .0 .2)) (c .before .before .before .before .before .before .before .before .before .before .before .before .before .before .before .before .before .before .next-turn .kept .1 .1 .1 .1 .1 .1 .1 .1 .1 .0), slots-in (nt-res .t .n) (nt-res .t .nv) (length (here .slots)) (b .n-room) (b .nv-few))
 
 walk-loop-less-2 : (t : ℕ) → walk-lts.Need-loop-less-2 (walk-calls t) (walk-at t) walk.Post walk-Inv-loop walk-μ-loop
@@ -531,20 +523,15 @@ walk-loop-less-2 t c =
     let begin = c .before .before .before .before .before .before .before .before .before .before .before .before .before .before .before .before .before .before .before .before .before .before .before .before .before .before .before .before .before .before .before .before .before .before .before .before .before .before .before .before .before .before .before .before .before .before .before .before .before .before .before .before in
     let a = begin .args in
     let here = c .before .before .before .before .before .before .before .before .before .before .before .before .before .before .before .before .before .before .before .before .before .before .before .before .before .before .before .before .before .before .before .before .before .before .before .before .before .before .before .loop in
-    let i = here .inv in
     let ok = c .before .before .before .before .before .before .before .before .before .before .before .before .before .before .before .before .before .before .before .before .before .before .before .before .before .before .before .before .before .before .before .before .before .before .before .before .before .before .loop-test .taken in
-    let y = i .2 ok in
     let g = c .before .before .before .before .before .before .before .before .before .before .before .before .before .before .before .before .before .before .before .before .before .before .before .before .before .before .before .before .before .before .before .before .before .before .look .result in
     let past = c .before .before .before .before .before .before .before .before .before .before .before .before .before .before .before .before .before .before .before .before .before .before .before .before .before .before .before .before .before .before .before .before .before .before .look .ensures .1 .0 in
-    let lk = length (here .calls) in
-    let ls = length (here .slots) in
-    let ys = steady-to lk ls (a .s0 .fuel) (a .q0) (here .s) (here .q) (here .later) y (g .s) (past .stays lk ls (y .bound)) (at-most (past .fuel-same)) in
     let k = c .before .before .before .before .before .before .before .before .before .before .before .before .before .before .before .before .before .before .before .before .before .next-turn .result in
     let nt = c .before .before .before .before .before .before .before .before .before .before .before .before .before .before .before .before .before .before .before .before .before .next-turn .ensures in
     let t = c .before .before .down-side .result in
     let sd = c .before .before .down-side .ensures in
-    let z = nt .1 .0 (c .before .before .before .before .before .if3 .left) in
-    weigh-less (length (a .cells .now)) (here .s .ok) (t .ok) (rank (a .s0 .fuel) (here .left) (here .s .fuel)) (rank (a .s0 .fuel) (k .left) (t .fuel)) (here .s .at) (t .at) ok (c .before .before .before .before .before .before .before .before .before .before .before .before .before .before .before .before .before .before .before .before .before .before .before .before .before .before .before .before .before .before .before .before .before .before .before .before .if1 .left) (λ on. nearer (a .s0 .fuel) (here .left) (k .left) (here .s .at) (g .s .at) (k .e .at) (t .at) (here .s .fuel) (t .fuel) (k .t .fuel) (g .s .fuel) (past .further) (sd .1 .0 on .1) (z .0 (a .s0 .fuel) ys .fuel-in) (sd .1 .0 on .0) (past .fuel-same) (z .1 .1))
+    let near = nt .1 .0 (c .before .before .before .before .before .if3 .left) .1 in
+    weigh-less (length (a .cells .now)) (here .s .ok) (t .ok) (here .left) (k .left) (here .s .at) (t .at) ok (c .before .before .before .before .before .before .before .before .before .before .before .before .before .before .before .before .before .before .before .before .before .before .before .before .before .before .before .before .before .before .before .before .before .before .before .before .if1 .left) (λ on. nearer (here .left) (k .left) (here .s .at) (g .s .at) (k .e .at) (t .at) (past .further) (sd .1 .0 on .1) (near .1))
 
 walk-loop-again-2 : (t : ℕ) → walk-lts.Need-loop-again-2 (walk-calls t) (walk-at t) walk.Post walk-Inv-loop walk-μ-loop
 walk-loop-again-2 t c =
@@ -561,21 +548,20 @@ walk-loop-again-2 t c =
     let past = c .before .before .before .before .before .before .before .before .before .before .before .before .before .before .before .before .before .before .before .before .before .before .before .before .before .before .before .before .before .before .before .before .before .before .look .ensures .1 .0 in
     let lk = length (here .calls) in
     let ls = length (here .slots) in
-    let ys = steady-to lk ls (a .s0 .fuel) (a .q0) (here .s) (here .q) (here .later) y (g .s) (past .stays lk ls (y .bound)) (at-most (past .fuel-same)) in
+    let ys = steady-to lk ls (a .s0 .fuel) (a .q0) (here .s) (here .q) (here .later) y (g .s) (past .stays lk ls (y .bound)) (past .fuel-same) in
     let k = c .before .before .before .before .before .before .before .before .before .before .before .before .before .before .before .before .before .before .before .before .before .next-turn .result in
     let nt = c .before .before .before .before .before .before .before .before .before .before .before .before .before .before .before .before .before .before .before .before .before .next-turn .ensures in
     let t = c .before .before .down-side .result in
     let sd = c .before .before .down-side .ensures in
     let still = c .before .before .before .before .before .if3 .left in
     let z = nt .1 .0 still in
-    let zs = z .0 (a .s0 .fuel) ys in
     let calls′ = (c .before .before .before .before .before .before .before .before .before .before .before .before .before .before .before .before .before .before .before .before .before .next-turn .last .1 .1 .1 .1 .1 .1 .1 .1 .1 .1 .1 .0) in
     let later′ = (c .before .before .before .before .before .before .before .before .before .before .before .before .before .before .before .before .before .before .before .before .before .next-turn .last .1 .1 .1 .1 .1 .1 .1 .1 .1 .1 .1 .1 .0) in
     let ec : length calls′ ≡ lk = c .before .before .before .before .before .before .before .before .before .before .before .before .before .before .before .before .before .before .before .before .before .next-turn .kept .1 .1 .1 .1 .1 .1 .1 .1 .1 .1 .1 .0 in (
       (i .0 .0, c .before .before .before .before .before .before .before .before .before .before .before .before .before .before .before .before .before .before .before .before .before .next-turn .kept .1 .1 .1 .1 .1 .1 .1 .1 .0 ∙ i .0 .1, c .before .before .down-side .kept .1 .1 .1 .1 .1 .0 ∙ c .before .before .before .before .before .before .before .before .before .before .before .before .before .before .before .before .before .before .before .before .before .next-turn .kept .1 .1 .1 .1 .1 .1 .1 .1 .1 .0 ∙ i .0 .2, c .before .before .before .before .before .before .before .before .before .before .before .before .before .before .before .before .before .before .before .before .before .next-turn .kept .1 .1 .1 .1 .1 .1 .1 .1 .1 .1 .0 ∙ i .0 .3, ec ∙ i .0 .4, c .before .before .before .before .before .before .before .before .before .before .before .before .before .before .before .before .before .before .before .before .before .next-turn .kept .1 .1 .1 .1 .1 .1 .1 .1 .1 .1 .1 .1 .0 ∙ i .0 .5, c .before .before .before .before .before .before .before .before .before .before .before .before .before .before .before .before .before .before .before .before .before .next-turn .kept .1 .1 .1 .1 .1 .1 .1 .1 .1 .1 .1 .1 .1 .1 .1 .0 ∙ i .0 .6, c .before .before .before .before .before .before .before .before .before .before .before .before .before .before .before .before .before .before .before .before .before .next-turn .kept .1 .1 .1 .1 .1 .1 .1 .1 .1 .1 .1 .1 .1 .1 .1 .1 .1 .0 ∙ c .before .before .before .before .before .before .before .before .before .before .before .before .before .before .before .before .before .before .before .before .before .before .before .before .before .before .before .before .before .before .before .before .before .before .look .kept .1 .1 .1 .1 .0 ∙ i .0 .7),
       (then (i .1 .0) (nt .0 .0), over (nt .0 .1) (i .0 .6), nt .0 .2 ∙ i .1 .2),
-      λ on. steady-lengths lk (length calls′) ls ls (a .s0 .fuel) (a .q0) t (k .q) later′ (sym ec) refl (steady-to lk ls (a .s0 .fuel) (a .q0) (k .t) (k .q) later′ zs t (sd .0 (z .1 .0) lk ls (zs .bound)) (at-most (sd .1 .0 on .0))),
-      λ ok₀. toward-down (a .cells .now) (a .starts .now) (a .counts .now) (a .firsts .now) S k (here .slots) (c .before .before .before .before .before .before .before .before .before .before .before .before .before .before .before .before .before .before .before .before .before .next-turn .last .1 .1 .1 .1 .1 .1 .1 .1 .0) (c .before .before .before .before .before .before .before .before .before .before .before .before .before .before .before .before .before .before .before .before .before .next-turn .last .1 .1 .1 .1 .1 .1 .1 .1 .1 .0) calls′ later′ (c .before .before .before .before .before .before .before .before .before .before .before .before .before .before .before .before .before .before .before .before .before .next-turn .last .1 .1 .1 .1 .1 .1 .1 .1 .1 .1 .1 .1 .1 .1 .1 .0) (nt .1 .1 .0 S refl (goes-past (a .cells .now) (a .starts .now) (a .counts .now) (a .firsts .now) S (here .s) (here .heads) (here .left) (here .q) (here .v) B (here .later) (here .out) (i .3 ok₀ .0 ok) (g .s) past)) still t (c .before .before .down-side .last .1 .1 .1 .1 .1 .0) (sd .1 .1),
+      λ on. steady-back (length calls′) ls (a .s0 .fuel) (g .s .fuel) (a .q0) t (k .q) later′ (ys .fuel-is) (steady-lengths lk (length calls′) ls ls (g .s .fuel) (a .q0) t (k .q) later′ (sym ec) refl (steady-to lk ls (g .s .fuel) (a .q0) (k .t) (k .q) later′ (z .0) t (sd .0 (z .1 .0) lk ls (z .0 .bound)) (sd .1 .0 on .0))),
+      λ ok₀. toward-down (a .cells .now) (a .starts .now) (a .counts .now) (a .firsts .now) S k (here .slots) (c .before .before .before .before .before .before .before .before .before .before .before .before .before .before .before .before .before .before .before .before .before .next-turn .last .1 .1 .1 .1 .1 .1 .1 .1 .0) (c .before .before .before .before .before .before .before .before .before .before .before .before .before .before .before .before .before .before .before .before .before .next-turn .last .1 .1 .1 .1 .1 .1 .1 .1 .1 .0) calls′ later′ (c .before .before .before .before .before .before .before .before .before .before .before .before .before .before .before .before .before .before .before .before .before .next-turn .last .1 .1 .1 .1 .1 .1 .1 .1 .1 .1 .1 .1 .1 .1 .1 .0) (nt .1 .1 .0 S refl (goes-past (a .cells .now) (a .starts .now) (a .counts .now) (a .firsts .now) S (here .s) (here .heads) (here .left) (here .q) (here .v) B (here .later) (here .out) (i .3 ok₀ .0 ok) (g .s) past)) still t (c .before .before .down-side .last .1 .1 .1 .1 .1 .0) (sd .1 .1) (λ u. sd .1 .0 u .0),
       nt .1 .1 .1,
     )
 
@@ -663,7 +649,8 @@ pub +leaf+next-turn+walk-spec : {M : Type 1} → statement M
     (walk-returns t)
     (walk-look-requires t)
     (walk-inner-requires t)
-    (walk-down-requires t)
+    (walk-second-side-requires t)
+    (walk-step-requires t)
     (walk-loop-less t)
     (walk-loop-again t)
     (walk-next-turn-requires t)

@@ -31,7 +31,7 @@ returns c =
     ((
       (refl, refl),
       λ cells counts lo is. (
-        λ still. (se .1, inr (refl, refl, omega (arith, ap (λ (x : Side). x .at) (se .0), lo .counts-first (inl is) .0, lo .on .on))),
+        λ still. (se .1, inr (refl, omega (arith, ap (λ (x : Side). x .at) (se .0), lo .counts-first (inl is) .0, lo .on .on))),
         λ lk ls f q₀ few y still. y,
         λ starts firsts B o S on. second-goes cells starts counts firsts (a .g) lo is e se S (a .heads) (a .left) (a .q) (a .w) B (a .later .now) o on (c .before .if1 .taken),
       ),
@@ -47,7 +47,7 @@ returns-2 c =
     ((
       (refl, refl),
       λ cells counts lo is. (
-        λ still. (c .before .before .before .before .before .pre .0 .3 .c-small, inr (refl, refl, omega (arith, lo .on .on))),
+        λ still. (c .before .before .before .before .before .pre .0 .3 .c-small, inr (refl, omega (arith, lo .on .on))),
         λ lk ls f q₀ few y still. y,
         λ starts firsts B o S on. first-goes cells starts counts firsts (a .g) lo is (c .before .before .before .second-side .result) (c .before .before .before .second-side .ensures) S (a .heads) (a .left) (a .q) (a .w) B (a .later .now) o on (omega (arith, c .before .if2 .taken)),
       ),
@@ -84,7 +84,7 @@ sub-put-later c = search needs
 put-later-requires : tie.Need-put-later-requires
 put-later-requires c κs =
     let b = c .before .before .before .before .before .before .pre .0 .3 in
-    (omega (arith, c .before .if3 .left, c .before .before .before .before .before .before .pre .1), omega (arith, b .n-small), omega (arith, b .m-small, b .nv-few), omega (arith, b .nv-few), omega (arith, b .nc-few), omega (arith, b .nk-few), c .before .before .before .before .second-side .ensures .1, omega (arith, b .fuel-small))
+    (omega (arith, c .before .if3 .left, c .before .before .before .before .before .before .pre .1), omega (arith, b .n-small), omega (arith, b .m-small, b .nv-few), omega (arith, b .nv-few), omega (arith, b .nc-few), omega (arith, b .nk-few), c .before .before .before .before .second-side .ensures .1)
 
 add-aside : tie.Need-add-aside
 add-aside c = omega (arith, c .before .before .before .before .before .before .before .before .before .pre .1, c .before .before .before .before .before .before .before .before .before .good .1 .1 .1 .0 .0)
@@ -112,8 +112,8 @@ returns-4 c =
     ((
       (refl, put .0),
       λ cells counts lo is. (
-        λ still. (pre .0 .3 .c-small, inr (refl, refl, omega (arith, lo .on .on))),
-        λ lk ls f q₀ few y still. steady-push lk ls f q₀ (a .g .s) (a .q) l y few e (a .heads - first) l′ (se .1) room el put,
+        λ still. (pre .0 .3 .c-small, inr (refl, omega (arith, lo .on .on))),
+        λ lk ls f q₀ few y still. steady-push lk ls f q₀ (a .g .s) (a .q) l y few e (a .heads - first) l′ (se .1) room el put (a .g .s) (y .bound) refl,
         λ starts firsts B o S on. both-go cells starts counts firsts (a .g) lo is e se S (a .heads) (a .left) (a .q) (a .w) B l o on (c .before .before .before .before .before .before .before .if1 .left) less (pre .0 .0) (pre .0 .1) (pre .0 .3) (pre .0 .2) l′ room el put,
       ),
     ))

@@ -1,7 +1,7 @@
 -- `heads::walk::resumed` meets its contract.
 use borrow.Author.Needs.{needs}
 use native.Mathlib.Omega.{arith}
-use Prim.Native.Nat.{_-_, _≤_, _<_}
+use Prim.Native.Nat.{_-_, _<_}
 use mathlib.Core.Path.{refl, sym, ap, _∙_, subst}
 use mathlib.Core.Logic.{inl}
 use mathlib.Core.Bool.{false}
@@ -134,12 +134,12 @@ returns-6 c =
     let ey = c .before .before .before .before .before .later-at .ensures in
     let more : a .heads < a .left = omega (arith, c .before .before .before .before .before .before .before .before .if2 .left) in
     let some : a .q0 < a .q = omega (arith, c .before .before .before .before .before .before .before .if3 .left) in
-    let ec = entry-c l (a .q - 1) y ey in (
+    let ec = entry-c l (a .q - 1) (a .g .s .fuel) y ey in (
       refl,
       (
         λ lk ls f v still.
-            let b : Bound lk ls (y .s) × (y .s .fuel ≤ f) = subst (λ (z : Later). Bound lk ls (z .s) × (z .s .fuel ≤ f)) (sym ey) (steady-last lk ls f (a .q0) (a .g .s) (a .q) l v some) in
-            (steady-pop lk ls f (a .q0) (a .g .s) (a .q) l v some (a .q - 1) refl (y .s) b, (omega (arith, ec, b .0 .c-small), inl (omega (arith, more, c .before .before .before .before .before .before .if4 .left)))),
+            let b : Bound lk ls (y .s) = subst (λ (z : Later). Bound lk ls (z .s)) (sym ey) (steady-last lk ls f (a .q0) (a .g .s) (a .q) l v some) in
+            (steady-pop lk ls f (a .q0) (a .g .s) (a .q) l v some (a .q - 1) refl (y .s) b (ec .1 ∙ v .fuel-is), (omega (arith, ec .0, b .c-small), inl (omega (arith, more, c .before .before .before .before .before .before .if4 .left)))),
         λ starts counts firsts B o S eq lf. resume-goes (a .cells .now) starts counts firsts S (a .g .s) (a .heads) (a .left) (a .q) (a .x) B l o lf (not-false _ (c .before .before .before .before .before .before .before .before .before .if1 .left)) more (omega (arith, some, eq)) y ey (c .before .node-at .result) (c .before .node-at .ensures .0) (c .before .node-at .ensures .1),
       ),
     )
