@@ -9,10 +9,10 @@ ghost use Rattle.assignments.specs.Places.{product, valuesOf, places, Si
 ghost use Rattle.evaluation.specs.Run.{foot};
 ghost use Rattle.assignments.specs.Conditions.{env, code, Finds};
 ghost use Rattle.assignments.specs.Parting.{Standing, part-met, Part, Gapped};
-use crate::Eight;
 use crate::Found;
-use crate::Four;
 use crate::Gap;
+use crate::PerSum;
+use crate::PerVariable;
 use crate::block_size;
 use crate::grain;
 use crate::one_part::find_from;
@@ -20,11 +20,13 @@ use crate::one_part::find_in;
 use crate::one_part::found_at;
 use crate::one_part::none_found;
 use elements::smaller;
+use limits::MAX_CONDITIONS;
+use limits::VARIABLES;
 
 // Assignments of a variable before a gap, one in it and one behind it, at the fewest: two values each.
 const FEWEST: usize = 8;
 
-// The lowest variable from p on that a condition names, 8 if none.
+// The lowest variable from p on that a condition names, VARIABLES if none.
 pub fn term_low(s: &[u8], from: usize, end: usize, p: usize) -> usize
     ensures { λ r. ⌜ (from + 1 ≤ end → end ≤ length (now (s .entry)) → r ≡ foot p (code (now (s .entry)) from end)) ⌝ }
 {
@@ -36,11 +38,17 @@ pub fn term_low(s: &[u8], from: usize, end: usize, p: usize) -> usize
 }
 
 // The lowest variable from p on that any of the conditions names.
-fn lowest(s: &[u8], froms: &[usize; 8], ends: &[usize; 8], n: usize, p: usize) -> usize
+fn lowest(
+    s: &[u8],
+    froms: &[usize; MAX_CONDITIONS],
+    ends: &[usize; MAX_CONDITIONS],
+    n: usize,
+    p: usize,
+) -> usize
     requires { ⌜ n ≤ max-conditions ⌝ }
     ensures { λ r. ⌜ (((i : ℕ) → i < n → Standing (now (s .entry)) (now (froms .entry)) (now (ends .entry)) i) → (i : ℕ) → i < n → r ≤ foot p (code (now (s .entry)) (getD (now (froms .entry)) i 0) (getD (now (ends .entry)) i 0))) ⌝ }
 {
-    let mut low: usize = 8;
+    let mut low: usize = VARIABLES;
     let mut i: usize = 0;
     while i < n {
         low = smaller(low, term_low(s, froms[i], ends[i], p));
@@ -63,9 +71,9 @@ fn no_gap() -> Gap
 fn gap_at(
     s: &[u8],
     p: usize,
-    z: Four,
-    froms: &[usize; 8],
-    ends: &[usize; 8],
+    z: PerSum,
+    froms: &[usize; MAX_CONDITIONS],
+    ends: &[usize; MAX_CONDITIONS],
     n: usize,
     g: usize,
     round: usize,
@@ -94,9 +102,9 @@ fn gap_at(
 pub fn gap_of(
     s: &[u8],
     p: usize,
-    z: Four,
-    froms: &[usize; 8],
-    ends: &[usize; 8],
+    z: PerSum,
+    froms: &[usize; MAX_CONDITIONS],
+    ends: &[usize; MAX_CONDITIONS],
     n: usize,
     g: usize,
     round: usize,
@@ -119,12 +127,12 @@ pub fn gap_of(
 fn find_around(
     s: &[u8],
     funcs: &[u16],
-    params: Eight,
+    params: PerVariable,
     p: usize,
-    z: Four,
-    froms: &[usize; 8],
-    ends: &[usize; 8],
-    blocks: &[u32; 8],
+    z: PerSum,
+    froms: &[usize; MAX_CONDITIONS],
+    ends: &[usize; MAX_CONDITIONS],
+    blocks: &[u32; MAX_CONDITIONS],
     n: usize,
     g: usize,
     t: Gap,
@@ -188,12 +196,12 @@ fn find_around(
 pub fn find_once(
     s: &[u8],
     funcs: &[u16],
-    params: Eight,
+    params: PerVariable,
     p: usize,
-    z: Four,
-    froms: &[usize; 8],
-    ends: &[usize; 8],
-    blocks: &[u32; 8],
+    z: PerSum,
+    froms: &[usize; MAX_CONDITIONS],
+    ends: &[usize; MAX_CONDITIONS],
+    blocks: &[u32; MAX_CONDITIONS],
     n: usize,
     g: usize,
     t: Gap,

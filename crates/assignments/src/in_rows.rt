@@ -8,15 +8,17 @@ ghost use Rattle.assignments.specs.Places.{product, valuesOf, Sizes};
 ghost use Rattle.assignments.specs.Conditions.{env};
 ghost use Rattle.assignments.specs.Parting.{part-met, Part};
 ghost use Rattle.assignments.specs.Lanes.{Came};
-use crate::Eight;
 use crate::Found;
-use crate::Four;
+use crate::PerSum;
+use crate::PerVariable;
 use crate::block_size;
 use crate::one_part::next;
 use crate::strips::by_strips;
 use evaluation::lanes::LANES;
 use evaluation::lanes::MARK_ROOM;
 use evaluation::lanes::ROW_ROOM;
+use limits::MAX_CONDITIONS;
+use limits::MAX_VARIABLES;
 
 // So many blocks are enough to look for rows, and a row has so many at the fewest.
 const MANY: usize = 16;
@@ -35,7 +37,7 @@ pub fn gone_to(at: usize, left: u64) -> Found
 }
 
 // Does a variable of more than one value stand at a level, and are blocks of g those of the variables behind it?
-fn varies(z: Four, g: usize, l: usize) -> bool
+fn varies(z: PerSum, g: usize, l: usize) -> bool
     requires { ⌜ Sizes (z .at) × (l < max-variables) ⌝ }
     ensures { λ r. ⌜ (r ≡ true → g ≡ product (drop (l + 1) (z .at))) ⌝ }
 {
@@ -46,8 +48,8 @@ fn varies(z: Four, g: usize, l: usize) -> bool
     false
 }
 
-// The level of the last variable on which blocks of g hang, 4 if there is none.
-fn row_level(z: Four, g: usize) -> usize
+// The level of the last variable on which blocks of g hang, MAX_VARIABLES if there is none.
+fn row_level(z: PerSum, g: usize) -> usize
     requires { ⌜ Sizes (z .at) ⌝ }
     ensures { λ r. ⌜ (r < max-variables → g ≡ product (drop (r + 1) (z .at))) ⌝ }
 {
@@ -63,11 +65,11 @@ fn row_level(z: Four, g: usize) -> usize
     if varies(z, g, 0) {
         return 0;
     }
-    4
+    MAX_VARIABLES
 }
 
 // Where rows begin to pay: behind the first one, if there are more.
-pub fn first_row(z: Four, g: usize, from: usize, to: usize) -> usize
+pub fn first_row(z: PerSum, g: usize, from: usize, to: usize) -> usize
     requires { ⌜ Sizes (z .at) × ((to ≤ 131072) × ((0 < g) × (g ≤ 65536))) ⌝ }
 {
     if to <= from {
@@ -77,7 +79,7 @@ pub fn first_row(z: Four, g: usize, from: usize, to: usize) -> usize
         return to;
     }
     let l = row_level(z, g);
-    if 4 <= l {
+    if MAX_VARIABLES <= l {
         return to;
     }
     let a = z.at;
@@ -98,12 +100,12 @@ pub fn narrow(x: usize) -> u32
 pub fn find_rows(
     s: &[u8],
     funcs: &[u16],
-    params: Eight,
+    params: PerVariable,
     p: usize,
-    z: Four,
-    froms: &[usize; 8],
-    ends: &[usize; 8],
-    blocks: &[u32; 8],
+    z: PerSum,
+    froms: &[usize; MAX_CONDITIONS],
+    ends: &[usize; MAX_CONDITIONS],
+    blocks: &[u32; MAX_CONDITIONS],
     n: usize,
     g: usize,
     from: usize,
@@ -114,7 +116,7 @@ pub fn find_rows(
     ensures { λ r. ⌜ (r .found ≡ true → r .at ≤ to) × ((r .found ≡ false → from ≤ r .at) × ((r .left ≤ k) × ((l : ℕ) → g ≡ product (drop l (z .at)) → ((i : ℕ) → i < n → Part (now (s .entry)) p (z .at) (now (froms .entry)) (now (ends .entry)) (now (blocks .entry)) g i) → Came (λ j. part-met (now (s .entry)) (now (funcs .entry)) (now (froms .entry)) (now (ends .entry)) (now (blocks .entry)) n (env p (params .at) (valuesOf (z .at) j))) to from k (r .found) (r .at) (r .left)))) ⌝ }
 {
     let l = row_level(z, g);
-    if 4 <= l {
+    if MAX_VARIABLES <= l {
         return gone_to(from, k);
     }
     let w = block_size(z, l);

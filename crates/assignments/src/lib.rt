@@ -14,6 +14,9 @@ pub mod gaps; // variables that no condition names, between others
 pub mod rounds; // the search in all rounds
 pub mod two_parts; // the conditions parted in two, and the search with both parts
 
+use limits::MAX_CONDITIONS;
+use limits::MAX_VARIABLES;
+use limits::VARIABLES;
 use one_part::found_at;
 use one_part::none_found;
 use rounds::find_rounds;
@@ -21,21 +24,21 @@ use two_parts::find_parted;
 use two_parts::split;
 
 // One for each sum variable: sizes of their sorts, 1 where there is no variable; or their values.
-pub struct Four {
-    pub at: [u8; 4],
+pub struct PerSum {
+    pub at: [u8; MAX_VARIABLES],
 }
 
 // A value for each variable: parameters, then sum variables.
-pub struct Eight {
-    pub at: [u8; 8],
+pub struct PerVariable {
+    pub at: [u8; VARIABLES],
 }
 
 // The conditions of a summand: where each begins and ends, the block of assignments that it fails on as a whole;
 // how many there are, one more than the highest variable that they name, the lowest sum variable that they name, and where they all end.
 pub struct Conditions {
-    pub froms: [usize; 8],
-    pub ends: [usize; 8],
-    pub blocks: [u32; 8],
+    pub froms: [usize; MAX_CONDITIONS],
+    pub ends: [usize; MAX_CONDITIONS],
+    pub blocks: [u32; MAX_CONDITIONS],
     pub count: usize,
     pub reach: usize,
     pub low: usize,
@@ -45,8 +48,8 @@ pub struct Conditions {
 // The conditions in two parts, if they come apart.
 pub struct Parts {
     pub apart: bool,
-    pub early: [u32; 8],
-    pub late: [u32; 8],
+    pub early: [u32; MAX_CONDITIONS],
+    pub late: [u32; MAX_CONDITIONS],
     pub grain: usize,
     pub low: usize,
 }
@@ -72,11 +75,11 @@ fn times(a: u8, b: usize) -> usize
 }
 
 // The number of assignments of the variables from a level on.
-pub fn block_size(s: Four, l: usize) -> usize
+pub fn block_size(s: PerSum, l: usize) -> usize
     requires { ⌜ Sizes (s .at) ⌝ }
     ensures { λ r. ⌜ (r ≡ product (drop l (s .at))) × (r ≤ 65536) ⌝ }
 {
-    if 4 <= l {
+    if MAX_VARIABLES <= l {
         return 1;
     }
     let s3 = times(s.at[3], 1);
@@ -95,7 +98,7 @@ pub fn block_size(s: Four, l: usize) -> usize
 }
 
 // The block of assignments on which nothing changes that names only variables below h; p of them are parameters.
-pub fn grain(sizes: Four, h: usize, p: usize) -> usize
+pub fn grain(sizes: PerSum, h: usize, p: usize) -> usize
     requires { ⌜ Sizes (sizes .at) ⌝ }
     ensures { λ r. ⌜ (r ≡ product (drop (h - p) (sizes .at))) × (r ≤ 65536) ⌝ }
 {
@@ -133,7 +136,7 @@ fn quotient(j: usize, s: u8) -> usize
 }
 
 // Assignment j.
-pub fn values(s: Four, j: usize) -> Four
+pub fn values(s: PerSum, j: usize) -> PerSum
     requires { ⌜ ((i : ℕ) → i < max-variables → 0 < getD (s .at) i 0) ⌝ }
     ensures { λ r. ⌜ r .at ≡ valuesOf (s .at) j ⌝ }
 {
@@ -145,11 +148,11 @@ pub fn values(s: Four, j: usize) -> Four
     let j1 = quotient(j2, s2);
     let j0 = quotient(j1, s1);
     let v = [digit(j0, s0), digit(j1, s1), digit(j2, s2), digit(j, s3)];
-    Four { at: v }
+    PerSum { at: v }
 }
 
 // The values w are put behind p parameters.
-pub fn environment(params: Eight, p: usize, w: Four) -> Eight
+pub fn environment(params: PerVariable, p: usize, w: PerSum) -> PerVariable
     requires { ⌜ (p ≤ frame-width) × ((i : ℕ) → p ≤ i → getD (params .at) i 0 ≡ 0) ⌝ }
     ensures { λ r. ⌜ ((i : ℕ) → getD (r .at) i 0 ≡ getD (env p (params .at) (w .at)) i 0) ⌝ }
 {
@@ -158,11 +161,11 @@ pub fn environment(params: Eight, p: usize, w: Four) -> Eight
     a[p + 1] = w.at[1];
     a[p + 2] = w.at[2];
     a[p + 3] = w.at[3];
-    Eight { at: a }
+    PerVariable { at: a }
 }
 
 // The k-th of all assignments.
-pub fn find_any(sizes: Four, k: u64) -> Found
+pub fn find_any(sizes: PerSum, k: u64) -> Found
     requires { ⌜ Sizes (sizes .at) ⌝ }
     ensures { λ r. ⌜ ((acc : ℕ → Bool) → ((i : ℕ) → acc i ≡ true) → Finds (places acc (product (sizes .at)) 0) k (r .found) (r .at) (r .left)) ⌝ }
 {
@@ -177,9 +180,9 @@ pub fn find_any(sizes: Four, k: u64) -> Found
 pub fn find(
     s: &[u8],
     funcs: &[u16],
-    params: Eight,
+    params: PerVariable,
     p: usize,
-    sizes: Four,
+    sizes: PerSum,
     c: Conditions,
     k: u64,
 ) -> Found

@@ -8,15 +8,16 @@ ghost use Rattle.laws.specs.TermLength.{max-term};
 ghost use Rattle.assignments.specs.Places.{product, valuesOf, places, Sizes};
 ghost use Rattle.assignments.specs.Conditions.{env, holds, tried-of, Tested, Finds};
 ghost use Rattle.assignments.specs.Parting.{Standing, asked, part-met, Part};
-use crate::Eight;
 use crate::Found;
-use crate::Four;
+use crate::PerSum;
+use crate::PerVariable;
 use crate::environment;
 use crate::in_rows::find_rows;
 use crate::in_rows::first_row;
 use crate::values;
 use crate::wide_block;
 use elements::smaller;
+use limits::MAX_CONDITIONS;
 
 // The first number of the next block of d.
 pub fn next(j: usize, d: usize) -> usize
@@ -48,9 +49,9 @@ pub fn test(
     s: &[u8],
     funcs: &[u16],
     e: &[u8],
-    froms: &[usize; 8],
-    ends: &[usize; 8],
-    blocks: &[u32; 8],
+    froms: &[usize; MAX_CONDITIONS],
+    ends: &[usize; MAX_CONDITIONS],
+    blocks: &[u32; MAX_CONDITIONS],
     n: usize,
     least: u32,
 ) -> u32
@@ -92,12 +93,12 @@ pub fn none_found(left: u64) -> Found
 pub fn find_from(
     s: &[u8],
     funcs: &[u16],
-    params: Eight,
+    params: PerVariable,
     p: usize,
-    z: Four,
-    froms: &[usize; 8],
-    ends: &[usize; 8],
-    blocks: &[u32; 8],
+    z: PerSum,
+    froms: &[usize; MAX_CONDITIONS],
+    ends: &[usize; MAX_CONDITIONS],
+    blocks: &[u32; MAX_CONDITIONS],
     n: usize,
     g: usize,
     from: usize,
@@ -157,12 +158,12 @@ pub fn find_from(
 pub fn find_in(
     s: &[u8],
     funcs: &[u16],
-    params: Eight,
+    params: PerVariable,
     p: usize,
-    z: Four,
-    froms: &[usize; 8],
-    ends: &[usize; 8],
-    blocks: &[u32; 8],
+    z: PerSum,
+    froms: &[usize; MAX_CONDITIONS],
+    ends: &[usize; MAX_CONDITIONS],
+    blocks: &[u32; MAX_CONDITIONS],
     n: usize,
     g: usize,
     total: usize,

@@ -6,25 +6,26 @@ ghost use Rattle.pcrl.specs.Limits.{frame-width, max-conditions};
 ghost use Rattle.assignments.specs.Places.{product, valuesOf, places, Sizes};
 ghost use Rattle.assignments.specs.Conditions.{env, Finds};
 ghost use Rattle.assignments.specs.Parting.{part-met, Part, Above};
-use crate::Eight;
 use crate::Found;
-use crate::Four;
+use crate::PerSum;
+use crate::PerVariable;
 use crate::block_size;
 use crate::gaps::find_once;
 use crate::gaps::gap_of;
 use crate::one_part::found_at;
 use crate::one_part::none_found;
+use limits::MAX_CONDITIONS;
 
 // The k-th of all assignments that meet the conditions asked, or how much of k is left: they say the same again after each round.
 pub fn find_rounds(
     s: &[u8],
     funcs: &[u16],
-    params: Eight,
+    params: PerVariable,
     p: usize,
-    z: Four,
-    froms: &[usize; 8],
-    ends: &[usize; 8],
-    blocks: &[u32; 8],
+    z: PerSum,
+    froms: &[usize; MAX_CONDITIONS],
+    ends: &[usize; MAX_CONDITIONS],
+    blocks: &[u32; MAX_CONDITIONS],
     n: usize,
     g: usize,
     round: usize,

@@ -12,9 +12,9 @@ ghost use Rattle.assignments.specs.Places.{valuesOf, places, Sizes};
 ghost use Rattle.assignments.specs.Conditions.{env, holds, all-below, Finds};
 ghost use Rattle.assignments.specs.Parting.{Standing, part-met, Part};
 ghost use Rattle.assignments.specs.Lanes.{inner, Sifted, RowMet, Strip, Lent, Rowed, Came};
-use crate::Eight;
 use crate::Found;
-use crate::Four;
+use crate::PerSum;
+use crate::PerVariable;
 use crate::block_size;
 use crate::environment;
 use crate::in_rows::gone_to;
@@ -28,6 +28,7 @@ use elements::smaller;
 use elements::wide;
 use evaluation::lanes::LANES;
 use evaluation::rows::UNKNOWN;
+use limits::MAX_CONDITIONS;
 
 // Of the lanes that are kept, those in which a condition holds, if it is asked and its block is less than w; 0 only if there are none.
 fn row_tried(
@@ -94,9 +95,9 @@ fn row_test(
     slow: &[u8],
     fast: &[u8],
     lanes: usize,
-    froms: &[usize; 8],
-    ends: &[usize; 8],
-    blocks: &[u32; 8],
+    froms: &[usize; MAX_CONDITIONS],
+    ends: &[usize; MAX_CONDITIONS],
+    blocks: &[u32; MAX_CONDITIONS],
     n: usize,
     w: u32,
     rows: &mut [u8],
@@ -200,9 +201,9 @@ fn in_lanes(
     size: u8,
     first: u8,
     lanes: usize,
-    froms: &[usize; 8],
-    ends: &[usize; 8],
-    blocks: &[u32; 8],
+    froms: &[usize; MAX_CONDITIONS],
+    ends: &[usize; MAX_CONDITIONS],
+    blocks: &[u32; MAX_CONDITIONS],
     n: usize,
     b: u32,
     g: usize,
@@ -250,12 +251,12 @@ fn in_lanes(
 fn in_strip(
     s: &[u8],
     funcs: &[u16],
-    params: Eight,
+    params: PerVariable,
     p: usize,
-    z: Four,
-    froms: &[usize; 8],
-    ends: &[usize; 8],
-    blocks: &[u32; 8],
+    z: PerSum,
+    froms: &[usize; MAX_CONDITIONS],
+    ends: &[usize; MAX_CONDITIONS],
+    blocks: &[u32; MAX_CONDITIONS],
     n: usize,
     g: usize,
     l: usize,
@@ -320,12 +321,12 @@ fn in_strip(
 pub fn by_strips(
     s: &[u8],
     funcs: &[u16],
-    params: Eight,
+    params: PerVariable,
     p: usize,
-    z: Four,
-    froms: &[usize; 8],
-    ends: &[usize; 8],
-    blocks: &[u32; 8],
+    z: PerSum,
+    froms: &[usize; MAX_CONDITIONS],
+    ends: &[usize; MAX_CONDITIONS],
+    blocks: &[u32; MAX_CONDITIONS],
     n: usize,
     g: usize,
     l: usize,

@@ -8,10 +8,10 @@ ghost use Rattle.pcrl.specs.Limits.{frame-width, max-variables, max-conditions}
 ghost use Rattle.assignments.specs.Places.{product, valuesOf, places, Sizes};
 ghost use Rattle.assignments.specs.Conditions.{env, met, Ready, Finds};
 ghost use Rattle.assignments.specs.Parting.{Apart};
-use crate::Eight;
 use crate::Found;
-use crate::Four;
 use crate::Parts;
+use crate::PerSum;
+use crate::PerVariable;
 use crate::block_size;
 use crate::gaps::term_low;
 use crate::grain;
@@ -21,15 +21,17 @@ use crate::one_part::none_found;
 use crate::rounds::find_rounds;
 use crate::wide_block;
 use elements::smaller;
+use limits::MAX_CONDITIONS;
+use limits::VARIABLES;
 
 // The conditions in two parts: blocks of the early ones, which are of b assignments at least, and of the late ones; 0 for a condition that is not of the part.
 // `grain`: the early ones change only between blocks of it; `low`: the late ones name no sum variable before it. They are apart if that is level l.
 fn parted(
     s: &[u8],
     p: usize,
-    froms: &[usize; 8],
-    ends: &[usize; 8],
-    blocks: &[u32; 8],
+    froms: &[usize; MAX_CONDITIONS],
+    ends: &[usize; MAX_CONDITIONS],
+    blocks: &[u32; MAX_CONDITIONS],
     n: usize,
     b: usize,
     total: usize,
@@ -38,10 +40,10 @@ fn parted(
     requires { ⌜ (p ≤ frame-width) × ((n ≤ max-conditions) × ((0 < b) × ((0 < total) × ((total ≤ 65536) × (l ≤ max-variables))))) ⌝ }
     ensures { λ r. ⌜ ((0 < r .grain) × (r .grain ≤ 65536)) × ((sizes : List ℕ) (reach low : ℕ) → r .apart ≡ true → Sizes sizes → length sizes ≡ max-variables → total ≡ product sizes → b ≡ product (drop l sizes) → ((i : ℕ) → i < n → Ready (now (s .entry)) p sizes (now (froms .entry)) (now (ends .entry)) (now (blocks .entry)) reach low i) → Apart (now (s .entry)) p sizes (now (froms .entry)) (now (ends .entry)) (now (blocks .entry)) n r) ⌝ }
 {
-    let mut early = [0u32; 8];
-    let mut late = [0u32; 8];
+    let mut early = [0u32; MAX_CONDITIONS];
+    let mut late = [0u32; MAX_CONDITIONS];
     let mut grain = total;
-    let mut low: usize = 8;
+    let mut low: usize = VARIABLES;
     let mut i: usize = 0;
     while i < n {
         let d = blocks[i];
@@ -69,10 +71,10 @@ fn parted(
 fn apart_at(
     s: &[u8],
     p: usize,
-    sizes: Four,
-    froms: &[usize; 8],
-    ends: &[usize; 8],
-    blocks: &[u32; 8],
+    sizes: PerSum,
+    froms: &[usize; MAX_CONDITIONS],
+    ends: &[usize; MAX_CONDITIONS],
+    blocks: &[u32; MAX_CONDITIONS],
     n: usize,
     g: usize,
     low: usize,
@@ -89,8 +91,8 @@ fn apart_at(
     }
     Parts {
         apart: false,
-        early: [0u32; 8],
-        late: [0u32; 8],
+        early: [0u32; MAX_CONDITIONS],
+        late: [0u32; MAX_CONDITIONS],
         grain: 1,
         low: 0,
     }
@@ -100,10 +102,10 @@ fn apart_at(
 pub fn split(
     s: &[u8],
     p: usize,
-    sizes: Four,
-    froms: &[usize; 8],
-    ends: &[usize; 8],
-    blocks: &[u32; 8],
+    sizes: PerSum,
+    froms: &[usize; MAX_CONDITIONS],
+    ends: &[usize; MAX_CONDITIONS],
+    blocks: &[u32; MAX_CONDITIONS],
     n: usize,
     g: usize,
     low: usize,
@@ -133,11 +135,11 @@ fn bounded(a: u64, b: usize) -> u64
 pub fn find_parted(
     s: &[u8],
     funcs: &[u16],
-    params: Eight,
+    params: PerVariable,
     p: usize,
-    z: Four,
-    froms: &[usize; 8],
-    ends: &[usize; 8],
+    z: PerSum,
+    froms: &[usize; MAX_CONDITIONS],
+    ends: &[usize; MAX_CONDITIONS],
     n: usize,
     t: Parts,
     g: usize,

@@ -10,6 +10,7 @@ use lib.Dec.{ltb}
 use lib.ListN.{length, getD, drop, take, set, length-set, drop-of-length-le}
 use lib.Seq.{drop-cons, drop-drop, getD-drop}
 use borrow.Author.Tests.{eq-eqb, ne-eqb, ltb-true, ltb-false, lt-ltb, le-ltb}
+use Rattle.pcrl.specs.Limits.{frame-width, max-variables}
 use Rattle.pcrl.specs.Sheet.{not-number}
 use Rattle.pcrl.specs.Stream.{variable-code, function-code}
 use Rattle.pcrl.specs.Decode.{Node, value, variable, function, node-of}
@@ -179,7 +180,7 @@ pub peak-more : (c : List ℕ) (i n : ℕ) → i < length c → peak (take (suc 
 unfolding peak
 peak-more c i n h = rw (drop-cons c i 0 h, add-one i) refl
 
-pub foot-none : (p : ℕ) (c : List ℕ) (i n : ℕ) → n ≡ 0 → 8 ≡ foot p (take n (drop i c))
+pub foot-none : (p : ℕ) (c : List ℕ) (i n : ℕ) → n ≡ 0 → frame-width + max-variables ≡ foot p (take n (drop i c))
 unfolding foot
 foot-none p c i n h = rw h refl
 

@@ -2,4 +2,3 @@ pub mod Bytes
 pub mod Operators
 pub mod Terms
 pub mod LaneLaws
-pub mod TowerLaws

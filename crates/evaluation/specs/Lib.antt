@@ -1,4 +1,3 @@
 pub mod Run
 pub mod Known
 pub mod Rows
-pub mod Towers

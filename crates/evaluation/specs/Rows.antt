@@ -14,12 +14,12 @@ lane-count = 128
 abbrev pub row-count : ℕ
 row-count = 17
 
--- all rows, and a mark for each
-abbrev pub row-room : ℕ
-row-room = 2560
-
+-- a mark for each, and all rows
 abbrev pub mark-room : ℕ
-mark-room = 20
+mark-room = row-count + 3
+
+abbrev pub row-room : ℕ
+row-room = mark-room * lane-count
 
 abbrev pub lane : List ℕ → ℕ → ℕ → ℕ
 lane rows t i = getD rows (t * lane-count + i) 0

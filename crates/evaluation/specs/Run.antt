@@ -6,6 +6,7 @@ use mathlib.Core.Bool.{Bool, true, false}
 use Prim.Native.Nat.{ℕ, zero, suc, _+_, _-_, _*_, max, min}
 use lib.Dec.{eqb, ltb}
 use lib.ListN.{getD, drop}
+use Rattle.pcrl.specs.Limits.{frame-width, max-variables}
 use Rattle.pcrl.specs.Sheet.{not-number}
 use Rattle.pcrl.specs.Decode.{Node, value, variable, function, node-of}
 use Rattle.terms.specs.Stands.{size-in}
@@ -82,7 +83,7 @@ peak (b ∷ c) = max (named (node-of b)) (peak c)
 abbrev pub lowered : ℕ → ℕ → ℕ → ℕ
 lowered p n m = pick (ltb p n) (min (n - 1) m) m
 
--- the lowest variable from p on that is named in the bytes, 8 if none
+-- the lowest variable from p on that is named in the bytes, the number of all variables if none
 unfoldable pub foot : ℕ → List ℕ → ℕ
-foot p [] = 8
+foot p [] = frame-width + max-variables
 foot p (b ∷ c) = lowered p (named (node-of b)) (foot p c)

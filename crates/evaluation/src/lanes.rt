@@ -14,10 +14,10 @@ pub const LANES: usize = 128;
 // Rows of values, as many as a term of 31 nodes needs; behind them stand three rows of zeros.
 pub const ROWS: usize = 17;
 
-// All rows, and a mark for each.
-pub const ROW_ROOM: usize = 2560;
+// A mark for each, and all rows.
+pub const MARK_ROOM: usize = ROWS + 3;
 
-pub const MARK_ROOM: usize = 20;
+pub const ROW_ROOM: usize = MARK_ROOM * LANES;
 
 // So many lanes are looked up in one go.
 const PART: usize = 16;
@@ -55,7 +55,7 @@ pub fn higher(a: u8, b: u8) -> u8
 }
 
 // No lane of row t is higher.
-pub fn highest(rows: &[u8], t: usize) -> u8
+fn highest(rows: &[u8], t: usize) -> u8
     requires { ⌜ (t ≤ 19) × (row-room ≤ length (now rows)) ⌝ }
     ensures { λ r. ⌜ ((i : ℕ) → i < lane-count → lane (now (rows .entry)) t i ≤ r) ⌝ }
 {
@@ -84,7 +84,7 @@ fn one(s: &[u8], q: usize, rows: &mut [u8], t: usize, d: usize, n: usize)
 }
 
 // The same where all places that the row names are in the stream.
-pub fn one_inside(s: &[u8], q: usize, rows: &mut [u8], t: usize, d: usize, n: usize)
+fn one_inside(s: &[u8], q: usize, rows: &mut [u8], t: usize, d: usize, n: usize)
     requires { ⌜ ((i : ℕ) → i < lane-count → q + lane (now rows) t i < length (now s)) × ((q < 262144) × ((t ≤ 18) × ((d < row-count) × ((row-room ≤ length (now rows)) × (n ≤ lane-count))))) ⌝ }
     ensures { λ _. ⌜ RowPut n (now (rows .entry)) d (λ i. getD (now (s .entry)) (q + lane (now (rows .entry)) t i) 0) (now (rows .exit)) ⌝ }
 {
@@ -173,11 +173,6 @@ pub fn unary(s: &[u8], q: usize, rows: &mut [u8], marks: &mut [u8], t: usize, d:
         return;
     }
     marks[d] = 1;
-    // in a long stream the places of any values are
-    if q + 255 < s.len() {
-        one_inside(s, q, rows, t, d, n);
-        return;
-    }
     if q + wide(highest(rows, t)) < s.len() {
         one_inside(s, q, rows, t, d, n);
         return;
@@ -205,11 +200,6 @@ pub fn binary(
         return;
     }
     marks[d] = 1;
-    // in a long stream the places of any values are
-    if q + row(255, width, 255) < s.len() {
-        two_inside(s, q, width, rows, t, d, n);
-        return;
-    }
     if q + row(highest(rows, t), width, highest(rows, t + 1)) < s.len() {
         two_inside(s, q, width, rows, t, d, n);
         return;

@@ -9,22 +9,20 @@ ghost use Rattle.evaluation.specs.Run.{pick, operator-code, operator-cou
 
 pub mod lanes; // one row of values
 pub mod rows; // terms for all values of two variables at once
-pub mod towers; // nodes of one argument, taken together
 
 use elements::cell;
 use elements::larger;
 use elements::peek;
 use elements::smaller;
 use elements::wide;
+use limits::MAX_TERM;
+use limits::VARIABLES;
 use terms::AND;
 use terms::EQUAL;
 use terms::FUNCTION;
 use terms::NOT;
 use terms::VARIABLE;
 use terms::size_of;
-
-// The most bytes of a term, `max-term` of crate laws.
-const TERM: usize = 46;
 
 // How many values an operator takes: `==` its sort too.
 fn operator_arguments(n: usize) -> usize
@@ -160,7 +158,7 @@ fn lower(p: usize, n: usize, m: usize) -> usize
     m
 }
 
-// What bytes name: one more than the highest variable, and the lowest from some number on, 8 if none.
+// What bytes name: one more than the highest variable, and the lowest from some number on, VARIABLES if none.
 pub struct Span {
     pub high: usize,
     pub low: usize,
@@ -171,7 +169,7 @@ pub fn variables(s: &[u8], at: usize, end: usize, p: usize) -> Span
     ensures { λ r. ⌜ (at ≤ end → end ≤ length (now (s .entry)) → (r .high ≡ peak (take (end - at) (drop at (now (s .entry))))) × (r .low ≡ foot p (take (end - at) (drop at (now (s .entry)))))) ⌝ }
 {
     let mut high: usize = 0;
-    let mut low: usize = 8;
+    let mut low: usize = VARIABLES;
     let mut i = smaller(end, s.len());
     while at < i {
         i -= 1;
@@ -206,7 +204,7 @@ pub fn value(s: &[u8], funcs: &[u16], e: &[u8], at: usize, end: usize) -> u8
     if s.len() < end {
         return 0;
     }
-    if TERM < end - at {
+    if MAX_TERM < end - at {
         return 0;
     }
     let mut i = end;

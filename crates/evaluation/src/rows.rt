@@ -15,8 +15,6 @@ use crate::lanes::higher;
 use crate::lanes::operator;
 use crate::lanes::unary;
 use crate::operator_arguments;
-use crate::towers::climb;
-use crate::towers::steep;
 use elements::cell;
 use elements::peek;
 use elements::smaller;
@@ -27,7 +25,7 @@ use terms::VARIABLE;
 use terms::size_of;
 
 // A term needs more rows.
-const TOO_DEEP: usize = 18;
+const TOO_DEEP: usize = ROWS + 1;
 
 // It is not known which lanes are kept.
 pub const UNKNOWN: u8 = 255;
@@ -123,11 +121,6 @@ fn term(
     while at < j {
         if t == 0 {
             return TOO_DEEP;
-        }
-        let m = steep(s, funcs, at, j, rows, marks, t);
-        if m > 0 {
-            j = climb(s, funcs, at, j, m, rows, t, n);
-            continue;
         }
         j -= 1;
         t = node(s, funcs, e, u, v, slow, fast, n, rows, marks, t, s[j]);

@@ -1,6 +1,6 @@
 // Step k of an equation, found in the stream: its label, and the frames of its calls.
-use assignments::Eight;
-use assignments::Four;
+use assignments::PerVariable;
+use assignments::PerSum;
 use elements::cell;
 use elements::peek;
 use elements::smaller;
@@ -142,7 +142,7 @@ fn past(s: &[u8], funcs: &[u16], acts: &[u16], params: &[u16], at: usize) -> usi
 }
 
 // The values of p parameters, and zeros behind them.
-fn first_values(params: &[u8], p: usize) -> Eight
+fn first_values(params: &[u8], p: usize) -> PerVariable
     requires { ⌜ p ≤ frame-width ⌝ }
     ensures { λ r. ⌜ (length (r .at) ≡ 8) × (((i : ℕ) → i < p → getD (r .at) i 0 ≡ getD (now (params .entry)) i 0) × ((i : ℕ) → p ≤ i → getD (r .at) i 0 ≡ 0)) ⌝ }
 {
@@ -152,7 +152,7 @@ fn first_values(params: &[u8], p: usize) -> Eight
         a[i] = peek(params, i);
         i += 1;
     }
-    Eight { at: a }
+    PerVariable { at: a }
 }
 
 // The step that a summand gives whose label stands at a place, where the variables have the values e.
@@ -217,7 +217,7 @@ struct Sought {
 }
 
 // The k-th assignment that meets the conditions whose count stands at a place. Where there are none, nothing is opened.
-fn seek(s: &[u8], funcs: &[u16], first: Eight, p: usize, at: usize, z: Four, k: u64) -> Sought
+fn seek(s: &[u8], funcs: &[u16], first: PerVariable, p: usize, at: usize, z: PerSum, k: u64) -> Sought
     requires { ⌜ (length (now s) ≤ max-stream) × ((p ≤ frame-width) × (((i : ℕ) → p ≤ i → getD (first .at) i 0 ≡ 0) × ((at ≤ max-stream + max-stream) × Sizes (z .at)))) ⌝ }
     ensures { λ r. ⌜ (r .end ≤ max-stream + max-stream + 16) × Seeks (now (s .entry)) (now (funcs .entry)) (first .at) p (z .at) at k r ⌝ }
 {
@@ -248,7 +248,7 @@ fn fire_rows(
     funcs: &[u16],
     acts: &[u16],
     params: &[u16],
-    first: Eight,
+    first: PerVariable,
     p: usize,
     row: usize,
     k: u64,

@@ -9,7 +9,7 @@ use lib.Dec.{ltb}
 use lib.ListN.{length, getD, take, drop, set, length-append, length-drop, drop-of-length-le}
 use lib.Seq.{drop-cons, drop-drop, getD-drop, take-at, drop-at, getD-set-same, getD-set-other}
 use borrow.Author.Tests.{ltb-true, ltb-false}
-use Rattle.pcrl.specs.Limits.{max-conditions}
+use Rattle.pcrl.specs.Limits.{frame-width, max-variables, max-conditions}
 use Rattle.pcrl.specs.Tests.{Every}
 use Rattle.pcrl.specs.Reader.{all}
 use Rattle.pcrl.specs.Sheet.{Data, Sig}
@@ -118,17 +118,17 @@ Gone s funcs at p sizes n froms ends blocks reach low a i =
     → (n ≡ length cs) × ((drop a s ≡ all encode-cond (drop i cs) ++ rest) × ((m : ℕ) → m < i → Stood s p sizes reach low (getD cs m no-cond) (getD froms m 0) (getD ends m 0) (getD blocks m 0)))
 
 module _ (s funcs : List ℕ) (at p : ℕ) (sizes : List ℕ) (n : ℕ) where
-  pub gone-none : (froms ends blocks : List ℕ) → n ≡ min (getD s at 0) max-conditions → Gone s funcs at p sizes n froms ends blocks 0 8 (at + 1) 0
+  pub gone-none : (froms ends blocks : List ℕ) → n ≡ min (getD s at 0) max-conditions → Gone s funcs at p sizes n froms ends blocks 0 (frame-width + max-variables) (at + 1) 0
   unfolding Gone
   gone-none froms ends blocks e S Γ cs rest known short ev few here =
       let w = conds-start s at cs rest here in
       (omega (arith, w .0), (w .1, λ m h. absurd (omega arith)))
 
-  pub gone-more : (froms ends blocks : List ℕ) (reach low a i b end h f g reach′ low′ : ℕ) → i < n → length froms ≡ 8 → length ends ≡ 8 → length blocks ≡ 8 → n ≤ max-conditions
+  pub gone-more : (froms ends blocks : List ℕ) (reach low a i b end h f g reach′ low′ : ℕ) → i < n → length froms ≡ max-conditions → length ends ≡ max-conditions → length blocks ≡ max-conditions → n ≤ max-conditions
       → b ≡ a + 1 → end ≡ b + extent s funcs (drop b s) 1 → (b ≤ end → end ≤ length s → h ≡ peak (take (end - b) (drop b s))) → (b ≤ end → end ≤ length s → f ≡ foot p (take (end - b) (drop b s))) → g ≡ product (drop (h - p) sizes) → reach′ ≡ max reach h → low′ ≡ min low f
       → Gone s funcs at p sizes n froms ends blocks reach low a i → Gone s funcs at p sizes n (set froms i a) (set ends i end) (set blocks i g) reach′ low′ end (i + 1)
   unfolding Gone
-  gone-more froms ends blocks reach low a i b end h f g reach′ low′ l nf ne nb few8 eb ee eh ef eg er el gone S Γ cs rest known short ev few here =
+  gone-more froms ends blocks reach low a i b end h f g reach′ low′ l nf ne nb few-conditions eb ee eh ef eg er el gone S Γ cs rest known short ev few here =
       let (en, (left, old)) = gone S Γ cs rest known short ev few here in
       let c : ℕ × Data = getD cs i no-cond in
       let k : i < length cs = omega arith in

@@ -1,11 +1,12 @@
 // A summand in the stream is opened: the sizes of its variables' sorts, and its conditions.
 use assignments::Conditions;
-use assignments::Four;
+use assignments::PerSum;
 use elements::larger;
 use elements::peek;
 use elements::smaller;
 use elements::wide;
 use limits::MAX_CONDITIONS;
+use limits::VARIABLES;
 use terms::size_of;
 ghost use mathlib.Core.Path.{_≡_};
 ghost use mathlib.Core.List.{List, _++_};
@@ -20,9 +21,6 @@ ghost use Rattle.terms.specs.Stands.{Stands};
 ghost use Rattle.evaluation.specs.Known.{KnownTerms};
 ghost use Rattle.assignments.specs.Places.{Sizes};
 ghost use Rattle.opening.specs.Opened.{sizes-of, Prepared};
-
-// Variables of a summand with the parameters before them, at the most.
-const VARIABLES: usize = limits::FRAME_WIDTH + limits::MAX_VARIABLES;
 
 const SIZE: u8 = limits::MAX_SIZE as u8;
 
@@ -45,7 +43,7 @@ fn size_at(s: &[u8], funcs: &[u16], at: usize, i: usize) -> u8
 }
 
 // The sizes of the sorts of the variables.
-pub fn sizes(s: &[u8], funcs: &[u16], at: usize) -> Four
+pub fn sizes(s: &[u8], funcs: &[u16], at: usize) -> PerSum
     requires { ⌜ at ≤ max-stream + max-stream ⌝ }
     ensures { λ r. ⌜ Sizes (r .at) × ((S : Sig) (vars : List ℕ) → KnownTerms S (now (s .entry)) (now (funcs .entry)) → Stands (now (s .entry)) at (encode-numbers vars) → AreSorts (S .sorts) vars → length vars ≤ max-variables → r .at ≡ sizes-of S vars) ⌝ }
 {
@@ -55,7 +53,7 @@ pub fn sizes(s: &[u8], funcs: &[u16], at: usize) -> Four
         size_at(s, funcs, at, 2),
         size_at(s, funcs, at, 3),
     ];
-    Four { at: v }
+    PerSum { at: v }
 }
 
 fn narrow(x: usize) -> u32
@@ -66,14 +64,14 @@ fn narrow(x: usize) -> u32
 }
 
 // The conditions whose count stands at a place, where p variables are parameters.
-pub fn conditions(s: &[u8], funcs: &[u16], at: usize, p: usize, z: Four) -> Conditions
+pub fn conditions(s: &[u8], funcs: &[u16], at: usize, p: usize, z: PerSum) -> Conditions
     requires { ⌜ (length (now s) ≤ max-stream) × ((at ≤ max-stream + max-stream) × Sizes (z .at)) ⌝ }
     ensures { λ r. ⌜ (r .count ≤ max-conditions) × ((r .end ≤ max-stream + max-stream + 16) × ((S : Sig) (Γ : List ℕ) (cs : List (ℕ × Data)) (rest : List ℕ) → KnownTerms S (now (s .entry)) (now (funcs .entry)) → length Γ ≤ variable-code → Every (RightCond S Γ) cs → length cs ≤ max-conditions → drop at (now (s .entry)) ≡ encode-list encode-cond cs ++ rest → Prepared (now (s .entry)) p (z .at) cs rest r)) ⌝ }
 {
     let n = smaller(wide(peek(s, at)), MAX_CONDITIONS);
-    let mut froms = [0usize; 8];
-    let mut ends = [0usize; 8];
-    let mut blocks = [0u32; 8];
+    let mut froms = [0usize; MAX_CONDITIONS];
+    let mut ends = [0usize; MAX_CONDITIONS];
+    let mut blocks = [0u32; MAX_CONDITIONS];
     let mut reach: usize = 0;
     let mut low: usize = VARIABLES;
     let mut a = at + 1;

@@ -4,7 +4,7 @@ use Rattle.assignments.proofs.environment.Statement.{statement}
 use Rattle.assignments.proofs.environment.Tie as tie
 use native.Mathlib.Omega.{arith}
 use Prim.Native.Nat.{_-_}
-use Rattle.assignments.proofs.Counter.{put, four-length, eight-length}
+use Rattle.assignments.proofs.Counter.{put, per-sum-length, per-variable-length}
 
 element-copy-out-a : tie.Need-element-copy-out-a
 element-copy-out-a c = search needs
@@ -40,7 +40,7 @@ array-write-a-4 : tie.Need-array-write-a-4
 array-write-a-4 c = search needs
 
 returns : tie.Need-returns
-returns c = let l = eight-length (c .before .before .before .before .before .args .params) _ (c .before .before .before .before .before .good .0) in put (c .before .before .before .before .before .args .p) (c .before .before .before .before .before .args .params .at) (c .before .before .before .before .before .args .t3 .at) (omega (arith, c .before .before .before .before .before .pre .0)) (c .before .before .before .before .before .pre .1) (four-length (c .before .before .before .before .before .args .t3) _ (c .before .before .before .before .before .good .1 .1 .0))
+returns c = let l = per-variable-length (c .before .before .before .before .before .args .params) _ (c .before .before .before .before .before .good .0) in put (c .before .before .before .before .before .args .p) (c .before .before .before .before .before .args .params .at) (c .before .before .before .before .before .args .t3 .at) (omega (arith, c .before .before .before .before .before .pre .0)) (c .before .before .before .before .before .pre .1) (per-sum-length (c .before .before .before .before .before .args .t3) _ (c .before .before .before .before .before .good .1 .1 .0))
 
 pub environment-spec : {M : Type 1} → statement M
 environment-spec =

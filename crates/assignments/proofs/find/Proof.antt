@@ -4,7 +4,7 @@ use native.Mathlib.Omega.{arith}
 use Prim.Native.Nat.{ℕ, _-_, _<_}
 use mathlib.Core.Path.{_≡_}
 use lib.ListN.{length, getD}
-use Rattle.assignments.proofs.Counter.{four-length}
+use Rattle.assignments.proofs.Counter.{per-sum-length}
 use Rattle.assignments.proofs.Blocks.{product-pos, all-true}
 use Rattle.assignments.proofs.Separating.{all-part, all-above}
 use Rattle.assignments.proofs.Searching.{search-all}
@@ -27,7 +27,7 @@ split-requires : tie.Need-split-requires
 split-requires c κs = let q = c .before .before .before .before .before .before .before .before .before .before .before .before .pre in (q .0, (q .1 .1 .0, q .1 .1 .1))
 
 find-parted-requires : tie.Need-find-parted-requires
-find-parted-requires c κs = let q = c .before .before .before .before .before .before .before .before .before .before .before .before .before .before .before .before .pre in let a = c .before .before .before .before .before .before .before .before .before .before .before .before .before .before .before .before .args in let len = four-length (a .sizes) _ (c .before .before .before .before .before .before .before .before .before .before .before .before .before .before .before .before .good .1 .1 .1 .1 .0) in
+find-parted-requires c κs = let q = c .before .before .before .before .before .before .before .before .before .before .before .before .before .before .before .before .pre in let a = c .before .before .before .before .before .before .before .before .before .before .before .before .before .before .before .before .args in let len = per-sum-length (a .sizes) _ (c .before .before .before .before .before .before .before .before .before .before .before .before .before .before .before .before .good .1 .1 .1 .1 .0) in
     let positive : (i : ℕ) → i < length (a .sizes .at) → 0 < getD (a .sizes .at) i 0 = λ i h. c .before .before .before .before .before .before .before .before .before .before .before .before .before .before .before .before .pre .1 .1 .1 i (omega arith) .0 in
     (q .0, (q .1 .0, (q .1 .1 .0, (q .1 .1 .1, (c .before .before .before .before .before .before .before .before .grain2 .ensures .1, (omega (arith, c .before .before .before .before .before .before .before .before .grain2 .ensures .0, product-pos (a .c .low - a .p) (a .sizes .at) positive), (omega (arith, c .before .before .before .before .before .before .before .before .before .grain .ensures .0, product-pos (a .c .reach - a .p) (a .sizes .at) positive), (c .before .before .before .before .before .before .before .before .before .grain .ensures .1, (c .before .before .before .split .ensures .0 .0, c .before .before .before .split .ensures .0 .1)))))))))
 
@@ -35,12 +35,12 @@ returns-2 : tie.Need-returns-2
 returns-2 c = λ ready. let a = c .before .before .before .before .before .before .before .before .before .before .before .before .before .before .before .before .before .args in c .find-parted .ensures (a .c .blocks) (a .c .reach) (a .c .low) (c .before .before .before .before .before .before .before .before .before .before .grain .ensures .0) (c .before .before .before .before .before .before .before .before .before .grain2 .ensures .0) ready (c .before .before .before .before .split .ensures .1 (a .c .reach) (a .c .low) (c .before .before .before .if3 .taken) ready)
 
 find-rounds-requires : tie.Need-find-rounds-requires
-find-rounds-requires c κs = let q = c .before .before .before .before .before .before .before .before .before .before .before .before .pre in let a = c .before .before .before .before .before .before .before .before .before .before .before .before .args in let len = four-length (a .sizes) _ (c .before .before .before .before .before .before .before .before .before .before .before .before .good .1 .1 .1 .1 .0) in
+find-rounds-requires c κs = let q = c .before .before .before .before .before .before .before .before .before .before .before .before .pre in let a = c .before .before .before .before .before .before .before .before .before .before .before .before .args in let len = per-sum-length (a .sizes) _ (c .before .before .before .before .before .before .before .before .before .before .before .before .good .1 .1 .1 .1 .0) in
     let positive : (i : ℕ) → i < length (a .sizes .at) → 0 < getD (a .sizes .at) i 0 = λ i h. c .before .before .before .before .before .before .before .before .before .before .before .before .pre .1 .1 .1 i (omega arith) .0 in
     (q .0, (q .1 .0, (q .1 .1 .0, (q .1 .1 .1, (c .before .before .before .before .grain2 .ensures .1, (omega (arith, c .before .before .before .before .grain2 .ensures .0, product-pos (a .c .low - a .p) (a .sizes .at) positive), (omega (arith, c .before .before .before .before .before .grain .ensures .0, product-pos (a .c .reach - a .p) (a .sizes .at) positive), c .before .before .before .before .before .grain .ensures .1)))))))
 
 returns-3 : tie.Need-returns-3
-returns-3 c = λ ready. let a = c .before .before .before .before .before .before .before .before .before .before .before .before .before .args in let len = four-length (a .sizes) _ (c .before .before .before .before .before .before .before .before .before .before .before .before .before .good .1 .1 .1 .1 .0) in
+returns-3 c = λ ready. let a = c .before .before .before .before .before .before .before .before .before .before .before .before .before .args in let len = per-sum-length (a .sizes) _ (c .before .before .before .before .before .before .before .before .before .before .before .before .before .good .1 .1 .1 .1 .0) in
     let positive : (i : ℕ) → i < length (a .sizes .at) → 0 < getD (a .sizes .at) i 0 = λ i h. c .before .before .before .before .before .before .before .before .before .before .before .before .before .pre .1 .1 .1 i (omega arith) .0 in
     search-all (a .s .now) (a .funcs .now) (a .c .froms) (a .c .ends) (a .c .blocks) (a .c .count) (a .p) (a .c .reach) (a .c .low) (a .sizes .at) (a .params .at) positive ready (a .k) (c .find-rounds .result .found) (c .find-rounds .result .at) (c .find-rounds .result .left) (c .find-rounds .ensures .1 .1 (a .c .reach - a .p) (a .c .low) (c .before .before .before .before .before .before .grain .ensures .0) (c .before .before .before .before .before .grain2 .ensures .0) (all-part (a .s .now) (a .p) (a .sizes .at) (a .c .froms) (a .c .ends) (a .c .blocks) (a .c .count) (a .c .reach) (a .c .low) positive ready (c .before .before .before .before .before .before .grain .result) (c .before .before .before .before .before .before .grain .ensures .0)) (all-above (a .s .now) (a .p) (a .sizes .at) (a .c .froms) (a .c .ends) (a .c .blocks) (a .c .count) (a .c .reach) (a .c .low) positive ready))
 

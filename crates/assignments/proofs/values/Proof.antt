@@ -7,7 +7,7 @@ use Prim.Native.Nat.{ℕ, _-_, _/_, _%_}
 use mathlib.Core.Path.{_∙_, ap}
 use mathlib.Core.List.{[], _∷_}
 use lib.ListN.{getD}
-use Rattle.assignments.proofs.Counter.{four-length, four-values}
+use Rattle.assignments.proofs.Counter.{per-sum-length, four-values}
 
 element-copy-out-s3 : tie.Need-element-copy-out-s3
 element-copy-out-s3 c = search needs
@@ -51,7 +51,7 @@ returns c = let a = c .before .before .before .before .before .before .before .b
     let d₀ = c .before .before .before .digit .ensures ∙ ap (λ (x : ℕ). x % getD s 0 0) q₀ in
     let d₁ = c .before .before .digit2 .ensures ∙ ap (λ (x : ℕ). x % getD s 1 0) q₁ in
     let d₂ = c .before .digit3 .ensures ∙ ap (λ (x : ℕ). x % getD s 2 0) q₂ in
-    (λ i. d₀ i ∷ d₁ i ∷ d₂ i ∷ c .digit4 .ensures i ∷ []) ∙ four-values s (a .j) (four-length (a .t1) _ (c .before .before .before .before .before .before .before .before .before .before .before .good .0))
+    (λ i. d₀ i ∷ d₁ i ∷ d₂ i ∷ c .digit4 .ensures i ∷ []) ∙ four-values s (a .j) (per-sum-length (a .t1) _ (c .before .before .before .before .before .before .before .before .before .before .before .good .0))
 
 pub values-spec : {M : Type 1} → statement M
 values-spec =

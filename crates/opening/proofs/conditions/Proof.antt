@@ -4,13 +4,13 @@ use native.Mathlib.Omega.{arith}
 use Prim.Native.Nat.{ℕ, _+_, _-_, _≤_, min}
 use mathlib.Core.Path.{_≡_, refl, _∙_, ap}
 use lib.ListN.{length, length-set}
-use Rattle.pcrl.specs.Limits.{max-stream}
+use Rattle.pcrl.specs.Limits.{max-stream, max-conditions}
 use Rattle.opening.proofs.Standing.{Gone, gone-none, gone-more, gone-all}
 use Rattle.opening.proofs.conditions.Statement.{statement}
 use Rattle.opening.proofs.conditions.Tie as tie
 
 abbrev Inv-loop : tie.InvT-loop
-Inv-loop s funcs at p z n froms₀ ends₀ blocks₀ reach₀ low₀ a₀ i₀ froms ends blocks reach low a i = (i ≤ n) × ((a ≤ max-stream + max-stream + 1 + i) × ((length froms ≡ 8) × ((length ends ≡ 8) × ((length blocks ≡ 8) × Gone s funcs at p (z .at) n froms ends blocks reach low a i))))
+Inv-loop s funcs at p z n froms₀ ends₀ blocks₀ reach₀ low₀ a₀ i₀ froms ends blocks reach low a i = (i ≤ n) × ((a ≤ max-stream + max-stream + 1 + i) × ((length froms ≡ max-conditions) × ((length ends ≡ max-conditions) × ((length blocks ≡ max-conditions) × Gone s funcs at p (z .at) n froms ends blocks reach low a i))))
 
 abbrev μ-loop : tie.MeasureT-loop
 μ-loop s funcs at p z n froms₀ ends₀ blocks₀ reach₀ low₀ a₀ i₀ froms ends blocks reach low a i = n - i
@@ -28,7 +28,7 @@ add-a : tie.Need-add-a Inv-loop μ-loop
 add-a c = omega (arith, c .before .before .before .before .before .pre .1 .0)
 
 loop-holds : tie.Need-loop-holds Inv-loop μ-loop
-loop-holds c = (omega arith, (omega (arith, c .before .before .before .before .before .pre .1 .0), (refl, (refl, (refl, gone-none (c .before .before .before .before .before .args .s .now) (c .before .before .before .before .before .args .funcs .now) (c .before .before .before .before .before .args .at) (c .before .before .before .before .before .args .p) (c .before .before .before .before .before .args .z .at) (c .smaller .result) _ _ _ (c .smaller .ensures ∙ ap (λ (x : ℕ). min x 8) (c .before .wide .ensures .0 ∙ c .before .before .peek .ensures)))))))
+loop-holds c = (omega arith, (omega (arith, c .before .before .before .before .before .pre .1 .0), (refl, (refl, (refl, gone-none (c .before .before .before .before .before .args .s .now) (c .before .before .before .before .before .args .funcs .now) (c .before .before .before .before .before .args .at) (c .before .before .before .before .before .args .p) (c .before .before .before .before .before .args .z .at) (c .smaller .result) _ _ _ (c .smaller .ensures ∙ ap (λ (x : ℕ). min x max-conditions) (c .before .wide .ensures .0 ∙ c .before .before .peek .ensures)))))))
 
 add-b : tie.Need-add-b Inv-loop μ-loop
 add-b c = omega (arith, c .before .loop .inv .1 .0, c .before .before .smaller .ensures)

@@ -6,9 +6,10 @@ use native.Mathlib.Omega.{arith}
 use Prim.Native.Nat.{ℕ, zero, suc, _-_, _≤_, _<_}
 use mathlib.Core.List.{[], _∷_}
 use lib.ListN.{getD}
+use Rattle.pcrl.specs.Limits.{max-size, max-variables}
 use Rattle.opening.proofs.Sizing.{four-sizes}
 
-range : (a b c d : ℕ) → (0 < a) × (a ≤ 16) → (0 < b) × (b ≤ 16) → (0 < c) × (c ≤ 16) → (0 < d) × (d ≤ 16) → (i : ℕ) → i < 4 → (0 < getD (a ∷ b ∷ c ∷ d ∷ []) i 0) × (getD (a ∷ b ∷ c ∷ d ∷ []) i 0 ≤ 16)
+range : (a b c d : ℕ) → (0 < a) × (a ≤ max-size) → (0 < b) × (b ≤ max-size) → (0 < c) × (c ≤ max-size) → (0 < d) × (d ≤ max-size) → (i : ℕ) → i < max-variables → (0 < getD (a ∷ b ∷ c ∷ d ∷ []) i 0) × (getD (a ∷ b ∷ c ∷ d ∷ []) i 0 ≤ max-size)
 range a b c d x y z w zero h = x
 range a b c d x y z w (suc zero) h = y
 range a b c d x y z w (suc (suc zero)) h = z

@@ -8,7 +8,7 @@ use lib.ListN.{length, getD, drop}
 use Rattle.assignments.specs.Places.{product, valuesOf}
 use Rattle.assignments.specs.Conditions.{env, Finds}
 use Rattle.assignments.specs.Parting.{part-met, Part, Gapped}
-use Rattle.assignments.proofs.Counter.{four-length, eight-length}
+use Rattle.assignments.proofs.Counter.{per-sum-length, per-variable-length}
 use Rattle.assignments.proofs.Passing.{Going, going-start, none-left, from-first, finds-at, finds-none}
 use Rattle.assignments.proofs.Between.{rounds-pos, later-below, past-below, around-first, around-later, around-past, turn-same, turn-fits, turn-whole, turn-next}
 use Rattle.assignments.proofs.gaps.find_around.Statement.{statement}
@@ -37,9 +37,9 @@ returns c = let q = c .before .before .before .before .before .before .pre in (
   omega (arith, c .before .find-from .ensures .0, q .1 .1 .1 .1 .0, q .1 .1 .1 .1 .1 .1 .1),
   (
     omega (arith, c .before .find-from .ensures .1 .0),
-    λ l m ge te part gapped. let a = c .before .before .before .before .before .before .args in let here = c .before .before .before .loop in let len = four-length (a .z) _ (c .before .before .before .before .before .before .good .1 .1 .1 .1 .0) in
+    λ l m ge te part gapped. let a = c .before .before .before .before .before .before .args in let here = c .before .before .before .loop in let len = per-sum-length (a .z) _ (c .before .before .before .before .before .before .good .1 .1 .1 .1 .0) in
         let positive : (i : ℕ) → i < length (a .z .at) → 0 < getD (a .z .at) i 0 = λ i h. c .before .before .before .before .before .before .pre .1 .1 .1 .0 i (omega arith) .0 in
-        let few : a .p ≤ length (a .params .at) = let w = eight-length (a .params) _ (c .before .before .before .before .before .before .good .1 .1 .0) in omega (arith, c .before .before .before .before .before .before .pre .0) in
+        let few : a .p ≤ length (a .params .at) = let w = per-variable-length (a .params) _ (c .before .before .before .before .before .before .good .1 .1 .0) in omega (arith, c .before .before .before .before .before .before .pre .0) in
         let acc : ℕ → Bool = λ i. part-met (a .s .now) (a .funcs .now) (a .froms .now) (a .ends .now) (a .blocks .now) (a .n) (env (a .p) (a .params .at) (valuesOf (a .z .at) i)) in
         let turn = here .inv .1 l m ge te part gapped in
         from-first acc (a .total) (a .k) (c .before .find-from .result .found) (c .before .find-from .result .at) (c .before .find-from .result .left) (around-first acc (here .j) (a .t .behind) (a .t .before / a .t .behind) (a .t .before) (turn-whole (a .s .now) (a .funcs .now) (a .froms .now) (a .ends .now) (a .blocks .now) (a .n) (a .p) (a .z .at) (a .params .at) few positive (a .total) (a .t .before) (a .t .behind) gapped m te (a .k) (here .j) (here .left) turn (c .before .before .loop-test .taken)) (rounds-pos (a .t .before) (a .t .behind) (c .before .before .before .before .before .before .pre .1 .1 .1 .1 .1 .1 .1 .0) (c .before .before .before .before .before .before .pre .1 .1 .1 .1 .1 .1 .1 .1 .0)) (turn-same (a .s .now) (a .funcs .now) (a .froms .now) (a .ends .now) (a .blocks .now) (a .n) (a .p) (a .z .at) (a .params .at) few positive (a .total) (a .t .before) (a .t .behind) gapped m te (a .k) (here .j) (here .left) turn (c .before .before .loop-test .taken)) (a .total) 0 (a .k) (here .left) (turn-fits (a .s .now) (a .funcs .now) (a .froms .now) (a .ends .now) (a .blocks .now) (a .n) (a .p) (a .z .at) (a .params .at) few positive (a .total) (a .t .before) (a .t .behind) gapped m te (a .k) (here .j) (here .left) turn (c .before .before .loop-test .taken)) (turn .2) (c .before .find-from .result .found) (c .before .find-from .result .at) (c .before .find-from .result .left) (c .before .find-from .ensures .1 .1 l ge part) (c .if1 .taken)),
@@ -78,9 +78,9 @@ returns-2 c = let q = c .before .before .before .before .before .before .before 
   omega (arith, c .found-at .ensures .1 .0, later-below (c .before .before .before .before .before .before .before .before .before .before .before .args .t .before) (c .before .before .before .before .before .before .before .before .before .before .before .args .t .behind) (c .before .before .before .before .before .before .before .before .loop .left) (c .before .before .before .before .before .before .before .before .loop .left - c .before .before .before .before .before .before .find-from .result .left) (c .before .before .before .before .before .before .before .before .before .before .before .pre .1 .1 .1 .1 .1 .1 .1 .0) (c .before .before .before .before .before .before .before .before .before .before .before .pre .1 .1 .1 .1 .1 .1 .1 .1 .0) (c .before .before .before .if2 .taken), c .before .before .find-from2 .ensures .0, q .1 .1 .1 .1 .0, q .1 .1 .1 .1 .1 .1 .1),
   (
     omega (arith, c .found-at .ensures .1 .1),
-    λ l m ge te part gapped. let a = c .before .before .before .before .before .before .before .before .before .before .before .args in let here = c .before .before .before .before .before .before .before .before .loop in let len = four-length (a .z) _ (c .before .before .before .before .before .before .before .before .before .before .before .good .1 .1 .1 .1 .0) in
+    λ l m ge te part gapped. let a = c .before .before .before .before .before .before .before .before .before .before .before .args in let here = c .before .before .before .before .before .before .before .before .loop in let len = per-sum-length (a .z) _ (c .before .before .before .before .before .before .before .before .before .before .before .good .1 .1 .1 .1 .0) in
         let positive : (i : ℕ) → i < length (a .z .at) → 0 < getD (a .z .at) i 0 = λ i h. c .before .before .before .before .before .before .before .before .before .before .before .pre .1 .1 .1 .0 i (omega arith) .0 in
-        let few : a .p ≤ length (a .params .at) = let w = eight-length (a .params) _ (c .before .before .before .before .before .before .before .before .before .before .before .good .1 .1 .0) in omega (arith, c .before .before .before .before .before .before .before .before .before .before .before .pre .0) in
+        let few : a .p ≤ length (a .params .at) = let w = per-variable-length (a .params) _ (c .before .before .before .before .before .before .before .before .before .before .before .good .1 .1 .0) in omega (arith, c .before .before .before .before .before .before .before .before .before .before .before .pre .0) in
         let acc : ℕ → Bool = λ i. part-met (a .s .now) (a .funcs .now) (a .froms .now) (a .ends .now) (a .blocks .now) (a .n) (env (a .p) (a .params .at) (valuesOf (a .z .at) i)) in
         let turn = here .inv .1 l m ge te part gapped in
         finds-at _ (a .k) (c .found-at .result) _ (c .found-at .ensures) (λ x. from-first acc (a .total) (a .k) _ _ x (around-later acc (here .j) (a .t .behind) (a .t .before / a .t .behind) (a .t .before) (turn-whole (a .s .now) (a .funcs .now) (a .froms .now) (a .ends .now) (a .blocks .now) (a .n) (a .p) (a .z .at) (a .params .at) few positive (a .total) (a .t .before) (a .t .behind) gapped m te (a .k) (here .j) (here .left) turn (c .before .before .before .before .before .before .before .loop-test .taken)) (rounds-pos (a .t .before) (a .t .behind) (c .before .before .before .before .before .before .before .before .before .before .before .pre .1 .1 .1 .1 .1 .1 .1 .0) (c .before .before .before .before .before .before .before .before .before .before .before .pre .1 .1 .1 .1 .1 .1 .1 .1 .0)) (turn-same (a .s .now) (a .funcs .now) (a .froms .now) (a .ends .now) (a .blocks .now) (a .n) (a .p) (a .z .at) (a .params .at) few positive (a .total) (a .t .before) (a .t .behind) gapped m te (a .k) (here .j) (here .left) turn (c .before .before .before .before .before .before .before .loop-test .taken)) (a .total) 0 (a .k) (here .left) (turn-fits (a .s .now) (a .funcs .now) (a .froms .now) (a .ends .now) (a .blocks .now) (a .n) (a .p) (a .z .at) (a .params .at) few positive (a .total) (a .t .before) (a .t .behind) gapped m te (a .k) (here .j) (here .left) turn (c .before .before .before .before .before .before .before .loop-test .taken)) (turn .2) (c .before .before .before .before .before .before .find-from .result .found) (c .before .before .before .before .before .before .find-from .result .at) (c .before .before .before .before .before .before .find-from .result .left) (c .before .before .before .before .before .before .find-from .ensures .1 .1 l ge part) (c .before .before .before .before .before .if1 .left) (here .left - c .before .before .before .before .before .before .find-from .result .left) refl (c .before .before .before .if2 .taken) (c .before .before .find-from2 .result .found) (c .before .before .find-from2 .result .at) (c .before .before .find-from2 .result .left) (c .before .before .find-from2 .ensures .1 .1 l ge part) x)),
@@ -102,9 +102,9 @@ loop-less c = omega (arith, c .before .before .before .before .before .before .b
 loop-again : tie.Need-loop-again Inv-loop μ-loop
 loop-again c = (
   omega arith,
-  λ l m ge te part gapped. let a = c .before .before .before .before .before .before .before .before .args in let here = c .before .before .before .before .before .loop in let len = four-length (a .z) _ (c .before .before .before .before .before .before .before .before .good .1 .1 .1 .1 .0) in
+  λ l m ge te part gapped. let a = c .before .before .before .before .before .before .before .before .args in let here = c .before .before .before .before .before .loop in let len = per-sum-length (a .z) _ (c .before .before .before .before .before .before .before .before .good .1 .1 .1 .1 .0) in
       let positive : (i : ℕ) → i < length (a .z .at) → 0 < getD (a .z .at) i 0 = λ i h. c .before .before .before .before .before .before .before .before .pre .1 .1 .1 .0 i (omega arith) .0 in
-      let few : a .p ≤ length (a .params .at) = let w = eight-length (a .params) _ (c .before .before .before .before .before .before .before .before .good .1 .1 .0) in omega (arith, c .before .before .before .before .before .before .before .before .pre .0) in
+      let few : a .p ≤ length (a .params .at) = let w = per-variable-length (a .params) _ (c .before .before .before .before .before .before .before .before .good .1 .1 .0) in omega (arith, c .before .before .before .before .before .before .before .before .pre .0) in
       let acc : ℕ → Bool = λ i. part-met (a .s .now) (a .funcs .now) (a .froms .now) (a .ends .now) (a .blocks .now) (a .n) (env (a .p) (a .params .at) (valuesOf (a .z .at) i)) in
       let turn = here .inv .1 l m ge te part gapped in
       turn-next (a .s .now) (a .funcs .now) (a .froms .now) (a .ends .now) (a .blocks .now) (a .n) (a .p) (a .z .at) (a .params .at) few positive (a .total) (a .t .before) (a .t .behind) gapped m te (a .k) (here .j) (here .left) turn (c .before .before .before .before .loop-test .taken) (here .left - (c .before .before .before .before .before .loop .left - c .before .before .before .find-from .result .left) * (a .t .before / a .t .behind)) (around-past acc (here .j) (a .t .behind) (a .t .before / a .t .behind) (a .t .before) (turn-whole (a .s .now) (a .funcs .now) (a .froms .now) (a .ends .now) (a .blocks .now) (a .n) (a .p) (a .z .at) (a .params .at) few positive (a .total) (a .t .before) (a .t .behind) gapped m te (a .k) (here .j) (here .left) turn (c .before .before .before .before .loop-test .taken)) (rounds-pos (a .t .before) (a .t .behind) (c .before .before .before .before .before .before .before .before .pre .1 .1 .1 .1 .1 .1 .1 .0) (c .before .before .before .before .before .before .before .before .pre .1 .1 .1 .1 .1 .1 .1 .1 .0)) (turn-same (a .s .now) (a .funcs .now) (a .froms .now) (a .ends .now) (a .blocks .now) (a .n) (a .p) (a .z .at) (a .params .at) few positive (a .total) (a .t .before) (a .t .behind) gapped m te (a .k) (here .j) (here .left) turn (c .before .before .before .before .loop-test .taken)) (a .total) 0 (a .k) (here .left) (turn-fits (a .s .now) (a .funcs .now) (a .froms .now) (a .ends .now) (a .blocks .now) (a .n) (a .p) (a .z .at) (a .params .at) few positive (a .total) (a .t .before) (a .t .behind) gapped m te (a .k) (here .j) (here .left) turn (c .before .before .before .before .loop-test .taken)) (turn .2) (c .before .before .before .find-from .result .found) (c .before .before .before .find-from .result .at) (c .before .before .before .find-from .result .left) (c .before .before .before .find-from .ensures .1 .1 l ge part) (c .before .before .if1 .left) (here .left - c .before .before .before .find-from .result .left) refl (c .if2 .left)),
@@ -118,9 +118,9 @@ returns-3 c = (
   omega (arith, c .none-found .ensures .1 .0),
   (
     omega (arith, c .none-found .ensures .1 .1, c .before .before .loop .inv .0),
-    λ l m ge te part gapped. let a = c .before .before .before .before .before .args in let here = c .before .before .loop in let len = four-length (a .z) _ (c .before .before .before .before .before .good .1 .1 .1 .1 .0) in
+    λ l m ge te part gapped. let a = c .before .before .before .before .before .args in let here = c .before .before .loop in let len = per-sum-length (a .z) _ (c .before .before .before .before .before .good .1 .1 .1 .1 .0) in
         let positive : (i : ℕ) → i < length (a .z .at) → 0 < getD (a .z .at) i 0 = λ i h. c .before .before .before .before .before .pre .1 .1 .1 .0 i (omega arith) .0 in
-        let few : a .p ≤ length (a .params .at) = let w = eight-length (a .params) _ (c .before .before .before .before .before .good .1 .1 .0) in omega (arith, c .before .before .before .before .before .pre .0) in
+        let few : a .p ≤ length (a .params .at) = let w = per-variable-length (a .params) _ (c .before .before .before .before .before .good .1 .1 .0) in omega (arith, c .before .before .before .before .before .pre .0) in
         let acc : ℕ → Bool = λ i. part-met (a .s .now) (a .funcs .now) (a .froms .now) (a .ends .now) (a .blocks .now) (a .n) (env (a .p) (a .params .at) (valuesOf (a .z .at) i)) in
         let turn = here .inv .1 l m ge te part gapped in
         finds-none _ (a .k) (c .none-found .result) (here .left) (c .none-found .ensures) (λ x. from-first acc (a .total) (a .k) _ x _ (none-left acc (a .total) 0 (a .k) (here .j) (here .left) (c .before .loop-test .left) (turn .2) x)),

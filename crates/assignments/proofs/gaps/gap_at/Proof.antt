@@ -4,7 +4,7 @@ use native.Mathlib.Omega.{arith}
 use Prim.Native.Nat.{ℕ, _-_, _<_}
 use mathlib.Core.Path.{_≡_}
 use lib.ListN.{length, getD}
-use Rattle.assignments.proofs.Counter.{four-length}
+use Rattle.assignments.proofs.Counter.{per-sum-length}
 use Rattle.assignments.proofs.Blocks.{product-pos}
 use Rattle.assignments.proofs.gaps.gap_at.Statement.{statement}
 use Rattle.assignments.proofs.gaps.gap_at.Tie as tie
@@ -28,7 +28,7 @@ grain-requires : tie.Need-grain-requires
 grain-requires c κs = search needs
 
 returns : tie.Need-returns
-returns c = let a = c .before .before .before .before .before .before .before .before .args in let len = four-length (a .z) _ (c .before .before .before .before .before .before .before .before .good .1 .1 .0) in
+returns c = let a = c .before .before .before .before .before .before .before .before .args in let len = per-sum-length (a .z) _ (c .before .before .before .before .before .before .before .before .good .1 .1 .0) in
     let positive : (i : ℕ) → i < length (a .z .at) → 0 < getD (a .z .at) i 0 = λ i h. c .before .before .before .before .before .before .before .before .pre .1 .1 .0 i (omega arith) .0 in (
       (omega (arith, c .before .grain .ensures .0, product-pos (c .before .before .lowest .result - a .p) (a .z .at) positive), (omega arith, c .before .before .before .before .before .before .block-size .ensures .1)),
       λ blocks some st.

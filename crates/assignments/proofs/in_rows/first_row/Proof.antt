@@ -5,7 +5,7 @@ use Prim.Native.Nat.{ℕ, _<_}
 use mathlib.Core.Path.{_≡_, sym, subst}
 use lib.ListN.{length, getD}
 use Rattle.assignments.proofs.Blocks.{product-pos}
-use Rattle.assignments.proofs.Counter.{four-length}
+use Rattle.assignments.proofs.Counter.{per-sum-length}
 use Rattle.assignments.proofs.in_rows.first_row.Statement.{statement}
 use Rattle.assignments.proofs.in_rows.first_row.Tie as tie
 
@@ -38,7 +38,7 @@ block-size-requires c κs = search needs
 
 next-requires : tie.Need-next-requires
 next-requires c κs = let a = c .before .before .before .before .before .before .before .args in let e = c .block-size .ensures in
-    let len = four-length (a .z) _ (c .before .before .before .before .before .before .before .good .0) in
+    let len = per-sum-length (a .z) _ (c .before .before .before .before .before .before .before .good .0) in
     let pos : (i : ℕ) → i < length (a .z .at) → 0 < getD (a .z .at) i 0 = λ i h. c .before .before .before .before .before .before .before .pre .0 i (omega arith) .0 in
     (subst (λ (x : ℕ). 0 < x) (sym (e .0)) (product-pos (c .before .before .before .before .row-level .result) (a .z .at) pos), (omega (arith, e .1), omega arith))
 

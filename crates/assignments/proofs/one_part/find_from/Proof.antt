@@ -10,7 +10,7 @@ use Rattle.evaluation.specs.Known.{Alike}
 use Rattle.assignments.specs.Places.{product, valuesOf, places}
 use Rattle.assignments.specs.Conditions.{env, Finds}
 use Rattle.assignments.specs.Parting.{part-met, Part}
-use Rattle.assignments.proofs.Counter.{four-length, eight-length}
+use Rattle.assignments.proofs.Counter.{per-sum-length, per-variable-length}
 use Rattle.assignments.proofs.Passing.{Going, going-start, going-skip, going-on, going-found, going-end, finds-at, finds-none}
 use Rattle.assignments.proofs.Blocks.{blocked, accepted}
 use Rattle.assignments.proofs.InRows.{rows-found, rows-past}
@@ -76,9 +76,9 @@ returns-2 c = let a = c .before .before .before .before .before .before .before 
   omega (arith, c .found-at .ensures .1 .0, c .before .before .smaller .ensures, c .before .before .before .before .before .before .before .before .before .before .before .before .before .before .before .before .pre .1 .1 .1 .1 .0),
   (
     omega (arith, c .found-at .ensures .1 .1),
-    λ lv e part. let len = four-length (a .z) _ (c .before .before .before .before .before .before .before .before .before .before .before .before .before .before .before .before .good .1 .1 .1 .1 .0) in
+    λ lv e part. let len = per-sum-length (a .z) _ (c .before .before .before .before .before .before .before .before .before .before .before .before .before .before .before .before .good .1 .1 .1 .1 .0) in
         let positive : (i : ℕ) → i < length (a .z .at) → 0 < getD (a .z .at) i 0 = λ i h. c .before .before .before .before .before .before .before .before .before .before .before .before .before .before .before .before .pre .1 .1 .1 .0 i (omega arith) .0 in
-        let few : a .p ≤ length (a .params .at) = let u = eight-length (a .params) _ (c .before .before .before .before .before .before .before .before .before .before .before .before .before .before .before .before .good .1 .1 .0) in omega (arith, c .before .before .before .before .before .before .before .before .before .before .before .before .before .before .before .before .pre .0) in
+        let few : a .p ≤ length (a .params .at) = let u = per-variable-length (a .params) _ (c .before .before .before .before .before .before .before .before .before .before .before .before .before .before .before .before .good .1 .1 .0) in omega (arith, c .before .before .before .before .before .before .before .before .before .before .before .before .before .before .before .before .pre .0) in
         let alike : Alike (c .before .before .before .before .before .before .before .before .environment .result .at) (env (a .p) (a .params .at) (valuesOf (a .z .at) (l .j))) = λ v. c .before .before .before .before .before .before .before .before .environment .ensures v ∙ ap (λ (u : List ℕ). getD (env (a .p) (a .params .at) u) v 0) (c .before .before .before .before .before .before .before .before .before .values .ensures) in
         let tested = c .before .before .before .before .before .test .ensures (λ i k. part i k .standing) in
         let taken : (i : ℕ) → l .j ≤ i → i < c .before .before .smaller .result → acc i ≡ true = λ i u v.
@@ -94,9 +94,9 @@ loop-less-2 c = omega (arith, c .before .smaller .ensures, c .before .before .ne
 loop-again-2 : tie.Need-loop-again-2 Inv-loop μ-loop
 loop-again-2 c = let a = c .before .before .before .before .before .before .before .before .before .before .before .before .before .before .before .args in let l = c .before .before .before .before .before .before .before .before .before .before .before .loop in let acc : ℕ → Bool = λ i. part-met (a .s .now) (a .funcs .now) (a .froms .now) (a .ends .now) (a .blocks .now) (a .n) (env (a .p) (a .params .at) (valuesOf (a .z .at) i)) in (
   omega arith,
-  λ lv e part. let len = four-length (a .z) _ (c .before .before .before .before .before .before .before .before .before .before .before .before .before .before .before .good .1 .1 .1 .1 .0) in
+  λ lv e part. let len = per-sum-length (a .z) _ (c .before .before .before .before .before .before .before .before .before .before .before .before .before .before .before .good .1 .1 .1 .1 .0) in
       let positive : (i : ℕ) → i < length (a .z .at) → 0 < getD (a .z .at) i 0 = λ i h. c .before .before .before .before .before .before .before .before .before .before .before .before .before .before .before .pre .1 .1 .1 .0 i (omega arith) .0 in
-      let few : a .p ≤ length (a .params .at) = let u = eight-length (a .params) _ (c .before .before .before .before .before .before .before .before .before .before .before .before .before .before .before .good .1 .1 .0) in omega (arith, c .before .before .before .before .before .before .before .before .before .before .before .before .before .before .before .pre .0) in
+      let few : a .p ≤ length (a .params .at) = let u = per-variable-length (a .params) _ (c .before .before .before .before .before .before .before .before .before .before .before .before .before .before .before .good .1 .1 .0) in omega (arith, c .before .before .before .before .before .before .before .before .before .before .before .before .before .before .before .pre .0) in
       let alike : Alike (c .before .before .before .before .before .before .before .environment .result .at) (env (a .p) (a .params .at) (valuesOf (a .z .at) (l .j))) = λ v. c .before .before .before .before .before .before .before .environment .ensures v ∙ ap (λ (u : List ℕ). getD (env (a .p) (a .params .at) u) v 0) (c .before .before .before .before .before .before .before .before .values .ensures) in
       let tested = c .before .before .before .before .test .ensures (λ i k. part i k .standing) in
       let taken : (i : ℕ) → l .j ≤ i → i < c .before .smaller .result → acc i ≡ true = λ i u v.
@@ -117,9 +117,9 @@ loop-less-3 c = omega (arith, c .next2 .ensures .0)
 loop-again-3 : tie.Need-loop-again-3 Inv-loop μ-loop
 loop-again-3 c = let a = c .before .before .before .before .before .before .before .before .before .before .before .before .before .before .args in let l = c .before .before .before .before .before .before .before .before .before .before .loop in let acc : ℕ → Bool = λ i. part-met (a .s .now) (a .funcs .now) (a .froms .now) (a .ends .now) (a .blocks .now) (a .n) (env (a .p) (a .params .at) (valuesOf (a .z .at) i)) in (
   omega arith,
-  λ lv e part. let len = four-length (a .z) _ (c .before .before .before .before .before .before .before .before .before .before .before .before .before .before .good .1 .1 .1 .1 .0) in
+  λ lv e part. let len = per-sum-length (a .z) _ (c .before .before .before .before .before .before .before .before .before .before .before .before .before .before .good .1 .1 .1 .1 .0) in
       let positive : (i : ℕ) → i < length (a .z .at) → 0 < getD (a .z .at) i 0 = λ i h. c .before .before .before .before .before .before .before .before .before .before .before .before .before .before .pre .1 .1 .1 .0 i (omega arith) .0 in
-      let few : a .p ≤ length (a .params .at) = let u = eight-length (a .params) _ (c .before .before .before .before .before .before .before .before .before .before .before .before .before .before .good .1 .1 .0) in omega (arith, c .before .before .before .before .before .before .before .before .before .before .before .before .before .before .pre .0) in
+      let few : a .p ≤ length (a .params .at) = let u = per-variable-length (a .params) _ (c .before .before .before .before .before .before .before .before .before .before .before .before .before .before .good .1 .1 .0) in omega (arith, c .before .before .before .before .before .before .before .before .before .before .before .before .before .before .pre .0) in
       let alike : Alike (c .before .before .before .before .before .before .environment .result .at) (env (a .p) (a .params .at) (valuesOf (a .z .at) (l .j))) = λ v. c .before .before .before .before .before .before .environment .ensures v ∙ ap (λ (u : List ℕ). getD (env (a .p) (a .params .at) u) v 0) (c .before .before .before .before .before .before .before .values .ensures) in
       let tested = c .before .before .before .test .ensures (λ i k. part i k .standing) in
       let none : (i : ℕ) → l .j ≤ i → i < c .next2 .result → acc i ≡ false = λ i u v.

@@ -7,7 +7,7 @@ use mathlib.Core.Bool.{true}
 use lib.ListN.{length, getD}
 use native.Mathlib.Nat.{mul-le-mul-left, mul-le-mul-right, mul-div-le, div-mul-le-self}
 use Rattle.assignments.specs.Parting.{Gapped}
-use Rattle.assignments.proofs.Counter.{four-length, eight-length}
+use Rattle.assignments.proofs.Counter.{per-sum-length, per-variable-length}
 use Rattle.assignments.proofs.Passing.{finds-at, finds-none}
 use Rattle.assignments.proofs.Periods.{search-whole, search-first, search-none, search-past, search-later}
 use Rattle.assignments.proofs.rounds.find_rounds.Statement.{statement}
@@ -27,9 +27,9 @@ returns c = let t = c .before .before .gap-of .result in let r = c .before .find
   omega (arith, c .before .find-once .ensures .0),
   (
     c .before .find-once .ensures .1 .0,
-    λ l low e z part above. let a = c .before .before .before .before .before .before .args in let len = four-length (a .z) _ (c .before .before .before .before .before .before .good .1 .1 .1 .1 .0) in
+    λ l low e z part above. let a = c .before .before .before .before .before .before .args in let len = per-sum-length (a .z) _ (c .before .before .before .before .before .before .good .1 .1 .1 .1 .0) in
         let positive : (i : ℕ) → i < length (a .z .at) → 0 < getD (a .z .at) i 0 = λ i h. c .before .before .before .before .before .before .pre .1 .1 .1 .0 i (omega arith) .0 in
-        let few : a .p ≤ length (a .params .at) = let w = eight-length (a .params) _ (c .before .before .before .before .before .before .good .1 .1 .0) in omega (arith, c .before .before .before .before .before .before .pre .0) in
+        let few : a .p ≤ length (a .params .at) = let w = per-variable-length (a .params) _ (c .before .before .before .before .before .before .good .1 .1 .0) in omega (arith, c .before .before .before .before .before .before .pre .0) in
         let gapped : t .some ≡ true → Gapped (a .s .now) (a .p) (a .z .at) (a .froms .now) (a .ends .now) (a .blocks .now) (a .n) (a .round) (t .before) (t .behind) = λ h. c .before .before .gap-of .ensures .1 (a .blocks .now) h (λ i k. part i k .standing) in
         search-first (a .s .now) (a .funcs .now) (a .froms .now) (a .ends .now) (a .blocks .now) (a .n) (a .p) low (a .z .at) (a .params .at) few positive above (a .round) z (a .k) (r .found) (r .at) (r .left) (c .before .find-once .ensures .1 .1 l (low - a .p) e z part gapped) (c .if1 .taken),
   ),
@@ -43,9 +43,9 @@ returns-2 c = let t = c .before .before .before .before .gap-of .result in let r
   omega (arith, c .before .before .before .find-once .ensures .0),
   (
     c .before .before .before .find-once .ensures .1 .0,
-    λ l low e z part above. let a = c .before .before .before .before .before .before .before .before .args in let len = four-length (a .z) _ (c .before .before .before .before .before .before .before .before .good .1 .1 .1 .1 .0) in
+    λ l low e z part above. let a = c .before .before .before .before .before .before .before .before .args in let len = per-sum-length (a .z) _ (c .before .before .before .before .before .before .before .before .good .1 .1 .1 .1 .0) in
         let positive : (i : ℕ) → i < length (a .z .at) → 0 < getD (a .z .at) i 0 = λ i h. c .before .before .before .before .before .before .before .before .pre .1 .1 .1 .0 i (omega arith) .0 in
-        let few : a .p ≤ length (a .params .at) = let w = eight-length (a .params) _ (c .before .before .before .before .before .before .before .before .good .1 .1 .0) in omega (arith, c .before .before .before .before .before .before .before .before .pre .0) in
+        let few : a .p ≤ length (a .params .at) = let w = per-variable-length (a .params) _ (c .before .before .before .before .before .before .before .before .good .1 .1 .0) in omega (arith, c .before .before .before .before .before .before .before .before .pre .0) in
         let gapped : t .some ≡ true → Gapped (a .s .now) (a .p) (a .z .at) (a .froms .now) (a .ends .now) (a .blocks .now) (a .n) (a .round) (t .before) (t .behind) = λ h. c .before .before .before .before .gap-of .ensures .1 (a .blocks .now) h (λ i k. part i k .standing) in
         search-none (a .s .now) (a .funcs .now) (a .froms .now) (a .ends .now) (a .blocks .now) (a .n) (a .p) low (a .z .at) (a .params .at) few positive above (a .round) z (a .k) (r .found) (r .at) (r .left) (c .before .before .before .find-once .ensures .1 .1 l (low - a .p) e z part gapped) (c .before .before .if1 .left) (a .k - r .left) refl (omega arith),
   ),
@@ -56,9 +56,9 @@ returns-3 c = let t = c .before .before .before .before .before .gap-of .result 
   omega (arith, c .before .before .before .before .find-once .ensures .0),
   (
     c .before .before .before .before .find-once .ensures .1 .0,
-    λ l low e z part above. let a = c .before .before .before .before .before .before .before .before .before .args in let len = four-length (a .z) _ (c .before .before .before .before .before .before .before .before .before .good .1 .1 .1 .1 .0) in
+    λ l low e z part above. let a = c .before .before .before .before .before .before .before .before .before .args in let len = per-sum-length (a .z) _ (c .before .before .before .before .before .before .before .before .before .good .1 .1 .1 .1 .0) in
         let positive : (i : ℕ) → i < length (a .z .at) → 0 < getD (a .z .at) i 0 = λ i h. c .before .before .before .before .before .before .before .before .before .pre .1 .1 .1 .0 i (omega arith) .0 in
-        let few : a .p ≤ length (a .params .at) = let w = eight-length (a .params) _ (c .before .before .before .before .before .before .before .before .before .good .1 .1 .0) in omega (arith, c .before .before .before .before .before .before .before .before .before .pre .0) in
+        let few : a .p ≤ length (a .params .at) = let w = per-variable-length (a .params) _ (c .before .before .before .before .before .before .before .before .before .good .1 .1 .0) in omega (arith, c .before .before .before .before .before .before .before .before .before .pre .0) in
         let gapped : t .some ≡ true → Gapped (a .s .now) (a .p) (a .z .at) (a .froms .now) (a .ends .now) (a .blocks .now) (a .n) (a .round) (t .before) (t .behind) = λ h. c .before .before .before .before .before .gap-of .ensures .1 (a .blocks .now) h (λ i k. part i k .standing) in
         search-whole (a .s .now) (a .funcs .now) (a .froms .now) (a .ends .now) (a .blocks .now) (a .n) (a .p) low (a .z .at) (a .params .at) few positive above (a .round) z (a .k) (r .found) (r .at) (r .left) (c .before .before .before .before .find-once .ensures .1 .1 l (low - a .p) e z part gapped) (omega (arith, c .before .before .before .before .before .before .block-size .ensures .0)),
   ),
@@ -84,9 +84,9 @@ returns-4 c = let t = c .before .before .before .before .before .before .before 
   omega (arith, c .none-found .ensures .1 .0),
   (
     omega (arith, c .none-found .ensures .1 .1),
-    λ l low e z part above. let a = c .before .before .before .before .before .before .before .before .before .before .before .args in let len = four-length (a .z) _ (c .before .before .before .before .before .before .before .before .before .before .before .good .1 .1 .1 .1 .0) in
+    λ l low e z part above. let a = c .before .before .before .before .before .before .before .before .before .before .before .args in let len = per-sum-length (a .z) _ (c .before .before .before .before .before .before .before .before .before .before .before .good .1 .1 .1 .1 .0) in
         let positive : (i : ℕ) → i < length (a .z .at) → 0 < getD (a .z .at) i 0 = λ i h. c .before .before .before .before .before .before .before .before .before .before .before .pre .1 .1 .1 .0 i (omega arith) .0 in
-        let few : a .p ≤ length (a .params .at) = let w = eight-length (a .params) _ (c .before .before .before .before .before .before .before .before .before .before .before .good .1 .1 .0) in omega (arith, c .before .before .before .before .before .before .before .before .before .before .before .pre .0) in
+        let few : a .p ≤ length (a .params .at) = let w = per-variable-length (a .params) _ (c .before .before .before .before .before .before .before .before .before .before .before .good .1 .1 .0) in omega (arith, c .before .before .before .before .before .before .before .before .before .before .before .pre .0) in
         let gapped : t .some ≡ true → Gapped (a .s .now) (a .p) (a .z .at) (a .froms .now) (a .ends .now) (a .blocks .now) (a .n) (a .round) (t .before) (t .behind) = λ h. c .before .before .before .before .before .before .before .gap-of .ensures .1 (a .blocks .now) h (λ i k. part i k .standing) in
         finds-none _ (a .k) (c .none-found .result) _ (c .none-found .ensures) (search-past (a .s .now) (a .funcs .now) (a .froms .now) (a .ends .now) (a .blocks .now) (a .n) (a .p) low (a .z .at) (a .params .at) few positive above (a .round) z (a .k) (r .found) (r .at) (r .left) (c .before .before .before .before .before .before .find-once .ensures .1 .1 l (low - a .p) e z part gapped) (c .before .before .before .before .before .if1 .left) (a .k - r .left) refl (omega arith) (c .before .before .before .before .before .before .before .before .block-size .result / a .round) (ap (λ (x : ℕ). x / a .round) (c .before .before .before .before .before .before .before .before .block-size .ensures .0)) (omega arith)),
   ),
@@ -112,9 +112,9 @@ returns-5 c = let t = c .before .before .before .before .before .before .before 
   omega (arith, c .found-at .ensures .1 .0, c .before .before .find-once2 .ensures .0),
   (
     omega (arith, c .found-at .ensures .1 .1),
-    λ l low e z part above. let a = c .before .before .before .before .before .before .before .before .before .before .before .before .before .args in let len = four-length (a .z) _ (c .before .before .before .before .before .before .before .before .before .before .before .before .before .good .1 .1 .1 .1 .0) in
+    λ l low e z part above. let a = c .before .before .before .before .before .before .before .before .before .before .before .before .before .args in let len = per-sum-length (a .z) _ (c .before .before .before .before .before .before .before .before .before .before .before .before .before .good .1 .1 .1 .1 .0) in
         let positive : (i : ℕ) → i < length (a .z .at) → 0 < getD (a .z .at) i 0 = λ i h. c .before .before .before .before .before .before .before .before .before .before .before .before .before .pre .1 .1 .1 .0 i (omega arith) .0 in
-        let few : a .p ≤ length (a .params .at) = let w = eight-length (a .params) _ (c .before .before .before .before .before .before .before .before .before .before .before .before .before .good .1 .1 .0) in omega (arith, c .before .before .before .before .before .before .before .before .before .before .before .before .before .pre .0) in
+        let few : a .p ≤ length (a .params .at) = let w = per-variable-length (a .params) _ (c .before .before .before .before .before .before .before .before .before .before .before .before .before .good .1 .1 .0) in omega (arith, c .before .before .before .before .before .before .before .before .before .before .before .before .before .pre .0) in
         let gapped : t .some ≡ true → Gapped (a .s .now) (a .p) (a .z .at) (a .froms .now) (a .ends .now) (a .blocks .now) (a .n) (a .round) (t .before) (t .behind) = λ h. c .before .before .before .before .before .before .before .before .before .gap-of .ensures .1 (a .blocks .now) h (λ i k. part i k .standing) in
         finds-at _ (a .k) (c .found-at .result) _ (c .found-at .ensures) (search-later (a .s .now) (a .funcs .now) (a .froms .now) (a .ends .now) (a .blocks .now) (a .n) (a .p) low (a .z .at) (a .params .at) few positive above (a .round) z (a .k) (r .found) (r .at) (r .left) (c .before .before .before .before .before .before .before .before .find-once .ensures .1 .1 l (low - a .p) e z part gapped) (c .before .before .before .before .before .before .before .if1 .left) (a .k - r .left) refl (omega arith) (c .before .before .before .before .before .before .before .before .before .before .block-size .result / a .round) (ap (λ (x : ℕ). x / a .round) (c .before .before .before .before .before .before .before .before .before .before .block-size .ensures .0)) (omega arith) (c .before .before .find-once2 .result .found) (c .before .before .find-once2 .result .at) (c .before .before .find-once2 .result .left) (c .before .before .find-once2 .ensures .1 .1 l (low - a .p) e z part gapped)),
   ),

@@ -10,7 +10,7 @@ use Rattle.evaluation.specs.Known.{Alike}
 use Rattle.assignments.specs.Places.{product, valuesOf}
 use Rattle.assignments.specs.Conditions.{env, Tested}
 use Rattle.assignments.specs.Parting.{Standing, asked, part-met}
-use Rattle.assignments.proofs.Counter.{four-length, eight-length}
+use Rattle.assignments.proofs.Counter.{per-sum-length, per-variable-length}
 use Rattle.assignments.proofs.Blocks.{blocked}
 use Rattle.assignments.proofs.Passing.{going-start, going-skip}
 use Rattle.assignments.proofs.InRows.{row-says, came-at, all-positive, row-pos, strip-pos}
@@ -18,13 +18,13 @@ use Rattle.assignments.proofs.strips.in_strip.Statement.{statement}
 use Rattle.assignments.proofs.strips.in_strip.Tie as tie
 
 rem-if1 : tie.Need-rem-if1
-rem-if1 c = let a = c .before .before .before .before .before .before .before .args in let pre = c .before .before .before .before .before .before .before .pre in let len = four-length (a .z) _ (c .before .before .before .before .before .before .before .good .1 .1 .1 .1 .0) in row-pos (a .z .at) (a .l) (a .u) (a .g) (a .w) (pre .1 .1 .0) len (pre .0 .1 .1 .1 .0)
+rem-if1 c = let a = c .before .before .before .before .before .before .before .args in let pre = c .before .before .before .before .before .before .before .pre in let len = per-sum-length (a .z) _ (c .before .before .before .before .before .before .before .good .1 .1 .1 .1 .0) in row-pos (a .z .at) (a .l) (a .u) (a .g) (a .w) (pre .1 .1 .0) len (pre .0 .1 .1 .1 .0)
 
 gone-to-requires : tie.Need-gone-to-requires
 gone-to-requires c κs = tt
 
 returns : tie.Need-returns
-returns c = let a = c .before .before .before .before .before .before .before .before .before .args in let pre = c .before .before .before .before .before .before .before .before .before .pre in let len = four-length (a .z) _ (c .before .before .before .before .before .before .before .before .before .good .1 .1 .1 .1 .0) in let acc : ℕ → Bool = λ i. part-met (a .s .now) (a .funcs .now) (a .froms .now) (a .ends .now) (a .blocks .now) (a .n) (env (a .p) (a .params .at) (valuesOf (a .z .at) i)) in let f = c .gone-to .ensures in (λ z. absurd (let y : _≡_ {A = ℕ} 0 1 = cc (f .0) in omega arith), (λ z. omega (arith, f .1 .0), (omega (arith, f .1 .1), λ part w z. (w, (z, came-at acc (a .to) (a .j) (a .k) (c .gone-to .result) (a .j) (a .k) f (going-start acc (a .to) (a .j) (a .k)))))))
+returns c = let a = c .before .before .before .before .before .before .before .before .before .args in let pre = c .before .before .before .before .before .before .before .before .before .pre in let len = per-sum-length (a .z) _ (c .before .before .before .before .before .before .before .before .before .good .1 .1 .1 .1 .0) in let acc : ℕ → Bool = λ i. part-met (a .s .now) (a .funcs .now) (a .froms .now) (a .ends .now) (a .blocks .now) (a .n) (env (a .p) (a .params .at) (valuesOf (a .z .at) i)) in let f = c .gone-to .ensures in (λ z. absurd (let y : _≡_ {A = ℕ} 0 1 = cc (f .0) in omega arith), (λ z. omega (arith, f .1 .0), (omega (arith, f .1 .1), λ part w z. (w, (z, came-at acc (a .to) (a .j) (a .k) (c .gone-to .result) (a .j) (a .k) f (going-start acc (a .to) (a .j) (a .k)))))))
 
 block-size-requires : tie.Need-block-size-requires
 block-size-requires c κs = c .before .before .before .before .before .before .before .before .pre .0 .1 .1 .1 .0
@@ -42,7 +42,7 @@ slice-aggregate-test : tie.Need-slice-aggregate-test
 slice-aggregate-test c = search needs
 
 sub-test : tie.Need-sub-test
-sub-test c = let a = c .before .before .before .before .before .before .before .before .before .before .before .before .before .before .args in let pre = c .before .before .before .before .before .before .before .before .before .before .before .before .before .before .pre in let len = four-length (a .z) _ (c .before .before .before .before .before .before .before .before .before .before .before .before .before .before .good .1 .1 .1 .1 .0) in let is-b : c .before .before .before .before .narrow .result ≡ product (drop (a .u) (a .z .at)) = c .before .before .before .before .narrow .ensures ∙ c .before .before .before .before .before .block-size .ensures .0 in let pos = strip-pos (a .z .at) (a .l) (a .u) (a .g) (a .w) (pre .1 .1 .0) len (pre .0 .1 .1 .1 .0) (c .before .before .before .before .narrow .result) is-b in omega (arith, pos)
+sub-test c = let a = c .before .before .before .before .before .before .before .before .before .before .before .before .before .before .args in let pre = c .before .before .before .before .before .before .before .before .before .before .before .before .before .before .pre in let len = per-sum-length (a .z) _ (c .before .before .before .before .before .before .before .before .before .before .before .before .before .before .good .1 .1 .1 .1 .0) in let is-b : c .before .before .before .before .narrow .result ≡ product (drop (a .u) (a .z .at)) = c .before .before .before .before .narrow .ensures ∙ c .before .before .before .before .before .block-size .ensures .0 in let pos = strip-pos (a .z .at) (a .l) (a .u) (a .g) (a .w) (pre .1 .1 .0) len (pre .0 .1 .1 .1 .0) (c .before .before .before .before .narrow .result) is-b in omega (arith, pos)
 
 test-requires : tie.Need-test-requires
 test-requires c κs = c .before .before .before .before .before .before .before .before .before .before .before .before .before .before .pre .0 .1 .1 .0
@@ -51,13 +51,13 @@ wide-block-requires : tie.Need-wide-block-requires
 wide-block-requires c κs = tt
 
 next-requires : tie.Need-next-requires
-next-requires c κs = let a = c .before .before .before .before .before .before .before .before .before .before .before .before .before .before .before .before .before .args in let pre = c .before .before .before .before .before .before .before .before .before .before .before .before .before .before .before .before .before .pre in let len = four-length (a .z) _ (c .before .before .before .before .before .before .before .before .before .before .before .before .before .before .before .before .before .good .1 .1 .1 .1 .0) in let is-b : c .before .before .before .before .before .before .before .narrow .result ≡ product (drop (a .u) (a .z .at)) = c .before .before .before .before .before .before .before .narrow .ensures ∙ c .before .before .before .before .before .before .before .before .block-size .ensures .0 in let pos = strip-pos (a .z .at) (a .l) (a .u) (a .g) (a .w) (pre .1 .1 .0) len (pre .0 .1 .1 .1 .0) (c .before .before .before .before .before .before .before .narrow .result) is-b in (omega (arith, pos, c .wide-block .ensures .0, c .before .if2 .taken), (c .wide-block .ensures .1, omega (arith, pre .1 .0, pre .0 .1 .1 .1 .1 .0)))
+next-requires c κs = let a = c .before .before .before .before .before .before .before .before .before .before .before .before .before .before .before .before .before .args in let pre = c .before .before .before .before .before .before .before .before .before .before .before .before .before .before .before .before .before .pre in let len = per-sum-length (a .z) _ (c .before .before .before .before .before .before .before .before .before .before .before .before .before .before .before .before .before .good .1 .1 .1 .1 .0) in let is-b : c .before .before .before .before .before .before .before .narrow .result ≡ product (drop (a .u) (a .z .at)) = c .before .before .before .before .before .before .before .narrow .ensures ∙ c .before .before .before .before .before .before .before .before .block-size .ensures .0 in let pos = strip-pos (a .z .at) (a .l) (a .u) (a .g) (a .w) (pre .1 .1 .0) len (pre .0 .1 .1 .1 .0) (c .before .before .before .before .before .before .before .narrow .result) is-b in (omega (arith, pos, c .wide-block .ensures .0, c .before .if2 .taken), (c .wide-block .ensures .1, omega (arith, pre .1 .0, pre .0 .1 .1 .1 .1 .0)))
 
 gone-to-requires-2 : tie.Need-gone-to-requires-2
 gone-to-requires-2 c κs = tt
 
 returns-2 : tie.Need-returns-2
-returns-2 c = let a = c .before .before .before .before .before .before .before .before .before .before .before .before .before .before .before .before .before .before .before .args in let pre = c .before .before .before .before .before .before .before .before .before .before .before .before .before .before .before .before .before .before .before .pre in let len = four-length (a .z) _ (c .before .before .before .before .before .before .before .before .before .before .before .before .before .before .before .before .before .before .before .good .1 .1 .1 .1 .0) in let is-b : c .before .before .before .before .before .before .before .before .before .narrow .result ≡ product (drop (a .u) (a .z .at)) = c .before .before .before .before .before .before .before .before .before .narrow .ensures ∙ c .before .before .before .before .before .before .before .before .before .before .block-size .ensures .0 in let pos = strip-pos (a .z .at) (a .l) (a .u) (a .g) (a .w) (pre .1 .1 .0) len (pre .0 .1 .1 .1 .0) (c .before .before .before .before .before .before .before .before .before .narrow .result) is-b in let e = c .before .before .before .before .before .before .before .environment in let d = c .before .before .before .before .test in let few : a .p ≤ length (a .params .at) = let o = eight-length (a .params) _ (c .before .before .before .before .before .before .before .before .before .before .before .before .before .before .before .before .before .before .before .good .1 .1 .0) in omega (arith, pre .0 .0) in let alike : Alike (e .result .at) (env (a .p) (a .params .at) (valuesOf (a .z .at) (a .j))) = λ v. e .ensures v ∙ ap (λ (o : List ℕ). getD (env (a .p) (a .params .at) o) v 0) (c .before .before .before .before .before .before .before .before .values .ensures) in let acc : ℕ → Bool = λ i. part-met (a .s .now) (a .funcs .now) (a .froms .now) (a .ends .now) (a .blocks .now) (a .n) (env (a .p) (a .params .at) (valuesOf (a .z .at) i)) in let f = c .gone-to2 .ensures in let r = c .before .next in (
+returns-2 c = let a = c .before .before .before .before .before .before .before .before .before .before .before .before .before .before .before .before .before .before .before .args in let pre = c .before .before .before .before .before .before .before .before .before .before .before .before .before .before .before .before .before .before .before .pre in let len = per-sum-length (a .z) _ (c .before .before .before .before .before .before .before .before .before .before .before .before .before .before .before .before .before .before .before .good .1 .1 .1 .1 .0) in let is-b : c .before .before .before .before .before .before .before .before .before .narrow .result ≡ product (drop (a .u) (a .z .at)) = c .before .before .before .before .before .before .before .before .before .narrow .ensures ∙ c .before .before .before .before .before .before .before .before .before .before .block-size .ensures .0 in let pos = strip-pos (a .z .at) (a .l) (a .u) (a .g) (a .w) (pre .1 .1 .0) len (pre .0 .1 .1 .1 .0) (c .before .before .before .before .before .before .before .before .before .narrow .result) is-b in let e = c .before .before .before .before .before .before .before .environment in let d = c .before .before .before .before .test in let few : a .p ≤ length (a .params .at) = let o = per-variable-length (a .params) _ (c .before .before .before .before .before .before .before .before .before .before .before .before .before .before .before .before .before .before .before .good .1 .1 .0) in omega (arith, pre .0 .0) in let alike : Alike (e .result .at) (env (a .p) (a .params .at) (valuesOf (a .z .at) (a .j))) = λ v. e .ensures v ∙ ap (λ (o : List ℕ). getD (env (a .p) (a .params .at) o) v 0) (c .before .before .before .before .before .before .before .before .values .ensures) in let acc : ℕ → Bool = λ i. part-met (a .s .now) (a .funcs .now) (a .froms .now) (a .ends .now) (a .blocks .now) (a .n) (env (a .p) (a .params .at) (valuesOf (a .z .at) i)) in let f = c .gone-to2 .ensures in let r = c .before .next in (
   λ z. absurd (let y : _≡_ {A = ℕ} 0 1 = cc (f .0) in omega arith),
   (
     λ z. omega (arith, f .1 .0, r .ensures .0),
@@ -95,7 +95,7 @@ gone-to-requires-3 : tie.Need-gone-to-requires-3
 gone-to-requires-3 c κs = tt
 
 returns-3 : tie.Need-returns-3
-returns-3 c = let a = c .before .before .before .before .before .before .before .before .before .before .before .before .before .before .before .before .before .before .before .before .args in let pre = c .before .before .before .before .before .before .before .before .before .before .before .before .before .before .before .before .before .before .before .before .pre in let len = four-length (a .z) _ (c .before .before .before .before .before .before .before .before .before .before .before .before .before .before .before .before .before .before .before .before .good .1 .1 .1 .1 .0) in let acc : ℕ → Bool = λ i. part-met (a .s .now) (a .funcs .now) (a .froms .now) (a .ends .now) (a .blocks .now) (a .n) (env (a .p) (a .params .at) (valuesOf (a .z .at) i)) in let f = c .gone-to3 .ensures in (λ z. absurd (let y : _≡_ {A = ℕ} 0 1 = cc (f .0) in omega arith), (λ z. omega (arith, f .1 .0), (omega (arith, f .1 .1), λ part w z. (w, (z, came-at acc (a .to) (a .j) (a .k) (c .gone-to3 .result) (a .j) (a .k) f (going-start acc (a .to) (a .j) (a .k)))))))
+returns-3 c = let a = c .before .before .before .before .before .before .before .before .before .before .before .before .before .before .before .before .before .before .before .before .args in let pre = c .before .before .before .before .before .before .before .before .before .before .before .before .before .before .before .before .before .before .before .before .pre in let len = per-sum-length (a .z) _ (c .before .before .before .before .before .before .before .before .before .before .before .before .before .before .before .before .before .before .before .before .good .1 .1 .1 .1 .0) in let acc : ℕ → Bool = λ i. part-met (a .s .now) (a .funcs .now) (a .froms .now) (a .ends .now) (a .blocks .now) (a .n) (env (a .p) (a .params .at) (valuesOf (a .z .at) i)) in let f = c .gone-to3 .ensures in (λ z. absurd (let y : _≡_ {A = ℕ} 0 1 = cc (f .0) in omega arith), (λ z. omega (arith, f .1 .0), (omega (arith, f .1 .1), λ part w z. (w, (z, came-at acc (a .to) (a .j) (a .k) (c .gone-to3 .result) (a .j) (a .k) f (going-start acc (a .to) (a .j) (a .k)))))))
 
 slice-aggregate-in-lanes : tie.Need-slice-aggregate-in-lanes
 slice-aggregate-in-lanes c = search needs
@@ -131,14 +131,14 @@ same-length-5 : tie.Need-same-length-5
 same-length-5 c = c .before .before .before .before .before .before .before .before .before .before .in-lanes .kept .1 .1 .1 .1 .1 .1 .1 .1 .1 .1 .1 .1 .1 .1 .1 .1 .1 .1 .1 .1 .1 .0
 
 returns-4 : tie.Need-returns-4
-returns-4 c = let a = c .before .before .before .before .before .before .before .before .before .before .before .before .before .before .before .before .before .before .before .before .before .before .before .before .before .before .before .before .before .before .before .before .before .before .before .before .before .args in let pre = c .before .before .before .before .before .before .before .before .before .before .before .before .before .before .before .before .before .before .before .before .before .before .before .before .before .before .before .before .before .before .before .before .before .before .before .before .before .pre in let len = four-length (a .z) _ (c .before .before .before .before .before .before .before .before .before .before .before .before .before .before .before .before .before .before .before .before .before .before .before .before .before .before .before .before .before .before .before .before .before .before .before .before .before .good .1 .1 .1 .1 .0) in let is-b : c .before .before .before .before .before .before .before .before .before .before .before .before .before .before .before .before .before .before .before .before .before .before .before .before .before .before .before .narrow .result ≡ product (drop (a .u) (a .z .at)) = c .before .before .before .before .before .before .before .before .before .before .before .before .before .before .before .before .before .before .before .before .before .before .before .before .before .before .before .narrow .ensures ∙ c .before .before .before .before .before .before .before .before .before .before .before .before .before .before .before .before .before .before .before .before .before .before .before .before .before .before .before .before .block-size .ensures .0 in let pos = strip-pos (a .z .at) (a .l) (a .u) (a .g) (a .w) (pre .1 .1 .0) len (pre .0 .1 .1 .1 .0) (c .before .before .before .before .before .before .before .before .before .before .before .before .before .before .before .before .before .before .before .before .before .before .before .before .before .before .before .narrow .result) is-b in let e = c .before .before .before .before .before .before .before .before .before .before .before .before .before .before .before .before .before .before .before .before .before .before .before .before .before .environment in let d = c .before .before .before .before .before .before .before .before .before .before .before .before .before .before .before .before .before .before .before .before .before .before .test in let few : a .p ≤ length (a .params .at) = let o = eight-length (a .params) _ (c .before .before .before .before .before .before .before .before .before .before .before .before .before .before .before .before .before .before .before .before .before .before .before .before .before .before .before .before .before .before .before .before .before .before .before .before .before .good .1 .1 .0) in omega (arith, pre .0 .0) in let alike : Alike (e .result .at) (env (a .p) (a .params .at) (valuesOf (a .z .at) (a .j))) = λ v. e .ensures v ∙ ap (λ (o : List ℕ). getD (env (a .p) (a .params .at) o) v 0) (c .before .before .before .before .before .before .before .before .before .before .before .before .before .before .before .before .before .before .before .before .before .before .before .before .before .before .values .ensures) in let acc : ℕ → Bool = λ i. part-met (a .s .now) (a .funcs .now) (a .froms .now) (a .ends .now) (a .blocks .now) (a .n) (env (a .p) (a .params .at) (valuesOf (a .z .at) i)) in let some : 0 < c .before .before .before .before .before .before .before .before .before .before .before .before .before .before .before .before .before .before .before .rows-in .result = omega (arith, c .before .before .before .before .before .before .before .before .before .before .before .before .before .before .before .before .before .before .if3 .left) in let fits = c .before .before .before .before .before .before .before .before .before .before .before .before .before .before .before .before .before .before .before .rows-in .ensures .1 some in let r = c .before .before .before .before .before .before .before .before .before .before .in-lanes in (
+returns-4 c = let a = c .before .before .before .before .before .before .before .before .before .before .before .before .before .before .before .before .before .before .before .before .before .before .before .before .before .before .before .before .before .before .before .before .before .before .before .before .before .args in let pre = c .before .before .before .before .before .before .before .before .before .before .before .before .before .before .before .before .before .before .before .before .before .before .before .before .before .before .before .before .before .before .before .before .before .before .before .before .before .pre in let len = per-sum-length (a .z) _ (c .before .before .before .before .before .before .before .before .before .before .before .before .before .before .before .before .before .before .before .before .before .before .before .before .before .before .before .before .before .before .before .before .before .before .before .before .before .good .1 .1 .1 .1 .0) in let is-b : c .before .before .before .before .before .before .before .before .before .before .before .before .before .before .before .before .before .before .before .before .before .before .before .before .before .before .before .narrow .result ≡ product (drop (a .u) (a .z .at)) = c .before .before .before .before .before .before .before .before .before .before .before .before .before .before .before .before .before .before .before .before .before .before .before .before .before .before .before .narrow .ensures ∙ c .before .before .before .before .before .before .before .before .before .before .before .before .before .before .before .before .before .before .before .before .before .before .before .before .before .before .before .before .block-size .ensures .0 in let pos = strip-pos (a .z .at) (a .l) (a .u) (a .g) (a .w) (pre .1 .1 .0) len (pre .0 .1 .1 .1 .0) (c .before .before .before .before .before .before .before .before .before .before .before .before .before .before .before .before .before .before .before .before .before .before .before .before .before .before .before .narrow .result) is-b in let e = c .before .before .before .before .before .before .before .before .before .before .before .before .before .before .before .before .before .before .before .before .before .before .before .before .before .environment in let d = c .before .before .before .before .before .before .before .before .before .before .before .before .before .before .before .before .before .before .before .before .before .before .test in let few : a .p ≤ length (a .params .at) = let o = per-variable-length (a .params) _ (c .before .before .before .before .before .before .before .before .before .before .before .before .before .before .before .before .before .before .before .before .before .before .before .before .before .before .before .before .before .before .before .before .before .before .before .before .before .good .1 .1 .0) in omega (arith, pre .0 .0) in let alike : Alike (e .result .at) (env (a .p) (a .params .at) (valuesOf (a .z .at) (a .j))) = λ v. e .ensures v ∙ ap (λ (o : List ℕ). getD (env (a .p) (a .params .at) o) v 0) (c .before .before .before .before .before .before .before .before .before .before .before .before .before .before .before .before .before .before .before .before .before .before .before .before .before .before .values .ensures) in let acc : ℕ → Bool = λ i. part-met (a .s .now) (a .funcs .now) (a .froms .now) (a .ends .now) (a .blocks .now) (a .n) (env (a .p) (a .params .at) (valuesOf (a .z .at) i)) in let some : 0 < c .before .before .before .before .before .before .before .before .before .before .before .before .before .before .before .before .before .before .before .rows-in .result = omega (arith, c .before .before .before .before .before .before .before .before .before .before .before .before .before .before .before .before .before .before .if3 .left) in let fits = c .before .before .before .before .before .before .before .before .before .before .before .before .before .before .before .before .before .before .before .rows-in .ensures .1 some in let r = c .before .before .before .before .before .before .before .before .before .before .in-lanes in (
   r .ensures .0,
   (
     r .ensures .1 .0,
     (
       r .ensures .1 .1 .0,
       λ part w z.
-          let known : a .p + a .l < length (e .result .at) = let o = eight-length (e .result) _ (e .ok) in omega (arith, pre .0 .0, pre .1 .1 .0 .l-inside) in
+          let known : a .p + a .l < length (e .result .at) = let o = per-variable-length (e .result) _ (e .ok) in omega (arith, pre .0 .0, pre .1 .1 .0 .l-inside) in
           let known-u : a .p + a .u < length (e .result .at) = omega (arith, known, pre .1 .1 .0 .u-first) in
           let standing : (i : ℕ) → i < a .n → Standing (a .s .now) (a .froms .now) (a .ends .now) i = λ i k. part i k .standing in
           let aligned : a .j % a .w ≡ 0 = omega (arith, c .before .before .before .before .before .before .before .before .before .before .before .before .before .before .before .before .before .before .before .before .before .before .before .before .before .before .before .before .before .if1 .left) in

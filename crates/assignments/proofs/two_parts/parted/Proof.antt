@@ -7,6 +7,7 @@ use mathlib.Core.List.{List}
 use lib.ListN.{length, getD, drop, length-set}
 use borrow.Author.Tests.{leb-true}
 use Rattle.evaluation.specs.Run.{peak}
+use Rattle.pcrl.specs.Limits.{max-conditions}
 use Rattle.assignments.specs.Places.{product}
 use Rattle.assignments.specs.Conditions.{code, Ready}
 use Rattle.assignments.proofs.Separating.{Parting, parting-none, parting-late, parting-early, parting-all, grain-more, zeros}
@@ -14,13 +15,13 @@ use Rattle.assignments.proofs.two_parts.parted.Statement.{statement}
 use Rattle.assignments.proofs.two_parts.parted.Tie as tie
 
 abbrev Inv-loop : tie.InvT-loop
-Inv-loop s p froms ends blocks n b total l early₀ late₀ grain₀ low₀ i₀ early late grain low i = (i ≤ n) × ((length early ≡ 8) × ((length late ≡ 8) × ((0 < grain) × ((grain ≤ 65536) × (Parting s p froms ends blocks n b early late grain low i × ((sizes : List ℕ) (reach lowest : ℕ) → total ≡ product sizes → ((m : ℕ) → m < n → Ready s p sizes froms ends blocks reach lowest m) → (level : ℕ) × (grain ≡ product (drop level sizes))))))))
+Inv-loop s p froms ends blocks n b total l early₀ late₀ grain₀ low₀ i₀ early late grain low i = (i ≤ n) × ((length early ≡ max-conditions) × ((length late ≡ max-conditions) × ((0 < grain) × ((grain ≤ 65536) × (Parting s p froms ends blocks n b early late grain low i × ((sizes : List ℕ) (reach lowest : ℕ) → total ≡ product sizes → ((m : ℕ) → m < n → Ready s p sizes froms ends blocks reach lowest m) → (level : ℕ) × (grain ≡ product (drop level sizes))))))))
 
 abbrev μ-loop : tie.MeasureT-loop
 μ-loop s p froms ends blocks n b total l early₀ late₀ grain₀ low₀ i₀ early late grain low i = n - i
 
 loop-holds : tie.Need-loop-holds Inv-loop μ-loop
-loop-holds c = let a = c .before .args in (omega arith, (refl, (refl, (c .before .pre .1 .1 .1 .0, (c .before .pre .1 .1 .1 .1 .0, (parting-none (a .s .now) (a .p) (a .froms .now) (a .ends .now) (a .blocks .now) (a .n) (a .b) _ _ _ _ (zeros 8) (zeros 8), λ sizes reach lowest e r. (0, e)))))))
+loop-holds c = let a = c .before .args in (omega arith, (refl, (refl, (c .before .pre .1 .1 .1 .0, (c .before .pre .1 .1 .1 .1 .0, (parting-none (a .s .now) (a .p) (a .froms .now) (a .ends .now) (a .blocks .now) (a .n) (a .b) _ _ _ _ (zeros max-conditions) (zeros max-conditions), λ sizes reach lowest e r. (0, e)))))))
 
 mul-d : tie.Need-mul-d Inv-loop μ-loop
 mul-d c = search needs

@@ -2,7 +2,7 @@
 use borrow.Author.Needs.{needs}
 use native.Mathlib.Omega.{arith}
 use Prim.Native.Nat.{ℕ, _+_, _*_}
-use mathlib.Core.Path.{_≡_, refl, sym, ap, _∙_}
+use mathlib.Core.Path.{_≡_, sym, ap, _∙_}
 use lib.ListN.{getD}
 use Rattle.evaluation.specs.Rows.{lane}
 use Rattle.evaluation.proofs.LaneLaws.{put-as, mark-put, below-highest}
@@ -49,24 +49,6 @@ returns c = λ w. let a = c .before .before .before .before .before .before .bef
 slice-write-marks : tie.Need-slice-write-marks
 slice-write-marks c = search needs
 
-row-requires-2 : tie.Need-row-requires-2
-row-requires-2 c κs = search needs
-
-add-if2 : tie.Need-add-if2
-add-if2 c = search needs
-
-two-inside-requires : tie.Need-two-inside-requires
-two-inside-requires c κs = let a = c .before .before .before .before .before .before .before .before .args in let byte = c .before .before .before .before .before .before .slice-known .given in (λ i h. below-highest _ _ _ 255 255 _ _ (omega (arith, byte (a .t * 128 + i))) (omega (arith, byte ((a .t + 1) * 128 + i))) (omega (arith, c .before .before .row2 .ensures .0)), (omega arith, (omega arith, (omega arith, (omega arith, omega arith)))))
-
-same-length-3 : tie.Need-same-length-3
-same-length-3 c = search needs
-
-same-length-4 : tie.Need-same-length-4
-same-length-4 c = search needs
-
-returns-2 : tie.Need-returns-2
-returns-2 c = λ w. let a = c .before .before .before .before .before .before .before .before .before .before .before .args in let p = c .before .before .two-inside .ensures in (p, mark-put (a .n) (a .rows .now) (a .marks .now) (a .d) _ _ 1 (omega arith) (omega arith) (λ e. absurd (omega arith)) p w)
-
 highest-requires : tie.Need-highest-requires
 highest-requires c κs = search needs
 
@@ -76,14 +58,26 @@ add-highest c = search needs
 highest-requires-2 : tie.Need-highest-requires-2
 highest-requires-2 c κs = search needs
 
-row-requires-3 : tie.Need-row-requires-3
-row-requires-3 c κs = search needs
+row-requires-2 : tie.Need-row-requires-2
+row-requires-2 c κs = search needs
 
-add-if3 : tie.Need-add-if3
-add-if3 c = search needs
+add-if2 : tie.Need-add-if2
+add-if2 c = search needs
 
-two-inside-requires-2 : tie.Need-two-inside-requires-2
-two-inside-requires-2 c κs = (λ i h. below-highest _ _ _ (c .before .before .before .before .before .highest .result) (c .before .before .before .highest2 .result) _ _ (c .before .before .before .before .before .highest .ensures i h) (c .before .before .before .highest2 .ensures i h) (omega (arith, c .before .before .row3 .ensures .0)), (omega arith, (omega arith, (omega arith, (omega arith, omega arith)))))
+two-inside-requires : tie.Need-two-inside-requires
+two-inside-requires c κs = (λ i h. below-highest _ _ _ (c .before .before .before .before .before .highest .result) (c .before .before .before .highest2 .result) _ _ (c .before .before .before .before .before .highest .ensures i h) (c .before .before .before .highest2 .ensures i h) (omega (arith, c .before .before .row2 .ensures .0)), (omega arith, (omega arith, (omega arith, (omega arith, omega arith)))))
+
+same-length-3 : tie.Need-same-length-3
+same-length-3 c = search needs
+
+same-length-4 : tie.Need-same-length-4
+same-length-4 c = search needs
+
+returns-2 : tie.Need-returns-2
+returns-2 c = λ w. let a = c .before .before .before .before .before .before .before .before .before .before .before .before .before .before .before .args in let p = c .before .before .two-inside .ensures in (p, mark-put (a .n) (a .rows .now) (a .marks .now) (a .d) _ _ 1 (omega arith) (omega arith) (λ e. absurd (omega arith)) p w)
+
+two-requires : tie.Need-two-requires
+two-requires c κs = search needs
 
 same-length-5 : tie.Need-same-length-5
 same-length-5 c = search needs
@@ -92,19 +86,7 @@ same-length-6 : tie.Need-same-length-6
 same-length-6 c = search needs
 
 returns-3 : tie.Need-returns-3
-returns-3 c = λ w. let a = c .before .before .before .before .before .before .before .before .before .before .before .before .before .before .before .before .before .args in let p = c .before .before .two-inside2 .ensures in (p, mark-put (a .n) (a .rows .now) (a .marks .now) (a .d) _ _ 1 (omega arith) (omega arith) (λ e. absurd (omega arith)) p w)
-
-two-requires : tie.Need-two-requires
-two-requires c κs = search needs
-
-same-length-7 : tie.Need-same-length-7
-same-length-7 c = search needs
-
-same-length-8 : tie.Need-same-length-8
-same-length-8 c = search needs
-
-returns-4 : tie.Need-returns-4
-returns-4 c = λ w. let a = c .before .before .before .before .before .before .before .before .before .before .before .before .before .before .before .before .before .args in let p = c .before .before .two .ensures in (p, mark-put (a .n) (a .rows .now) (a .marks .now) (a .d) _ _ 1 (omega arith) (omega arith) (λ e. absurd (omega arith)) p w)
+returns-3 c = λ w. let a = c .before .before .before .before .before .before .before .before .before .before .before .before .before .before .before .args in let p = c .before .before .two .ensures in (p, mark-put (a .n) (a .rows .now) (a .marks .now) (a .d) _ _ 1 (omega arith) (omega arith) (λ e. absurd (omega arith)) p w)
 
 pub binary-spec : {M : Type 1} → statement M
 binary-spec =
@@ -121,22 +103,16 @@ binary-spec =
     same-length-2
     returns
     slice-write-marks
+    highest-requires
+    add-highest
+    highest-requires-2
     row-requires-2
     add-if2
     two-inside-requires
     same-length-3
     same-length-4
     returns-2
-    highest-requires
-    add-highest
-    highest-requires-2
-    row-requires-3
-    add-if3
-    two-inside-requires-2
+    two-requires
     same-length-5
     same-length-6
-    returns-3
-    two-requires
-    same-length-7
-    same-length-8
-    returns-4)
+    returns-3)

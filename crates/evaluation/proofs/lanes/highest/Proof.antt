@@ -2,9 +2,9 @@
 use borrow.Author.Needs.{needs}
 use native.Mathlib.Omega.{arith}
 use Prim.Native.Nat.{ℕ, _+_, _-_, _*_, _≤_, _<_}
-use mathlib.Core.Path.{_≡_, refl, ap, ap₂, _∙_}
-use lib.ListN.{length, length-set, getD}
-use Rattle.evaluation.specs.Rows.{lane, Putting}
+use mathlib.Core.Path.{_≡_, refl}
+use lib.ListN.{getD}
+use Rattle.evaluation.specs.Rows.{lane}
 use Rattle.evaluation.proofs.LaneLaws.{high-more}
 use Rattle.evaluation.proofs.lanes.highest.Statement.{statement}
 use Rattle.evaluation.proofs.lanes.highest.Tie as tie

@@ -1,9 +1,8 @@
 -- Part by part.
-use borrow.Author.Needs.{needs}
 use native.Mathlib.Omega.{arith}
 use Prim.Native.Nat.{ℕ, _+_, _-_, _*_, _%_, _≤_, _<_}
-use mathlib.Core.Path.{_≡_, refl, sym, ap, ap₂, subst, _∙_}
-use lib.ListN.{length, length-set, getD}
+use mathlib.Core.Path.{_≡_, refl, sym, ap, subst, _∙_}
+use lib.ListN.{length, getD}
 use Rattle.evaluation.specs.Rows.{lane, Putting}
 use Rattle.evaluation.proofs.LaneLaws.{put-none, same-pairs, put-join, put-all}
 use Rattle.evaluation.proofs.lanes.two_inside.Statement.{statement}

@@ -4,7 +4,6 @@ use native.Mathlib.Omega.{arith}
 use Prim.Native.Nat.{ℕ, _+_, _*_}
 use mathlib.Core.Path.{_≡_, refl, sym, ap, _∙_}
 use lib.ListN.{getD}
-use Rattle.evaluation.specs.Rows.{lane}
 use Rattle.evaluation.proofs.LaneLaws.{put-fewer, put-as, mark-put}
 use Rattle.evaluation.proofs.lanes.unary.Statement.{statement}
 use Rattle.evaluation.proofs.lanes.unary.Tie as tie
@@ -46,11 +45,17 @@ returns c = λ w. let a = c .before .before .before .before .before .before .bef
 slice-write-marks-2 : tie.Need-slice-write-marks-2
 slice-write-marks-2 c = search needs
 
+highest-requires : tie.Need-highest-requires
+highest-requires c κs = search needs
+
+wide-requires-2 : tie.Need-wide-requires-2
+wide-requires-2 c κs = search needs
+
 add-if2 : tie.Need-add-if2
 add-if2 c = search needs
 
 one-inside-requires : tie.Need-one-inside-requires
-one-inside-requires c κs = let a = c .before .before .before .before .before .before .before .args in let byte = c .before .before .before .before .before .slice-known .given in (λ i h. omega (arith, byte (a .t * 128 + i)), (omega arith, (omega arith, (omega arith, (omega arith, omega arith)))))
+one-inside-requires c κs = (λ i h. omega (arith, c .before .before .before .highest .ensures i h, c .before .before .wide2 .ensures .0), (omega arith, (omega arith, (omega arith, (omega arith, omega arith)))))
 
 same-length-3 : tie.Need-same-length-3
 same-length-3 c = search needs
@@ -59,19 +64,10 @@ same-length-4 : tie.Need-same-length-4
 same-length-4 c = search needs
 
 returns-2 : tie.Need-returns-2
-returns-2 c = λ w. let a = c .before .before .before .before .before .before .before .before .before .before .args in let p = c .before .before .one-inside .ensures in (p, mark-put (a .n) (a .rows .now) (a .marks .now) (a .d) _ _ 1 (omega arith) (omega arith) (λ e. absurd (omega arith)) p w)
+returns-2 c = λ w. let a = c .before .before .before .before .before .before .before .before .before .before .before .before .before .args in let p = c .before .before .one-inside .ensures in (p, mark-put (a .n) (a .rows .now) (a .marks .now) (a .d) _ _ 1 (omega arith) (omega arith) (λ e. absurd (omega arith)) p w)
 
-highest-requires : tie.Need-highest-requires
-highest-requires c κs = search needs
-
-wide-requires-2 : tie.Need-wide-requires-2
-wide-requires-2 c κs = search needs
-
-add-if3 : tie.Need-add-if3
-add-if3 c = search needs
-
-one-inside-requires-2 : tie.Need-one-inside-requires-2
-one-inside-requires-2 c κs = (λ i h. omega (arith, c .before .before .before .highest .ensures i h, c .before .before .wide2 .ensures .0), (omega arith, (omega arith, (omega arith, (omega arith, omega arith)))))
+one-requires : tie.Need-one-requires
+one-requires c κs = search needs
 
 same-length-5 : tie.Need-same-length-5
 same-length-5 c = search needs
@@ -80,19 +76,7 @@ same-length-6 : tie.Need-same-length-6
 same-length-6 c = search needs
 
 returns-3 : tie.Need-returns-3
-returns-3 c = λ w. let a = c .before .before .before .before .before .before .before .before .before .before .before .before .before .before .args in let p = c .before .before .one-inside2 .ensures in (p, mark-put (a .n) (a .rows .now) (a .marks .now) (a .d) _ _ 1 (omega arith) (omega arith) (λ e. absurd (omega arith)) p w)
-
-one-requires : tie.Need-one-requires
-one-requires c κs = search needs
-
-same-length-7 : tie.Need-same-length-7
-same-length-7 c = search needs
-
-same-length-8 : tie.Need-same-length-8
-same-length-8 c = search needs
-
-returns-4 : tie.Need-returns-4
-returns-4 c = λ w. let a = c .before .before .before .before .before .before .before .before .before .before .before .before .before .before .args in let p = c .before .before .one .ensures in (p, mark-put (a .n) (a .rows .now) (a .marks .now) (a .d) _ _ 1 (omega arith) (omega arith) (λ e. absurd (omega arith)) p w)
+returns-3 c = λ w. let a = c .before .before .before .before .before .before .before .before .before .before .before .before .before .args in let p = c .before .before .one .ensures in (p, mark-put (a .n) (a .rows .now) (a .marks .now) (a .d) _ _ 1 (omega arith) (omega arith) (λ e. absurd (omega arith)) p w)
 
 pub unary-spec : {M : Type 1} → statement M
 unary-spec =
@@ -110,19 +94,14 @@ unary-spec =
     same-length-2
     returns
     slice-write-marks-2
+    highest-requires
+    wide-requires-2
     add-if2
     one-inside-requires
     same-length-3
     same-length-4
     returns-2
-    highest-requires
-    wide-requires-2
-    add-if3
-    one-inside-requires-2
+    one-requires
     same-length-5
     same-length-6
-    returns-3
-    one-requires
-    same-length-7
-    same-length-8
-    returns-4)
+    returns-3)

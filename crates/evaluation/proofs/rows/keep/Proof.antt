@@ -1,10 +1,10 @@
 -- Lane by lane; `some` is the highest of what is left.
 use borrow.Author.Needs.{needs}
 use native.Mathlib.Omega.{arith}
-use Prim.Native.Nat.{ℕ, _+_, _-_, _*_, _≤_, _<_}
-use mathlib.Core.Path.{_≡_, refl, ap, ap₂, _∙_}
-use lib.ListN.{length, length-set, getD}
-use Rattle.evaluation.specs.Rows.{lane, Putting}
+use Prim.Native.Nat.{_-_, _*_, _≤_}
+use mathlib.Core.Path.{_≡_, refl}
+use lib.ListN.{length, length-set}
+use Rattle.evaluation.specs.Rows.{lane}
 use Rattle.evaluation.proofs.LaneLaws.{Keeping, keep-none, keep-more, keep-all}
 use Rattle.evaluation.proofs.rows.keep.Statement.{statement}
 use Rattle.evaluation.proofs.rows.keep.Tie as tie

@@ -1,8 +1,8 @@
 -- The rows of the term, and the lanes of the last of them.
 use borrow.Author.Needs.{needs}
 use native.Mathlib.Omega.{arith}
-use Prim.Native.Nat.{ℕ, _+_, _*_, _-_, _≤_}
-use mathlib.Core.Path.{_≡_, refl}
+use Prim.Native.Nat.{_-_, _≤_}
+use mathlib.Core.Path.{refl}
 use Rattle.evaluation.proofs.LaneLaws.{kept-as}
 use Rattle.evaluation.proofs.rows.row_holds.Statement.{statement}
 use Rattle.evaluation.proofs.rows.row_holds.Tie as tie

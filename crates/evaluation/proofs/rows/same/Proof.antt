@@ -1,5 +1,4 @@
 -- A lane is kept, or 0.
-use borrow.Author.Needs.{needs}
 use mathlib.Core.Path.{refl}
 use borrow.Author.Tests.{eq-eqb, ne-eqb}
 use Rattle.evaluation.proofs.rows.same.Statement.{statement}

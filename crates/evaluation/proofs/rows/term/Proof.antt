@@ -7,7 +7,6 @@ use lib.ListN.{length, take, drop}
 use Rattle.evaluation.specs.Run.{run, top}
 use Rattle.evaluation.specs.Rows.{lane, lane-env, Marked, Zeros}
 use Rattle.evaluation.proofs.LaneLaws.{Worth, rows-start, rows-again, zeros-again}
-use Rattle.evaluation.proofs.TowerLaws.{climbed-rows, climbed-marked, climbed-zeros}
 use Rattle.evaluation.proofs.rows.term.Statement.{statement}
 use Rattle.evaluation.proofs.rows.term.Tie as tie
 
@@ -29,34 +28,6 @@ same-length-2 c = c .before .before .loop .inv .1 .0 .1
 returns : tie.Need-returns Inv-loop μ-loop
 returns c = let l = c .before .before .loop in λ h k w z. let r = l .inv .1 .1 h k w z in (r .0, (r .1 .0, λ few. absurd (omega arith)))
 
-steep-requires : tie.Need-steep-requires Inv-loop μ-loop
-steep-requires c κs = (omega arith, (omega arith, (omega arith, (omega arith, omega arith))))
-
-climb-requires : tie.Need-climb-requires Inv-loop μ-loop
-climb-requires c κs = let e = c .before .before .steep .ensures (omega arith) in (e .0, (omega arith, (e .1 .0, (e .1 .1 .1 .1 .0, (e .1 .1 .1 .1 .1, (e .1 .1 .0, (omega arith, omega arith)))))))
-
-loop-less : tie.Need-loop-less Inv-loop μ-loop
-loop-less c = omega (arith, c .before .before .climb .ensures .0 .1)
-
-loop-again : tie.Need-loop-again Inv-loop μ-loop
-loop-again c = let a = c .before .before .before .before .before .before .before .before .before .before .before .before .before .before .before .before .before .before .args in let l = c .before .before .before .before .before .before .before .before .before .before .loop in let d = c .before .before .climb in let q = d .ensures in let e = c .before .before .before .before .before .steep .ensures (omega arith) in let env : ℕ → List ℕ = (λ (i : ℕ). lane-env (a .e .now) (a .u) (a .v) (a .slow .now) (a .fast .now) i) in
-    let few = c .before .before .before .before .before .before .before .before .before .before .before .before .before .before .before .before .before .before .pre .1 .1 .1 .1 .0 in
-    let inside = c .before .before .before .before .before .before .before .before .before .before .before .before .before .before .before .before .before .before .pre .1 .0 in
-    let rows : List ℕ = d .last .1 .1 .1 .1 .1 .0 in (
-      (omega (arith, q .0 .1), (q .0 .0, omega arith)),
-      (
-        (d .kept .1 .1 .1 .1 .1 .0 ∙ l .inv .1 .0 .0, l .inv .1 .0 .1),
-        λ h k w z.
-            let y = l .inv .1 .1 h k w z in (
-              climbed-marked (a .s .now) (a .funcs .now) (a .n) few env (l .rows) rows (l .t) (d .result) (l .j) (a .end) (omega (arith, q .0 .1)) (omega arith) inside (q .1 .0) (q .1 .1) (l .marks) (e .1 .1 .1 .0) (y .0),
-              (
-                climbed-zeros (a .s .now) (a .funcs .now) (a .n) few env (l .rows) rows (l .t) (d .result) (l .j) (a .end) (omega (arith, q .0 .1)) (omega arith) inside (q .1 .0) (q .1 .1) (e .1 .1 .0) (y .1 .0),
-                climbed-rows (a .s .now) (a .funcs .now) (a .n) few env (l .rows) rows (l .t) (d .result) (l .j) (a .end) (omega (arith, q .0 .1)) (omega arith) inside (q .1 .0) (q .1 .1) (y .1 .1),
-              ),
-            ),
-      ),
-    )
-
 sub-j : tie.Need-sub-j Inv-loop μ-loop
 sub-j c = omega arith
 
@@ -66,18 +37,18 @@ shared-slice-read-node c = omega arith
 node-requires : tie.Need-node-requires Inv-loop μ-loop
 node-requires c κs = (omega arith, (omega arith, (omega arith, (omega arith, (omega arith, (omega arith, omega arith))))))
 
-loop-less-2 : tie.Need-loop-less-2 Inv-loop μ-loop
-loop-less-2 c = omega arith
+loop-less : tie.Need-loop-less Inv-loop μ-loop
+loop-less c = omega arith
 
-loop-again-2 : tie.Need-loop-again-2 Inv-loop μ-loop
-loop-again-2 c = let a = c .before .before .before .before .before .before .before .before .before .before .before .before .before .before .before .before .before .before .before .before .before .before .args in let l = c .before .before .before .before .before .before .before .before .before .before .before .before .before .before .loop in let d = c .before .before .before .before .node in let q = d .ensures in let env : ℕ → List ℕ = (λ (i : ℕ). lane-env (a .e .now) (a .u) (a .v) (a .slow .now) (a .fast .now) i) in (
+loop-again : tie.Need-loop-again Inv-loop μ-loop
+loop-again c = let a = c .before .before .before .before .before .before .before .before .before .before .before .before .before .before .before .before .before .before .args in let l = c .before .before .before .before .before .before .before .before .before .before .loop in let d = c .before .before .before .before .node in let q = d .ensures in let env : ℕ → List ℕ = (λ (i : ℕ). lane-env (a .e .now) (a .u) (a .v) (a .slow .now) (a .fast .now) i) in (
   (omega arith, (omega arith, omega (arith, q .0))),
   (
     (d .kept .1 .1 .1 .1 .1 .1 .1 .1 .0 ∙ l .inv .1 .0 .0, d .kept .1 .1 .1 .1 .1 .1 .1 .1 .1 .0 ∙ l .inv .1 .0 .1),
     λ h k w z.
         let y = l .inv .1 .1 h k w z in
         let x = q .1 .1 h k (y .0) in
-        (x .1, (zeros-again (a .n) (c .before .before .before .before .before .before .before .before .before .before .before .before .before .before .before .before .before .before .before .before .before .before .pre .1 .1 .1 .1 .0) (a .s .now) (a .funcs .now) env (a .s .now) (l .rows) _ (l .j) (a .end) (l .t) _ (d .result) (omega arith) (omega arith) (c .before .before .before .before .before .before .before .before .before .before .before .before .before .before .before .before .before .before .before .before .before .before .pre .1 .0) (y .1 .1) (y .1 .0) refl (q .1 .0) (omega arith) (omega arith) (x .0), rows-again (a .n) (c .before .before .before .before .before .before .before .before .before .before .before .before .before .before .before .before .before .before .before .before .before .before .pre .1 .1 .1 .1 .0) (a .s .now) (a .funcs .now) env (a .s .now) (l .rows) _ (l .j) (a .end) (l .t) _ (d .result) (omega arith) (omega arith) (c .before .before .before .before .before .before .before .before .before .before .before .before .before .before .before .before .before .before .before .before .before .before .pre .1 .0) (y .1 .1) (y .1 .0) refl (q .1 .0) (omega arith) (omega arith) (x .0))),
+        (x .1, (zeros-again (a .n) (c .before .before .before .before .before .before .before .before .before .before .before .before .before .before .before .before .before .before .pre .1 .1 .1 .1 .0) (a .s .now) (a .funcs .now) env (a .s .now) (l .rows) _ (l .j) (a .end) (l .t) _ (d .result) (omega arith) (omega arith) (c .before .before .before .before .before .before .before .before .before .before .before .before .before .before .before .before .before .before .pre .1 .0) (y .1 .1) (y .1 .0) refl (q .1 .0) (omega arith) (omega arith) (x .0), rows-again (a .n) (c .before .before .before .before .before .before .before .before .before .before .before .before .before .before .before .before .before .before .pre .1 .1 .1 .1 .0) (a .s .now) (a .funcs .now) env (a .s .now) (l .rows) _ (l .j) (a .end) (l .t) _ (d .result) (omega arith) (omega arith) (c .before .before .before .before .before .before .before .before .before .before .before .before .before .before .before .before .before .before .pre .1 .0) (y .1 .1) (y .1 .0) refl (q .1 .0) (omega arith) (omega arith) (x .0))),
   ),
 )
 
@@ -100,15 +71,11 @@ term-spec =
     same-length
     same-length-2
     returns
-    steep-requires
-    climb-requires
-    loop-less
-    loop-again
     sub-j
     shared-slice-read-node
     node-requires
-    loop-less-2
-    loop-again-2
+    loop-less
+    loop-again
     same-length-3
     same-length-4
     returns-2)
