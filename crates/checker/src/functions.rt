@@ -25,6 +25,7 @@ pub fn volume(funcs: &[u8], f: usize, sizes: &[u8], sorts: usize) -> usize
     first * size_of(sizes, sorts, byte(funcs, start + 2))
 }
 
+// Are all values from one place up to another below a size?
 pub fn all_below(values: &[u8], from: usize, to: usize, size: usize) -> bool
     ensures { λ r. ⌜ AllBelow (now (values .entry)) from to size r ⌝ }
 {
@@ -59,6 +60,7 @@ pub fn complete(
     all_below(values, from, to, size_of(sizes, sorts, gives))
 }
 
+// "function values complete and in range", of all functions.
 pub fn functions_complete(
     funcs: &[u8],
     values: &[u8],

@@ -19,6 +19,7 @@ pub struct Operator {
     pub sort: usize,
 }
 
+// The operator of a number, if there is one: `==` stands only at a sort that the sheet has.
 pub fn operator_of(number: usize, sorts: usize) -> Operator
     ensures { λ r. ⌜ OperatorSays number sorts r ⌝ }
 {

@@ -35,6 +35,7 @@ fn params_of(procs: &[u8], k: usize) -> Variables
     Variables { sorts: sorts }
 }
 
+// Is every right side rightly sorted, with its parameters in scope?
 fn processes_right(
     cells: &[u16],
     starts: &[u16],

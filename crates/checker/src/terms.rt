@@ -28,6 +28,7 @@ pub struct Variables {
     pub sorts: [u16; MAX_SCOPE],
 }
 
+// An action with as many data as it takes, each of its sort; tau takes none.
 pub fn atom_right(
     cells: &[u16],
     d: Node,
@@ -54,6 +55,7 @@ pub fn atom_right(
     arguments_right(cells, given, acts, ACT_ROW * a, scope, sizes, funcs, n)
 }
 
+// A call of a written process, with data of the sorts of its parameters.
 pub fn call_right(
     cells: &[u16],
     d: Node,

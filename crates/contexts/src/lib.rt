@@ -57,6 +57,7 @@ pub struct Side {
     pub c: usize,
 }
 
+// At s a limit is passed.
 fn fail(s: Spot) -> Spot
     ensures { λ r. ⌜ r ≡ failed s ⌝ }
 {
@@ -86,6 +87,7 @@ fn put_variable(slots: &mut [u8], n: usize, m: usize)
     slots[b + 2] = (VARIABLE_CODE + m) as u8;
 }
 
+// What is wanted of the condition on a side: the yes part stands first.
 fn wanted(second: bool) -> u8
     ensures { λ r. ⌜ r ≡ wanted-of second ⌝ }
 {

@@ -95,6 +95,7 @@ pub fn put_values(vs: &[u8], out: &mut [u8], at: usize) -> usize
     p
 }
 
+// How many pairs of values there are of two sorts of these sizes.
 fn product(x: u8, y: u8) -> usize
     ensures { λ r. ⌜ (r ≡ x * y) × (r < 65536) ⌝ }
 {
@@ -173,6 +174,7 @@ fn put_func(
     put_byte(out, d, b';')
 }
 
+// The lines of all functions, in order.
 pub fn put_funcs(s: &[u8], funcs: &[u16], n: usize, l: &[u8], out: &mut [u8], at: usize) -> usize
     requires { ⌜ (at ≤ length (now out)) × (length (now s) ≤ max-stream) ⌝ }
     ensures { λ r. ⌜ (r ≤ length (now (out .entry))) × (length (now (out .exit)) ≡ length (now (out .entry))) ⌝ }
@@ -213,6 +215,7 @@ fn put_colon(out: &mut [u8], at: usize, n: usize) -> usize
     put_byte(out, at, b':')
 }
 
+// The lines of all actions, in order.
 pub fn put_acts(s: &[u8], acts: &[u16], n: usize, l: &[u8], out: &mut [u8], at: usize) -> usize
     requires { ⌜ (at ≤ length (now out)) × (length (now s) ≤ max-stream) ⌝ }
     ensures { λ r. ⌜ (r ≤ length (now (out .entry))) × (length (now (out .exit)) ≡ length (now (out .entry))) ⌝ }

@@ -9,18 +9,21 @@ pub const BYTE_LIMIT: usize = 256;
 
 pub const CELL_LIMIT: usize = 65536;
 
+// A byte of a slice, 0 past its end.
 pub fn peek(s: &[u8], i: usize) -> u8
     ensures { λ r. ⌜ r ≡ getD (now (s .entry)) i 0 ⌝ }
 {
     if i < s.len() { s[i] } else { 0 }
 }
 
+// A cell of a slice, 0 past its end.
 pub fn peek_cell(s: &[u16], i: usize) -> u16
     ensures { λ r. ⌜ r ≡ getD (now (s .entry)) i 0 ⌝ }
 {
     if i < s.len() { s[i] } else { 0 }
 }
 
+// An element of 32 bits, 0 past the end of its slice.
 pub fn peek_word(s: &[u32], i: usize) -> u32
     ensures { λ r. ⌜ r ≡ getD (now (s .entry)) i 0 ⌝ }
 {
@@ -41,18 +44,21 @@ pub fn cell(s: &[u16], i: usize) -> usize
     if i < s.len() { s[i] as usize } else { 0 }
 }
 
+// A byte made wider, to count with or as a place.
 pub fn wide(x: u8) -> usize
     ensures { λ r. ⌜ (r ≡ x) × (r < 256) ⌝ }
 {
     x as usize
 }
 
+// A cell made wider, to count with or as a place.
 pub fn wide_cell(x: u16) -> usize
     ensures { λ r. ⌜ (r ≡ x) × (r < 65536) ⌝ }
 {
     x as usize
 }
 
+// A number of 32 bits made wider, to count with or as a place.
 pub fn wide_word(x: u32) -> usize
     ensures { λ r. ⌜ (r ≡ x) × (r < 4294967296) ⌝ }
 {
@@ -80,6 +86,7 @@ pub fn short(n: usize) -> u16
     if n < CELL_LIMIT { n as u16 } else { 0 }
 }
 
+// The smaller of two numbers.
 pub fn smaller(a: usize, b: usize) -> usize
     ensures { λ r. ⌜ r ≡ min a b ⌝ }
 {
@@ -97,6 +104,7 @@ pub fn cut_sum(most: usize, a: usize, b: usize) -> usize
     smaller(a + b, most)
 }
 
+// The larger of two numbers.
 pub fn larger(a: usize, b: usize) -> usize
     ensures { λ r. ⌜ r ≡ max a b ⌝ }
 {

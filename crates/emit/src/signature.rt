@@ -44,6 +44,7 @@ fn put_sort(s: &[u8], sizes: &[u8], names: &[u16], d: usize, out: &mut [u8], w: 
     put_name(s, peek_cell(names, d - 1), out, v)
 }
 
+// Hex F2, the count of sorts, each sort.
 fn put_sorts(s: &[u8], sizes: &[u8], names: &[u16], n: usize, out: &mut [u8], w: usize) -> usize
     ensures { λ r. ⌜ Puts (sorts-bytes (now (s .entry)) (now (sizes .entry)) (now (names .entry)) n) w (now (out .entry)) r (now (out .exit)) ⌝ }
 {
@@ -57,6 +58,7 @@ fn put_sorts(s: &[u8], sizes: &[u8], names: &[u16], n: usize, out: &mut [u8], w:
     v
 }
 
+// Function i: its sorts with their count, the sort that it gives, its values.
 fn put_func(
     funcs: &[u8],
     values: &[u8],
@@ -75,6 +77,7 @@ fn put_func(
     copy(values, from, minus(cell(places, i + 1), from), out, b)
 }
 
+// The count of functions, each function.
 fn put_funcs(
     funcs: &[u8],
     values: &[u8],
@@ -95,6 +98,7 @@ fn put_funcs(
     v
 }
 
+// Action i: its name, whose cell stands at place b + i of `names`, and its sorts with their count.
 fn put_action(
     s: &[u8],
     acts: &[u8],
@@ -111,6 +115,7 @@ fn put_action(
     put_row(acts, ACT_ROW * i, out, v)
 }
 
+// The count of actions, each action.
 fn put_actions(
     s: &[u8],
     acts: &[u8],

@@ -22,6 +22,7 @@ const CALL: usize = 1 + FRAME_WIDTH * MAX_TERM;
 
 pub const CALLS: usize = MAX_CALLS * CALL;
 
+// Calls written one behind another: the place behind them, and how many they are. Not ok: one is too long, or they are too many.
 pub struct Calls {
     pub ok: bool,
     pub w: usize,
@@ -35,6 +36,7 @@ pub struct Pushed {
     pub n: usize,
 }
 
+// One is too long, or they are too many.
 fn none() -> Calls
     ensures { λ r. ⌜ r ≡ no-calls ⌝ }
 {

@@ -48,7 +48,7 @@ pub struct SortNames {
     pub at: [u8; NAMES],
 }
 
-// The same, and behind them how many times each letter is repeated.
+// The names of a table's sorts, each in its cell, and behind them how many times each letter is repeated.
 pub struct Lettering {
     pub at: [u8; LETTERS],
 }

@@ -70,7 +70,7 @@ pub fn run_within(s: &[u8], at: usize, most: usize, lo: u8, hi: u8) -> usize
     i - at
 }
 
-// The same, however many they are.
+// How many bytes from `at` on have a class from lo to hi, one after another.
 pub fn run(s: &[u8], at: usize, lo: u8, hi: u8) -> usize
     ensures { λ r. ⌜ r ≡ T.run (in-classes lo hi) (drop at (now (s .entry))) ⌝ }
 {
@@ -161,6 +161,7 @@ impl Cursor {
     }
 }
 
+// Are two texts the same, byte for byte?
 pub fn same(a: &[u8], b: &[u8]) -> bool
     ensures { λ r. ⌜ Says r (now (a .entry) ≡ now (b .entry)) ⌝ }
 {
@@ -177,6 +178,7 @@ pub fn same(a: &[u8], b: &[u8]) -> bool
     true
 }
 
+// 2: "hex 20 to 7E or hex 0A"
 fn printable(b: u8) -> bool
     ensures { λ r. ⌜ r ≡ B.printable b ⌝ }
 {

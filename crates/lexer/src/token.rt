@@ -94,6 +94,7 @@ fn name_at(s: &[u8], at: usize) -> Taken
     }
 }
 
+// The value of a digit.
 fn digit_value(b: u8) -> u16
     ensures { λ r. ⌜ r ≡ b - 48 ⌝ }
 {

@@ -32,6 +32,7 @@ pub struct Written {
     pub length: usize,
 }
 
+// There is no stream; `length` says why, as in Written.
 fn failed(length: usize) -> Written
     ensures { λ r. ⌜ (r .ok ≡ false) × (r .length ≡ length) ⌝ }
 {

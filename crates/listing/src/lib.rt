@@ -42,6 +42,7 @@ fn in_scope(n: usize) -> usize
     if n > MAX_SCOPE { 0 } else { n }
 }
 
+// The right side of process k: all variables in scope are its parameters.
 fn written_source(procs: &[u8], starts: &[u16], firsts: &[u8], k: usize) -> Source
     requires { ⌜ k < byte-limit ⌝ }
     ensures { λ r. ⌜ Bounded r ⌝ }
@@ -57,6 +58,7 @@ fn written_source(procs: &[u8], starts: &[u16], firsts: &[u8], k: usize) -> Sour
     }
 }
 
+// The part in row j, which is the right side of equation k: the marked variables are its parameters.
 fn part_source(rows: &[u32], k: usize, j: usize) -> Source
     requires { ⌜ (k + 1 < byte-limit) × (j < byte-limit) ⌝ }
     ensures { λ r. ⌜ Bounded r ⌝ }
@@ -156,7 +158,7 @@ fn put_equation(
     )
 }
 
-// Those of all equations, one behind another.
+// The summands of all equations, one list behind another.
 fn put_all(
     procs: &[u8],
     cells: &[u16],

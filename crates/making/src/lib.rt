@@ -37,7 +37,8 @@ pub struct Made {
     pub length: usize,
 }
 
-// The same, if it was found; else the stream's array was too short.
+// The number of the first question that fails, or 0 and how many bytes were written, if that was found; else the stream's array was
+// too short.
 pub struct Tried {
     pub done: bool,
     pub refused: u8,
@@ -125,6 +126,7 @@ fn make(
     write(sheet, a, values, cells, stream, out)
 }
 
+// Questions 1 to 11 over arrays for a sheet of at most 64 bytes.
 fn make_short(sheet: &[u8], out: &mut [u8]) -> Tried
     requires { ⌜ length (now sheet) ≤ 64 ⌝ }
     ensures { λ r. ⌜ Tries (file-made (now (sheet .entry)) (length (now (out .entry)))) 1024 (now (out .entry)) r (now (out .exit)) ⌝ }
@@ -136,6 +138,7 @@ fn make_short(sheet: &[u8], out: &mut [u8]) -> Tried
     make(sheet, &mut raw, &mut values, &mut cells, &mut stream, out)
 }
 
+// Questions 1 to 11 over arrays for a sheet of at most 512 bytes.
 fn make_middle(sheet: &[u8], out: &mut [u8]) -> Tried
     requires { ⌜ length (now sheet) ≤ 512 ⌝ }
     ensures { λ r. ⌜ Tries (file-made (now (sheet .entry)) (length (now (out .entry)))) 8192 (now (out .entry)) r (now (out .exit)) ⌝ }
@@ -155,6 +158,7 @@ fn read_long(sheet: &[u8], values: &mut [u8; VALUES], cells: &mut [u16; CELLS]) 
     read_sheet(sheet, &mut raw, values, cells)
 }
 
+// Questions 10 and 11 of a sheet that was read, over an array for the longest stream.
 fn write_long(
     sheet: &[u8],
     a: Answer,
@@ -174,6 +178,7 @@ fn write_long(
     }
 }
 
+// Questions 1 to 11 over arrays for the longest sheet.
 fn make_long(sheet: &[u8], out: &mut [u8]) -> Made
     ensures answer { λ r. ⌜ r ≡ made-answer (file-made (now (sheet .entry)) (length (now (out .entry)))) ⌝ }
     ensures written { λ r. ⌜ now (out .exit) ≡ output-after (file-made (now (sheet .entry)) (length (now (out .entry)))) (now (out .entry)) ⌝ }

@@ -21,6 +21,7 @@ fn note(m: u32, tag: usize, number: usize, n: usize) -> u32
     nodes::with_bit(m, number)
 }
 
+// The set m, and the variables below n that stand in `count` data terms.
 fn data_marks(cells: &[u16], at: usize, count: usize, n: usize, m: u32) -> u32
     requires { ⌜ (count < cell-limit) × (n ≤ max-scope) ⌝ }
     ensures { λ r. ⌜ MarksData (now (cells .entry)) at count n m r ⌝ }

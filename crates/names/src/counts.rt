@@ -80,6 +80,7 @@ fn params_few(cells: &[u16], procs: &[u16]) -> bool
     true
 }
 
+// 6, put to all lines.
 pub fn counted(cells: &[u16], lines: Lines) -> bool
     ensures { λ r. ⌜ ((s : List ℕ) (R : RawSheet) → Standing s (now (cells .entry)) lines R → Says r (Counted R)) ⌝ }
 {

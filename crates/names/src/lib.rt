@@ -51,7 +51,7 @@ pub struct Row {
     pub at: usize,
 }
 
-// The same of a process's parameters, and how many there are.
+// Whether every name of a process's parameters is as it must be, how many they are, and the place behind them.
 pub struct Params {
     pub ok: bool,
     pub count: usize,

@@ -95,6 +95,7 @@ fn sort_row(s: &[u8], cells: &[u16], sorts: &[u16], at: usize, rows: &mut [u8], 
     }
 }
 
+// The rows of all actions. False: some sort is not known.
 pub fn act_rows(s: &[u8], cells: &[u16], sorts: &[u16], acts: &[u16], rows: &mut [u8]) -> bool
     requires { ⌜ (length (now sorts) < max-sorts) × (act-width * length (now acts) ≤ length (now rows)) ⌝ }
     ensures { λ r. ⌜ ActRows (now (s .entry)) (now (cells .entry)) (now (sorts .entry)) (now (acts .entry)) (now (rows .exit)) r ⌝ }
@@ -145,6 +146,7 @@ fn copy_values(cells: &[u16], at: usize, n: usize, values: &mut [u8], w: usize)
     }
 }
 
+// The rows of all functions, their values one behind another, and where each function's begin. False: some sort is not known.
 pub fn func_rows(
     s: &[u8],
     cells: &[u16],

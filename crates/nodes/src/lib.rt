@@ -98,6 +98,7 @@ pub struct Skipped {
     pub own: usize,
 }
 
+// The first node of the data term at a place.
 pub fn data_at(cells: &[u16], at: usize) -> Datum
     requires { ⌜ at < length (now cells) ⌝ }
     ensures { λ r. ⌜ OnData at r ⌝ }
@@ -155,6 +156,7 @@ fn behind_data(cells: &[u16], at: usize, n: usize) -> usize
     at + HEADER + cell(cells, at + 1)
 }
 
+// The first node of the process term at a place.
 pub fn node_at(cells: &[u16], at: usize) -> Node
     requires { ⌜ at < length (now cells) ⌝ }
     ensures { λ r. ⌜ On at r ⌝ }
@@ -173,6 +175,7 @@ pub fn node_at(cells: &[u16], at: usize) -> Node
     }
 }
 
+// The process term at a place, passed by a loop over its nodes.
 pub fn skip(cells: &[u16], at: usize) -> Skipped
     ensures { λ r. ⌜ at ≤ r .next ⌝ }
     ensures { λ r. ⌜ Skips (now (cells .entry)) at r ⌝ }

@@ -44,6 +44,7 @@ pub fn expect(toks: &[u16], at: usize, sign: u16) -> usize
     }
 }
 
+// A name stands next: its cell is written.
 pub fn name(toks: &[u16], at: usize, out: &mut [u16], w: usize) -> Step
     ensures ahead { λ r. ⌜ Ahead (length (now (toks .entry))) at (r .at) ⌝ }
     ensures read { λ r. ⌜ Read 0 enc-name (λ f. a-name) (now (toks .entry)) at w (now (out .entry)) r (now (out .exit)) ⌝ }
@@ -58,6 +59,7 @@ pub fn name(toks: &[u16], at: usize, out: &mut [u16], w: usize) -> Step
     }
 }
 
+// A numeral stands next: its cell is written.
 pub fn numeral(toks: &[u16], at: usize, out: &mut [u16], w: usize) -> Step
     ensures ahead { λ r. ⌜ Ahead (length (now (toks .entry))) at (r .at) ⌝ }
     ensures read { λ r. ⌜ Read 0 enc-numeral (λ f. a-numeral) (now (toks .entry)) at w (now (out .entry)) r (now (out .exit)) ⌝ }

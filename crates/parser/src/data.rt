@@ -69,6 +69,7 @@ fn comparison(toks: &[u16], at: usize, out: &mut [u16], w: usize) -> Step
     negation(toks, a.at + 1, out, a.w)
 }
 
+// `!`, any number of times, and then an atom.
 fn negation(toks: &[u16], at: usize, out: &mut [u16], w: usize) -> Step
     ensures ahead { λ r. ⌜ Ahead (length (now (toks .entry))) at (r .at) ⌝ }
     ensures read { λ r. ⌜ Read (5 * left (now (toks .entry)) at + 1) enc-negation negation (now (toks .entry)) at w (now (out .entry)) r (now (out .exit)) ⌝ }

@@ -29,7 +29,7 @@ pub struct Step {
     pub w: usize,
 }
 
-// The same, and how many lines were counted.
+// A place among the tokens, the next free cell, and how many lines were counted.
 pub struct Run {
     pub at: usize,
     pub w: usize,
@@ -49,6 +49,7 @@ pub struct Lines {
     pub init: u16,
 }
 
+// Whether the form is right, how many cells the tree takes, and where its lines stand.
 pub struct Parsed {
     pub ok: bool,
     pub used: usize,

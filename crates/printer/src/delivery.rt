@@ -31,6 +31,7 @@ pub struct Printed {
     pub length: usize,
 }
 
+// Refused by question n.
 fn refuse(n: u8) -> Printed
     ensures { λ r. ⌜ r ≡ record { refused = n; length = 0 } ⌝ }
 {
@@ -82,6 +83,7 @@ fn deliver(text: &[u8], n: usize, free: bool, out: &mut [u8]) -> Printed
     }
 }
 
+// Questions 12 to 14, 17 and 11, over an array lent for the stream.
 fn print_in(file: &[u8], stream: &mut [u8], out: &mut [u8]) -> Printed
     requires { ⌜ (min (length (now file) / block-bytes * block-stream) max-stream ≤ length (now stream)) × (length (now stream) ≤ max-stream) ⌝ }
     ensures { λ r. ⌜ (r ≡ printed-answer (table-printed (now (file .entry)) (length (now (out .entry))))) × (now (out .exit) ≡ output-after (table-printed (now (file .entry)) (length (now (out .entry)))) (now (out .entry))) ⌝ }

@@ -91,6 +91,7 @@ fn put_proc(
     put_byte(out, b, b';')
 }
 
+// The lines of all equations, in order.
 pub fn put_procs(
     s: &[u8],
     funcs: &[u16],

@@ -38,11 +38,13 @@ pub struct TermPut {
     pub next: usize,
 }
 
+// The place behind what was written. Not ok: a limit is passed, or there is no room.
 pub struct Done {
     pub ok: bool,
     pub w: usize,
 }
 
+// So many bytes of one slice, from a place on, put into another.
 pub fn copy(s: &[u8], from: usize, l: usize, out: &mut [u8], w: usize)
     requires { ⌜ (from + l ≤ length (now s)) × (w + l ≤ length (now out)) ⌝ }
     ensures { λ r. ⌜ now (out .exit) ≡ paste (now (out .entry)) w (drop from (now (s .entry))) l ⌝ }
@@ -54,6 +56,7 @@ pub fn copy(s: &[u8], from: usize, l: usize, out: &mut [u8], w: usize)
     }
 }
 
+// What one node comes to: a variable to the term in its slot.
 fn share_of(slots: &[u8], n: usize, tag: usize, number: usize) -> Share
     requires { ⌜ number < cell-limit ⌝ }
     ensures { λ r. ⌜ (r .nodes < byte-limit) × (r .bytes < byte-limit) ⌝ }

@@ -220,6 +220,7 @@ fn atom(
     Step { at: l.at, w: l.w }
 }
 
+// Data of a list, one behind another, and how many they are.
 pub fn data_list(
     s: &[u8],
     raw: &[u16],

@@ -37,6 +37,7 @@ fn own_sort(scope: &[u16], c: u16) -> usize
     1
 }
 
+// The first cell of `==` over data with the first cells c and d: its sort is that of a side that has one by itself.
 pub fn equal_cell(scope: &[u16], c: u16, d: u16) -> u16
     ensures { λ r. ⌜ EqualCell (now (scope .entry)) c d r ⌝ }
 {

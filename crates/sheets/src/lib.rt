@@ -54,6 +54,7 @@ pub struct SheetRows {
     pub outline: Outline,
 }
 
+// The rows of a resolved sheet, if every name is as it must be.
 pub struct ResolvedRows {
     pub ok: bool,
     pub rows: SheetRows,

@@ -80,6 +80,7 @@ fn resolve_lines(
     }
 }
 
+// 7, put to all lines, which stand in the raw tree where `lines` says.
 pub fn resolve(
     s: &[u8],
     raw: &[u16],

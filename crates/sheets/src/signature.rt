@@ -13,6 +13,7 @@ use limits::MAX_SORTS;
 use names::rows::act_rows;
 use names::rows::func_rows;
 
+// The rows of sorts, functions and actions, from their lines.
 pub fn signature(
     s: &[u8],
     raw: &[u16],

@@ -40,6 +40,7 @@ fn read_cond(s: &[u8], sizes: &[u8], funcs: &[u16], scope: &[u8], at: usize) -> 
     terms::read_term(s, sizes, funcs, scope, at + 1, 0)
 }
 
+// The conditions of a summand, behind their count.
 fn read_conds(s: &[u8], sizes: &[u8], funcs: &[u16], scope: &[u8], at: usize) -> Next
     ensures { λ r. ⌜ ((S : Sig) → KnownData S (now (s .entry)) (now (sizes .entry)) (now (funcs .entry)) → rests (counted (at-most? max-conditions) (read-cond S (now (scope .entry))) (drop at (now (s .entry)))) ≡ ended (now (s .entry)) r) ⌝ }
 {
@@ -78,6 +79,7 @@ fn read_call(s: &[u8], sizes: &[u8], funcs: &[u16], params: &[u16], scope: &[u8]
     terms::read_terms(s, sizes, funcs, scope, sorts, at + 1)
 }
 
+// The calls of a summand, behind their count.
 fn read_calls(
     s: &[u8],
     sizes: &[u8],
@@ -160,6 +162,7 @@ pub struct Scope {
     pub n: usize,
 }
 
+// A scope with further sorts behind its own.
 fn more(c: Scope, part: &[u8]) -> Scope
     requires { ⌜ (c .n + length (now part) ≤ frame-width + max-variables) × (length (c .sorts) ≡ frame-width + max-variables) ⌝ }
     ensures { λ r. ⌜ (take (r .n) (r .sorts) ≡ take (c .n) (c .sorts) ++ now (part .entry)) × ((r .n ≡ c .n + length (now (part .entry))) × (length (r .sorts) ≡ frame-width + max-variables)) ⌝ }

@@ -40,6 +40,7 @@ pub struct Index {
     pub start: usize,
 }
 
+// Where the parts of a table stand in its stream, if the stream is a right table's.
 pub struct Tabled {
     pub ok: bool,
     pub index: Index,
