@@ -1,4 +1,4 @@
-//! Frames as text: in hex, 5 bytes each, and short for people.
+//! Frames in hex, 5 bytes each.
 
 use wizbratel::Frame;
 
@@ -30,30 +30,4 @@ pub fn from_hex(text: &str) -> Option<Vec<Frame>> {
     (digits.len() % DIGITS == 0)
         .then(|| frames.collect())
         .flatten()
-}
-
-/// The values of a frame up to the last that is not 0.
-pub fn width(frame: &Frame) -> usize {
-    let last = frame.values.iter().rposition(|&value| value != 0);
-    last.map_or(0, |last| last + 1)
-}
-
-/// A frame's equation and its first values: `3`, `3(1,0)`.
-pub fn shown(frame: &Frame, values: usize) -> String {
-    let values: Vec<String> = frame.values[..values].iter().map(u8::to_string).collect();
-    let equation = frame.equation;
-    match values.len() {
-        0 => equation.to_string(),
-        _ => format!("{equation}({})", values.join(",")),
-    }
-}
-
-/// Frames with the top first; `width` says how many values of a frame are shown.
-pub fn stack_shown(frames: &[Frame], width: impl Fn(&Frame) -> usize) -> String {
-    let frames: Vec<String> = frames
-        .iter()
-        .rev()
-        .map(|frame| shown(frame, width(frame)))
-        .collect();
-    frames.join(" . ")
 }

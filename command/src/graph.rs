@@ -1,26 +1,38 @@
-//! `graph SHEET|TABLE [--limit N]`: the stacks that are reached and their steps, as Graphviz dot.
+//! `graph SHEET|TABLE [--limit N] [--html FILE]`: the stacks that are reached and their steps, as Graphviz dot or drawn on
+//! a page.
+
+mod graphviz;
+mod layered;
+mod layout;
+mod page;
 
 use std::collections::HashMap;
-use std::ffi::OsString;
+use std::ffi::{OsStr, OsString};
 use std::io::{BufWriter, Result as Io, Write};
 
 use wizbratel::{Stack, Table};
 
 use crate::args::{Args, Opt};
-use crate::frames::{stack_shown, width};
 use crate::help::Help;
 use crate::input::{self, Kind, SHEET_OPTION, TABLE_OPTION};
 use crate::labels::{Labels, SORTS_OPTION};
+use crate::naming::Naming;
 use crate::out::written;
+use crate::output;
 use crate::stop::{misuse, say, Status, Stop, GOOD};
 
 const LIMIT: &str = "--limit";
+const HTML: &str = "--html";
 pub const HELP: Help = Help {
-    usage: "graph SHEET|TABLE [--limit N]",
-    does: "prints the stacks that are reached and their steps, for Graphviz",
+    usage: "graph SHEET|TABLE [--limit N] [--html FILE]",
+    does: "draws the stacks that are reached and their steps",
     text: "\
 Prints a graph in the language of Graphviz: a box for each stack, the top frame
 first, and an arrow for each step. A large one is cut, with marks where it was.
+Frames are shown as step shows them. With --html it is drawn on a page instead,
+on which a click takes a step and the path so far is listed. The page needs no
+other file and no network. Graphviz places the boxes if its program dot is found
+and the graph is not large.
 ",
     options: &[
         Opt {
@@ -28,11 +40,16 @@ first, and an arrow for each step. A large one is cut, with marks where it was.
             value: "N",
             does: "at most N stacks (1000) and 16 N steps",
         },
+        Opt {
+            name: HTML,
+            value: "FILE",
+            does: "writes a page for a browser, and prints nothing",
+        },
         SORTS_OPTION,
         TABLE_OPTION,
         SHEET_OPTION,
     ],
-    example: "wizbratel graph charger.pcrl >charger.dot",
+    example: "wizbratel graph charger.pcrl >charger.dot\nwizbratel graph charger.pcrl --html charger.html",
 };
 
 /// Stacks at most, unless `--limit` says otherwise.
@@ -41,7 +58,10 @@ const STACKS: u64 = 1000;
 /// Steps for each of the stacks at most, on the average.
 const STEPS: usize = 16;
 
-/// Prints the graph; a graph that was cut is said to be on standard error.
+/// Who may read and write a page.
+const ALL: u32 = 0o666;
+
+/// Prints the graph, or writes its page; a graph that was cut is said to be on standard error.
 pub fn run(words: &[OsString]) -> Result<Status, Stop> {
     let args = Args::parse(words, HELP.options)?;
     let name = args.file("SHEET or TABLE")?;
@@ -49,15 +69,28 @@ pub fn run(words: &[OsString]) -> Result<Status, Stop> {
         0 => return Err(misuse("--limit is at least 1")),
         limit => usize::try_from(limit).unwrap_or(usize::MAX),
     };
-    let table = input::table(name, Kind::of(&args, name)?)?;
+    if let Some(html) = args.value(HTML) {
+        output::apart(&[name], &[html.to_owned()], ["page", "sheet or table"])?;
+    }
+    let (table, naming) = input::named(name, Kind::of(&args, name)?)?;
     let graph = Graph::reached(&table, limit, Labels::of(&args));
-    let mut out = BufWriter::new(std::io::stdout().lock());
-    written(graph.write(&mut out).and_then(|()| out.flush()))?;
+    match args.value(HTML) {
+        Some(html) => write_page(html, name, &graph, &naming)?,
+        None => {
+            let mut out = BufWriter::new(std::io::stdout().lock());
+            written(graph.write(&naming, &mut out).and_then(|()| out.flush()))?;
+        }
+    }
     if graph.cut {
         let (name, counts) = (input::shown(name), graph.counts());
         say(&format!("{name}: {counts}; --limit N allows more"));
     }
     Ok(GOOD)
+}
+
+fn write_page(html: &OsStr, name: &OsStr, graph: &Graph, naming: &Naming) -> Result<(), Stop> {
+    let page = page::page(&input::shown(name), graph, naming);
+    output::write(html, page.as_bytes(), ALL)
 }
 
 /// Where a step leads to in the graph.
@@ -70,9 +103,10 @@ enum End {
     TooDeep,
 }
 
-/// A step: the stack's number, the label, and where it leads to.
+/// A step: the stack's number, its own number there, the label, and where it leads to.
 struct Edge {
     from: usize,
+    k: u64,
     label: String,
     to: End,
 }
@@ -101,15 +135,15 @@ impl<'t> Graph<'t> {
         while let Some(stack) = graph.stacks.get(from) {
             for step in stack.steps() {
                 if graph.edges.len() >= most {
-                    graph.edge(from, "..".to_string(), End::Cut);
+                    graph.edge(from, step.k, "..".to_string(), End::Cut);
                     return graph;
                 }
                 match step.way {
                     Ok((label, stack)) => {
                         let to = graph.end(stack);
-                        graph.edge(from, labels.shown(&label), to);
+                        graph.edge(from, step.k, labels.shown(&label), to);
                     }
-                    Err(_) => graph.edge(from, String::new(), End::TooDeep),
+                    Err(_) => graph.edge(from, step.k, String::new(), End::TooDeep),
                 }
             }
             from += 1;
@@ -132,9 +166,9 @@ impl<'t> Graph<'t> {
     }
 
     /// Adds a step.
-    fn edge(&mut self, from: usize, label: String, to: End) {
+    fn edge(&mut self, from: usize, k: u64, label: String, to: End) {
         self.cut |= matches!(to, End::Cut);
-        self.edges.push(Edge { from, label, to });
+        self.edges.push(Edge { from, k, label, to });
     }
 
     /// What is in the graph, in words.
@@ -145,27 +179,23 @@ impl<'t> Graph<'t> {
         format!("stacks {stacks}, steps {steps}{cut}")
     }
 
-    /// The values that are shown of each equation's frames: up to the last that is ever not 0.
-    fn widths(&self) -> [usize; 256] {
-        let mut widths = [0; 256];
-        for frame in self.stacks.iter().flat_map(|stack| stack.frames()) {
-            let most = &mut widths[usize::from(frame.equation)];
-            *most = width(frame).max(*most);
+    /// What stands in the box of a stack.
+    fn title(&self, number: usize, naming: &Naming) -> String {
+        let stack = &self.stacks[number];
+        match stack.is_ended() {
+            true => "ended".to_string(),
+            false => naming.stack(stack.frames()),
         }
-        widths
     }
 
     /// Writes the graph in the language of Graphviz.
-    fn write(&self, out: &mut impl Write) -> Io<()> {
+    fn write(&self, naming: &Naming, out: &mut impl Write) -> Io<()> {
         writeln!(out, "// {}", self.counts())?;
         writeln!(out, "digraph wizbratel {{")?;
         writeln!(out, "  node [shape=box];")?;
-        let widths = self.widths();
         for (number, stack) in self.stacks.iter().enumerate() {
-            let label = match stack.is_ended() {
-                true => "ended".to_string(),
-                false => stack_shown(stack.frames(), |frame| widths[usize::from(frame.equation)]),
-            };
+            // a part may have `/\` in it
+            let label = self.title(number, naming).replace('\\', "\\\\");
             let more = match number {
                 0 => ", style=bold",
                 _ if stack.is_ended() => ", shape=doublecircle",
@@ -180,14 +210,26 @@ impl<'t> Graph<'t> {
     }
 }
 
+impl End {
+    /// The mark of what leads to no stack of the graph.
+    fn mark(&self) -> &'static str {
+        match self {
+            End::Stack(_) => "",
+            End::Cut => "cut",
+            End::TooDeep => "refused 16",
+        }
+    }
+}
+
 impl Edge {
     /// Writes a step; what is left out and what is refused has a mark of its own.
     fn write(&self, number: usize, out: &mut impl Write) -> Io<()> {
-        let Edge { from, label, to } = self;
+        let Edge {
+            from, label, to, ..
+        } = self;
         let mark = match to {
             End::Stack(to) => return writeln!(out, "  s{from} -> s{to} [label=\"{label}\"];"),
-            End::Cut => "cut",
-            End::TooDeep => "refused 16",
+            mark => mark.mark(),
         };
         writeln!(out, "  m{number} [label=\"{mark}\", shape=plaintext];")?;
         writeln!(

@@ -8,6 +8,7 @@ use std::path::Path;
 use wizbratel::{Table, MAX_FILE};
 
 use crate::args::{Args, Opt};
+use crate::naming::Naming;
 use crate::output::is_standard_output;
 use crate::refused::Refusal;
 use crate::stop::{misuse, Stop};
@@ -96,14 +97,28 @@ fn start(input: impl Read) -> io::Result<Vec<u8>> {
 
 /// The table of a sheet or of a table file.
 pub fn table(name: &OsStr, kind: Kind) -> Result<Table, Stop> {
+    taken(name, kind, &read(name)?)
+}
+
+/// The same, with what its equations and variables are called.
+pub fn named(name: &OsStr, kind: Kind) -> Result<(Table, Naming), Stop> {
     let bytes = read(name)?;
+    let table = taken(name, kind, &bytes)?;
+    let sheet = (kind == Kind::Sheet).then_some(&bytes[..]);
+    let naming = Naming::of(&table, sheet);
+    let naming = naming.ok_or_else(|| misuse(format!("{} cannot be shown", shown(name))))?;
+    Ok((table, naming))
+}
+
+/// The table of these bytes, or what is said of them.
+fn taken(name: &OsStr, kind: Kind, bytes: &[u8]) -> Result<Table, Stop> {
     let table = match kind {
-        Kind::Sheet => Table::make(&bytes),
-        Kind::Table => Table::read(&bytes),
+        Kind::Sheet => Table::make(bytes),
+        Kind::Table => Table::read(bytes),
     };
     table.map_err(|refused| {
         Stop::Refused(match kind {
-            Kind::Sheet => Refusal::of_sheet(shown(name), &bytes, refused),
+            Kind::Sheet => Refusal::of_sheet(shown(name), bytes, refused),
             Kind::Table => Refusal::of(shown(name), refused),
         })
     })

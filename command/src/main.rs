@@ -7,6 +7,7 @@ mod args;
 mod ask;
 mod check;
 mod collection;
+mod data;
 mod example;
 mod explain;
 mod frames;
@@ -15,6 +16,7 @@ mod help;
 mod input;
 mod labels;
 mod make;
+mod naming;
 #[path = "../../bindings/rust/src/diagnostic/nearest.rs"]
 mod nearest;
 mod out;
@@ -24,8 +26,10 @@ mod random;
 mod refusal;
 mod refused;
 mod replace;
+mod show;
 mod step;
 mod stop;
+mod stream;
 mod walk;
 mod words;
 
@@ -45,6 +49,7 @@ const COMMANDS: &[(Help, Run)] = &[
     (check::HELP, check::run),
     (walk::HELP, walk::run),
     (print::HELP, print::run),
+    (show::HELP, show::run),
     (explain::HELP, explain::run),
     (step::HELP, step::run),
     (ask::HELP, ask::run),

@@ -42,7 +42,7 @@ pub fn run(words: &[OsString]) -> Result<Status, Stop> {
         (_, Some(_)) => return Err(misuse(format!("{OUTPUT} is for one sheet alone"))),
         (_, None) => sheets.iter().map(|sheet| beside(sheet)).collect(),
     };
-    output::apart(&sheets, &outputs)?;
+    output::apart(&sheets, &outputs, ["table", "sheet"])?;
     let made = sheets.iter().zip(&outputs);
     worst(made.map(|(sheet, output)| make(sheet, output)))
 }

@@ -40,8 +40,9 @@ fn is_open(about: &Metadata, open: BorrowedFd) -> bool {
     file.is_some() && file == named(OsStr::new("-"), open)
 }
 
-/// Refuses outputs that lead to one of the inputs, and two that have one name.
-pub fn apart(inputs: &[&OsStr], outputs: &[OsString]) -> Result<(), Stop> {
+/// Refuses outputs that lead to one of the inputs, and two that have one name. What they are is said in messages.
+pub fn apart(inputs: &[&OsStr], outputs: &[OsString], what: [&str; 2]) -> Result<(), Stop> {
+    let [what, over] = what;
     let read: Vec<_> = inputs
         .iter()
         .filter_map(|input| Some((named(input, io::stdin().as_fd())?, input)))
@@ -50,11 +51,13 @@ pub fn apart(inputs: &[&OsStr], outputs: &[OsString]) -> Result<(), Stop> {
         let written = named(output, io::stdout().as_fd());
         if let Some((_, input)) = read.iter().find(|(read, _)| Some(*read) == written) {
             let name = input::shown(input);
-            return Err(misuse(format!("{name}: the table would go over the sheet")));
+            return Err(misuse(format!(
+                "{name}: the {what} would go over the {over}"
+            )));
         }
         if outputs[..index].iter().any(|other| same(other, output)) {
             let name = Path::new(output).display();
-            return Err(misuse(format!("{name}: two tables would go there")));
+            return Err(misuse(format!("{name}: two {what}s would go there")));
         }
     }
     Ok(())

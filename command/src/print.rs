@@ -1,6 +1,7 @@
 //! `print TABLE`: a table as a sheet.
 
 use std::ffi::OsString;
+use std::io::IsTerminal;
 
 use crate::args::Args;
 use crate::help::Help;
@@ -14,19 +15,23 @@ pub const HELP: Help = Help {
     does: "prints a table as a sheet",
     text: "\
 Prints a sheet whose table is the same, byte for byte; that of a table without
-the names of its sorts has them. No line feed is put behind it.
+the names of its sorts has them. A line feed is put behind it on a terminal
+only.
 ",
     options: &[TABLE_OPTION, SHEET_OPTION],
     example: "wizbratel print charger.table >again.pcrl",
 };
 
-/// Prints the text with no line feed behind it: a text may be as long as the longest sheet.
+/// Prints the text. A line feed behind it, which a text as long as the longest sheet has no room for, is for people.
 pub fn run(words: &[OsString]) -> Result<Status, Stop> {
     let args = Args::parse(words, HELP.options)?;
     let name = args.file("TABLE")?;
     let table = input::table(name, Kind::table_first(&args, name)?)?;
     let printed = table.print();
-    let text =
+    let mut text =
         printed.map_err(|refused| Stop::Refused(Refusal::of(input::shown(name), refused)))?;
+    if std::io::stdout().is_terminal() {
+        text.push('\n');
+    }
     out::print(&text).map(|()| GOOD)
 }

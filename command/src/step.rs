@@ -6,10 +6,10 @@ use std::io::{BufRead, IsTerminal, Write};
 use wizbratel::{Frame, Stack, Table};
 
 use crate::args::{Args, Opt};
-use crate::frames::{stack_shown, width};
 use crate::help::Help;
 use crate::input::{self, is_standard, Kind, SHEET_OPTION, TABLE_OPTION};
 use crate::labels::{Labels, SORTS_OPTION};
+use crate::naming::Naming;
 use crate::out::written;
 use crate::random::Random;
 use crate::refused::Refusal;
@@ -24,7 +24,9 @@ pub const HELP: Help = Help {
 Reads words from standard input: a number takes that step, u undoes, r takes a
 step at random, l lists the steps, q ends. On a terminal the steps are listed
 before each prompt. A step is printed as its number, its label and the depth
-after it; where none was taken stands `ended`, `none` or `refused 16`.
+after it; where none was taken stands `ended`, `none` or `refused 16`. A list
+has the stack, the top frame first: of a sheet a process with its parameters, as
+in Charging(0), or a new equation's number and its part, as in 2:unplug.
 ",
     options: &[
         Opt {
@@ -53,15 +55,17 @@ pub fn run(words: &[OsString]) -> Result<Status, Stop> {
         let text = "step reads commands from standard input: the sheet needs a name";
         return Err(misuse(text));
     }
-    let table = input::table(name, Kind::of(&args, name)?)?;
+    let (table, naming) = input::named(name, Kind::of(&args, name)?)?;
     let session = Session {
         name: input::shown(name),
         table: &table,
+        naming: &naming,
         stack: table.start(),
         before: Vec::new(),
         random: Random::new(args.number(SEED)?),
         labels: Labels::of(&args),
         terminal: std::io::stdin().is_terminal(),
+        listed: false,
         out: std::io::stdout().lock(),
         status: GOOD,
     };
@@ -73,12 +77,15 @@ struct Session<'t, W> {
     /// The file's name in messages.
     name: String,
     table: &'t Table,
+    naming: &'t Naming,
     stack: Stack<'t>,
     /// The used frames before each step taken.
     before: Vec<Box<[Frame]>>,
     random: Random,
     labels: Labels,
     terminal: bool,
+    /// Whether `l` was the last command: the prompt then need not list again.
+    listed: bool,
     out: W,
     status: Status,
 }
@@ -107,12 +114,15 @@ impl<W: Write> Session<'_, W> {
         if !self.terminal {
             return Ok(());
         }
-        self.list()?;
+        if !std::mem::take(&mut self.listed) {
+            self.list()?;
+        }
         written(write!(self.out, "> ").and_then(|()| self.out.flush()))
     }
 
     /// Follows one command. One that is unknown ends a script, but not a person's steps.
     fn command(&mut self, text: &str) -> Result<(), Stop> {
+        self.listed = text == "l";
         match text {
             "u" => self.undo(),
             "r" => self.chance(),
@@ -178,7 +188,7 @@ impl<W: Write> Session<'_, W> {
             return self.line("ended");
         }
         let depth = self.stack.depth();
-        let shown = stack_shown(self.stack.frames(), width);
+        let shown = self.naming.stack(self.stack.frames());
         self.line(&format!("depth {depth}: {shown}"))?;
         let mut steps = self.stack.steps();
         let mut none = true;

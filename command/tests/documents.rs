@@ -1,8 +1,16 @@
-//! The listings of `docs/KEEPING.md`: what stands behind `$` is run, and must print what stands below it.
+//! The listings of `docs/KEEPING.md`: what stands behind `$` is run, and must print what stands below it; and those of
+//! other documents that are marked `show`.
+
+#[path = "../../tests/library/src/listings.rs"]
+#[allow(dead_code)]
+mod listings;
 
 use std::fs;
+use std::io::Write;
 use std::path::{Path, PathBuf};
-use std::process::Command;
+use std::process::{Command, Stdio};
+
+use listings::listings;
 
 /// A folder that is removed at the end.
 struct Folder(PathBuf);
@@ -51,4 +59,52 @@ fn the_listings_of_a_keeper() {
     }
     assert!(lines.iter().filter(|line| line.starts_with("$ ")).count() > 15);
     assert_eq!(printed, wanted);
+}
+
+/// What the command shows of a sheet.
+fn shown(sheet: &str) -> String {
+    let mut child = Command::new(env!("CARGO_BIN_EXE_wizbratel"))
+        .args(["show", "-"])
+        .stdin(Stdio::piped())
+        .stdout(Stdio::piped())
+        .spawn()
+        .unwrap();
+    let mut stdin = child.stdin.take().unwrap();
+    stdin.write_all(sheet.as_bytes()).unwrap();
+    drop(stdin);
+    String::from_utf8(child.wait_with_output().unwrap().stdout).unwrap()
+}
+
+#[test]
+fn what_is_shown_of_the_sheet_before() {
+    let root = Path::new(env!("CARGO_MANIFEST_DIR")).join("..");
+    for name in ["README.md", "docs/LANGUAGE.md"] {
+        let document = fs::read_to_string(root.join(name)).unwrap();
+        let (mut sheet, mut count) = (String::new(), 0);
+        for listing in listings(&document).unwrap() {
+            match &listing.words[..] {
+                "pcrl accepted" => sheet = listing.text,
+                "show" => {
+                    count += 1;
+                    assert_eq!(shown(&sheet), listing.text, "{name}, line {}", listing.line);
+                }
+                _ => {}
+            }
+        }
+        assert!(count > 0, "{name}");
+    }
+}
+
+/// The pictures of a document are small files beside it.
+#[test]
+fn the_pictures_are_there() {
+    let root = Path::new(env!("CARGO_MANIFEST_DIR")).join("..");
+    let page = fs::read_to_string(root.join("docs/LANGUAGE.md")).unwrap();
+    for picture in page.split("](").skip(1) {
+        let name = picture.split(')').next().unwrap();
+        if name.ends_with(".png") || name.ends_with(".svg") {
+            let length = fs::metadata(root.join("docs").join(name)).unwrap().len();
+            assert!((1..100_000).contains(&length), "{name}: {length}");
+        }
+    }
 }

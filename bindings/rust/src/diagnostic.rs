@@ -16,8 +16,10 @@ mod heads;
 mod known;
 mod names;
 mod nearest;
+mod sheet_names;
 mod shown;
 mod sorts;
+mod sums;
 mod tokens;
 mod tree;
 
@@ -28,6 +30,7 @@ use crate::check;
 use equations::Equations;
 use finding::{Finding, Found};
 use known::Known;
+pub use sheet_names::{EquationNames, SheetNames};
 use shown::{Mark, Place, Shown};
 
 /// Where and why a sheet is refused by one of questions 1 to 10.
@@ -153,6 +156,11 @@ impl std::error::Error for Diagnostic {}
 
 /// Questions 1 to 10, in order.
 fn questions(sheet: &[u8]) -> Found<()> {
+    read(sheet, |_, equations| heads::check(equations))?
+}
+
+/// Questions 1 to 9, in order, and what is then found in the text and its equations.
+fn read<T>(sheet: &[u8], then: impl FnOnce(&str, &Equations) -> T) -> Found<T> {
     let text = bytes::text(sheet)?;
     let tokens = tokens::tokens(text)?;
     tokens::check_brackets(&tokens)?;
@@ -162,5 +170,5 @@ fn questions(sheet: &[u8]) -> Found<()> {
     names::check(&known)?;
     sorts::check(&known)?;
     circles::check(&known)?;
-    heads::check(&Equations::of(&known))
+    Ok(then(text, &Equations::of(&known)))
 }

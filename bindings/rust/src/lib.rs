@@ -28,7 +28,7 @@
 //! assert_eq!((refused.number(), refused.question()), (9, Question::Circle));
 //! ```
 //!
-//! Where and why a sheet is refused, [`Diagnostic`] says.
+//! Where and why a sheet is refused, [`Diagnostic`] says; what a sheet calls the equations of its table, [`SheetNames`].
 //!
 //! All answers are those of the proved library: nothing here decides anything about a sheet, a table or a stack. There
 //! is no state, and any number of threads may call at once.
@@ -51,7 +51,7 @@ mod steps;
 mod sys;
 mod table;
 
-pub use diagnostic::Diagnostic;
+pub use diagnostic::{Diagnostic, EquationNames, SheetNames};
 pub use label::Label;
 pub use questions::{question, NoQuestion, Question};
 pub use refused::Refused;

@@ -2,12 +2,7 @@
 
 use wizbratel::Table;
 
-/// Bytes of a block, and where its part of the stream stands.
-const BLOCK: usize = 512;
-const PART: std::ops::Range<usize> = 4..510;
-
-/// The first byte of a stream that names its sorts.
-const NAMED: u8 = 0xf2;
+use crate::stream::{stream, NAMED};
 
 /// The library accepts the file as a table, and its stream is that of the sheet's table with the sizes of sorts in place
 /// of sizes and names. Behind a stream stand zeros in either file, and a stream is read in one way only, so that what
@@ -24,12 +19,6 @@ pub fn is_earlier(filed: &[u8], own: &Table) -> bool {
     wanted.resize(longer, 0);
     found.resize(longer, 0);
     found == wanted
-}
-
-/// The stream bytes of all blocks of a table file.
-fn stream(file: &[u8]) -> Vec<u8> {
-    let blocks = file.chunks_exact(BLOCK);
-    blocks.flat_map(|block| &block[PART]).copied().collect()
 }
 
 /// The stream with count and sizes in place of hex F2, count, and each sort's size, name length and name.

@@ -7,12 +7,12 @@ use crate::common::{closed, example, fed, run, run_into, Folder, LOOP};
 const CHARGER: &str = r#"// stacks 6, steps 10
 digraph wizbratel {
   node [shape=box];
-  s0 [label="0", style=bold];
-  s1 [label="1(0)"];
-  s2 [label="1(1)"];
-  s3 [label="1(2)"];
-  s4 [label="1(3)"];
-  s5 [label="2 . 0"];
+  s0 [label="Idle", style=bold];
+  s1 [label="Charging(0)"];
+  s2 [label="Charging(1)"];
+  s3 [label="Charging(2)"];
+  s4 [label="Charging(3)"];
+  s5 [label="2:unplug . Idle"];
   s0 -> s1 [label="plug"];
   s1 -> s2 [label="charge(0)"];
   s1 -> s0 [label="unplug"];
@@ -26,22 +26,30 @@ digraph wizbratel {
 }
 "#;
 
+/// The same of a table, which has numbers for equations.
+fn charger_table() -> String {
+    let names = [("2:unplug", "2"), ("Idle", "0"), ("Charging", "1")];
+    let replaced = |text: String, (from, to): (&str, &str)| text.replace(from, to);
+    names.into_iter().fold(CHARGER.to_string(), replaced)
+}
+
 #[test]
 fn the_charger() {
     let folder = Folder::new();
+    let wanted = charger_table();
     run(&["graph", &example("charger.pcrl")]).prints(CHARGER);
     let sheet = std::fs::read(example("charger.pcrl")).unwrap();
     fed(&["graph", "-"], &sheet).prints(CHARGER);
     let made = reader::make_table(&sheet).unwrap();
     let table = folder.file("charger.table", made).display().to_string();
-    run(&["graph", "--limit", "6", &table]).prints(CHARGER);
-    let with_sorts = CHARGER.replace("charge(", "charge(Level:");
+    run(&["graph", "--limit", "6", &table]).prints(&wanted);
+    let with_sorts = wanted.replace("charge(", "charge(Level:");
     run(&["graph", "--sorts", &table]).prints(&with_sorts);
     let earlier = reader::read_table(&reader::make_table(&sheet).unwrap());
     let earlier = reader::encode_file(&earlier.unwrap().older());
     let table = folder.file("earlier.table", earlier).display().to_string();
-    run(&["graph", &table]).prints(CHARGER);
-    run(&["graph", "--sorts", &table]).prints(&CHARGER.replace("charge(", "charge(s1:"));
+    run(&["graph", &table]).prints(&wanted);
+    run(&["graph", "--sorts", &table]).prints(&wanted.replace("charge(", "charge(s1:"));
 }
 
 /// How many stacks, and how many steps to them, the reader reaches.
@@ -106,6 +114,15 @@ fn ended_stuck_and_too_deep() {
     assert!(deep
         .text()
         .contains("[label=\"refused 16\", shape=plaintext];"));
+}
+
+/// In the language of Graphviz a backslash marks what stands behind it.
+#[test]
+fn a_part_with_operators() {
+    let sheet = "act a;proc X=a.(a<|1/\\0|>a);init X;";
+    let ran = fed(&["graph", "-"], sheet.as_bytes());
+    let label = "s1 [label=\"1:(a<|1/\\\\0|>a)\"];";
+    assert!(ran.text().contains(label), "{}", ran.text());
 }
 
 #[test]

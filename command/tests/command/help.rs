@@ -9,8 +9,8 @@ use crate::common::{example, run, Folder, WIZBRATEL};
 /// Characters of a line at most.
 const WIDTH: usize = 80;
 
-const WORDS: [&str; 10] = [
-    "make", "check", "walk", "print", "explain", "step", "ask", "graph", "renew", "audit",
+const WORDS: [&str; 11] = [
+    "make", "check", "walk", "print", "show", "explain", "step", "ask", "graph", "renew", "audit",
 ];
 
 /// What the command prints, in lines that a terminal shows whole.
@@ -86,7 +86,7 @@ fn the_examples_can_be_run() {
         assert!(output.stderr.is_empty(), "{example}: {output:?}");
     }
     assert!(folder.path("bench.table").exists() && folder.path("charger.dot").exists());
-    assert!(folder.path("more-sheets/a.table").exists());
+    assert!(folder.path("more-sheets/a.table").exists() && folder.path("charger.html").exists());
 }
 
 #[test]

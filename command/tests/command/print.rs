@@ -1,6 +1,8 @@
 //! `print`: tables of the vectors as sheets, a table and its text in turn, and wrong input.
 
-use crate::common::{closed, example, fed, run, run_into, vectors, Folder, CIRCLE, LOOP};
+use crate::common::{
+    closed, example, fed, run, run_into, vectors, Folder, CIRCLE, LOOP, WIZBRATEL,
+};
 
 /// What the sheet LOOP's table is printed as.
 const PRINTED: &str = "act a;proc p0=a.p0;init p0;";
@@ -82,4 +84,20 @@ fn nobody_reads() {
     let table = folder.file("x.table", made).display().to_string();
     let ran = run_into(&["print", &table], closed());
     assert_eq!((ran.status, &ran.err[..]), (0, ""));
+}
+
+/// A terminal shows a line feed as two characters.
+#[test]
+fn a_line_feed_on_a_terminal_only() {
+    let folder = Folder::new();
+    let made = reader::make_table(LOOP.as_bytes()).unwrap();
+    let table = folder.file("x.table", made);
+    let mut script = std::process::Command::new("script");
+    script.args(["-qec", "\"$WIZBRATEL\" print \"$TABLE\"", "/dev/null"]);
+    script.env("WIZBRATEL", WIZBRATEL).env("TABLE", table);
+    script
+        .env("SHELL", "/bin/sh")
+        .stdin(std::process::Stdio::null());
+    let shown = script.output().expect("script, of util-linux").stdout;
+    assert_eq!(shown, format!("{PRINTED}\r\n").as_bytes());
 }

@@ -26,15 +26,15 @@ fn numbers_from_a_pipe() {
 #[test]
 fn undone_none_ended_and_listed() {
     let wanted =
-        "1 work 0\nended\nundone 1\nnone\ndepth 1: 0\n  0 call 2\n  1 work 0\nnone\n1 call 2\n";
+        "1 work 0\nended\nundone 1\nnone\ndepth 1: Run\n  0 call 2\n  1 work 0\nnone\n1 call 2\n";
     assert_eq!(script("calls.pcrl", "1 0 u u l 2 0 q 0 0"), wanted);
-    let stuck = "1 seat 3\n2 lock 2\ndepth 2: 2 . 3\n  stuck: no step\nnone\n";
+    let stuck = "1 seat 3\n2 lock 2\ndepth 2: 2:delta . 3:lift\n  stuck: no step\nnone\n";
     assert_eq!(script("stuck.pcrl", "0 0 l r"), stuck);
 }
 
 #[test]
 fn with_sorts() {
-    let plain = "1 seat(2) 1\ndepth 1: 1(2)\n  0 drive(2,0) 1\n  1 off 1\n2 off 1\n";
+    let plain = "1 seat(2) 1\ndepth 1: Driven(2,0)\n  0 drive(2,0) 1\n  1 off 1\n2 off 1\n";
     assert_eq!(script("coil.pcrl", "2 l 1"), plain);
     let whole = plain.replace("seat(2", "seat(Channel:2");
     let whole = whole.replace("drive(2,0", "drive(Channel:2,Amp:0");
@@ -65,7 +65,7 @@ fn tables_and_many_steps() {
     let folder = Folder::new();
     let made = reader::make_table(LOOP.as_bytes()).unwrap();
     let table = folder.file("x.table", made).display().to_string();
-    fed(&["step", &table], b"0 0").prints("1 a 1\n2 a 1\n");
+    fed(&["step", &table], b"0 0 l").prints("1 a 1\n2 a 1\ndepth 1: 0\n  0 a 1\n");
     let sheet = "sort D 16;act a:D#D;proc X=sum(d:D,sum(e:D,a(d,e)));init X;";
     let many = folder.file("many", sheet).display().to_string();
     let ran = fed(&["step", &many], b"l 255");
@@ -158,15 +158,23 @@ fn terminal(name: &str, lines: &str) -> String {
 fn on_a_terminal() {
     let shown = terminal("calls.pcrl", "0\n1\nu\ndance\n\n7\nq\n");
     for part in [
-        "depth 1: 0\n  0 call 2\n  1 work 0\n> ",
-        "1 call 2\ndepth 2: 0 . 1\n  0 call 3\n  1 work 1\n> ",
-        "2 work 1\ndepth 1: 1\n  0 back 0\n> ",
-        "undone 2\ndepth 2: 0 . 1\n",
+        "depth 1: Run\n  0 call 2\n  1 work 0\n> ",
+        "1 call 2\ndepth 2: Run . Done\n  0 call 3\n  1 work 1\n> ",
+        "2 work 1\ndepth 1: Done\n  0 back 0\n> ",
+        "undone 2\ndepth 2: Run . Done\n",
         "`dance`? a number takes that step",
-        "none\ndepth 2: 0 . 1\n",
+        "none\ndepth 2: Run . Done\n",
     ] {
         assert!(shown.contains(part), "{part:?}: {shown}");
     }
     let prompts = shown.lines().filter(|line| line.starts_with("> ")).count();
     assert_eq!(prompts, 7, "{shown}");
+}
+
+#[test]
+fn listed_once_on_a_terminal() {
+    let list = "depth 1: Run\n  0 call 2\n  1 work 0\n";
+    let shown = terminal("calls.pcrl", "l\nl l\nu l\n\nq\n");
+    let wanted = format!("{list}> l\n{list}> l l\n{list}{list}> u l\nnone\n{list}> \n{list}> q\n");
+    assert_eq!(shown, wanted);
 }

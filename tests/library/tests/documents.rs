@@ -15,8 +15,10 @@ use library::program::written;
 use library::stepping::Frame;
 use reader::equal_to;
 
-/// Listings that are no input of Wizbratel, and `said`, which is checked beside the Rust crate.
-const OTHERS: [&str; 9] = ["c", "cpp", "console", "dot", "rust", "said", "sh", "text", "toml"];
+/// Listings that are no input of Wizbratel; and `said` and `show`, which are checked beside the Rust crate and the command.
+const OTHERS: [&str; 10] = [
+    "c", "cpp", "console", "dot", "rust", "said", "sh", "show", "text", "toml",
+];
 
 /// A listing without a number has not more stacks than this.
 const MOST: usize = 100;
@@ -301,11 +303,12 @@ fn drawn(picture: &str, kind: &str) -> Vec<(String, String)> {
     each.collect()
 }
 
-/// A frame as `graph` shows it, where every frame of equation 1 has one value.
+/// A frame of the charger as `graph` shows it.
 fn shown(frame: &Frame) -> String {
     match frame.equation {
-        1 => format!("1({})", frame.values[0]),
-        equation => equation.to_string(),
+        0 => "Idle".to_string(),
+        1 => format!("Charging({})", frame.values[0]),
+        _ => "2:unplug".to_string(),
     }
 }
 
