@@ -15,16 +15,12 @@ use Rattle.pcrl.specs.Bytes.{letter, name-byte}
 use Rattle.pcrl.specs.Reader.{missing, found, one, counted}
 use Rattle.pcrl.specs.Right.{free-name, token-name}
 use Rattle.pcrl.specs.Decode.{read-name, read-sort-name}
-use Rattle.laws.specs.Tests.{both-pass}
+use Rattle.laws.specs.Tests.{both-pass, of-true}
 use Rattle.lexer.specs.Classes.{class-of}
 use Rattle.terms.specs.Stands.{list-at}
 use Rattle.terms.specs.Ends.{rests, ends}
 use Rattle.terms.proofs.Rests.{test-fail, test-bad, test-pass}
 use Rattle.terms.proofs.Lists.{numbers-are}
-
-pub holds : (b : Bool) → b ≡ true → T b
-holds true e = tt
-holds false e = absurd (let z : _≡_ {A = ℕ} 0 1 = cc in omega arith)
 
 pub fails : (b : Bool) → b ≡ false → ¬ T b
 fails true e = absurd (let z : _≡_ {A = ℕ} 0 1 = cc in omega arith)
@@ -45,7 +41,7 @@ module _ (s : List ℕ) (at : ℕ) where
 
     pub name-pass : free-name (list-at s at) ≡ true → rests (read-name (drop at s)) ≡ found tt ys
     unfolding read-name rests
-    name-pass f = ap rests (test-pass (λ n. T? (free-name n)) (counted (between? 1 max-name) (one (λ b. T? (name-byte b)))) (drop at s) (list-at s at) ys named (holds (free-name (list-at s at)) f))
+    name-pass f = ap rests (test-pass (λ n. T? (free-name n)) (counted (between? 1 max-name) (one (λ b. T? (name-byte b)))) (drop at s) (list-at s at) ys named (of-true (free-name (list-at s at)) f))
 
 -- a sort's name
 module _ (s : List ℕ) (at : ℕ) where
@@ -60,7 +56,7 @@ module _ (s : List ℕ) (at : ℕ) where
 
     pub sort-name-pass : token-name (list-at s at) ≡ true → rests (read-sort-name (drop at s)) ≡ found tt ys
     unfolding read-sort-name rests
-    sort-name-pass f = ap rests (test-pass (λ n. T? (token-name n)) (counted (between? 1 max-name) (one (λ b. T? (name-byte b)))) (drop at s) (list-at s at) ys (named s at ys e) (holds (token-name (list-at s at)) f))
+    sort-name-pass f = ap rests (test-pass (λ n. T? (token-name n)) (counted (between? 1 max-name) (one (λ b. T? (name-byte b)))) (drop at s) (list-at s at) ys (named s at ys e) (of-true (token-name (list-at s at)) f))
 
 pub not-negated : (a b : Bool) → a ≡ b → not a ≡ negated b
 not-negated true b e = rw (← e)

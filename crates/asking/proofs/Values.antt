@@ -11,11 +11,5 @@ use Rattle.asking.specs.declared.Told.{Told}
 use Rattle.asking.proofs.Told as M
 use Rattle.asking.proofs.Told.Laws as M′
 
-pub two-values : (l : List ℕ) → length l ≡ 2 → l ≡ getD l 0 0 ∷ getD l 1 0 ∷ []
-two-values [] h = absurd (omega arith)
-two-values (a ∷ []) h = absurd (omega arith)
-two-values (a ∷ b ∷ []) h = refl
-two-values (a ∷ b ∷ c ∷ l) h = absurd (omega arith)
-
 pub values-two : (r : Told) (vs : List Val) → Is M.the-row r vs → length (r .values) ≡ 2
 values-two r vs g = sym (length-map (r .values) _) ∙ LL.owed M.the-type M′.the-laws r vs g .1 .1 .1 .1 .0 .1 .0 .1

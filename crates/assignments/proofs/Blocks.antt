@@ -10,6 +10,7 @@ use lib.ListN.{length, getD, drop, take, List·getD-append}
 use lib.Seq.{length-take-le, getD-append-add, drop-drop}
 use borrow.Author.Tests.{eq-eqb, ne-eqb, lt-ltb, le-ltb, ltb-true, ltb-false}
 use Rattle.pcrl.specs.Tests.{and}
+use Rattle.laws.specs.Booleans.{and-false}
 use Rattle.evaluation.specs.Run.{pick, top, peak}
 use Rattle.evaluation.specs.Known.{Alike}
 use Rattle.evaluation.proofs.Bytes.{run-same}
@@ -118,17 +119,13 @@ unfolding all-below
 all-true zero t h = refl
 all-true (suc n) t h = rw (h n (omega arith)) (all-true n t (λ i k. h i (omega arith)))
 
-both-false : (a : Bool) → and a false ≡ false
-both-false true = refl
-both-false false = refl
-
 pub one-false : (n : ℕ) (t : ℕ → Bool) (m : ℕ) → m < n → t m ≡ false → all-below n t ≡ false
 unfolding all-below
 one-false zero t m h e = absurd (omega arith)
 one-false (suc n) t m h e = go (ltb m n) refl (λ k. one-false n t m k e)
   where
     go : (b : Bool) → ltb m n ≡ b → (m < n → all-below n t ≡ false) → and (t n) (all-below n t) ≡ false
-    go true q ih = rw (ih (ltb-true m n q)) (both-false (t n))
+    go true q ih = rw (ih (ltb-true m n q)) (and-false (t n))
     go false q ih = let l = ltb-false m n q in let z : n ≡ m = omega arith in let f : t n ≡ false = ap t z ∙ e in rw f refl
 
 pub all-same : (n : ℕ) (t u : ℕ → Bool) → ((i : ℕ) → i < n → t i ≡ u i) → all-below n t ≡ all-below n u

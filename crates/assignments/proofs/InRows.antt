@@ -422,12 +422,6 @@ next-row size first n x y h e k = let z : x + 1 - first ≡ suc (x - first) = om
 pub few-rows : (a m size : ℕ) → m ≤ a / size → a ≤ 128 → m * size ≤ 128
 few-rows a m size h k = let z : m * size ≤ a / size * size = mul-le-mul h (let y : size ≤ size = omega arith in y) in omega (arith, div-mul-le-self a size)
 
--- rows that are not marked yet
-pub zero-at : (n x : ℕ) → _≡_ {A = ℕ} (getD (replicate n 0) x 0) 0
-zero-at zero x = refl
-zero-at (suc n) zero = refl
-zero-at (suc n) (suc x) = zero-at n x
-
 -- as much room as before
 pub lent-again : (rows marks slow fast met rows′ marks′ slow′ fast′ met′ : List ℕ) → length rows′ ≡ length rows → length marks′ ≡ length marks → length slow′ ≡ length slow → length fast′ ≡ length fast → length met′ ≡ length met → Lent rows marks slow fast met → Lent rows′ marks′ slow′ fast′ met′
 lent-again rows marks slow fast met rows′ marks′ slow′ fast′ met′ a b c d e l = record { rows-long = omega (arith, l .rows-long); marks-long = omega (arith, l .marks-long); slow-long = omega (arith, l .slow-long); fast-long = omega (arith, l .fast-long); met-long = omega (arith, l .met-long) }

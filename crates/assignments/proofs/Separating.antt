@@ -10,6 +10,7 @@ use lib.ListN.{length, getD, drop, set, replicate}
 use lib.Seq.{getD-set-same, getD-set-other}
 use borrow.Author.Tests.{ltb-true, ltb-false}
 use Rattle.pcrl.specs.Tests.{and}
+use Rattle.laws.specs.Booleans.{and-true}
 use Rattle.evaluation.specs.Run.{peak, foot}
 use Rattle.assignments.specs.Places.{product, valuesOf, Sizes}
 use Rattle.assignments.specs.Conditions.{env, code, holds, all-below, met, Ready}
@@ -28,10 +29,6 @@ all-both : (n : ℕ) (t u v : ℕ → Bool) → ((i : ℕ) → i < n → t i ≡
 unfolding all-below
 all-both zero t u v h = refl
 all-both (suc n) t u v h = ap₂ and (h n (omega arith)) (all-both n t u v (λ i k. h i (omega arith))) ∙ and-assoc (u n) (v n) (all-below n u) (all-below n v)
-
-and-true : (a : Bool) → and a true ≡ a
-and-true true = refl
-and-true false = refl
 
 -- blocks by division are blocks from one start
 pub constant-by : (P : ℕ) → 0 < P → (a : ℕ → Bool) → ((i j : ℕ) → i / P ≡ j / P → a i ≡ a j) → (t i : ℕ) → i < P → a (t * P + i) ≡ a (t * P)

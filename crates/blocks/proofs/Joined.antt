@@ -7,16 +7,8 @@ use native.Mathlib.Numerals.{add-one}
 use native.Mathlib.Omega.{arith}
 use lib.ListN.{length, take, drop}
 use Rattle.pcrl.specs.Blocks.{concatenated}
-use Rattle.codec.specs.Cut.{concatenated-zero, concatenated-suc, length-joined}
+use Rattle.codec.specs.Cut.{concatenated-zero, concatenated-suc, length-joined, concatenated-last}
 use Rattle.blocks.proofs.Fronts.{Front, front-more, front-length}
-
-concatenated-last : (n : ℕ) (f : ℕ → List ℕ) → concatenated (suc n) f ≡ concatenated n f ++ f n
-concatenated-last zero f = concatenated-suc zero f ∙ ap (λ (l : List ℕ). f zero ++ l) (concatenated-zero (λ i. f (suc i))) ∙ append-nil (f zero) ∙ ap (λ (l : List ℕ). l ++ f zero) (sym (concatenated-zero f))
-concatenated-last (suc n) f =
-    concatenated-suc (suc n) f
-    ∙ ap (λ (l : List ℕ). f zero ++ l) (concatenated-last n (λ i. f (suc i)))
-    ∙ sym (append-assoc (f zero) (concatenated n (λ i. f (suc i))) (f (suc n)))
-    ∙ ap (λ (l : List ℕ). l ++ f (suc n)) (sym (concatenated-suc n f))
 
 -- The first i of n parts stand over the front of xs, and make it ys.
 abbrev pub Laid : ℕ → (ℕ → List ℕ) → List ℕ → List ℕ → ℕ → Type 0

@@ -8,6 +8,7 @@ use native.Mathlib.Omega.{arith}
 use lib.ListN.{length, take, drop, getD, length-append, length-drop, take-append-drop}
 use lib.Seq.{length-take-le, take-add, take-at, drop-at, getD-drop}
 use Rattle.pcrl.specs.Blocks.{block-bytes, block-stream, low-first, high-first, crc, block}
+use Rattle.laws.specs.Places.{two-elements}
 use Rattle.codec.specs.Padding.{padded-full}
 use Rattle.codec.specs.BlockLaws.{block-is}
 
@@ -17,12 +18,6 @@ take-four (a ∷ []) h = absurd (omega arith)
 take-four (a ∷ b ∷ []) h = absurd (omega arith)
 take-four (a ∷ b ∷ c ∷ []) h = absurd (omega arith)
 take-four (a ∷ b ∷ c ∷ d ∷ l) h = refl
-
-two-elements : (l : List ℕ) → length l ≡ 2 → l ≡ getD l 0 0 ∷ getD l 1 0 ∷ []
-two-elements [] h = absurd (omega arith)
-two-elements (a ∷ []) h = absurd (omega arith)
-two-elements (a ∷ b ∷ []) h = refl
-two-elements (a ∷ b ∷ c ∷ l) h = absurd (omega arith)
 
 -- the number that two bytes of a list are
 abbrev pub two : List ℕ → ℕ → ℕ → ℕ

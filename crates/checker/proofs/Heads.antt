@@ -9,6 +9,7 @@ use lib.ListN.{length, drop, length-append}
 use Rattle.pcrl.specs.Tests.{or, Every}
 use Rattle.pcrl.specs.Sheet.{Proc, delta, atom, alt, cond, sum, seq, call}
 use Rattle.pcrl.specs.Circles.{at-head}
+use Rattle.laws.specs.Booleans.{or-false, or-assoc}
 use Rattle.laws.specs.Every.{every-append}
 use Rattle.nodes.specs.declared.Node.{Node}
 use Rattle.nodes.specs.declared.Skipped.{Skipped}
@@ -21,7 +22,7 @@ use Rattle.nodes.proofs.Bits.{zero-bit}
 use Rattle.nodes.proofs.Nodes.{one-item, items-end}
 use Rattle.checker.specs.declared.circles.Heads.{Heads}
 use Rattle.checker.specs.Circles.{is-in, SetOf, own-head, WithCall, HeadsAt}
-use Rattle.checker.proofs.Sets.{or-false, or-assoc, is-in-append}
+use Rattle.checker.proofs.Sets.{is-in-append}
 
 -- Does the process i stand at the head of one of some terms?
 unfoldable pub heads-in : ℕ → List Item → Bool

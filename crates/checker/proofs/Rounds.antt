@@ -14,6 +14,7 @@ use lib.Seq.{getD-set-same, getD-set-other}
 use Rattle.pcrl.specs.Tests.{and, or, Every}
 use Rattle.pcrl.specs.Sheet.{Process, Sheet, no-process}
 use Rattle.pcrl.specs.Circles.{at-head, all-pass, all-true, passed-after, guarded}
+use Rattle.laws.specs.Booleans.{and-false, and-true, or-false}
 use Rattle.laws.specs.Lists.{getD-map}
 use Rattle.laws.specs.Every.{every-weaken}
 use Rattle.nodes.specs.declared.Outline.{Outline}
@@ -22,7 +23,7 @@ use Rattle.nodes.specs.Bits.{set-width, bit}
 use Rattle.nodes.proofs.Bits.{zero-bit}
 use Rattle.checker.specs.declared.circles.Heads.{Heads}
 use Rattle.checker.specs.Circles.{is-in, SetOf, PlacesOf, HeadsAt, HeadsOf, HeadsThere, AllPassed, next-round, NextRound, PassedAfter, numbers-below}
-use Rattle.checker.proofs.Sets.{or-false, or-comm, same-truth, passes-all, all-passes, in-every}
+use Rattle.checker.proofs.Sets.{or-comm, same-truth, passes-all, all-passes, in-every}
 use Rattle.checker.proofs.Heads.{heads-there}
 
 -- ---- the processes at the head of each right side
@@ -46,13 +47,6 @@ pub held-there : (H : Sheet) (procs cells starts : List ℕ) (n : Outline) → H
 held-there H procs cells starts n held k l = heads-there (n .procs) (length (getD (H .procs) k no-process .params)) (getD (H .procs) k no-process .right) (held .proc-at k l .scoped)
 
 -- ---- one round
-and-false : (b : Bool) → and b false ≡ false
-and-false true = refl
-and-false false = refl
-
-and-true : (b : Bool) → and b true ≡ b
-and-true true = refl
-and-true false = refl
 
 every-below : (m n : ℕ) (l : List ℕ) → m ≤ n → Every (λ k. k < m) l → Every (λ k. k < n) l
 every-below m n l h a = every-weaken (λ k. k < m) (λ k. k < n) (λ k z. omega arith) l a

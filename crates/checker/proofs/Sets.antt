@@ -11,23 +11,16 @@ use lib.ListN.{getD}
 use Rattle.pcrl.specs.Tests.{and, or, Every}
 use Rattle.pcrl.specs.Sheet.{delta, atom, alt, cond, sum, seq, call}
 use Rattle.pcrl.specs.Circles.{all-pass}
+use Rattle.laws.specs.Booleans.{or-false, or-assoc}
 use Rattle.nodes.specs.Layout.{call-kind}
 use Rattle.nodes.specs.Nodes.{kind-of, node-number}
 use Rattle.nodes.specs.Bits.{set-width, bit}
 use Rattle.nodes.proofs.Bits.{or-bit, bits-same}
 use Rattle.checker.specs.Circles.{is-in, own-head, WithCall, AllPassed}
 
-pub or-false : (a : Bool) → or a false ≡ a
-or-false true = refl
-or-false false = refl
-
 pub or-true : (a : Bool) → or a true ≡ true
 or-true true = refl
 or-true false = refl
-
-pub or-assoc : (a b c : Bool) → or (or a b) c ≡ or a (or b c)
-or-assoc true b c = refl
-or-assoc false b c = refl
 
 pub or-comm : (a b : Bool) → or a b ≡ or b a
 or-comm true b = sym (or-true b)

@@ -13,22 +13,19 @@ use Rattle.pcrl.specs.Text.{bytes}
 use Rattle.pcrl.specs.Reader.{all}
 use Rattle.pcrl.specs.Sheet.{Data, Sig}
 use Rattle.pcrl.specs.Table.{Summand}
+use Rattle.laws.specs.Places.{drop-next}
 use Rattle.rendering.specs.Texts.{joined-text, open-text, close-text, condition-text, first-text, second-text, before-text, behind-text, sum-text, sums-text, summand-text, right-text}
 use Rattle.opening.specs.Opened.{no-cond}
 use Rattle.texts.specs.Wrote.{Wrote}
 use Rattle.clauses.specs.Written.{Marks}
 use Rattle.clauses.proofs.Upto.{wrote-by}
 
--- the element at i, and those behind it
-pub drop-first : {A : Type 0} (xs : List A) (i : ℕ) (a : A) → i < length xs → drop i xs ≡ getD xs i a ∷ drop (i + 1) xs
-drop-first xs i a h = drop-cons xs i a h ∙ ap (λ (n : ℕ). getD xs i a ∷ drop n xs) (sym (add-one i))
-
 pub drop-none : {A : Type 0} (xs : List A) (i : ℕ) → length xs ≤ i → drop i xs ≡ []
 drop-none xs i h = drop-of-length-le xs {i = i} h
 
 pub all-here : {A : Type 0} (w : A → List ℕ) (xs : List A) (i : ℕ) (a : A) → i < length xs → all w (drop i xs) ≡ w (getD xs i a) ++ all w (drop (i + 1) xs)
 unfolding all
-all-here w xs i a h = ap (all w) (drop-first xs i a h)
+all-here w xs i a h = ap (all w) (drop-next xs i a h)
 
 pub all-none : {A : Type 0} (w : A → List ℕ) (xs : List A) (i : ℕ) → length xs ≤ i → all w (drop i xs) ≡ []
 unfolding all
@@ -51,7 +48,7 @@ mark-text m (x ∷ xs) = m
 
 mark-here : {A : Type 0} (m : List ℕ) (xs : List A) (i : ℕ) (a : A) → i < length xs → mark-text m (drop i xs) ≡ m
 unfolding mark-text
-mark-here m xs i a h = ap (mark-text m) (drop-first xs i a h)
+mark-here m xs i a h = ap (mark-text m) (drop-next xs i a h)
 
 mark-none : {A : Type 0} (m : List ℕ) (xs : List A) (i : ℕ) → length xs ≤ i → mark-text m (drop i xs) ≡ []
 unfolding mark-text
@@ -72,7 +69,7 @@ joined-step m f x [] = sym (append-nil (f x))
 joined-step m f x (y ∷ ys) = refl
 
 pub joined-first : {A : Type 0} (m : List ℕ) (f : A → List ℕ) (xs : List A) (i : ℕ) (a : A) → i < length xs → joined-text m (map f (drop i xs)) ≡ f (getD xs i a) ++ (mark-text m (drop (i + 1) xs) ++ joined-text m (map f (drop (i + 1) xs)))
-joined-first m f xs i a h = ap (λ l. joined-text m (map f l)) (drop-first xs i a h) ∙ joined-step m f (getD xs i a) (drop (i + 1) xs)
+joined-first m f xs i a h = ap (λ l. joined-text m (map f l)) (drop-next xs i a h) ∙ joined-step m f (getD xs i a) (drop (i + 1) xs)
 
 pub joined-none : {A : Type 0} (m : List ℕ) (f : A → List ℕ) (xs : List A) (i : ℕ) → length xs ≤ i → joined-text m (map f (drop i xs)) ≡ []
 unfolding joined-text
@@ -94,7 +91,7 @@ module _ (S : Sig) where
   unfolding sums-text
   sums-first n vars i h =
       let z : suc (n + i) ≡ n + (i + 1) = omega arith in
-      ap (sums-text S (n + i)) (drop-first vars i 0 h) ∙ ap (λ (k : ℕ). sum-text S (n + i) (getD vars i 0) ++ sums-text S k (drop (i + 1) vars)) z
+      ap (sums-text S (n + i)) (drop-next vars i 0 h) ∙ ap (λ (k : ℕ). sum-text S (n + i) (getD vars i 0) ++ sums-text S k (drop (i + 1) vars)) z
 
   pub sums-none : (n : ℕ) (vars : List ℕ) (i : ℕ) → length vars ≤ i → sums-text S (n + i) (drop i vars) ≡ []
   unfolding sums-text
@@ -123,7 +120,7 @@ module _ (S : Sig) where
 
   pub before-first : (cs : List (ℕ × Data)) (i : ℕ) → i < length cs → before-text S (drop i cs) ≡ first-text S (getD cs i no-cond) ++ (mark-text (bytes "(") (drop (i + 1) cs) ++ before-text S (drop (i + 1) cs))
   unfolding before-text
-  before-first cs i h = ap (before-text S) (drop-first cs i no-cond h) ∙ ap (λ (t : List ℕ). first-text S (getD cs i no-cond) ++ (t ++ before-text S (drop (i + 1) cs))) (open-is (drop (i + 1) cs))
+  before-first cs i h = ap (before-text S) (drop-next cs i no-cond h) ∙ ap (λ (t : List ℕ). first-text S (getD cs i no-cond) ++ (t ++ before-text S (drop (i + 1) cs))) (open-is (drop (i + 1) cs))
 
   pub before-none : (cs : List (ℕ × Data)) (i : ℕ) → length cs ≤ i → before-text S (drop i cs) ≡ []
   unfolding before-text
@@ -131,7 +128,7 @@ module _ (S : Sig) where
 
   pub behind-first : (cs : List (ℕ × Data)) (i : ℕ) → i < length cs → behind-text S (drop i cs) ≡ behind-text S (drop (i + 1) cs) ++ (mark-text (bytes ")") (drop (i + 1) cs) ++ second-text S (getD cs i no-cond))
   unfolding behind-text
-  behind-first cs i h = ap (behind-text S) (drop-first cs i no-cond h) ∙ ap (λ (t : List ℕ). behind-text S (drop (i + 1) cs) ++ (t ++ second-text S (getD cs i no-cond))) (close-is (drop (i + 1) cs))
+  behind-first cs i h = ap (behind-text S) (drop-next cs i no-cond h) ∙ ap (λ (t : List ℕ). behind-text S (drop (i + 1) cs) ++ (t ++ second-text S (getD cs i no-cond))) (close-is (drop (i + 1) cs))
 
   pub behind-none : (cs : List (ℕ × Data)) (i : ℕ) → length cs ≤ i → behind-text S (drop i cs) ≡ []
   unfolding behind-text

@@ -1,6 +1,6 @@
 -- A list cut into parts of one length, and parts joined to a list: each undoes the other.
 use mathlib.Core.Path.{_≡_, refl, sym, ap, _∙_}
-use mathlib.Core.List.{List, [], _++_}
+use mathlib.Core.List.{List, [], _++_, append-assoc, append-nil}
 use Prim.Native.Nat.{ℕ, zero, suc, _*_, _<_}
 use native.Mathlib.Nat.{zero-mul, suc-mul, add-comm}
 use native.Mathlib.Omega.{arith}
@@ -75,3 +75,12 @@ concatenated-parts-take (suc n) k l =
 -- the parts of a list joined again
 pub concatenated-parts : (n k : ℕ) (l : List ℕ) → length l ≡ n * k → concatenated n (λ i. take k (drop (i * k) l)) ≡ l
 concatenated-parts n k l h = concatenated-parts-take n k l ∙ take-all (n * k) l (omega arith)
+
+-- the last piece
+pub concatenated-last : (n : ℕ) (f : ℕ → List ℕ) → concatenated (suc n) f ≡ concatenated n f ++ f n
+concatenated-last zero f = concatenated-suc zero f ∙ ap (λ (l : List ℕ). f zero ++ l) (concatenated-zero (λ i. f (suc i))) ∙ append-nil (f zero) ∙ ap (λ (l : List ℕ). l ++ f zero) (sym (concatenated-zero f))
+concatenated-last (suc n) f =
+    concatenated-suc (suc n) f
+    ∙ ap (λ (l : List ℕ). f zero ++ l) (concatenated-last n (λ i. f (suc i)))
+    ∙ sym (append-assoc (f zero) (concatenated n (λ i. f (suc i))) (f (suc n)))
+    ∙ ap (λ (l : List ℕ). l ++ f (suc n)) (sym (concatenated-suc n f))

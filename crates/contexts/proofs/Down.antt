@@ -15,6 +15,7 @@ use Rattle.pcrl.specs.Sheet.{var, Proc, delta, atom, alt, cond, sum, seq, call,
 use Rattle.pcrl.specs.Parts.{new-count}
 use Rattle.pcrl.specs.Table.{Summand}
 use Rattle.pcrl.specs.Stream.{encode-call}
+use Rattle.laws.specs.Booleans.{false-not-true}
 use Rattle.laws.specs.Every.{every-append, every-left}
 use Rattle.laws.specs.Lists.{map-twice}
 use Rattle.nodes.specs.declared.Node.{Node}
@@ -23,7 +24,6 @@ use Rattle.nodes.specs.Nodes.{kind-of, node-number, node-kids}
 use Rattle.nodes.specs.Scoped.{max-scope}
 use Rattle.nodes.specs.Views.{Views}
 use Rattle.putting.proofs.Bytes.{cell-more}
-use Rattle.putting.proofs.PutLaws.{never}
 use Rattle.following.specs.Fine.{Fine}
 use Rattle.following.specs.Follows.{CallSmall, Pushes}
 use Rattle.following.proofs.Parts.{all-append}
@@ -38,7 +38,7 @@ use Rattle.contexts.proofs.Spotting.{case-sum, case-seq, no-head, deepe
 -- a step that fails
 pub fails : (cells starts counts firsts : List ℕ) (s : Spot) (A : Arrays) → ((H : Sheet) (F : ℕ) (hs : List Summand) → Ready H F cells starts counts firsts → Spotted H F cells s A hs → Beyond hs)
     → (r : Spot) → r ≡ failed s → (B : Arrays) → Kept s A B → Leads cells starts counts firsts s A r B
-fails cells starts counts firsts s A u r e B k = (deeper-failed s r e, k, λ H F hs rd sp. (λ t. never (sym (failed-ok s r e) ∙ t), λ t. u H F hs rd sp))
+fails cells starts counts firsts s A u r e B k = (deeper-failed s r e, k, λ H F hs rd sp. (λ t. false-not-true (sym (failed-ok s r e) ∙ t), λ t. u H F hs rd sp))
 
 -- A SUM
 
@@ -107,7 +107,7 @@ module _ (cells starts counts firsts : List ℕ) (s : Spot) (slots vars conds ca
     λ H F hs rd sp. (
       λ t. case-sum (SpottedAt H F cells s (arrays slots vars conds calls) hs) (Spotted H F cells (record { ok = true; at = d .next; fuel = s .fuel; n = s .n + 1; m = s .m + 1; c = s .c; nv = s .nv + 1; nc = s .nc; lc = s .lc; nk = s .nk; top = s .top }) (arrays slots′ (set vars (s .nv) (d .number % byte-limit)) conds calls) hs)
           (sp .0) (sp .1) (kind H F cells s (arrays slots vars conds calls) hs d vw sum-kind is sp) λ z D x sp. sum-on H F cells s slots vars conds calls hs d vw z D x sp inside slots′ put,
-      λ t. never (sym t),
+      λ t. false-not-true (sym t),
     ),
   )
 
@@ -192,7 +192,7 @@ module _ (cells starts counts firsts : List ℕ) (s : Spot) (slots vars conds ca
       λ t. case-seq (SpottedAt H F cells s (arrays slots vars conds calls) hs)
           (Spotted H F cells (record { ok = true; at = d .next; fuel = s .fuel; n = s .n; m = s .m; c = s .c; nv = s .nv; nc = s .nc; lc = s .lc; nk = r .n; top = r .top }) (arrays slots vars conds calls′) hs)
           (sp .0) (sp .1) (kind H F cells s (arrays slots vars conds calls) hs d vw seq-kind is sp) λ x y sp. seq-on H F hs rd x y sp ok,
-      λ t. never (sym t),
+      λ t. false-not-true (sym t),
     ),
   )
 

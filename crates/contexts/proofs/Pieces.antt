@@ -8,6 +8,7 @@ use lib.ListN.{length, drop, take, length-append, length-drop}
 use lib.Seq.{length-take-le}
 use Rattle.pcrl.specs.Limits.{max-variables, max-conditions, max-calls, max-arity}
 use Rattle.pcrl.specs.Tests.{Every}
+use Rattle.laws.specs.Booleans.{false-not-true}
 use Rattle.laws.specs.Every.{every-weaken}
 use Rattle.pcrl.specs.Reader.{all}
 use Rattle.pcrl.specs.Sheet.{Data, Act, tau, action, atom, Sheet}
@@ -24,7 +25,6 @@ use Rattle.putting.specs.declared.Done.{Done}
 use Rattle.putting.specs.Slots.{Adds}
 use Rattle.putting.specs.Puts.{PutsAll}
 use Rattle.putting.proofs.Bytes.{adds-then}
-use Rattle.putting.proofs.PutLaws.{never}
 use Rattle.following.specs.Fine.{Fine}
 use Rattle.following.specs.Follows.{CallSmall}
 use Rattle.contexts.specs.declared.Spot.{Spot}
@@ -121,7 +121,7 @@ module _ (cells starts counts firsts : List ℕ) (s : Spot) (slots vars conds ca
     pub emit-full : (w : ℕ) (o : List ℕ) → r .ok ≡ true → s .nv ≤ length vars → s .lc ≤ length conds → r .w ≤ length t → length o < w + (4 + s .nv + s .lc + r .w + (length calls - s .top))
         → (o′ : List ℕ) → Written cells starts counts firsts s (arrays slots vars conds calls) w o (record { ok = false; w = length o }) (arrays slots vars conds calls) o′
     emit-full w o ok a b c full o′ = wrap w o (record { ok = false; w = length o }) o′ λ hs em. (
-      λ z. never z,
+      λ z. false-not-true z,
       λ z within.
           let n = ap length (em .bytes ok) in (
             refl,
@@ -149,8 +149,8 @@ module _ (cells starts counts firsts : List ℕ) (s : Spot) (slots vars conds ca
         adds-then (s .nv ∷ take (s .nv) vars) _ w w₁ w₄ o o₁ o₄ p₁ (adds-then (s .nc ∷ take (s .lc) conds) _ w₁ w₂ w₄ o₁ o₂ o₄ p₂ (adds-then (act-code (d .number) ∷ take (r .w) t) (s .nk ∷ drop (s .top) calls) w₂ w₃ w₄ o₂ o₃ o₄ p₃ p₄))
             ∙ ap (λ (x : List ℕ). take w o ++ x) (sym (em .bytes ok)),
       ),
-      λ z. never (sym z),
+      λ z. false-not-true (sym z),
     )
 
     pub emit-long : (w : ℕ) (o : List ℕ) → r .ok ≡ false → (v : ℕ) (o′ : List ℕ) → Written cells starts counts firsts s (arrays slots vars conds calls) w o (record { ok = false; w = v }) (arrays slots vars conds calls) o′
-    emit-long w o bad v o′ = wrap w o (record { ok = false; w = v }) o′ λ hs em. (λ z. never z, λ z within. absurd (em .long bad within))
+    emit-long w o bad v o′ = wrap w o (record { ok = false; w = v }) o′ λ hs em. (λ z. false-not-true z, λ z within. absurd (em .long bad within))

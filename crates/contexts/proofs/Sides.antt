@@ -16,6 +16,7 @@ use Rattle.pcrl.specs.Values.{put-data}
 use Rattle.pcrl.specs.Parts.{new-count}
 use Rattle.pcrl.specs.Table.{Summand}
 use Rattle.pcrl.specs.Stream.{encode-data, encode-cond}
+use Rattle.laws.specs.Booleans.{false-not-true}
 use Rattle.laws.specs.Every.{every-append, every-right}
 use Rattle.laws.specs.Lists.{map-twice}
 use Rattle.nodes.specs.declared.Node.{Node}
@@ -23,7 +24,6 @@ use Rattle.nodes.specs.Layout.{byte-limit, alt-kind, cond-kind, enc, encs, enc-
 use Rattle.nodes.specs.Nodes.{node-datas, node-kids}
 use Rattle.nodes.specs.Views.{Views}
 use Rattle.putting.proofs.Bytes.{cell-more}
-use Rattle.putting.proofs.PutLaws.{never}
 use Rattle.following.specs.Fine.{Fine}
 use Rattle.following.proofs.Parts.{all-append}
 use Rattle.contexts.specs.declared.Spot.{Spot}
@@ -189,7 +189,7 @@ module _ (cells : List ℕ) (d : Node) (s : Spot) (e : Side) (slots conds : List
           are = ap (λ (l : List (ℕ × Data)). map (around (o .ctx .vs) l (o .ctx .ks)) (heads H (s .fuel) (o .ctx .σ) (s .m) (e .c) (o .t))) (sym (append-nil (o .ctx .cs)) ∙ ap (λ (l : List (ℕ × Data)). o .ctx .cs ++ l) (sym (o .none is))) ∙ o .are;
         },
       ),
-      λ t. never (sym t),
+      λ t. false-not-true (sym t),
     ),
   )
 
@@ -206,7 +206,7 @@ module _ (cells : List ℕ) (d : Node) (s : Spot) (e : Side) (slots conds : List
       λ H F hs o.
           let c = o .ctx in
           let es : List (ℕ × Data) = (wanted-of (e .second), put-data (look (c .σ)) (o .one is .z)) ∷ [] in (
-            λ t. never (sym (failed-ok s r bad) ∙ t),
+            λ t. false-not-true (sym (failed-ok s r bad) ∙ t),
             λ t. no-head (around (c .vs) (c .cs ++ es) (c .ks)) (heads H (s .fuel) (c .σ) (s .m) (e .c) (o .t)) hs (cond-are vars calls H F hs o) (λ h w.
                 let u = within-conds (c .vs) (c .cs ++ es) (c .ks) h w in
                 omega (arith, length-append (c .cs) es, c .conds-many)),
@@ -232,7 +232,7 @@ module _ (cells : List ℕ) (d : Node) (s : Spot) (e : Side) (slots conds : List
             let c = o .ctx in
             let z = o .one is in
             let es : List (ℕ × Data) = (wanted-of (e .second), put-data (look (c .σ)) (z .z)) ∷ [] in (
-              λ t. never (sym (failed-ok s q qb) ∙ t),
+              λ t. false-not-true (sym (failed-ok s q qb) ∙ t),
               λ t. no-head (around (c .vs) (c .cs ++ es) (c .ks)) (heads H (s .fuel) (c .σ) (s .m) (e .c) (o .t)) hs (cond-are vars calls H F hs o) (λ h w.
                   let v = every-right CondSmall (c .cs) es (small-conds (c .vs) (c .cs ++ es) (c .ks) h w) .0 in
                   omega (arith, put (z .z) (z .rest) (c .σ) (z .terms) (c .held) (z .writable) .1 bad)),
@@ -284,6 +284,6 @@ module _ (cells : List ℕ) (d : Node) (s : Spot) (e : Side) (slots conds : List
                   are = cond-are vars calls H F hs o;
                 },
               ),
-              λ t. never (sym t),
+              λ t. false-not-true (sym t),
             ),
       )

@@ -14,11 +14,12 @@ use lib.Seq.{getD-set-same, getD-set-other}
 use Rattle.pcrl.specs.Tests.{or}
 use Rattle.pcrl.specs.Sheet.{Proc, delta, atom, alt, cond, sum, seq, call, Sheet, right}
 use Rattle.pcrl.specs.Circles.{at-head}
+use Rattle.laws.specs.Booleans.{or-false}
 use Rattle.nodes.specs.Bits.{bit}
 use Rattle.nodes.proofs.Bits.{or-bit, zero-bit}
 use Rattle.checker.specs.declared.circles.Heads.{Heads}
 use Rattle.checker.specs.Circles.{is-in, SetOf, HeadsAt, HeadsOf}
-use Rattle.checker.proofs.Sets.{or-false, or-true, is-in-append}
+use Rattle.checker.proofs.Sets.{or-true, is-in-append}
 use Rattle.counting.specs.Limits.{row-width, cut}
 use Rattle.counting.specs.Count.{count-by, cut-sum}
 use Rattle.counting.specs.Counting.{Placed, PartOf, SameIn, Unchanged}

@@ -11,6 +11,7 @@ use lib.ListN.{length, drop, take, getD, set, replicate, length-take, List·getD
 use lib.Seq.{getD-set-same, getD-set-other, getD-take, getD-drop}
 use Rattle.pcrl.specs.Sheet.{Proc, Process, Sheet, right, no-process}
 use Rattle.pcrl.specs.Circles.{at-head}
+use Rattle.laws.specs.Places.{lt-or-le}
 use Rattle.nodes.specs.Layout.{enc}
 use Rattle.checker.specs.Circles.{is-in, SetOf, HeadsOf}
 use Rattle.counting.specs.declared.Counted.{Counted}
@@ -27,12 +28,6 @@ row-at base l k h = getD-take row-width (drop base l) k 0 h ∙ getD-drop base l
 pub row-end : (base : ℕ) (l : List ℕ) (k : ℕ) → row-width ≤ k → getD (row base l) k 0 ≡ 0
 unfolding row
 row-end base l k h = List·getD-eq-default (take row-width (drop base l)) 0 (omega (arith, length-take row-width (drop base l)))
-
-lt-or-le : (a b : ℕ) → (a < b) ⊎ (b ≤ a)
-lt-or-le zero zero = inr (omega arith)
-lt-or-le zero (suc b) = inl (omega arith)
-lt-or-le (suc a) zero = inr (omega arith)
-lt-or-le (suc a) (suc b) = elim (lt-or-le a b) [ inl h ↦ inl (let k : a < b = h in omega arith) | inr h ↦ inr (let k : b ≤ a = h in omega arith) ]
 
 module _ (H : Sheet) (few : length (H .procs) ≤ row-width) where
   -- a process that is not there has no head

@@ -8,7 +8,7 @@ use native.Mathlib.Omega.{arith}
 use lib.ListN.{length, take, set, length-append, length-set}
 use lib.Seq.{take-suc-set}
 use Rattle.pcrl.specs.Blocks.{concatenated}
-use Rattle.codec.specs.Cut.{concatenated-zero, concatenated-suc}
+use Rattle.codec.specs.Cut.{concatenated-zero, concatenated-suc, concatenated-last}
 use Rattle.nodes.specs.Layout.{byte-limit}
 use Rattle.emit.specs.Putting.{Puts}
 
@@ -41,15 +41,6 @@ puts-then {e} {d} {w} {o} {v} {p} {r} {q} f g =
 
 pub puts-as : {e d : List ℕ} (w : ℕ) (o : List ℕ) (v : ℕ) (p : List ℕ) → e ≡ d → Puts e w o v p → Puts d w o v p
 puts-as w o v p z h = subst (λ (l : List ℕ). Puts l w o v p) z h
-
--- one part more
-pub concatenated-last : (n : ℕ) (f : ℕ → List ℕ) → concatenated (suc n) f ≡ concatenated n f ++ f n
-concatenated-last zero f = concatenated-suc zero f ∙ ap (λ (l : List ℕ). f zero ++ l) (concatenated-zero (λ i. f (suc i))) ∙ append-nil (f zero) ∙ ap (λ (l : List ℕ). l ++ f zero) (sym (concatenated-zero f))
-concatenated-last (suc n) f =
-    concatenated-suc (suc n) f
-    ∙ ap (λ (l : List ℕ). f zero ++ l) (concatenated-last n (λ i. f (suc i)))
-    ∙ sym (append-assoc (f zero) (concatenated n (λ i. f (suc i))) (f (suc n)))
-    ∙ ap (λ (l : List ℕ). l ++ f (suc n)) (sym (concatenated-suc n f))
 
 -- a loop that puts one part after another, behind e
 module _ (e : List ℕ) (f : ℕ → List ℕ) (w : ℕ) (o : List ℕ) where

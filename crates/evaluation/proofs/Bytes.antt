@@ -190,9 +190,6 @@ foot-more p c i n h = rw (drop-cons c i 0 h, add-one i) refl
 
 -- THE STACK OF VALUES, from t on
 
-pub product-small : (x y : ℕ) → x < 256 → y < 256 → x * y ≤ 255 * 255
-product-small x y h k = let a : x ≤ 255 = omega arith in let b : y ≤ 255 = omega arith in mul-le-mul a b
-
 -- x is put on the stack, and k values are taken
 pub stack-put : (l : List ℕ) (t k u x : ℕ) → length l ≡ 48 → 0 < t → t ≤ 48 → u ≡ min (t - 1 + k) 48 → drop u (set l (t - 1) x) ≡ drop k (x ∷ drop t l)
 stack-put l t k u x n p h e = go (ltb (t - 1 + k) 48) refl ∙ sym (drop-drop k (t - 1) l′) ∙ ap (drop k) (push-at l t x p (omega arith))

@@ -15,6 +15,7 @@ use Rattle.pcrl.specs.Stream.{encode-data, encode-call}
 use Rattle.pcrl.specs.Right.{RightTerm, RightCall}
 use Rattle.pcrl.specs.Stack.{Frame, padded}
 use Rattle.pcrl.specs.Steps.{call-frame}
+use Rattle.laws.specs.Written.{all-append}
 use Rattle.laws.specs.Each.{each-length}
 use Rattle.laws.specs.Every.{every-at}
 use Rattle.blocks.proofs.Fronts.{Front, front-more, length-part}
@@ -98,11 +99,6 @@ module _ (S : Sig) (Ps : List (List ℕ)) (s acts params Γ vs : List ℕ) (c : 
 
 -- FRAMES ONE BEHIND ANOTHER
 
-all-join : {A : Type 0} (w : A → List ℕ) (l m : List A) → all w (l ++ m) ≡ all w l ++ all w m
-unfolding all
-all-join w [] m = refl
-all-join w (x ∷ l) m = ap (λ (y : List ℕ). w x ++ y) (all-join w l m) ∙ sym (append-assoc (w x) (all w l) (all w m))
-
 all-one : {A : Type 0} (w : A → List ℕ) (x : A) → all w (x ∷ []) ≡ w x
 unfolding all
 all-one w x = append-nil (w x)
@@ -114,7 +110,7 @@ all-map f w (x ∷ l) = ap (λ (y : List ℕ). w (f x) ++ y) (all-map f w l)
 
 pub all-more : {A : Type 0} (w : A → List ℕ) (xs : List A) (i : ℕ) (a : A) → i < length xs → all w (take (i + 1) xs) ≡ all w (take i xs) ++ w (getD xs i a)
 all-more w xs i a h =
-    ap (λ (k : ℕ). all w (take k xs)) (add-one i) ∙ ap (all w) (take-suc xs i a h) ∙ all-join w (take i xs) (getD xs i a ∷ []) ∙ ap (λ (l : List ℕ). all w (take i xs) ++ l) (all-one w (getD xs i a))
+    ap (λ (k : ℕ). all w (take k xs)) (add-one i) ∙ ap (all w) (take-suc xs i a h) ∙ all-append w (take i xs) (getD xs i a ∷ []) ∙ ap (λ (l : List ℕ). all w (take i xs) ++ l) (all-one w (getD xs i a))
 
 -- what is known before the i-th of n calls, which begins at a: the frames of those before it stand over the front of o, and make it out
 unfoldable pub Framed : List ℕ → List ℕ → List ℕ → List ℕ → ℕ → ℕ → List ℕ → List ℕ → ℕ → ℕ → Type 0

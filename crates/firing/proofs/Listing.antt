@@ -12,6 +12,7 @@ use Rattle.pcrl.specs.Lists.{tabulate}
 use Rattle.pcrl.specs.Sheet.{Sig, size}
 use Rattle.pcrl.specs.Stack.{InSorts}
 use Rattle.pcrl.specs.Steps.{values-of, if-met}
+use Rattle.laws.specs.Tabulated.{tabulate-alike, map-tabulate}
 use Rattle.laws.specs.Says.{Says}
 use Rattle.evaluation.specs.Run.{pick}
 use Rattle.evaluation.specs.Known.{Alike}
@@ -28,22 +29,12 @@ product-pos (n ∷ s) h = mul-pos (h 0 (omega arith)) (product-pos s (λ i k. h 
 -- TABULATED LISTS
 
 module _ {A : Type 0} where
-  pub tab-same : (n : ℕ) (f g : ℕ → A) → ((i : ℕ) → i < n → f i ≡ g i) → tabulate n f ≡ tabulate n g
-  unfolding tabulate
-  tab-same zero f g h = refl
-  tab-same (suc n) f g h = ap₂ (λ (x : A) (xs : List A). x ∷ xs) (h 0 (omega arith)) (tab-same n _ _ (λ i k. h (suc i) (omega arith)))
-
   tab-append : (m n k : ℕ) (f : ℕ → A) → k ≡ m + n → tabulate k f ≡ tabulate m f ++ tabulate n (λ i. f (m + i))
   unfolding tabulate
-  tab-append zero n k f e = let z : k ≡ n = omega arith in rw z (tab-same n f _ (λ i h. ap f (omega arith)))
+  tab-append zero n k f e = let z : k ≡ n = omega arith in rw z (tabulate-alike n f _ (λ i h. ap f (omega arith)))
   tab-append (suc m) n zero f e = absurd (omega arith)
   tab-append (suc m) n (suc k) f e =
-      ap (λ (xs : List A). f zero ∷ xs) (tab-append m n k (λ i. f (suc i)) (omega arith) ∙ ap (λ (xs : List A). tabulate m (λ i. f (suc i)) ++ xs) (tab-same n _ _ (λ i h. ap f (omega arith))))
-
-  map-tab : {B : Type 0} (h : A → B) (n : ℕ) (f : ℕ → A) → map h (tabulate n f) ≡ tabulate n (λ i. h (f i))
-  unfolding tabulate
-  map-tab h zero f = refl
-  map-tab {B} h (suc n) f = ap (λ (xs : List B). h (f zero) ∷ xs) (map-tab h n (λ i. f (suc i)))
+      ap (λ (xs : List A). f zero ∷ xs) (tab-append m n k (λ i. f (suc i)) (omega arith) ∙ ap (λ (xs : List A). tabulate m (λ i. f (suc i)) ++ xs) (tabulate-alike n _ _ (λ i h. ap f (omega arith))))
 
   -- m rows of n
   rows : (m n a : ℕ) (F : ℕ → List A) (f : ℕ → A) (g : ℕ → ℕ) → ((v : ℕ) → g v ≡ a + v) → ((v : ℕ) → v < a + m → F v ≡ tabulate n (λ r. f (v * n + r))) → all F (tabulate m g) ≡ tabulate (m * n) (λ i. f (a * n + i))
@@ -54,7 +45,7 @@ module _ {A : Type 0} where
       ap₂ (λ (xs ys : List A). xs ++ ys)
       (ap F z ∙ k a (omega arith))
       (rows m n (suc a) F f (λ v. g (suc v)) (λ v. let z : g (suc v) ≡ a + suc v = h (suc v) in omega arith) (λ v q. k v (omega arith))
-      ∙ tab-same (m * n) _ _ (λ i q. ap f (rw (suc-mul a n) (omega arith))))
+      ∙ tabulate-alike (m * n) _ _ (λ i q. ap f (rw (suc-mul a n) (omega arith))))
       ∙ sym (tab-append n (m * n) (suc m * n) (λ i. f (a * n + i)) (rw (suc-mul m n) (omega arith)))
 
 -- ALL VALUES, BY NUMBER
@@ -77,11 +68,11 @@ module _ (S : Sig) where
       let tail : Positive ns = λ i k. h (suc i) (omega arith) in
       let p : 0 < product ns = product-pos ns tail in
       rows n (product ns) 0 _ (valuesOf (n ∷ ns)) (λ v. v) (λ v. omega arith)
-      (λ v k. ap (map (λ w. v ∷ w)) (values-tab Ds tail) ∙ map-tab (λ w. v ∷ w) (product ns) (valuesOf ns)
-      ∙ tab-same (product ns) _ _ (λ r q.
+      (λ v k. ap (map (λ w. v ∷ w)) (values-tab Ds tail) ∙ map-tabulate (λ w. v ∷ w) (product ns) (valuesOf ns)
+      ∙ tabulate-alike (product ns) _ _ (λ r q.
       let a : (v * product ns + r) / product ns % n ≡ v = ap (λ (y : ℕ). y % n) (mul-add-div-right p v r ∙ rw (div-eq-of-lt q) (omega arith)) ∙ mod-eq-of-lt (omega arith) in
       ap₂ (λ (y : ℕ) (l : List ℕ). y ∷ l) (sym a) (sym (periodic ns tail v r))))
-      ∙ tab-same (n * product ns) _ _ (λ i q. ap (valuesOf (n ∷ ns)) (rw (zero-mul (product ns)) (omega arith)))
+      ∙ tabulate-alike (n * product ns) _ _ (λ i q. ap (valuesOf (n ∷ ns)) (rw (zero-mul (product ns)) (omega arith)))
 
   -- an assignment's values are in their sorts
   pub values-in : (Ds : List ℕ) → Positive (map (size S) Ds) → (j : ℕ) → InSorts S Ds (valuesOf (map (size S) Ds) j)

@@ -14,11 +14,11 @@ use Rattle.pcrl.specs.Lists.{tabulate}
 use Rattle.pcrl.specs.Sheet.{Sig}
 use Rattle.pcrl.specs.Label.{Label}
 use Rattle.pcrl.specs.Stack.{Frame}
+use Rattle.laws.specs.Tabulated.{tabulate-alike}
 use Rattle.firing.specs.Fires.{frame-bytes, Fires}
 use Rattle.firing.specs.Told.{frame-at, frames-at, told}
 use Rattle.firing.specs.declared.Fired.{Fired}
 use Rattle.firing.proofs.Framing.{frame-length}
-use Rattle.firing.proofs.Listing.{tab-same}
 
 values-read : (vs rest : List ℕ) (w : ℕ) → length vs ≡ w → tabulate w (λ j. getD (vs ++ rest) j 0) ≡ vs
 unfolding tabulate
@@ -32,7 +32,7 @@ module _ (w : ℕ) where
   unfolding frame-at frame-bytes
   frame-read f rest e =
       ap (λ (vs : List ℕ). record { number = f .number; values = vs })
-      (tab-same w _ _ (λ j h. let z : 0 + (1 + j) ≡ suc j = omega arith in ap (λ (k : ℕ). getD (f .number ∷ (f .values ++ rest)) k 0) z) ∙ values-read (f .values) rest w e)
+      (tabulate-alike w _ _ (λ j h. let z : 0 + (1 + j) ≡ suc j = omega arith in ap (λ (k : ℕ). getD (f .number ∷ (f .values ++ rest)) k 0) z) ∙ values-read (f .values) rest w e)
 
   -- behind the first bytes
   frame-behind : (l s : List ℕ) (at k : ℕ) → at ≡ length l + k → frame-at w (l ++ s) at ≡ frame-at w s k
@@ -40,7 +40,7 @@ module _ (w : ℕ) where
   frame-behind l s at k e =
       ap₂ (λ (n : ℕ) (vs : List ℕ). record { number = n; values = vs })
       (ap (λ (i : ℕ). getD (l ++ s) i 0) e ∙ getD-append-add l s k 0)
-      (tab-same w _ _ (λ j h. let z : at + (1 + j) ≡ length l + (k + (1 + j)) = omega arith in ap (λ (i : ℕ). getD (l ++ s) i 0) z ∙ getD-append-add l s (k + (1 + j)) 0))
+      (tabulate-alike w _ _ (λ j h. let z : at + (1 + j) ≡ length l + (k + (1 + j)) = omega arith in ap (λ (i : ℕ). getD (l ++ s) i 0) z ∙ getD-append-add l s (k + (1 + j)) 0))
 
   pub frames-read : (fs : List Frame) (rest : List ℕ) → Every (λ (f : Frame). length (f .values) ≡ w) fs → frames-at w (length fs) (all frame-bytes fs ++ rest) ≡ fs
   unfolding frames-at tabulate all Every
@@ -52,7 +52,7 @@ module _ (w : ℕ) where
       let z : 0 * (1 + w) ≡ 0 = omega arith in
       rw (a, z)
       (ap₂ (λ (x : Frame) (xs : List Frame). x ∷ xs) (frame-read f s (h .0))
-      (tab-same (length fs) _ _ (λ i k. frame-behind (frame-bytes f) s (suc i * (1 + w)) (i * (1 + w)) (rw (n, suc-mul i (1 + w)) (omega arith))) ∙ frames-read fs rest (h .1)))
+      (tabulate-alike (length fs) _ _ (λ i k. frame-behind (frame-bytes f) s (suc i * (1 + w)) (i * (1 + w)) (rw (n, suc-mul i (1 + w)) (omega arith))) ∙ frames-read fs rest (h .1)))
     where
       bytes-length : (f : Frame) → length (f .values) ≡ w → length (frame-bytes f) ≡ 1 + w
       bytes-length f e = let z : suc (length (f .values)) ≡ 1 + w = omega arith in sym (frame-length f) ∙ z

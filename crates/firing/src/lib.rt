@@ -1,6 +1,6 @@
 // Step k of an equation, found in the stream: its label, and the frames of its calls.
-use assignments::PerVariable;
 use assignments::PerSum;
+use assignments::PerVariable;
 use elements::cell;
 use elements::peek;
 use elements::smaller;
@@ -217,7 +217,15 @@ struct Sought {
 }
 
 // The k-th assignment that meets the conditions whose count stands at a place. Where there are none, nothing is opened.
-fn seek(s: &[u8], funcs: &[u16], first: PerVariable, p: usize, at: usize, z: PerSum, k: u64) -> Sought
+fn seek(
+    s: &[u8],
+    funcs: &[u16],
+    first: PerVariable,
+    p: usize,
+    at: usize,
+    z: PerSum,
+    k: u64,
+) -> Sought
     requires { ⌜ (length (now s) ≤ max-stream) × ((p ≤ frame-width) × (((i : ℕ) → p ≤ i → getD (first .at) i 0 ≡ 0) × ((at ≤ max-stream + max-stream) × Sizes (z .at)))) ⌝ }
     ensures { λ r. ⌜ (r .end ≤ max-stream + max-stream + 16) × Seeks (now (s .entry)) (now (funcs .entry)) (first .at) p (z .at) at k r ⌝ }
 {

@@ -14,6 +14,7 @@ use Rattle.pcrl.specs.Parts.{marked, marks}
 use Rattle.pcrl.specs.Stream.{encode-data, encode-call}
 use Rattle.pcrl.specs.Right.{Small}
 use Rattle.pcrl.specs.Heads.{look, new-call, calls-of}
+use Rattle.laws.specs.Booleans.{false-not-true}
 use Rattle.nodes.specs.declared.Node.{Node}
 use Rattle.nodes.specs.Layout.{byte-limit, seq-kind, call-kind, enc, enc-datas}
 use Rattle.nodes.specs.Nodes.{kind-of, node-number, node-datas}
@@ -23,7 +24,6 @@ use Rattle.putting.specs.declared.Done.{Done}
 use Rattle.putting.specs.Slots.{Slots, Writable, Adds}
 use Rattle.putting.specs.Puts.{PutsAll}
 use Rattle.putting.proofs.Bytes.{cell-more, adds-then}
-use Rattle.putting.proofs.PutLaws.{never}
 use Rattle.marking.specs.Marks.{bits, Above, Marked}
 use Rattle.following.specs.Fine.{Fine, Few}
 use Rattle.following.specs.Follows.{TermsSmall, CallSmall, MarkedPut, CallPut}

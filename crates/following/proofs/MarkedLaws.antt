@@ -17,11 +17,12 @@ use Rattle.pcrl.specs.Table.{nodes}
 use Rattle.pcrl.specs.Stream.{encode-data}
 use Rattle.pcrl.specs.Right.{Small}
 use Rattle.pcrl.specs.Heads.{look}
+use Rattle.laws.specs.Booleans.{false-not-true}
 use Rattle.nodes.specs.Bits.{odd}
 use Rattle.putting.specs.declared.Done.{Done}
 use Rattle.laws.specs.TermLength.{max-term}
 use Rattle.putting.specs.Slots.{slot-width, Slot, Slots, Adds}
-use Rattle.putting.proofs.PutLaws.{never, short}
+use Rattle.putting.proofs.PutLaws.{short}
 use Rattle.marking.specs.Marks.{bits}
 use Rattle.following.specs.Follows.{OnePut, TermsSmall, MarkedPut}
 
@@ -29,7 +30,7 @@ use Rattle.following.specs.Follows.{OnePut, TermsSmall, MarkedPut}
 
 module _ (slots : List ℕ) (i w : ℕ) (o : List ℕ) where
   pub one-long : max-nodes < getD slots (slot-width * i) 0 → (v : ℕ) (o′ : List ℕ) → OnePut slots i w o (record { ok = false; w = v }) o′
-  one-long h v o′ d s = (λ t. never t, λ t small. let z = s .long h in omega arith)
+  one-long h v o′ d s = (λ t. false-not-true t, λ t small. let z = s .long h in omega arith)
 
   pub one-wide : getD slots (slot-width * i) 0 ≤ max-nodes → max-term < getD slots (slot-width * i + 1) 0 → (r : Done) (o′ : List ℕ) → OnePut slots i w o r o′
   one-wide h k r o′ d s = let y = s .whole h in absurd (omega (arith, y .0, y .1, s .narrow))
@@ -38,7 +39,7 @@ module _ (slots : List ℕ) (i w : ℕ) (o : List ℕ) where
       → OnePut slots i w o (record { ok = true; w = w + l }) (paste o w (drop (slot-width * i + 2) slots) l)
   one-put h l e room inside d s =
       let y = s .whole h in
-      (λ t. (omega (arith, y .0), take-paste o w (drop (slot-width * i + 2) slots) l inside (omega (arith, length-drop (slot-width * i + 2) slots)) ∙ ap (λ (x : List ℕ). take w o ++ x) (ap (λ (k : ℕ). take k (drop (slot-width * i + 2) slots)) e ∙ y .2)), λ t. never (sym t))
+      (λ t. (omega (arith, y .0), take-paste o w (drop (slot-width * i + 2) slots) l inside (omega (arith, length-drop (slot-width * i + 2) slots)) ∙ ap (λ (x : List ℕ). take w o ++ x) (ap (λ (k : ℕ). take k (drop (slot-width * i + 2) slots)) e ∙ y .2)), λ t. false-not-true (sym t))
 
 -- THE NEXT MARK
 
@@ -122,7 +123,7 @@ module _ (m : ℕ) (slots : List ℕ) (n w : ℕ) (o : List ℕ) where
     pub marked-end : k ≤ frame-width → ((σ : List Data) → Slots σ slots n → marked (bits (n - at) rest) (drop at σ) ≡ []) → MarkedPut m slots n w o (record { ok = true; w = v }) out
     unfolding all Every
     marked-end few h σ s =
-        (λ t. ((left σ s .small (subst (λ (l : List Data). Every Small l) (sym (h σ s)) tt), omega (arith, left σ s .number, ap length (h σ s))), sym (append-nil (take v out)) ∙ ap (λ (l : List Data). take v out ++ all encode-data l) (sym (h σ s)) ∙ left σ s .bytes), λ t. never (sym t))
+        (λ t. ((left σ s .small (subst (λ (l : List Data). Every Small l) (sym (h σ s)) tt), omega (arith, left σ s .number, ap length (h σ s))), sym (append-nil (take v out)) ∙ ap (λ (l : List Data). take v out ++ all encode-data l) (sym (h σ s)) ∙ left σ s .bytes), λ t. false-not-true (sym t))
 
     pub marked-done : k ≤ frame-width → rest ≡ 0 → MarkedPut m slots n w o (record { ok = true; w = v }) out
     marked-done few e = marked-end few (λ σ s. ap (λ (x : ℕ). marked (bits (n - at) x) (drop at σ)) e ∙ marked-none (n - at) (drop at σ))
@@ -145,7 +146,7 @@ module _ (m : ℕ) (slots : List ℕ) (n w : ℕ) (o : List ℕ) where
 
       -- one more than a call may have
       pub marked-many : frame-width ≤ k → at ≤ n → i < n → (q : ℕ) (o′ : List ℕ) → MarkedPut m slots n w o (record { ok = false; w = q }) o′
-      marked-many most a h q o′ σ s = (λ t. never t, λ t few. let l = few .1 in omega (arith, left σ s .number, ap length (next σ s a h)))
+      marked-many most a h q o′ σ s = (λ t. false-not-true t, λ t few. let l = few .1 in omega (arith, left σ s .number, ap length (next σ s a h)))
 
       module _ (a : at ≤ n) (h : i < n) (r : Done) (out′ : List ℕ) (put : OnePut slots i v out r out′) where
         pub marked-on : r .ok ≡ true → Left (rest / 2 ^ trailingZeros 32 rest / 2) (i + 1) (k + 1) (r .w) out′
@@ -163,4 +164,4 @@ module _ (m : ℕ) (slots : List ℕ) (n w : ℕ) (o : List ℕ) where
 
         pub marked-long : r .ok ≡ false → (q : ℕ) (o′ : List ℕ) → MarkedPut m slots n w o (record { ok = false; w = q }) o′
         unfolding Every
-        marked-long bad q o′ σ s = (λ t. never t, λ t k. put (look σ i) (s .each i h) .1 bad (subst (λ (l : List Data). Every Small l) (next σ s a h) (left σ s .small-left (k .0)) .0))
+        marked-long bad q o′ σ s = (λ t. false-not-true t, λ t k. put (look σ i) (s .each i h) .1 bad (subst (λ (l : List Data). Every Small l) (next σ s a h) (left σ s .small-left (k .0)) .0))

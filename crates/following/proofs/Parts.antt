@@ -13,6 +13,7 @@ use Rattle.pcrl.specs.Sheet.{Data, Proc, delta, atom, alt, cond, sum, seq, call
 use Rattle.pcrl.specs.Parts.{new-count}
 use Rattle.pcrl.specs.Stream.{encode-call}
 use Rattle.pcrl.specs.Heads.{new-call, calls-of}
+use Rattle.laws.specs.Booleans.{false-not-true}
 use Rattle.laws.specs.Every.{every-append, every-left, every-right}
 use Rattle.nodes.specs.declared.Node.{Node}
 use Rattle.nodes.specs.declared.Skipped.{Skipped}
@@ -23,7 +24,6 @@ use Rattle.nodes.proofs.Nodes.{one-item, items-end}
 use Rattle.nodes.proofs.NewParts.{new-all, new-open}
 use Rattle.putting.specs.declared.Done.{Done}
 use Rattle.putting.specs.Slots.{Slots, Adds}
-use Rattle.putting.proofs.PutLaws.{never}
 use Rattle.following.specs.declared.Calls.{Calls}
 use Rattle.following.specs.declared.Pushed.{Pushed}
 use Rattle.following.specs.Fine.{Fine, Few}
@@ -135,7 +135,7 @@ module _ (cells : List ℕ) (at c₀ : ℕ) (slots : List ℕ) (n most : ℕ) (o
 
     pub parts-done : need ≡ 0 → CallsPut cells at c₀ slots n most 0 o (record { ok = true; w = v; n = k }) out
     unfolding calls-all all Every
-    parts-done z H q rest σ few e s f l = (λ t. go (left H q rest σ few e s f l .parts) (left H q rest σ few e s f l .many) (left H q rest σ few e s f l .bytes) (left H q rest σ few e s f l .number) (left H q rest σ few e s f l .small), λ t. never (sym t))
+    parts-done z H q rest σ few e s f l = (λ t. go (left H q rest σ few e s f l .parts) (left H q rest σ few e s f l .many) (left H q rest σ few e s f l .bytes) (left H q rest σ few e s f l .number) (left H q rest σ few e s f l .small), λ t. false-not-true (sym t))
       where
         go : (ps : List Proc) → length ps ≡ need → take v out ++ all encode-call (calls-all σ c ps) ≡ take 0 o ++ all encode-call (calls-of σ c₀ q)
             → k + length (calls-all σ c ps) ≡ length (calls-of σ c₀ q) → (Every CallSmall (calls-all σ c ps) → Every CallSmall (calls-of σ c₀ q))
@@ -183,7 +183,7 @@ module _ (cells : List ℕ) (at c₀ : ℕ) (slots : List ℕ) (n most : ℕ) (o
         -- a part more than may be
         pub parts-many : most ≤ k → (w m : ℕ) (o′ : List ℕ) → CallsPut cells at c₀ slots n most 0 o (record { ok = false; w = w; n = m }) o′
         unfolding calls-all
-        parts-many big w m o′ H q rest σ few e s f l = (λ t. never t, λ t fits small. go (left H q rest σ few e s f l .parts) (left H q rest σ few e s f l .many) (left H q rest σ few e s f l .number) fits)
+        parts-many big w m o′ H q rest σ few e s f l = (λ t. false-not-true t, λ t fits small. go (left H q rest σ few e s f l .parts) (left H q rest σ few e s f l .many) (left H q rest σ few e s f l .number) fits)
           where
             go : (ps : List Proc) → length ps ≡ need → k + length (calls-all σ c ps) ≡ length (calls-of σ c₀ q) → length (calls-of σ c₀ q) ≤ most → ⊥
             go [] a b h = omega arith
@@ -225,7 +225,7 @@ module _ (cells : List ℕ) (at c₀ : ℕ) (slots : List ℕ) (n most : ℕ) (o
           -- the last part written
           pub parts-last : need ≡ 1 → r .ok ≡ true → CallsPut cells at c₀ slots n most 0 o (record { ok = true; w = r .w; n = k + 1 }) out′
           unfolding parts-cells Every calls-all all
-          parts-last one ok H q rest σ few e s f l = (λ t. go (left H q rest σ few e s f l .parts) (left H q rest σ few e s f l .many) (left H q rest σ few e s f l .place) (left H q rest σ few e s f l .fine) (left H q rest σ few e s f l .bytes) (left H q rest σ few e s f l .number) (left H q rest σ few e s f l .small), λ t. never (sym t))
+          parts-last one ok H q rest σ few e s f l = (λ t. go (left H q rest σ few e s f l .parts) (left H q rest σ few e s f l .many) (left H q rest σ few e s f l .place) (left H q rest σ few e s f l .fine) (left H q rest σ few e s f l .bytes) (left H q rest σ few e s f l .number) (left H q rest σ few e s f l .small), λ t. false-not-true (sym t))
             where
               go : (ps : List Proc) → length ps ≡ need → drop p cells ≡ parts-cells ps ++ rest → Every (Fine H n) ps
                   → take v out ++ all encode-call (calls-all σ c ps) ≡ take 0 o ++ all encode-call (calls-of σ c₀ q) → k + length (calls-all σ c ps) ≡ length (calls-of σ c₀ q)
@@ -243,7 +243,7 @@ module _ (cells : List ℕ) (at c₀ : ℕ) (slots : List ℕ) (n most : ℕ) (o
           -- a part with a term that is too long
           pub parts-long : r .ok ≡ false → (w m : ℕ) (o′ : List ℕ) → CallsPut cells at c₀ slots n most 0 o (record { ok = false; w = w; n = m }) o′
           unfolding parts-cells news Every calls-all
-          parts-long bad w m′ o′ H q rest σ few e s f l = (λ t. never t, λ t fits. go (left H q rest σ few e s f l .parts) (left H q rest σ few e s f l .many) (left H q rest σ few e s f l .place) (left H q rest σ few e s f l .fine) (left H q rest σ few e s f l .small-left))
+          parts-long bad w m′ o′ H q rest σ few e s f l = (λ t. false-not-true t, λ t fits. go (left H q rest σ few e s f l .parts) (left H q rest σ few e s f l .many) (left H q rest σ few e s f l .place) (left H q rest σ few e s f l .fine) (left H q rest σ few e s f l .small-left))
             where
               go : (ps : List Proc) → length ps ≡ need → drop p cells ≡ parts-cells ps ++ rest → Every (Fine H n) ps → (Every CallSmall (calls-of σ c₀ q) → Every CallSmall (calls-all σ c ps)) → ¬ (Every CallSmall (calls-of σ c₀ q))
               go [] a b g j h = absurd (omega arith)
@@ -255,7 +255,7 @@ module _ (cells : List ℕ) (at c₀ : ℕ) (slots : List ℕ) (n most : ℕ) (o
 
 module _ (cells : List ℕ) (at c : ℕ) (slots : List ℕ) (n nk : ℕ) (o : List ℕ) (top : ℕ) (a a′ : List ℕ) (r : Calls) (put : CallsPut cells at c slots n (max-calls - nk) 0 a r a′) (few : nk ≤ max-calls) where
   pub push-fail : r .ok ≡ false → (t m : ℕ) (o′ : List ℕ) → Pushes cells at c slots n nk o top (record { ok = false; top = t; n = m }) o′
-  push-fail bad t m o′ H q rest σ fw e s f l = (λ z. never z, λ z h. put H q rest σ fw e s f l .1 bad (omega arith))
+  push-fail bad t m o′ H q rest σ fw e s f l = (λ z. false-not-true z, λ z h. put H q rest σ fw e s f l .1 bad (omega arith))
 
   pub push-right : r .ok ≡ true → r .w ≤ top → top ≤ length o → r .w ≤ length a′
       → Pushes cells at c slots n nk o top (record { ok = true; top = top - r .w; n = nk + r .n }) (paste o (top - r .w) (drop 0 a′) (r .w))
@@ -269,5 +269,5 @@ module _ (cells : List ℕ) (at c : ℕ) (slots : List ℕ) (n nk : ℕ) (o : Li
           ap (drop (top - r .w)) (append-assoc (take (top - r .w) o) (take (r .w) a′) (drop (top - r .w + r .w) o)) ∙ drop-at (take (top - r .w) o) (take (r .w) a′ ++ drop (top - r .w + r .w) o) (top - r .w) (length-take-le (top - r .w) o (omega arith))
               ∙ ap₂ (λ (x : List ℕ) (i : ℕ). x ++ drop i o) y z,
         ),
-        λ t. never (sym t),
+        λ t. false-not-true (sym t),
       )

@@ -6,11 +6,11 @@ use mathlib.Core.Bool.{true, false}
 use Prim.Native.Nat.{ℕ}
 use native.Mathlib.Omega.{arith}
 use lib.ListN.{length, take, drop}
+use Rattle.laws.specs.Booleans.{false-not-true}
 use Rattle.nodes.specs.declared.Node.{Node}
 use Rattle.nodes.specs.Layout.{alt-kind, atom-kind, cond-kind, call-kind}
 use Rattle.nodes.specs.Views.{Views}
 use Rattle.putting.specs.declared.Done.{Done}
-use Rattle.putting.proofs.PutLaws.{never}
 use Rattle.contexts.specs.declared.Spot.{Spot}
 use Rattle.contexts.specs.Spots.{arrays}
 use Rattle.contexts.specs.Steps.{CallDown}
@@ -30,10 +30,10 @@ module _ (cells starts counts firsts : List ℕ) (s : Spot) (d : Node) (vw : Vie
   pub call-fails : r .ok ≡ false → WrittenBy cells starts counts firsts (start s (arrays slots vars conds calls) w o heads q room) (record { ok = false; w = w }) (arrays slots vars conds calls) o
   call-fails bad H F hs rd sp ro = (
     (
-      λ t. never t,
+      λ t. false-not-true t,
       λ t fit. let z = cd counts vars conds calls vw is H F hs rd sp .1 bad fit in absurd (omega (arith, ap length z, ro .many, ro .some)),
     ),
-    λ t. never t,
+    λ t. false-not-true t,
   )
 
   pub call-out : r .ok ≡ true → (x : Done) (mine′ vars′ conds′ calls′ o′ : List ℕ) → WrittenBy cells starts counts firsts (start r (arrays mine vars conds calls) w o heads q room) x (arrays mine′ vars′ conds′ calls′) o′

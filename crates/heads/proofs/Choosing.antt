@@ -8,10 +8,10 @@ use native.Mathlib.Omega.{arith}
 use lib.ListN.{length, drop, length-append}
 use Rattle.pcrl.specs.Sheet.{Proc, Sheet}
 use Rattle.pcrl.specs.Table.{Summand}
+use Rattle.laws.specs.Booleans.{false-not-true}
 use Rattle.nodes.specs.Layout.{cell-limit, alt-kind, cond-kind, enc}
 use Rattle.counting.specs.Limits.{row-width, cut, row}
 use Rattle.putting.specs.declared.Done.{Done}
-use Rattle.putting.proofs.PutLaws.{never}
 use Rattle.following.specs.Follows.{calls-room}
 use Rattle.contexts.specs.declared.Side.{Side}
 use Rattle.contexts.specs.Spots.{Ready, Arrays, Bound, Spotted, OnSide}
@@ -94,7 +94,7 @@ module _ (cells starts counts firsts : List ℕ) (g : Ahead) (lo : Looked cells 
           same = m .same;
           long = m .long;
         },
-    λ z. never z,
+    λ z. false-not-true z,
   )
 
   pub second-goes : g .a .heads ≡ 0 → Toward cells starts counts firsts S (aside-turn g e heads left q v) B l o
@@ -146,5 +146,5 @@ module _ (cells starts counts firsts : List ℕ) (g : Ahead) (lo : Looked cells 
           same = m .same;
           long = omega (arith, m .long, el);
         },
-    λ z. never z,
+    λ z. false-not-true z,
   )

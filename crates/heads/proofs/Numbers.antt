@@ -17,6 +17,7 @@ use Rattle.pcrl.specs.Tests.{Every}
 use Rattle.pcrl.specs.Table.{Summand}
 use Rattle.pcrl.specs.Right.{SummandWithin}
 use Rattle.pcrl.specs.Heads.{heads}
+use Rattle.laws.specs.Booleans.{false-not-true}
 use Rattle.laws.specs.Every.{every-weaken}
 use Rattle.nodes.specs.declared.Skipped.{Skipped}
 use Rattle.nodes.specs.Layout.{byte-limit}
@@ -26,7 +27,6 @@ use Rattle.counting.specs.Counting.{Placed}
 use Rattle.putting.specs.declared.Done.{Done}
 use Rattle.putting.specs.Slots.{Adds}
 use Rattle.putting.proofs.Bytes.{cell-more, adds-then}
-use Rattle.putting.proofs.PutLaws.{never}
 use Rattle.contexts.specs.Spots.{SummandFits}
 use Rattle.heads.specs.Writing.{HeadsWritten, HeadsCounted, SummandsWritten, NumbersFirst}
 use Rattle.heads.proofs.Accepted.{first-below}
@@ -37,7 +37,7 @@ use Rattle.heads.proofs.Walking.{length-none}
 module _ (cells starts counts firsts : List ℕ) (fuel at c : ℕ) (slots : List ℕ) (n m w : ℕ) (o : List ℕ) where
   pub list-full : w ≡ length o → (o′ : List ℕ) → SummandsWritten cells starts counts firsts fuel at c slots n m w o (record { ok = false; w = w }) o′
   unfolding encode-list
-  list-full h o′ H σ b p rest rd e f s fn nw few = (λ t. never t, λ t within. omega arith)
+  list-full h o′ H σ b p rest rd e f s fn nw few = (λ t. false-not-true t, λ t within. omega arith)
 
   pub list-right : (a : ℕ) → HeadsCounted cells counts fuel at a → w < length o → (r : Done) (o′ : List ℕ) → (a ≡ 0 → ⊥) → HeadsWritten cells starts counts firsts fuel at c slots n m a (w + 1) (set o w (a % byte-limit)) r o′
       → SummandsWritten cells starts counts firsts fuel at c slots n m w o r o′
@@ -58,7 +58,7 @@ module _ (cells starts counts firsts : List ℕ) (fuel at c : ℕ) (slots : List
       let z = ct H fuel b p rest σ m c (rd .procs-few) (rd .tallied) (omega arith) e in
       let y : heads H fuel σ m c p ≡ [] = length-none (heads H fuel σ m c p) (omega arith) in
       let k : a % byte-limit ≡ 0 = omega arith in
-      (λ t. subst (λ (hs : List Summand). Every SummandWithin hs × Adds (encode-list encode-summand hs) w o (w + 1) (set o w (a % byte-limit))) (sym y) (tt, cell-more o w (a % byte-limit) inside ∙ ap (λ (j : ℕ). take w o ++ (j ∷ [])) k), λ t. never (sym t))
+      (λ t. subst (λ (hs : List Summand). Every SummandWithin hs × Adds (encode-list encode-summand hs) w o (w + 1) (set o w (a % byte-limit))) (sym y) (tt, cell-more o w (a % byte-limit) inside ∙ ap (λ (j : ℕ). take w o ++ (j ∷ [])) k), λ t. false-not-true (sym t))
 
 -- THE FIRST NEW EQUATIONS
 

@@ -15,6 +15,7 @@ use Rattle.pcrl.specs.Parts.{count, as-params}
 use Rattle.pcrl.specs.Table.{nodes}
 use Rattle.pcrl.specs.Stream.{variable-code, encode-data}
 use Rattle.pcrl.specs.Heads.{look, heads}
+use Rattle.laws.specs.Booleans.{false-not-true}
 use Rattle.laws.specs.Lists.{length-snoc}
 use Rattle.nodes.specs.declared.Skipped.{Skipped}
 use Rattle.nodes.specs.Layout.{byte-limit, enc}
@@ -25,7 +26,6 @@ use Rattle.counting.specs.Counting.{Counts, Tallied}
 use Rattle.counting.specs.Heads.{called, count-of, count-heads}
 use Rattle.counting.proofs.Rows.{row-counts}
 use Rattle.putting.specs.Slots.{slot-width, Slot, Slots}
-use Rattle.putting.proofs.PutLaws.{never}
 use Rattle.putting.proofs.Several.{slot-kept}
 use Rattle.heads.specs.Writing.{BytePut, param-of}
 use Rattle.nodes.specs.Bits.{odd}

@@ -9,6 +9,7 @@ use native.Mathlib.Decide.{ℕ-discrete}
 use native.Mathlib.Nat.{eq-or-lt-of-le}
 use lib.ListN.{length, drop, getD, set, replicate, getD-replicate, length-replicate}
 use lib.Seq.{getD-set-same, getD-set-other}
+use Rattle.laws.specs.Places.{lt-or-le}
 use Rattle.nodes.specs.declared.Node.{Node}
 use Rattle.nodes.specs.Layout.{byte-limit, seq-kind}
 use Rattle.nodes.specs.Views.{On, Views}
@@ -25,12 +26,6 @@ use Rattle.heads.specs.Memory.{entry-cells, entries, memory-room, Finds,
 use Rattle.heads.proofs.Walking.{passed}
 
 -- AN ENTRY IS PUT
-
-lt-or-le : (a b : ℕ) → (a < b) ⊎ (b ≤ a)
-lt-or-le zero zero = inr (omega arith)
-lt-or-le zero (suc b) = inl (omega arith)
-lt-or-le (suc a) zero = inr (omega arith)
-lt-or-le (suc a) (suc b) = elim (lt-or-le a b) [ inl h ↦ inl (let k : a < b = h in omega arith) | inr h ↦ inr (let k : b ≤ a = h in omega arith) ]
 
 -- its first j cells are put
 abbrev pub Putting : List ℕ → List ℕ → List ℕ → ℕ → ℕ → Type 0

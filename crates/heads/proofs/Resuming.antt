@@ -9,12 +9,12 @@ use Rattle.pcrl.specs.Reader.{all}
 use Rattle.pcrl.specs.Sheet.{Sheet}
 use Rattle.pcrl.specs.Table.{Summand}
 use Rattle.pcrl.specs.Stream.{encode-summand}
+use Rattle.laws.specs.Booleans.{false-not-true}
 use Rattle.laws.specs.Every.{every-append}
 use Rattle.nodes.specs.declared.Node.{Node}
 use Rattle.nodes.specs.Views.{On, Views}
 use Rattle.putting.specs.declared.Done.{Done}
 use Rattle.putting.proofs.Bytes.{adds-then}
-use Rattle.putting.proofs.PutLaws.{never}
 use Rattle.following.proofs.Parts.{all-append}
 use Rattle.contexts.specs.declared.Spot.{Spot}
 use Rattle.contexts.specs.Spots.{Ready, SummandFits, Arrays, Spotted, Kept}
@@ -101,5 +101,5 @@ module _ (cells starts counts firsts : List ℕ) (S : Start) (s : Spot) (heads l
           same = a .same ∙ m .same;
           long = m .long;
         },
-    λ z. never z,
+    λ z. false-not-true z,
   )

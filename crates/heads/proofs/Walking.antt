@@ -12,6 +12,7 @@ use Rattle.pcrl.specs.Sheet.{Data, Proc, Sheet}
 use Rattle.pcrl.specs.Table.{Summand}
 use Rattle.pcrl.specs.Stream.{encode-summand}
 use Rattle.pcrl.specs.Heads.{look, heads}
+use Rattle.laws.specs.Booleans.{false-not-true}
 use Rattle.laws.specs.Every.{every-append, every-left, every-right}
 use Rattle.nodes.specs.declared.Node.{Node}
 use Rattle.nodes.specs.Layout.{byte-limit, enc}
@@ -23,7 +24,6 @@ use Rattle.counting.proofs.Rows.{row-counts}
 use Rattle.putting.specs.declared.Done.{Done}
 use Rattle.putting.specs.Slots.{slot-width, Adds}
 use Rattle.putting.proofs.Bytes.{adds-then}
-use Rattle.putting.proofs.PutLaws.{never}
 use Rattle.putting.proofs.Several.{slot-kept}
 use Rattle.following.proofs.Parts.{all-append}
 use Rattle.contexts.specs.declared.Spot.{Spot}
@@ -83,7 +83,7 @@ module _ (w v : ℕ) (o o′ : List ℕ) (r : Done) (o″ : List ℕ) where
 
   out-short : (xs ys : List Summand) → r .ok ≡ false → SummandsOut xs w o r o′ → SummandsOut (xs ++ ys) w o r o′
   out-short xs ys bad k = (
-    λ ok. never (sym bad ∙ ok),
+    λ ok. false-not-true (sym bad ∙ ok),
     λ b h.
         let q = k .1 bad (every-left SummandFits xs ys h) in
         omega (arith, ap length (all-append encode-summand xs ys), length-append (all encode-summand xs) (all encode-summand ys)),
@@ -124,13 +124,13 @@ module _ (cells starts counts firsts : List ℕ) where
   pub beyond-these : (S : Start) (o : List ℕ) (hs xs here ys : List Summand) → hs ≡ xs ++ (here ++ ys) → Beyond here → 0 < length here → (C : Arrays) (w : ℕ) → SummandsOut hs (S .w) (S .o) (record { ok = false; w = w }) o × (false ≡ true → Kept (S .s) (S .A) C)
   beyond-these S o hs xs here ys e far some C w = (
     (
-      λ t. never t,
+      λ t. false-not-true t,
       λ t fit.
           let u : Every SummandFits (xs ++ (here ++ ys)) = subst (λ (x : List Summand). Every SummandFits x) e fit in
           let z = far (every-left SummandFits here ys (every-right SummandFits xs (here ++ ys) u)) in
           absurd (omega (arith, ap length z)),
     ),
-    λ t. never t,
+    λ t. false-not-true t,
   )
 
   module _ (H : Sheet) (F : ℕ) (S : Start) (s : Spot) (heads left q v : ℕ) (B : Arrays) (l o : List ℕ) (hs : List Summand) (m : Moved cells starts counts firsts H F S s heads left q v B l o hs) where
@@ -177,7 +177,7 @@ module _ (cells starts counts firsts : List ℕ) where
       leaf-fails bad b = (
         out-by hs (S .w) (S .o) x o′ false bad
             (subst (λ (y : List Summand). SummandsOut y (S .w) (S .o) x o′) (sym (m .split)) (out-then (S .w) v (S .o) o x o′ (m .done) (m .here ++ m .waiting) (m .within) (m .bytes) (m .start-in) (m .inside) (m .same) (out-short v v o o′ x o′ (m .here) (m .waiting) bad k))),
-        λ t. never t,
+        λ t. false-not-true t,
       )
 
       pub leaf-last : x .ok ≡ true → left ≤ heads → SummandsOut hs (S .w) (S .o) (record { ok = true; w = x .w }) o′

@@ -1,6 +1,10 @@
 pub mod Tests
 pub mod Says
 pub mod Lists
+pub mod Written
+pub mod Places
+pub mod Tabulated
+pub mod Booleans
 pub mod Every
 pub mod Each
 pub mod Any

@@ -10,10 +10,10 @@ use borrow.Author.Count.{below-more}
 use borrow.Author.Tests.{ltb-true, ltb-false}
 use Rattle.pcrl.specs.Tests.{and, negated}
 use Rattle.pcrl.specs.Bytes.{printable, Printable}
+use Rattle.laws.specs.Booleans.{false-not-true}
 use Rattle.laws.specs.Every.{every-at, at-every}
 use Rattle.laws.specs.Says.{Says}
 use Rattle.laws.specs.Tests.{is-true}
-use Rattle.lexer.proofs.Signs.{never}
 
 pub is-false : (t : Bool) → T (negated t) → false ≡ t
 is-false true h = absurd h
@@ -30,7 +30,7 @@ Between test s a e = (k : ℕ) → k < e → a ≤ k → Passes test s k
 pub says-more : (test : ℕ → Bool) (s : List ℕ) (a i : ℕ) (g t : Bool) → a ≤ i → t ≡ test (getD s i 0) → Says g (Between test s a i)
     → Says (and g t) (Between test s a (i + 1))
 says-more test s a i true true h e f = below-more (λ k. a ≤ k → Passes test s k) i f (λ l. sym e)
-says-more test s a i true false h e f = λ g. let z : false ≡ true = e ∙ g i (omega arith) h in never z
+says-more test s a i true false h e f = λ g. let z : false ≡ true = e ∙ g i (omega arith) h in false-not-true z
 says-more test s a i false t h e n = λ g. n (λ k l m. g k (omega arith) m)
 
 -- the bytes before a and those from a on

@@ -14,11 +14,12 @@ use borrow.Author.Tests.{eqb-true, leb-true, leb-false}
 use Rattle.pcrl.specs.Tests.{and, or, negated, Every}
 use Rattle.pcrl.specs.Bytes.{letter, digit, name-byte}
 use Rattle.pcrl.specs.Tokens.{sign, punctuation, front, Lexeme, name-of, numeral-of, mark-of, first-token}
+use Rattle.laws.specs.Booleans.{false-not-true}
 use Rattle.lexer.specs.Classes.{one-of, alone-bytes, alone, lead-bytes, leads, sign-cell}
 use Rattle.lexer.specs.Cells.{first-long-mark, long-marks, cell-token, Reads, Fits}
 use Rattle.lexer.proofs.Match.{and-left, and-right, or-no, all-of, at-key}
 use Rattle.lexer.proofs.Runs.{drop-at}
-use Rattle.lexer.proofs.Signs.{never, sign-cell-none, starting, no-sign-starting, Found, Missing, look-up, unlike, lone, no-mark, lone-mark, pair-mark, no-pair-mark, no-pair-end}
+use Rattle.lexer.proofs.Signs.{sign-cell-none, starting, no-sign-starting, Found, Missing, look-up, unlike, lone, no-mark, lone-mark, pair-mark, no-pair-mark, no-pair-end}
 use Rattle.lexer.proofs.Cells.{cell-mark, cell-long-mark}
 use Rattle.lexer.proofs.Reading.{reads-none, reads-some}
 
@@ -28,7 +29,7 @@ one-of-step p k ks b true e t ih o = at-key p k b (and-left (p k) (all-of p ks) 
 one-of-step p k ks b false e t ih o = ih (and-right (p k) (all-of p ks) t) o
 
 one-of-test : (p : ℕ → Bool) (ks : List ℕ) → T (all-of p ks) → (b : ℕ) → one-of ks b ≡ true → T (p b)
-one-of-test p [] t b o = never o
+one-of-test p [] t b o = false-not-true o
 one-of-test p (k ∷ ks) t b o = one-of-step p k ks b (eqb b k) refl t (λ u. one-of-test p ks u b) o
 
 -- no letter and no digit, and a test besides

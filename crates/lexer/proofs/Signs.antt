@@ -13,12 +13,10 @@ use borrow.Author.Tests.{eqb-true, eqb-false}
 use Rattle.pcrl.specs.Text.{bytes}
 use Rattle.pcrl.specs.Tests.{and, or, negated, same?, among, Every}
 use Rattle.pcrl.specs.Tokens.{sign, words, mark-of}
+use Rattle.laws.specs.Booleans.{false-not-true}
 use Rattle.laws.specs.Tests.{where-yes, where-no}
 use Rattle.lexer.specs.Classes.{sign-cell}
 use Rattle.lexer.specs.Cells.{first-word}
-
-pub never : {A : Type 0} → false ≡ true → A
-never e = absurd (subst T (sym e) tt)
 
 -- ---- a sign among some
 pub sign-cell-none : (c : ℕ) (vs : List (List ℕ)) (w : List ℕ) → Every (λ v. w ≡ v → ⊥) vs → sign-cell c vs w ≡ 0
@@ -192,7 +190,7 @@ module _ (a x : ℕ) (l : List ℕ) where
 
   pub pair-mark : (vs ms : List (List ℕ)) → T (pairs vs) → among (a ∷ x ∷ []) vs ≡ true → mark-of (vs ++ ms) (a ∷ x ∷ l) ≡ some (sign (a ∷ x ∷ []), 2)
   unfolding among
-  pair-mark [] ms t h = never h
+  pair-mark [] ms t h = false-not-true h
   pair-mark ([] ∷ vs) ms t h = absurd t
   pair-mark ((k ∷ []) ∷ vs) ms t h = absurd t
   pair-mark ((k ∷ j ∷ []) ∷ vs) ms t h = pair-step k j vs ms (same? (a ∷ x ∷ []) (k ∷ j ∷ [])) (pair-mark vs ms t) h
@@ -201,7 +199,7 @@ module _ (a x : ℕ) (l : List ℕ) where
   no-pair-step : (k j : ℕ) (vs ms : List (List ℕ)) (d : Dec (a ∷ x ∷ [] ≡ k ∷ j ∷ [])) → (among (a ∷ x ∷ []) vs ≡ false → mark-of (vs ++ ms) (a ∷ x ∷ l) ≡ mark-of ms (a ∷ x ∷ l))
       → among (a ∷ x ∷ []) ((k ∷ j ∷ []) ∷ vs) ≡ false → mark-of ((k ∷ j ∷ []) ∷ vs ++ ms) (a ∷ x ∷ l) ≡ mark-of ms (a ∷ x ∷ l)
   unfolding among
-  no-pair-step k j vs ms (yes e) ih h = never (sym h ∙ where-yes (same? (a ∷ x ∷ []) (k ∷ j ∷ [])) e true (among (a ∷ x ∷ []) vs))
+  no-pair-step k j vs ms (yes e) ih h = false-not-true (sym h ∙ where-yes (same? (a ∷ x ∷ []) (k ∷ j ∷ [])) e true (among (a ∷ x ∷ []) vs))
   no-pair-step k j vs ms (no n) ih h =
       mark-miss (k ∷ j ∷ []) (vs ++ ms) (a ∷ x ∷ l) (λ e. n (sym e)) ∙ ih (sym (where-no (same? (a ∷ x ∷ []) (k ∷ j ∷ [])) n true (among (a ∷ x ∷ []) vs)) ∙ h)
 

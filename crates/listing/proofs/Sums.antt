@@ -18,7 +18,7 @@ use Rattle.pcrl.specs.Stream.{encode-list, encode-summand}
 use Rattle.pcrl.specs.Right.{SummandWithin}
 use Rattle.pcrl.specs.Heads.{heads, fuel, table-of}
 use Rattle.laws.specs.Every.{every-at, at-every}
-use Rattle.codec.specs.Cut.{concatenated-zero}
+use Rattle.codec.specs.Cut.{concatenated-zero, concatenated-last}
 use Rattle.theory.specs.Equations.{equation-count}
 use Rattle.nodes.specs.declared.Outline.{Outline}
 use Rattle.nodes.specs.Layout.{byte-limit}
@@ -28,7 +28,6 @@ use Rattle.putting.specs.declared.Done.{Done}
 use Rattle.putting.specs.Slots.{Slots}
 use Rattle.contexts.specs.Spots.{Ready, SummandFits}
 use Rattle.heads.specs.Writing.{HeadsCounted, SummandsWritten}
-use Rattle.emit.proofs.Putting.{concatenated-last}
 use Rattle.emit.proofs.Signed.{concatenated-all}
 use Rattle.parts.proofs.TableParams.{all-map}
 use Rattle.listing.specs.declared.Source.{Source}

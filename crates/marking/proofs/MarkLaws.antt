@@ -13,6 +13,7 @@ use Rattle.pcrl.specs.Tests.{or, and, negated}
 use Rattle.pcrl.specs.Sheet.{Data, val, var, app, Datas, nil, cons, list-of, Proc, delta, atom, alt, cond, sum, seq, call}
 use Rattle.pcrl.specs.Lists.{tabulate}
 use Rattle.pcrl.specs.Parts.{in-data, in-datas, in-list, in-proc, marks, count}
+use Rattle.laws.specs.Booleans.{or-false, or-assoc}
 use Rattle.nodes.specs.declared.Datum.{Datum}
 use Rattle.nodes.specs.declared.Node.{Node}
 use Rattle.nodes.specs.Bits.{odd, bit}
@@ -23,14 +24,6 @@ use Rattle.nodes.proofs.Bits.{zero-bit}
 use Rattle.nodes.proofs.Data.{datas-inside}
 use Rattle.nodes.proofs.Nodes.{one-item, items-end}
 use Rattle.marking.specs.Marks.{bits, HighBits, own-variable, Notes, MarksData, Above, Marked}
-
-or-assoc : (a b c : Bool) → or (or a b) c ≡ or a (or b c)
-or-assoc true b c = refl
-or-assoc false b c = refl
-
-or-false : (a : Bool) → or a false ≡ a
-or-false true = refl
-or-false false = refl
 
 -- A NODE
 

@@ -13,6 +13,7 @@ use Rattle.pcrl.specs.Tests.{and, negated, same?, among, distinct}
 use Rattle.pcrl.specs.Tree.{Name}
 use Rattle.pcrl.specs.Names.{number-of}
 use Rattle.pcrl.specs.Maybe.{_>>=_}
+use Rattle.laws.specs.Booleans.{and-false}
 use Rattle.names.specs.NameCells.{or-count}
 use Rattle.names.proofs.Numbers.{found-some, found-none}
 
@@ -57,10 +58,6 @@ number-among x l i n e h = among-number x l ∙ ap is-some (found-some n (number
 
 pub number-not : (x : Name) (l : List Name) (i n : ℕ) → length l ≤ n → i ≡ or-count n (number-of x l) → n ≤ i → among x l ≡ false
 number-not x l i n m e h = among-number x l ∙ ap is-some (found-none n x l i m e h)
-
-and-false : (a : Bool) → and a false ≡ false
-and-false true = refl
-and-false false = refl
 
 -- n stands before l; the next name is n,
 pub taken-twice : (b : Bool) (n y : Name) (l m : List Name) → b ≡ distinct (n ∷ l) → l ≡ y ∷ m → y ≡ n → false ≡ b

@@ -9,6 +9,7 @@ use lib.ListN.{length, take, drop, getD, length-map, length-take, length-drop}
 use lib.Seq.{getD-drop}
 use Rattle.pcrl.specs.Tree.{Name}
 use Rattle.pcrl.specs.Names.{number-of}
+use Rattle.laws.specs.Places.{take-none}
 use Rattle.lexer.specs.Cells.{first-name}
 use Rattle.names.specs.NameCells.{name-at, scope-at, or-count, shown}
 use Rattle.names.specs.NameKeys.{key-count, mix, key-on, key-of, FirstFrom, Keyed, names-from}
@@ -103,10 +104,6 @@ module _ (s names : List ℕ) where
 pub scope-most : (s l : List ℕ) (n : ℕ) → length (scope-at s l n) ≤ n
 unfolding scope-at
 scope-most s l n = omega (arith, length-map (take n l) (name-at s), length-take n l)
-
-take-none : (n : ℕ) → _≡_ {A = List ℕ} (take n []) []
-take-none zero = refl
-take-none (suc n) = refl
 
 left-from : (f : ℕ → Name) (j n : ℕ) (l : List ℕ) → drop j (map f (take n l)) ≡ map f (take (n - j) (drop j l))
 left-from f zero n l = let z : n - 0 ≡ n = omega arith in rw z refl

@@ -7,12 +7,9 @@ use native.Mathlib.Omega.{arith}
 use lib.ListN.{length, take, drop, getD, set, length-map, length-set, drop-of-length-le}
 use lib.Seq.{drop-cons, getD-take, length-take-le, take-suc, take-suc-set, take-take, take-at}
 use Rattle.pcrl.specs.Tests.{Every}
+use Rattle.laws.specs.Places.{drop-next}
 use Rattle.names.specs.Rows.{Kept}
 use Rattle.laws.specs.Lists.{getD-map}
-
--- the next element
-pub drop-next : {A : Type 0} (l : List A) (i : ℕ) (d : A) → i < length l → drop i l ≡ getD l i d ∷ drop (i + 1) l
-drop-next l i d h = rw (drop-cons l i d h, add-one i)
 
 -- the images of the first n elements
 module _ {A : Type 0} (f : ℕ → A) (l : List ℕ) (n : ℕ) (room : n ≤ length l) where

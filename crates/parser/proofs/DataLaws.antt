@@ -8,12 +8,13 @@ use lib.ListN.{length, getD}
 use Rattle.pcrl.specs.Reader.{found, bind}
 use Rattle.pcrl.specs.Tree.{Part}
 use Rattle.pcrl.specs.Grammar.{a-name, data-term, comparison, negation, atom, data-list, data-given}
+use Rattle.laws.specs.Places.{getD-positive}
 use Rattle.parser.specs.Cells.{symbol-of, enc-name, enc-data, enc-comparison, enc-negation, enc-atom, enc-datas, enc-call, enc-part}
 use Rattle.parser.specs.Call.{call}
 use Rattle.parser.specs.Reading.{rest, left, Ahead, Put, Expected, Reads, took}
 use Rattle.parser.proofs.Signs.{bang-sign, open-sign, close-sign, comma-sign, same-sign}
 use Rattle.parser.proofs.Writing.{writes-cell, writes-then, writes-instead}
-use Rattle.parser.proofs.Reading.{live, on-next, on-other, bind-assoc, reads-bind, reads-next, reads-other, reads-expect}
+use Rattle.parser.proofs.Reading.{on-next, on-other, bind-assoc, reads-bind, reads-next, reads-other, reads-expect}
 use Rattle.parser.proofs.Words.{symbol-numeral, writes-name, reads-at-name, reads-at-no-name, reads-on-numeral, reads-past-numeral, reads-before-numeral}
 
 -- ---- a comparison
@@ -30,7 +31,7 @@ module _ (s toks : List ℕ) (at : ℕ) {w w₁ at₂ w₂ : ℕ} {o o₁ o₂ :
   unfolding comparison enc-comparison symbol-of
   comparison-equal m q hs zero l = absurd (omega arith)
   comparison-equal m q hs (suc f) l =
-      let v = live toks at₂ (omega arith) in
+      let v = getD-positive toks at₂ (omega arith) in
       reads-bind _ (h f (omega arith)) (λ x. absurd (omega arith))
       (λ c i u. reads-next same-sign at₂ _ _ m
       (reads-bind _ (hs f (omega arith)) (λ x. x) (λ d j v. took j (writes-then (writes-instead (writes-then (writes-cell p refl) u) q refl) v))))
@@ -49,7 +50,7 @@ module _ (s toks : List ℕ) (at : ℕ) {w : ℕ} {o : List ℕ} where
   unfolding negation enc-negation symbol-of
   negation-not m p h zero l = absurd (omega arith)
   negation-not m p h (suc f) l =
-      let v = live toks at (omega arith) in
+      let v = getD-positive toks at (omega arith) in
       reads-next bang-sign at _ _ m (reads-bind _ (h f (omega arith)) (λ x. x) (λ a i u. took i (writes-then (writes-cell p refl) u)))
 
 -- ---- an atom
@@ -60,7 +61,7 @@ module _ (s toks : List ℕ) (at : ℕ) {w : ℕ} {o : List ℕ} where
   unfolding atom enc-atom symbol-of
   atom-nest m p a h b x zero k = absurd (omega arith)
   atom-nest m {at₂ = at₂} p a h b x (suc f) k =
-      let l = live toks at (omega arith) in
+      let l = getD-positive toks at (omega arith) in
       reads-before-numeral s toks at _ _ (omega arith)
       (reads-next open-sign at _ _ m
       (reads-bind _ (h f (omega arith)) (λ l. omega arith)
@@ -76,7 +77,7 @@ module _ (s toks : List ℕ) (at : ℕ) {w : ℕ} {o : List ℕ} where
     unfolding atom enc-atom symbol-of
     atom-value p g h zero k = absurd (omega arith)
     atom-value p g h (suc f) k =
-        let l = live toks at (omega arith) in
+        let l = getD-positive toks at (omega arith) in
         reads-on-numeral s toks at _ _ g h
         (took (omega arith) (writes-then (writes-cell p refl) (writes-cell q (ap (symbol-of s) e ∙ symbol-numeral s (getD toks at 0) g h))))
 
@@ -85,7 +86,7 @@ module _ (s toks : List ℕ) (at : ℕ) {w : ℕ} {o : List ℕ} where
       unfolding atom enc-atom symbol-of
       atom-variable n zero k = absurd (omega arith)
       atom-variable n (suc f) k =
-          let l = live toks at (omega arith) in
+          let l = getD-positive toks at (omega arith) in
           reads-past-numeral s toks at _ _ h
           (reads-other open-sign at _ _ (λ x. omega arith)
           (reads-at-name s toks at _ h
@@ -97,7 +98,7 @@ module _ (s toks : List ℕ) (at : ℕ) {w : ℕ} {o : List ℕ} where
       unfolding atom enc-atom symbol-of
       atom-apply m {w₃} {at₄} {w₄} {o₃} {o₄} r hs zero k = absurd (omega arith)
       atom-apply m {w₃} {at₄} {w₄} {o₃} {o₄} r hs (suc f) k =
-          let l = live toks (at + 1) (omega arith) in
+          let l = getD-positive toks (at + 1) (omega arith) in
           reads-past-numeral s toks at _ _ h
           (reads-other open-sign at _ _ (λ x. omega arith)
           (reads-at-name s toks at _ h
@@ -122,7 +123,7 @@ module _ (s toks : List ℕ) (at : ℕ) {w w₁ at₂ w₂ : ℕ} {o o₁ o₂ :
   unfolding data-list enc-datas symbol-of
   list-more m q hs zero k = absurd (omega arith)
   list-more m q hs (suc f) k =
-      let l = live toks at₂ (omega arith) in
+      let l = getD-positive toks at₂ (omega arith) in
       reads-bind _ (h f (omega arith)) (λ x. absurd (omega arith))
       (λ d i u. reads-next comma-sign at₂ _ _ m
       (reads-bind _ (hs f (omega arith)) (λ l. l)
@@ -150,7 +151,7 @@ module _ (s toks : List ℕ) (at : ℕ) {w w₁ at₂ w₂ : ℕ} {o o₁ o₂ :
       → (f : ℕ) → 5 * left toks at < f → Reads s toks enc-part w o at₄ w₄ o₄ (call f (rest s toks at))
   unfolding bind enc-part enc-call symbol-of
   call-given m {w₃} {at₄} {w₄} {o₃} {o₄} q hs f k =
-      let l = live toks at₂ (omega arith) in
+      let l = getD-positive toks at₂ (omega arith) in
       reads-bind _ h (λ x. absurd (omega arith))
       (λ x i u. subst (λ g. Reads s toks enc-part w o at₄ w₄ o₄ g)
       (sym (ap (λ g. bind g (λ ds us. found (Part.named x ds) us)) (given-some s toks at₂ f m) ∙ bind-assoc (data-list f (rest s toks (at₂ + 1))) _ _))

@@ -15,20 +15,14 @@ use Rattle.pcrl.specs.Tokens.{Token, sign, the, is?}
 use Rattle.pcrl.specs.Tree.{RawData, Conjunction, Comparison, Negation, Atom, RawDatas}
 use Rattle.pcrl.specs.Grammar.{no-variable, none-in-conjunction, none-in-comparison, none-in-negation, none-in-atom, no-variables, none-in}
 use Rattle.pcrl.specs.Print.{bracketed, print-data, print-conjunction, print-comparison, print-negation, print-atom, print-datas, print-given}
+use Rattle.laws.specs.Places.{getD-positive}
+use Rattle.laws.specs.Booleans.{and-true, and-assoc}
 use Rattle.lexer.specs.Cells.{cell-token}
 use Rattle.parser.specs.Call.{opens, called, all-called}
 use Rattle.parser.specs.Reading.{rest}
 use Rattle.lexer.proofs.Cells.{cell-sign, numeral-cell, name-cell}
 use Rattle.parser.proofs.Signs.{open-sign}
-use Rattle.parser.proofs.Reading.{live, rest-next, rest-past}
-
-and-assoc : (a b c : Bool) → and (and a b) c ≡ and a (and b c)
-and-assoc true b c = refl
-and-assoc false b c = refl
-
-and-true : (a : Bool) → and a true ≡ a
-and-true true = refl
-and-true false = refl
+use Rattle.parser.proofs.Reading.{rest-next, rest-past}
 
 bracket-opens : (ts : List Token) → opens (the "(" ∷ ts) ≡ true
 unfolding opens is? same? ℕ-discrete
@@ -105,7 +99,7 @@ given-called (some ds) us = datas-called ds (bytes ")") [] us bracket-shuts ∙ 
 
 -- ---- one name
 opens-next : (s toks : List ℕ) (at : ℕ) → getD toks at 0 ≡ 40 → opens (rest s toks at) ≡ true
-opens-next s toks at e = ap opens (rest-next s toks at (live toks at (omega arith)) ∙ ap (λ t. t ∷ rest s toks (at + 1)) (ap (cell-token s) e ∙ open-sign .is s)) ∙ bracket-opens (rest s toks (at + 1))
+opens-next s toks at e = ap opens (rest-next s toks at (getD-positive toks at (omega arith)) ∙ ap (λ t. t ∷ rest s toks (at + 1)) (ap (cell-token s) e ∙ open-sign .is s)) ∙ bracket-opens (rest s toks (at + 1))
 
 opens-not : (t : Token) (ts : List Token) → (t ≡ the "(" → ⊥) → opens (t ∷ ts) ≡ false
 unfolding opens

@@ -5,12 +5,13 @@ use Prim.Native.Nat.{ℕ, zero, suc, _+_, _*_, _≤_, _<_}
 use native.Mathlib.Omega.{arith}
 use lib.ListN.{length, getD}
 use Rattle.pcrl.specs.Grammar.{a-name, a-numeral, choice, sort-line, numerals, one-or-two, func-line, act-line, parameters, proc-line}
+use Rattle.laws.specs.Places.{getD-positive}
 use Rattle.parser.specs.Cells.{symbol-of, enc-name, enc-numeral, enc-param, enc-items, enc-choice, enc-sort, enc-func, enc-act, enc-proc}
 use Rattle.parser.specs.Call.{params}
 use Rattle.parser.specs.Reading.{rest, left, Ahead, Onward, Put, Expected, Reads, took}
 use Rattle.parser.proofs.Signs.{hash-sign, open-sign, close-sign, comma-sign, colon-sign, equals-sign, arrow-sign}
 use Rattle.parser.proofs.Writing.{writes-cell, writes-then}
-use Rattle.parser.proofs.Reading.{still-lost, left-below, live, reads-bind, reads-next, reads-other, reads-expect}
+use Rattle.parser.proofs.Reading.{still-lost, left-below, reads-bind, reads-next, reads-other, reads-expect}
 
 -- ---- sort
 pub sort-read : (s toks : List ℕ) (at : ℕ) {w w₁ at₂ w₂ at₃ w₃ : ℕ} {o o₁ o₂ o₃ : List ℕ} → Put o w 20 w₁ o₁ → Reads s toks enc-name w₁ o₁ at₂ w₂ o₂ (a-name (rest s toks at))
@@ -34,7 +35,7 @@ module _ (s toks : List ℕ) (at : ℕ) {w w₁ at₂ w₂ : ℕ} {o o₁ o₂ :
   unfolding numerals enc-items symbol-of
   numerals-more m hs zero l = absurd (omega arith)
   numerals-more m hs (suc f) l =
-      let v = live toks at₂ (omega arith) in
+      let v = getD-positive toks at₂ (omega arith) in
       reads-bind _ h (λ x. absurd (omega arith))
       (λ v i u. reads-next comma-sign at₂ _ _ m (reads-bind _ (hs f (omega arith)) (λ l. l) (λ vs j z. took j (writes-then (writes-then (writes-cell p refl) u) z))))
 
@@ -48,7 +49,7 @@ module _ (s toks : List ℕ) (at : ℕ) {w w₁ at₂ w₂ : ℕ} {o o₁ o₂ :
       → Put o₄ w₄ 18 w₅ o₅ → Reads s toks (enc-items enc-name) w o at₄ w₅ o₅ (one-or-two (rest s toks at))
   unfolding one-or-two enc-items symbol-of
   sorts-two m q k r =
-      let v = live toks at₂ (omega arith) in
+      let v = getD-positive toks at₂ (omega arith) in
       reads-bind _ h (λ x. absurd (omega arith))
       (λ v i u. reads-next hash-sign at₂ _ _ m
       (reads-bind _ k (λ l. l) (λ x j z. took j (writes-then (writes-then (writes-cell p refl) u) (writes-then (writes-then (writes-cell q refl) z) (writes-cell r refl))))))
@@ -82,7 +83,7 @@ module _ (s toks : List ℕ) (at : ℕ) {w w₁ at₂ w₂ : ℕ} {o o₁ o₂ :
   pub act-sorts : getD toks at₂ 0 ≡ 58 → {at₄ w₄ : ℕ} {o₄ : List ℕ} → Reads s toks (enc-items enc-name) w₂ o₂ at₄ w₄ o₄ (one-or-two (rest s toks (at₂ + 1))) → Reads s toks enc-act w o at₄ w₄ o₄ (act-line (rest s toks at))
   unfolding act-line enc-act symbol-of
   act-sorts m k =
-      let v = live toks at₂ (omega arith) in
+      let v = getD-positive toks at₂ (omega arith) in
       reads-bind _ h (λ x. absurd (omega arith))
       (λ x i u. reads-next colon-sign at₂ _ _ m (reads-bind _ k (λ l. l) (λ Ds j z. took j (writes-then (writes-cell p refl) (writes-then u z)))))
 
@@ -107,7 +108,7 @@ module _ (s toks : List ℕ) (at : ℕ) {w w₁ at₂ w₂ at₃ at₄ w₄ : �
   unfolding parameters enc-items symbol-of
   parameters-more m hs zero l = absurd (omega arith)
   parameters-more m hs (suc f) l =
-      let e = live toks at₄ (omega arith) in
+      let e = getD-positive toks at₄ (omega arith) in
       reads-bind _ h₂ (λ x. absurd (omega arith))
       (λ v i u. reads-expect colon-sign at₂ x₃ _ (λ x. absurd (omega arith))
       (λ i. reads-bind _ h₄ (λ x. absurd (omega arith))

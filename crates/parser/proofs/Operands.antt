@@ -8,12 +8,13 @@ use lib.ListN.{length, getD}
 use Rattle.pcrl.specs.Tokens.{Token}
 use Rattle.pcrl.specs.Reader.{Got, missing, found, Reader, bind}
 use Rattle.pcrl.specs.Grammar.{on, data-term, conjunction, comparison}
+use Rattle.laws.specs.Places.{getD-positive}
 use Rattle.parser.specs.Cells.{Symbol, ors, ands, first-ors, first-ands, symbol-of, more-ors, more-ands, enc-ors, enc-ands, enc-data, enc-conjunction, enc-comparison}
 use Rattle.parser.specs.Reading.{rest, left, Ahead, Put, Few, Writes, Reads}
 use Rattle.parser.specs.Reading as R
 use Rattle.parser.proofs.Signs.{Sign, or-sign, and-sign}
 use Rattle.parser.proofs.Writing.{writes-cell, writes-then, writes-over}
-use Rattle.parser.proofs.Reading.{live, on-next, on-other, then-reads}
+use Rattle.parser.proofs.Reading.{on-next, on-other, then-reads}
 use Rattle.parser.proofs.Words.{symbol-ors, symbol-ands}
 
 -- Where the definition's reader finds a value, its operands are written, and n stand behind the first; else `next` is past the end.
@@ -77,7 +78,7 @@ module _ (s toks : List ℕ) (at : ℕ) {w at₂ w₂ : ℕ} {o o₂ : List ℕ}
   unfolding data-term enc-ors more-ors
   or-more e hs zero l = absurd (omega arith)
   or-more e hs (suc f) l =
-      let v = live toks at₂ (omega arith) in
+      let v = getD-positive toks at₂ (omega arith) in
       counts-bind s toks _ (h f (omega arith)) (λ x. absurd (omega arith))
       (λ c i u. counts-next s toks or-sign at₂ _ _ e (counts-more s toks _ (hs f (omega arith)) (λ d j z q. took j (writes-then u z) (omega arith))))
 
@@ -108,7 +109,7 @@ module _ (s toks : List ℕ) (at : ℕ) {w at₂ w₂ : ℕ} {o o₂ : List ℕ}
   unfolding conjunction enc-ands more-ands
   and-more e hs zero l = absurd (omega arith)
   and-more e hs (suc f) l =
-      let v = live toks at₂ (omega arith) in
+      let v = getD-positive toks at₂ (omega arith) in
       counts-bind s toks _ (h f (omega arith)) (λ x. absurd (omega arith))
       (λ c i u. counts-next s toks and-sign at₂ _ _ e (counts-more s toks _ (hs f (omega arith)) (λ d j z q. took j (writes-then u z) (omega arith))))
 

@@ -8,12 +8,13 @@ use Rattle.pcrl.specs.Tokens.{Token}
 use Rattle.pcrl.specs.Reader.{Got, found, bind}
 use Rattle.pcrl.specs.Tree.{Name, Part}
 use Rattle.pcrl.specs.Grammar.{expect, a-name, data-term, choice, conditional, sequence, part}
+use Rattle.laws.specs.Places.{getD-positive}
 use Rattle.parser.specs.Cells.{symbol-of, enc-name, enc-param, enc-data, enc-choice, enc-conditional, enc-sequence, enc-part}
 use Rattle.parser.specs.Call.{call, sum-head}
 use Rattle.parser.specs.Reading.{rest, left, Ahead, Put, Expected, Reads, took}
 use Rattle.parser.proofs.Signs.{open-sign, close-sign, plus-sign, comma-sign, dot-sign, colon-sign, if-sign, else-sign, sum-sign, delta-sign, tau-sign}
 use Rattle.parser.proofs.Writing.{writes-cell, writes-then, writes-instead}
-use Rattle.parser.proofs.Reading.{live, bind-assoc, reads-bind, reads-next, reads-other, reads-expect}
+use Rattle.parser.proofs.Reading.{bind-assoc, reads-bind, reads-next, reads-other, reads-expect}
 
 -- ---- a choice
 module _ (s toks : List ℕ) (at : ℕ) {w w₁ at₂ w₂ : ℕ} {o o₁ o₂ : List ℕ} (p : Put o w 6 w₁ o₁) (a : Ahead (length toks) at at₂)
@@ -29,7 +30,7 @@ module _ (s toks : List ℕ) (at : ℕ) {w w₁ at₂ w₂ : ℕ} {o o₁ o₂ :
   unfolding choice enc-choice symbol-of
   choice-plus m q hs zero l = absurd (omega arith)
   choice-plus m q hs (suc f) l =
-      let v = live toks at₂ (omega arith) in
+      let v = getD-positive toks at₂ (omega arith) in
       reads-bind _ (h f (omega arith)) (λ x. absurd (omega arith))
       (λ c i u. reads-next plus-sign at₂ _ _ m
       (reads-bind _ (hs f (omega arith)) (λ x. x) (λ d j v. took j (writes-then (writes-instead (writes-then (writes-cell p refl) u) q refl) v))))
@@ -50,7 +51,7 @@ module _ (s toks : List ℕ) (at : ℕ) {w w₁ at₂ w₂ : ℕ} {o o₁ o₂ :
   unfolding conditional enc-conditional symbol-of
   conditional-cond m q a₄ hd a₅ x a₆ hs zero l = absurd (omega arith)
   conditional-cond m {w₃} {at₄} {w₄} {at₅} q a₄ hd a₅ x a₆ hs (suc f) l =
-      let v = live toks at₂ (omega arith) in
+      let v = getD-positive toks at₂ (omega arith) in
       reads-bind _ (h f (omega arith)) (λ x. absurd (omega arith))
       (λ c i u. reads-next if-sign at₂ _ _ m
       (reads-bind _ (hd f (omega arith)) (λ l. omega arith)
@@ -72,7 +73,7 @@ module _ (s toks : List ℕ) (at : ℕ) {w w₁ at₂ w₂ : ℕ} {o o₁ o₂ :
   unfolding sequence enc-sequence symbol-of
   sequence-then m q hs zero l = absurd (omega arith)
   sequence-then m q hs (suc f) l =
-      let v = live toks at₂ (omega arith) in
+      let v = getD-positive toks at₂ (omega arith) in
       reads-bind _ (h f (omega arith)) (λ x. absurd (omega arith))
       (λ c i u. reads-next dot-sign at₂ _ _ m
       (reads-bind _ (hs f (omega arith)) (λ x. x) (λ d j v. took j (writes-then (writes-instead (writes-then (writes-cell p refl) u) q refl) v))))
@@ -99,13 +100,13 @@ module _ (s toks : List ℕ) (at : ℕ) {w : ℕ} {o : List ℕ} where
   pub part-delta : {w₁ : ℕ} {o₁ : List ℕ} → Put o w 12 w₁ o₁ → getD toks at 0 ≡ 166 → (f : ℕ) → 5 * left toks at + 1 < f → Reads s toks enc-part w o (at + 1) w₁ o₁ (part f (rest s toks at))
   unfolding part enc-part symbol-of
   part-delta p m zero l = absurd (omega arith)
-  part-delta p m (suc f) l = let v = live toks at (omega arith) in reads-next delta-sign at _ _ m (took (omega arith) (writes-cell p refl))
+  part-delta p m (suc f) l = let v = getD-positive toks at (omega arith) in reads-next delta-sign at _ _ m (took (omega arith) (writes-cell p refl))
 
   module _ (n₁ : getD toks at 0 ≡ 166 → ⊥) where
     pub part-tau : {w₁ : ℕ} {o₁ : List ℕ} → Put o w 13 w₁ o₁ → getD toks at 0 ≡ 167 → (f : ℕ) → 5 * left toks at + 1 < f → Reads s toks enc-part w o (at + 1) w₁ o₁ (part f (rest s toks at))
     unfolding part enc-part symbol-of
     part-tau p m zero l = absurd (omega arith)
-    part-tau p m (suc f) l = let v = live toks at (omega arith) in reads-other delta-sign at _ _ n₁ (reads-next tau-sign at _ _ m (took (omega arith) (writes-cell p refl)))
+    part-tau p m (suc f) l = let v = getD-positive toks at (omega arith) in reads-other delta-sign at _ _ n₁ (reads-next tau-sign at _ _ m (took (omega arith) (writes-cell p refl)))
 
     module _ (n₂ : getD toks at 0 ≡ 167 → ⊥) where
       pub part-sum : {w₁ at₂ w₂ at₃ w₃ at₄ : ℕ} {o₁ o₂ o₃ : List ℕ} → Put o w 16 w₁ o₁ → getD toks at 0 ≡ 165
@@ -116,7 +117,7 @@ module _ (s toks : List ℕ) (at : ℕ) {w : ℕ} {o : List ℕ} where
       unfolding part enc-part symbol-of
       part-sum p m a₂ h a₃ hs a₄ x zero l = absurd (omega arith)
       part-sum {w₁} {at₂} {w₂} {at₃} {w₃} {at₄} {o₁} {o₂} {o₃} p m a₂ h a₃ hs a₄ x (suc f) l =
-          let v = live toks at (omega arith) in
+          let v = getD-positive toks at (omega arith) in
           reads-other delta-sign at _ _ n₁
           (reads-other tau-sign at _ _ n₂
           (reads-next sum-sign at _ _ m
@@ -134,7 +135,7 @@ module _ (s toks : List ℕ) (at : ℕ) {w : ℕ} {o : List ℕ} where
         unfolding part enc-part symbol-of
         part-group p m a₂ hs a₃ x zero l = absurd (omega arith)
         part-group {at₂ = at₂} p m a₂ hs a₃ x (suc f) l =
-            let v = live toks at (omega arith) in
+            let v = getD-positive toks at (omega arith) in
             reads-other delta-sign at _ _ n₁
             (reads-other tau-sign at _ _ n₂
             (reads-other sum-sign at _ _ n₃

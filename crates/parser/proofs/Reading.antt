@@ -11,6 +11,7 @@ use lib.Seq.{drop-cons}
 use Rattle.pcrl.specs.Tokens.{Token, the, is?}
 use Rattle.pcrl.specs.Reader.{Got, missing, found, bind}
 use Rattle.pcrl.specs.Grammar.{on, fail, expect}
+use Rattle.laws.specs.Places.{getD-positive}
 use Rattle.grammar.specs.Ahead.{on-sign}
 use Rattle.lexer.specs.Cells.{cell-token}
 use Rattle.parser.specs.Cells.{Symbol}
@@ -30,14 +31,6 @@ ahead-on n at a b = omega arith
 
 pub left-below : (toks : List ℕ) (at : ℕ) {f : ℕ} → length toks < f → left toks at < f
 left-below toks at l = omega arith
-
--- a token that is not 0 stands within the list
-pub live : (toks : List ℕ) (at : ℕ) → 0 < getD toks at 0 → at < length toks
-live toks at h = by (decLt at (length toks))
-  where
-    by : Dec (at < length toks) → at < length toks
-    by (yes l) = l
-    by (no l) = let z = List·getD-eq-default toks 0 {n = at} (omega arith) in absurd (omega arith)
 
 pub rest-next : (s toks : List ℕ) (at : ℕ) → at < length toks → rest s toks at ≡ cell-token s (getD toks at 0) ∷ rest s toks (at + 1)
 unfolding rest
@@ -59,7 +52,7 @@ module _ {c : ℕ} {t : String} (S : Sign c t) (s toks : List ℕ) (at : ℕ) wh
   pub on-next : {A : Type 0} (behind other : List Token → Got Token A) → getD toks at 0 ≡ c → on t behind other (rest s toks at) ≡ behind (rest s toks (at + 1))
   on-next behind other e =
       let p = S .some in
-      ap (on t behind other) (rest-next s toks at (live toks at (omega arith)) ∙ ap (λ x. x ∷ rest s toks (at + 1)) (ap (cell-token s) e ∙ S .is s)) ∙ on-sign t behind other (rest s toks (at + 1))
+      ap (on t behind other) (rest-next s toks at (getD-positive toks at (omega arith)) ∙ ap (λ x. x ∷ rest s toks (at + 1)) (ap (cell-token s) e ∙ S .is s)) ∙ on-sign t behind other (rest s toks (at + 1))
 
   pub on-other : {A : Type 0} (behind other : List Token → Got Token A) → (getD toks at 0 ≡ c → ⊥) → on t behind other (rest s toks at) ≡ other (rest s toks at)
   unfolding on
@@ -90,7 +83,7 @@ module _ (s toks : List ℕ) {B : Type 0} (G : Got Token B → Type 0) where
   unfolding expect bind fail
   then-expect {c} {t} S at (next h) k f g =
       let p = S .some in
-      let l = live toks at (omega arith) in
+      let l = getD-positive toks at (omega arith) in
       subst (λ x. G (bind x k)) (sym (on-next S s toks at _ _ h)) (g (omega arith))
   then-expect {c} {t} S at (wrong n) k f g = subst (λ x. G (bind x k)) (sym (on-other S s toks at _ _ n)) (f (omega arith))
 

@@ -11,6 +11,7 @@ use lib.Seq.{getD-set-same, getD-set-other}
 use Rattle.pcrl.specs.Tokens.{Token}
 use Rattle.pcrl.specs.Reader.{Got, missing, found, bind, Reader, all}
 use Rattle.pcrl.specs.Grammar.{lines}
+use Rattle.laws.specs.Places.{getD-positive}
 use Rattle.parser.specs.Cells.{Symbol}
 use Rattle.parser.specs.Reading.{rest, left, Ahead, Onward, Put, Few, Writes, Expected, Reads}
 use Rattle.parser.specs.Runs.{Placed, Ran, lost, took}
@@ -18,7 +19,7 @@ use Rattle.parser.specs.Kinds.{kind-of, sort-kind, func-kind, act-kind, 
 use Rattle.parser.specs.declared.Run.{Run}
 use Rattle.parser.proofs.Signs.{Sign, semicolon-sign, sort-sign, func-sign, act-sign, proc-sign}
 use Rattle.parser.proofs.Writing.{writes-nothing, writes-then}
-use Rattle.parser.proofs.Reading.{live, on-next, on-other, then-reads, then-expect}
+use Rattle.parser.proofs.Reading.{on-next, on-other, then-reads, then-expect}
 
 pub sort-kind-is : (c : ℕ) → c ≡ 160 → kind-of c ≡ sort-kind
 unfolding kind-of
@@ -111,7 +112,7 @@ module _ {c : ℕ} {word : String} (S : Sign c word) {A : Type 0} {enc : A → L
     run-more zero l = absurd (omega arith)
     run-more (suc f) l =
         let t = S .some in
-        let d = live toks at (omega arith) in
+        let d = getD-positive toks at (omega arith) in
         subst (λ g. Ran s toks enc w o n p r o₃ p₃ g) (sym (on-next S s toks at _ _ e))
         (then-reads s toks (λ g. Ran s toks enc w o n p r o₃ p₃ g) _ h (λ k. lost (omega arith))
         (λ y i u. then-expect s toks (λ g. Ran s toks enc w o n p r o₃ p₃ g) semicolon-sign at₂ x _ (λ k. lost (omega arith))

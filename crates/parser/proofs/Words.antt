@@ -11,12 +11,13 @@ use Rattle.pcrl.specs.Tokens.{Token, name, numeral, sign, front}
 use Rattle.pcrl.specs.Tree.{Name}
 use Rattle.pcrl.specs.Reader.{Got, missing, found, bind}
 use Rattle.pcrl.specs.Grammar.{a-name, a-numeral, on-numeral}
+use Rattle.laws.specs.Places.{getD-positive}
 use Rattle.lexer.specs.Cells.{spelling, cell-token}
 use Rattle.parser.specs.Cells.{Symbol, token, ors, ands, first-ors, first-ands, symbol-of, enc-name, enc-numeral}
 use Rattle.parser.specs.Reading.{rest, Put, Few, Writes, Reads, lost, took}
 use Rattle.lexer.proofs.Cells.{cell-sign, numeral-cell, name-cell}
 use Rattle.parser.proofs.Writing.{writes-cell, writes-known}
-use Rattle.parser.proofs.Reading.{live, rest-next, rest-past}
+use Rattle.parser.proofs.Reading.{rest-next, rest-past}
 
 -- the name of a cell
 abbrev pub name-at : List ℕ → ℕ → Name
@@ -57,10 +58,10 @@ writes-name {s} {toks} at p e h = writes-known p (λ few. ap (symbol-of s) e ∙
 
 module _ (s toks : List ℕ) (at : ℕ) where
   rest-name : 1024 ≤ getD toks at 0 → rest s toks at ≡ name (name-at s (getD toks at 0)) ∷ rest s toks (at + 1)
-  rest-name h = rest-next s toks at (live toks at (omega arith)) ∙ ap (λ t. t ∷ rest s toks (at + 1)) (name-cell s (getD toks at 0) h)
+  rest-name h = rest-next s toks at (getD-positive toks at (omega arith)) ∙ ap (λ t. t ∷ rest s toks (at + 1)) (name-cell s (getD toks at 0) h)
 
   rest-numeral : 256 ≤ getD toks at 0 → getD toks at 0 < 1024 → rest s toks at ≡ numeral (getD toks at 0 - 256) ∷ rest s toks (at + 1)
-  rest-numeral g h = rest-next s toks at (live toks at (omega arith)) ∙ ap (λ t. t ∷ rest s toks (at + 1)) (numeral-cell s (getD toks at 0) g h)
+  rest-numeral g h = rest-next s toks at (getD-positive toks at (omega arith)) ∙ ap (λ t. t ∷ rest s toks (at + 1)) (numeral-cell s (getD toks at 0) g h)
 
   rest-sign : at < length toks → getD toks at 0 < 256 → rest s toks at ≡ sign (spelling (getD toks at 0)) ∷ rest s toks (at + 1)
   rest-sign l h = rest-next s toks at l ∙ ap (λ t. t ∷ rest s toks (at + 1)) (cell-sign s (getD toks at 0) h)
@@ -136,12 +137,12 @@ module _ (s toks : List ℕ) {A : Type 0} {enc : A → List Symbol} {w : ℕ} {o
 module _ (s toks : List ℕ) (at : ℕ) {w v w′ : ℕ} {o o′ : List ℕ} (p : Put o w v w′ o′) (e : v ≡ getD toks at 0) where
   pub reads-name : 1024 ≤ getD toks at 0 → Reads s toks enc-name w o (at + 1) w′ o′ (a-name (rest s toks at))
   reads-name h =
-      let l = live toks at (omega arith) in
+      let l = getD-positive toks at (omega arith) in
       subst (λ g. Reads s toks enc-name w o (at + 1) w′ o′ g) (sym (name-next s toks at h)) (took (omega arith) (writes-name at p e h))
 
   pub reads-numeral : 256 ≤ getD toks at 0 → getD toks at 0 < 1024 → Reads s toks enc-numeral w o (at + 1) w′ o′ (a-numeral (rest s toks at))
   reads-numeral g h =
-      let l = live toks at (omega arith) in
+      let l = getD-positive toks at (omega arith) in
       subst (λ g. Reads s toks enc-numeral w o (at + 1) w′ o′ g) (sym (numeral-next s toks at g h)) (took (omega arith) (writes-cell p (ap (symbol-of s) e ∙ symbol-numeral s (getD toks at 0) g h)))
 
 -- a reader that finds nothing

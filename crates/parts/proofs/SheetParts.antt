@@ -13,6 +13,7 @@ use Rattle.pcrl.specs.Tests.{Every}
 use Rattle.pcrl.specs.Reader.{all}
 use Rattle.pcrl.specs.Sheet.{Proc, delta, atom, alt, cond, sum, seq, call, Process, Sheet, no-process}
 use Rattle.pcrl.specs.Parts.{NewPart, if-after, new-parts, new-count, all-new-parts}
+use Rattle.laws.specs.Written.{all-append}
 use Rattle.laws.specs.Every.{every-at}
 use Rattle.theory.specs.Standing.{RightProcess}
 use Rattle.nodes.specs.declared.Outline.{Outline}
@@ -28,7 +29,7 @@ use Rattle.parts.specs.declared.Noted.{Noted}
 use Rattle.parts.specs.Rows.{row-width, params-bytes, RowsKept, RowsOf}
 use Rattle.parts.specs.Walking.{Fit, Few, PartsPut, PutsParts}
 use Rattle.parts.specs.Sheets.{count-cut, Loads, Placed, CountsParts, AllPut, PutsAll}
-use Rattle.parts.proofs.WalkLaws.{all-append, rows-append}
+use Rattle.parts.proofs.WalkLaws.{rows-append}
 
 -- ---- how many
 if-after-length : (b : Bool) (Γ Δ : List ℕ) (p : Proc) → length (if-after b Γ p) ≡ length (if-after b Δ p)

@@ -14,6 +14,8 @@ use Rattle.pcrl.specs.Table.{Equation, params-of}
 use Rattle.pcrl.specs.Blocks.{concatenated}
 use Rattle.pcrl.specs.Stream.{encode-numbers, encode-list}
 use Rattle.pcrl.specs.Heads.{equation-of, table-of}
+use Rattle.laws.specs.Written.{all-append}
+use Rattle.laws.specs.Tabulated.{tabulate-alike, map-tabulate}
 use Rattle.codec.specs.Cut.{concatenated-alike}
 use Rattle.nodes.specs.declared.Outline.{Outline}
 use Rattle.nodes.specs.Layout.{byte-limit}
@@ -25,15 +27,9 @@ use Rattle.emit.proofs.Signed.{concatenated-all, row-is}
 use Rattle.parts.specs.declared.Noted.{Noted}
 use Rattle.parts.specs.Rows.{row-width, no-part, part-params, params-bytes}
 use Rattle.parts.specs.Sheets.{Placed, AllPut, PutsAll, all-params, PutsParams}
-use Rattle.parts.proofs.WalkLaws.{all-append}
 
 -- ---- lists by their places
 module _ {A : Type 0} where
-  pub tabulate-alike : (n : ℕ) (f g : ℕ → A) → ((i : ℕ) → i < n → f i ≡ g i) → tabulate n f ≡ tabulate n g
-  unfolding tabulate
-  tabulate-alike zero f g h = refl
-  tabulate-alike (suc n) f g h = ap₂ _∷_ (h zero (omega arith)) (tabulate-alike n (λ i. f (suc i)) (λ i. g (suc i)) (λ i k. h (suc i) (omega arith)))
-
   tabulate-append : (a b : ℕ) (f : ℕ → A) → tabulate (a + b) f ≡ tabulate a f ++ tabulate b (λ j. f (a + j))
   unfolding tabulate
   tabulate-append zero b f =
@@ -45,11 +41,6 @@ module _ {A : Type 0} where
       ∙ ap (λ (l : List A). f zero ∷ l)
       (tabulate-append a b (λ i. f (suc i))
       ∙ ap (λ (l : List A). tabulate a (λ i. f (suc i)) ++ l) (tabulate-alike b (λ j. f (suc (a + j))) (λ j. f (suc a + j)) (λ j h. let y : suc (a + j) ≡ suc a + j = omega arith in ap f y)))
-
-  map-tabulate : {B : Type 0} (g : A → B) (n : ℕ) (f : ℕ → A) → map g (tabulate n f) ≡ tabulate n (λ i. g (f i))
-  unfolding tabulate
-  map-tabulate g zero f = refl
-  map-tabulate {B} g (suc n) f = ap (λ (l : List B). g (f zero) ∷ l) (map-tabulate g n (λ i. f (suc i)))
 
   list-tabulate : {B : Type 0} (g : A → B) (l : List A) (d : A) → tabulate (length l) (λ i. g (getD l i d)) ≡ map g l
   unfolding tabulate

@@ -10,6 +10,7 @@ use lib.Seq.{getD-append-add}
 use Rattle.pcrl.specs.Reader.{all}
 use Rattle.pcrl.specs.Sheet.{Proc, Sheet}
 use Rattle.pcrl.specs.Parts.{NewPart, new-parts, marks, count}
+use Rattle.laws.specs.Written.{all-append}
 use Rattle.nodes.specs.Layout.{enc}
 use Rattle.nodes.specs.Scoped.{max-scope}
 use Rattle.marking.specs.Marks.{bits}
@@ -19,11 +20,6 @@ use Rattle.parts.specs.declared.PartWalk.{PartWalk}
 use Rattle.parts.specs.Rows.{row-width, no-part, params-bytes, RowOf, RowsKept, RowsOf}
 use Rattle.parts.specs.Walking.{Fit, Ahead, Few, Onward, Steps, Rises, PartsPut, PutsParts}
 use Rattle.parts.proofs.AheadLaws.{ahead-start, ahead-end, ahead-many, ahead-done}
-
-pub all-append : {A : Type 0} (w : A → List ℕ) (l m : List A) → all w (l ++ m) ≡ all w l ++ all w m
-unfolding all
-all-append w [] m = refl
-all-append w (a ∷ l) m = ap (λ (k : List ℕ). w a ++ k) (all-append w l m) ∙ sym (append-assoc (w a) (all w l) (all w m))
 
 -- a row that stays
 pub row-kept : (cells rows rows′ : List ℕ) (k l : ℕ) (x : NewPart) → RowsKept rows l rows′ → k < l → RowOf cells rows k x → RowOf cells rows′ k x

@@ -1,6 +1,6 @@
 -- "The walk": a program reads a sheet and takes step 0 up to 8 times. Its text, byte for byte.
 use mathlib.Core.List.{List, [], _∷_, _++_}
-use Prim.Native.Nat.{ℕ, zero, suc, _+_}
+use Prim.Native.Nat.{ℕ, zero, suc}
 use Rattle.pcrl.specs.Text.{bytes, decimal}
 use Rattle.pcrl.specs.Limits.{frame-width, stack-limit}
 use Rattle.pcrl.specs.Result.{Result, refused, accepted}

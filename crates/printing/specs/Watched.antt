@@ -8,6 +8,7 @@ use Rattle.pcrl.specs.Text.{bytes}
 use Rattle.pcrl.specs.Tests.{and, same?, among}
 use Rattle.pcrl.specs.Tokens.{Token, name, numeral, sign, the}
 use Rattle.pcrl.specs.Print.{bracketed, joined, line}
+use Rattle.laws.specs.Booleans.{and-true}
 
 -- what a token is to the one who watches
 pub data Kind : Type 0 where
@@ -57,10 +58,6 @@ unfoldable pub apart : List Token → Bool
 apart ts = unmet (watched nothing ts)
 
 -- LAWS
-
-pub and-true : (b : Bool) → and b true ≡ b
-and-true true = refl
-and-true false = refl
 
 pub watched-append : (s : Watch) (ts us : List Token) → watched s (ts ++ us) ≡ watched (watched s ts) us
 unfolding watched

@@ -13,12 +13,13 @@ use Rattle.pcrl.specs.Tree.{RawData, Atom}
 use Rattle.pcrl.specs.Sheet.{Data, val, var, app, Datas, nil, cons, list-of, Sig, Operation, operation}
 use Rattle.pcrl.specs.Print.{bracketed, print-data, print-conjunction, print-comparison, print-negation, print-atom, print-datas, print-given}
 use Rattle.pcrl.specs.Printer.{Shown, atom-shown, as-data, as-conjunction, as-comparison, as-negation, listed, in-brackets, applied, operand, shown-by, func-name, var-name, shown, all-shown, raw-data}
+use Rattle.laws.specs.Booleans.{and-true}
 use Rattle.grammar.specs.PrintLaws.{or-behind-prints, and-behind-prints, applied-given}
 use Rattle.printing.specs.Plain.{PlainUse, Plain, PlainAll}
 use Rattle.printing.specs.ShownLaws.{Property, Has, Everywhere, everywhere, operand-has}
 use Rattle.printing.specs.Sided.{is-value, all-values, sided-use, sided, all-sided}
 use Rattle.printing.specs.ResolvedData.{at}
-use Rattle.printing.specs.Watched.{kind, equals, other, Watch, nothing, behind-not, behind-value, behind-equals, met, next, watched, unmet, apart, and-true, watched-append, met-stays, then-other, all-pass}
+use Rattle.printing.specs.Watched.{kind, equals, other, Watch, nothing, behind-not, behind-value, behind-equals, met, next, watched, unmet, apart, watched-append, met-stays, then-other, all-pass}
 
 -- behind data that is apart, or not
 unfoldable after : Bool → Watch

@@ -16,11 +16,12 @@ use Rattle.pcrl.specs.Sheet.{Data, Act, tau, action, no-action, Sig, sort-name}
 use Rattle.pcrl.specs.Table.{Summand, Equation, Table}
 use Rattle.pcrl.specs.Print.{joined, print-data, print-given, print-choice, print-conditional, print-sequence, print-part, line, print-lines, print-sorts, print-values, print-sort, print-func, print-takes, print-act, print-param, print-params, print-proc, print-init, print-sheet}
 use Rattle.pcrl.specs.Printer.{numbered, atom-shown, as-data, in-brackets, side, wanting, choice-of, right-of, proc-name, var-name, raw-data, raw-act, raw-call, raw-sequence, raw-conditional, raw-sums, raw-summand, param-of, proc-line-of, init-line-of, printed}
+use Rattle.laws.specs.Booleans.{and-true, and-assoc}
 use Rattle.laws.specs.Tests.{both-pass, pass-both}
 use Rattle.laws.specs.Every.{every-of-all}
 use Rattle.printing.specs.Plain.{PlainAct, PlainTerm, PlainCond, PlainCall, PlainSummand, PlainEquation, PlainTable}
 use Rattle.printing.specs.Sided.{sided, Sided, SidedSummand, SidedTable}
-use Rattle.printing.specs.Watched.{kind, other, watched, next, unmet, apart, and-true, nothing-apart, then-other, other-first, bracketed-apart, all-pass, all-true, joined-apart, line-apart}
+use Rattle.printing.specs.Watched.{kind, other, watched, next, unmet, apart, nothing-apart, then-other, other-first, bracketed-apart, all-pass, all-true, joined-apart, line-apart}
 use Rattle.printing.specs.WatchedData.{given-apart, data-apart}
 
 -- TESTS ON LISTS
@@ -29,10 +30,6 @@ and-swap : (a b : Bool) → and a b ≡ and b a
 and-swap true b = sym (and-true b)
 and-swap false true = refl
 and-swap false false = refl
-
-and-regroup : (a b c : Bool) → and (and a b) c ≡ and a (and b c)
-and-regroup true b c = refl
-and-regroup false b c = refl
 
 -- of what is made of each element
 pass-map : {A B : Type 0} (P : A → Type 0) (f : B → Bool) (g : A → B) (h : A → Bool) → ((a : A) → P a → f (g a) ≡ h a) → (l : List A) → Every P l → all-pass f (map g l) ≡ all-pass h l
@@ -139,7 +136,7 @@ module _ (U : Table) where
     conditional-apart [] p h = refl
     conditional-apart (c ∷ cs) p h =
         wanting-apart (c .0) (raw-data S (c .1)) (side (raw-conditional S cs p))
-        ∙ (ap₂ and (data-apart (U .sig) Γ (c .1) (h .0 .1)) (side-apart (raw-conditional S cs p) ∙ conditional-apart cs p (h .1)) ∙ sym (and-regroup (sided (c .1)) _ (apart (print-sequence p))))
+        ∙ (ap₂ and (data-apart (U .sig) Γ (c .1) (h .0 .1)) (side-apart (raw-conditional S cs p) ∙ conditional-apart cs p (h .1)) ∙ sym (and-assoc (sided (c .1)) _ (apart (print-sequence p))))
 
   sums-apart : (n : ℕ) (Ds : List ℕ) (c : Conditional) → apart (print-conditional (raw-sums S n Ds c)) ≡ apart (print-conditional c)
   unfolding raw-sums print-choice kind among same? ℕ-discrete
@@ -213,7 +210,7 @@ unfolding all all-pass
 lines-apart s w e [] us = refl
 lines-apart s w e (l ∷ ls) us =
     ap apart (append-assoc (line s (w l)) (print-lines s w ls) us)
-    ∙ (line-apart s (w l) (print-lines s w ls ++ us) e ∙ (ap (and (apart (w l))) (lines-apart s w e ls us) ∙ sym (and-regroup (apart (w l)) _ (apart us))))
+    ∙ (line-apart s (w l) (print-lines s w ls ++ us) e ∙ (ap (and (apart (w l))) (lines-apart s w e ls us) ∙ sym (and-assoc (apart (w l)) _ (apart us))))
 
 proc-apart : (U : Table) (e : ℕ) (q : Equation) → PlainEquation U q → apart (print-proc (proc-line-of (U .sig) e q)) ≡ all-pass sided-summand (q .summands)
 unfolding print-proc proc-line-of kind among same? ℕ-discrete

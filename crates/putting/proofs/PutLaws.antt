@@ -15,6 +15,7 @@ use Rattle.pcrl.specs.Values.{put-data}
 use Rattle.pcrl.specs.Table.{nodes}
 use Rattle.pcrl.specs.Stream.{function-code, codes, encode-data}
 use Rattle.pcrl.specs.Heads.{look}
+use Rattle.laws.specs.Booleans.{false-not-true}
 use Rattle.laws.specs.TermLength.{narrow-length, max-term}
 use Rattle.nodes.specs.declared.Datum.{Datum}
 use Rattle.nodes.specs.Layout.{byte-limit, value-tag, variable-tag, function-tag, enc-data, enc-datas}
@@ -27,9 +28,6 @@ use Rattle.putting.specs.Slots.{slot-width, Slot, Slots, Writable, Adds}
 use Rattle.putting.specs.Puts.{node-nodes, node-bytes, Shares, NodePut, Puts}
 use Rattle.putting.proofs.Bytes.{cell-more, adds-then}
 use Rattle.putting.proofs.Opening.{put-bytes, put-nodes, bytes-open, nodes-open, nodes-left, by-code, put-narrow, kids-writable}
-
-pub never : {A : Type 0} → false ≡ true → A
-never e = absurd (subst T (sym e) tt)
 
 -- what is marked as too long is
 pub short : (k m : ℕ) → (max-nodes < k → max-nodes < m) → m ≤ max-nodes → k ≤ max-nodes
@@ -187,7 +185,7 @@ module _ (cells : List ℕ) (at : ℕ) (slots : List ℕ) (n w : ℕ) (o : List 
 
     pub put-done : need ≡ 0 → k ≤ max-nodes → Puts cells at slots n w o (record { ok = true; nodes = k; w = v; next = p }) out
     unfolding enc-datas put-bytes put-nodes
-    put-done z few d rest σ e s a = (λ t. go (left d rest σ e s a .terms) (left d rest σ e s a .many) (left d rest σ e s a .place) (left d rest σ e s a .bytes) (left d rest σ e s a .nodes-are), λ t. never (sym t))
+    put-done z few d rest σ e s a = (λ t. go (left d rest σ e s a .terms) (left d rest σ e s a .many) (left d rest σ e s a .place) (left d rest σ e s a .bytes) (left d rest σ e s a .nodes-are), λ t. false-not-true (sym t))
       where
         go : (es : List Data) → length es ≡ need → drop p cells ≡ enc-datas es ++ rest → take v out ++ put-bytes σ es ≡ take w o ++ encode-data (put-data (look σ) d) → k + put-nodes σ es ≡ nodes (put-data (look σ) d)
             → (k ≡ nodes (put-data (look σ) d)) × (nodes (put-data (look σ) d) ≤ max-nodes) × Adds (encode-data (put-data (look σ) d)) w o v out × (drop p cells ≡ rest)
@@ -224,7 +222,7 @@ module _ (cells : List ℕ) (at : ℕ) (slots : List ℕ) (n w : ℕ) (o : List 
       -- too many nodes
       pub put-long : max-nodes + 1 < k + r .nodes + need → (q : ℕ) (o′ : List ℕ) → Puts cells at slots n w o (record { ok = false; nodes = 0; w = q; next = at }) o′
       unfolding Every
-      put-long big q o′ d rest σ e s a = (λ t. never t, λ t. go (left d rest σ e s a .terms) (left d rest σ e s a .many) (left d rest σ e s a .place) (left d rest σ e s a .writable) (left d rest σ e s a .nodes-are))
+      put-long big q o′ d rest σ e s a = (λ t. false-not-true t, λ t. go (left d rest σ e s a .terms) (left d rest σ e s a .many) (left d rest σ e s a .place) (left d rest σ e s a .writable) (left d rest σ e s a .nodes-are))
         where
           go : (es : List Data) → length es ≡ need → drop p cells ≡ enc-datas es ++ rest → Every (Writable n) es → k + put-nodes σ es ≡ nodes (put-data (look σ) d) → max-nodes < nodes (put-data (look σ) d)
           go [] c f wr g = absurd (omega arith)
@@ -241,7 +239,7 @@ module _ (cells : List ℕ) (at : ℕ) (slots : List ℕ) (n w : ℕ) (o : List 
       -- too many bytes, so too many nodes
       pub put-wide : w ≤ length o → v ≤ length out → w + max-term < v + r .bytes → r .nodes ≤ max-nodes → (q : ℕ) (o′ : List ℕ) → Puts cells at slots n w o (record { ok = false; nodes = 0; w = q; next = at }) o′
       unfolding Every
-      put-wide wo vo big small q o′ d rest σ e s a = (λ t. never t, λ t. go (left d rest σ e s a .terms) (left d rest σ e s a .many) (left d rest σ e s a .place) (left d rest σ e s a .writable) (left d rest σ e s a .bytes))
+      put-wide wo vo big small q o′ d rest σ e s a = (λ t. false-not-true t, λ t. go (left d rest σ e s a .terms) (left d rest σ e s a .many) (left d rest σ e s a .place) (left d rest σ e s a .writable) (left d rest σ e s a .bytes))
         where
           go : (es : List Data) → length es ≡ need → drop p cells ≡ enc-datas es ++ rest → Every (Writable n) es → take v out ++ put-bytes σ es ≡ take w o ++ encode-data (put-data (look σ) d) → max-nodes < nodes (put-data (look σ) d)
           go [] c f wr b = absurd (omega arith)

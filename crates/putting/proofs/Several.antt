@@ -17,6 +17,7 @@ use Rattle.pcrl.specs.Table.{nodes}
 use Rattle.pcrl.specs.Stream.{encode-data}
 use Rattle.pcrl.specs.Right.{Small}
 use Rattle.pcrl.specs.Heads.{look}
+use Rattle.laws.specs.Booleans.{false-not-true}
 use Rattle.laws.specs.Lists.{getD-map}
 use Rattle.nodes.specs.Layout.{enc-data, enc-datas}
 use Rattle.nodes.specs.Views.{SkipsData}
@@ -25,7 +26,6 @@ use Rattle.putting.specs.declared.Done.{Done}
 use Rattle.laws.specs.TermLength.{max-term}
 use Rattle.putting.specs.Slots.{slot-width, Slot, Slots, Writable, Adds}
 use Rattle.putting.specs.Puts.{Puts, PutsAll, SlotPut, Fills}
-use Rattle.putting.proofs.PutLaws.{never}
 use Rattle.putting.proofs.Bytes.{kept-front}
 use Rattle.putting.proofs.Opening.{put-narrow}
 
@@ -58,7 +58,7 @@ module _ (cells : List ℕ) (at count : ℕ) (slots : List ℕ) (n w : ℕ) (o :
   module _ (p j v : ℕ) (out : List ℕ) (left : AllLeft p j v out) where
     pub terms-done : count ≤ j → PutsAll cells at count slots n w o (record { ok = true; w = v }) out
     unfolding all Every
-    terms-done h ds rest σ l e s a = (λ t. go (left ds rest σ l e s a .terms) (left ds rest σ l e s a .many) (left ds rest σ l e s a .bytes) (left ds rest σ l e s a .small), λ t. never (sym t))
+    terms-done h ds rest σ l e s a = (λ t. go (left ds rest σ l e s a .terms) (left ds rest σ l e s a .many) (left ds rest σ l e s a .bytes) (left ds rest σ l e s a .small), λ t. false-not-true (sym t))
       where
         go : (es : List Data) → length es + j ≡ count → take v out ++ all encode-data (map (put-data (look σ)) es) ≡ take w o ++ all encode-data (map (put-data (look σ)) ds)
             → (Every Small (map (put-data (look σ)) es) → Every Small (map (put-data (look σ)) ds))
@@ -90,7 +90,7 @@ module _ (cells : List ℕ) (at count : ℕ) (slots : List ℕ) (n w : ℕ) (o :
 
       pub terms-long : r .ok ≡ false → (q : ℕ) (o′ : List ℕ) → PutsAll cells at count slots n w o (record { ok = false; w = q }) o′
       unfolding all Every
-      terms-long bad q o′ ds rest σ l e s a = (λ t. never t, λ t. go (left ds rest σ l e s a .terms) (left ds rest σ l e s a .many) (left ds rest σ l e s a .place) (left ds rest σ l e s a .writable) (left ds rest σ l e s a .small-left))
+      terms-long bad q o′ ds rest σ l e s a = (λ t. false-not-true t, λ t. go (left ds rest σ l e s a .terms) (left ds rest σ l e s a .many) (left ds rest σ l e s a .place) (left ds rest σ l e s a .writable) (left ds rest σ l e s a .small-left))
         where
           go : (es : List Data) → length es + j ≡ count → drop p cells ≡ enc-datas es ++ rest → Every (Writable n) es → (Every Small (map (put-data (look σ)) ds) → Every Small (map (put-data (look σ)) es)) → ¬ (Every Small (map (put-data (look σ)) ds))
           go [] a f wr m z = absurd (omega arith)

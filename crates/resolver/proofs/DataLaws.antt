@@ -9,6 +9,7 @@ use Rattle.pcrl.specs.Tokens.{name, numeral}
 use Rattle.pcrl.specs.Tree.{Name, RawData, Atom, RawDatas}
 use Rattle.pcrl.specs.Names.{Names, number-of, resolve-data}
 use Rattle.pcrl.specs.Sheet.{Sig}
+use Rattle.laws.specs.Places.{getD-positive}
 use Rattle.parser.specs.Cells.{Symbol, tag}
 use Rattle.parser.specs.Cells.{enc-atom}
 use Rattle.parser.specs.Cells.{enc-data as raw-data, enc-datas as raw-datas}
@@ -26,7 +27,7 @@ use Rattle.resolver.specs.Writing.{Writes}
 use Rattle.resolver.specs.Resolving.{Outcome, lost, took, data-cells, atom-cells, datas-cells, count-of, _⊕_, ResolvesData, ResolvesAtom, ResolvesDatas}
 use Rattle.resolver.specs.Sorting.{scope-sorts, KnownSorts}
 use Rattle.resolver.proofs.Writing.{writes-nothing, writes-then, writes-cell, writes-instead}
-use Rattle.resolver.proofs.Symbols.{pair, first-tag, next, live, NumeralCell, numeral-is}
+use Rattle.resolver.proofs.Symbols.{pair, first-tag, next, NumeralCell, numeral-is}
 use Rattle.resolver.proofs.Lookup.{known, unknown, funcs-most}
 use Rattle.resolver.proofs.DataCells.{then-nothing, then-assoc, then-none, then-last, none-last, variable-unknown, variable-known, apply-unknown, apply-known, group-cells, datas-one, datas-more}
 
@@ -162,7 +163,7 @@ module _ (s raw names : List ℕ) (kinds : Kinds) (scope : List ℕ) (n at w : �
         on es g X q m ws (took {e = h} z d ws₂) = going es (g ++ h) d (q ∙ then-assoc g h (datas-cells N S σ Γ es)) (omega arith) (writes-then ws ws₂)
 
         by : Left raw (symbols s raw) rest N S σ Γ ds w o p v count o₁ → Left raw (symbols s raw) rest N S σ Γ ds w o (r .at) (r .w) (count + 1) o₂
-        by (gone z q) = let l = live raw p (omega arith) in absurd (omega arith)
+        by (gone z q) = let l = getD-positive raw p (omega arith) in absurd (omega arith)
         by (going (RawDatas.one d) g dr q m ws) = let t = first-tag s raw p 4 _ dr in absurd (omega arith)
         by (going (RawDatas.more d es) g dr q m ws) =
             on es g (data-cells N S σ Γ d) (q ∙ ap (λ x. some g ⊕ x) (datas-more N S σ Γ d es)) m ws (term N S d (raw-datas es ++ rest) f so (next s raw p (tag 5) _ dr .behind ∙ append-assoc (raw-data d) (raw-datas es) rest))
@@ -200,7 +201,7 @@ module _ (s raw names : List ℕ) (kinds : Kinds) (scope : List ℕ) (n at w : �
 
         by : Left raw (symbols s raw) rest N S σ Γ ds w o p v count o₁
             → Outcome raw (symbols s raw) rest w o (r .at) (r .w) o₂ (datas-cells N S σ Γ ds) × (r .at ≤ length raw → (count + 1 ≡ count-of ds) × (count + 1 < cell-limit))
-        by (gone z q) = let l = live raw p (omega arith) in absurd (omega arith)
+        by (gone z q) = let l = getD-positive raw p (omega arith) in absurd (omega arith)
         by (going (RawDatas.one d) g dr q m ws) =
             (on g (data-cells N S σ Γ d) (q ∙ ap (λ x. some g ⊕ x) (datas-one N S σ Γ d)) ws (term N S d rest f so (next s raw p (tag 4) _ dr .behind)), λ y. (omega arith, omega arith))
         by (going (RawDatas.more d es) g dr q m ws) = let t = first-tag s raw p 5 _ dr in absurd (omega arith)

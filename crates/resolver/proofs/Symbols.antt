@@ -115,11 +115,3 @@ pair s raw at k t l e =
 
 pub first-tag : (s raw : List ℕ) (at k : ℕ) (l : List Symbol) → drop at (symbols s raw) ≡ tag k ∷ l → getD raw at 0 ≡ k
 first-tag s raw at k l e = tag-cell s (getD raw at 0) k (next s raw at (tag k) l e .is)
-
--- a cell that is not 0 stands within the list
-pub live : (raw : List ℕ) (at : ℕ) → 0 < getD raw at 0 → at < length raw
-live raw at h = by (decLt at (length raw))
-  where
-    by : Dec (at < length raw) → at < length raw
-    by (yes l) = l
-    by (no l) = let z = List·getD-eq-default raw 0 {n = at} (omega arith) in absurd (omega arith)

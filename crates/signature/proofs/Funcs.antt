@@ -41,9 +41,6 @@ module _ (s : List ℕ) (at : ℕ) where
 
 -- A FUNCTION
 
-pub small-product : (a b : ℕ) → a < 256 → b < 256 → a * b ≤ 255 * 255
-small-product a b h k = mul-le-mul {n₁ = a} {m₁ = b} {n₂ = 255} {m₂ = 255} (omega arith) (omega arith)
-
 module _ (sizes : List ℕ) where
   pub volume-one : (l : List ℕ) (a : ℕ) → length l ≡ 1 → a ≡ getD sizes (getD l 0 0) 0 → a ≡ volume sizes l
   unfolding volume

@@ -14,13 +14,14 @@ use Rattle.pcrl.specs.Sheet.{Func, Action}
 use Rattle.pcrl.specs.Stream.{encode-func, encode-action}
 use Rattle.pcrl.specs.Right.{RightFunc, action-names}
 use Rattle.pcrl.specs.Decode.{read-all-sorts, read-func, read-action, layout-by, names-by, to-sig, read-sig}
+use Rattle.laws.specs.Tests.{of-true}
 use Rattle.laws.specs.Every.{every-weaken}
 use Rattle.codec.specs.StreamLaws.{list-law, func-law}
 use Rattle.terms.specs.Stands.{Standing, list-at}
 use Rattle.terms.specs.Laid.{Laid}
 use Rattle.terms.proofs.Rests.{test-bad, test-pass}
 use Rattle.terms.proofs.Places.{name-stands, list-is}
-use Rattle.action_names.proofs.Run.{holds, fails}
+use Rattle.action_names.proofs.Run.{fails}
 use Rattle.signature.specs.Reading.{names-there, SortsAt, SigRead}
 
 -- the names of actions that stand at places
@@ -62,7 +63,7 @@ module _ (s zs : List ℕ) (o : Option (List Name)) (i : ℕ) (sorts : read-all-
       pub sig-read : distinct (map (λ p. list-at s (p + 0)) acts) ≡ true → SigRead true o s k zs funcs acts
       unfolding Laid SigRead read-sig to-sig view pair bind
       sig-read e =
-          let right = holds (distinct (action-names (laid-acts .0))) (ap distinct (sym (names-at s (laid-acts .0) acts (laid-acts .2))) ∙ e) in (
+          let right = of-true (distinct (action-names (laid-acts .0))) (ap distinct (sym (names-at s (laid-acts .0) acts (laid-acts .2))) ∙ e) in (
             layout-by o,
             record { sorts = zs; sort-names = names-by o zs (laid-acts .0); funcs = laid-funcs .0; acts = laid-acts .0 },
             record {

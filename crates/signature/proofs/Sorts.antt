@@ -16,7 +16,7 @@ use Rattle.pcrl.specs.Lists.{firsts, seconds}
 use Rattle.pcrl.specs.Reader.{missing, found, bind, one, test, view, counted}
 use Rattle.pcrl.specs.Stream.{names-code, encode-numbers, encode-sort}
 use Rattle.pcrl.specs.Decode.{read-sizes, read-sort-name, read-sort, read-named-sorts, named-sorts, unnamed-sorts, read-all-sorts}
-use Rattle.laws.specs.Tests.{where-yes, where-no}
+use Rattle.laws.specs.Tests.{where-yes, where-no, of-true}
 use Rattle.pcrl.specs.Right.{RightSizes}
 use Rattle.codec.specs.StreamLaws.{sizes-law}
 use Rattle.signature.proofs.Funcs.{sizes-value}
@@ -26,7 +26,7 @@ use Rattle.terms.proofs.Places.{number-at, behind, list-is}
 use Rattle.terms.specs.Ends.{rests}
 use Rattle.terms.proofs.Rests.{number-end, number-bad, number-pass, pair-fail, pair-pass, test-bad, test-pass, missing-there}
 use Rattle.signature.specs.Reading.{BoolAt, names-there, SortsAt}
-use Rattle.action_names.proofs.Run.{holds, fails}
+use Rattle.action_names.proofs.Run.{fails}
 
 module _ (s : List ℕ) (at : ℕ) where
   pub sort-end : length s ≤ at → rests (read-sort (drop at s)) ≡ missing
@@ -139,7 +139,7 @@ module _ (s : List ℕ) (mark : getD s 0 0 ≡ names-code) (sorts : List ℕ) (n
       let l : length (take n sorts) ≡ n = length-take-le n sorts room in
       let sized : take n sizes ≡ map (λ p. getD s p 0) (take n sorts) = ap (λ (m : ℕ). take m sizes) (sym l) ∙ e in
       subst (λ (zs : List ℕ). SortsAt true s end zs true (take n sorts)) (sym sized)
-      (named-right s mark end (take n sorts) laid (first-at (λ p. getD s p 0) 0 ∙ b .0, first-at (λ p. list-at s (p + 1)) [] ∙ b .1) (holds _ d))
+      (named-right s mark end (take n sorts) laid (first-at (λ p. getD s p 0) 0 ∙ b .0, first-at (λ p. list-at s (p + 1)) [] ∙ b .1) (of-true _ d))
 
 pub named-missing : (s : List ℕ) → getD s 0 0 ≡ names-code → (e : ℕ) (places sizes′ places′ : List ℕ) (end′ : ℕ) → Laid false (counted (between? 1 max-sorts) read-sort (drop 1 s)) encode-sort s e places
     → SortsAt false s end′ sizes′ true places′

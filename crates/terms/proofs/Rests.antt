@@ -20,9 +20,6 @@ pub failed : {A : Type 0} (g : Got ℕ A) (ok : Bool) (ys : List ℕ) → rests 
 failed g true ys e h = absurd (let z : _≡_ {A = ℕ} 0 1 = cc in omega arith)
 failed g false ys e h = e
 
-pub not-so : {B : Type 0} → false ≡ true → B
-not-so e = absurd (let z : _≡_ {A = ℕ} 0 1 = cc in omega arith)
-
 -- where something is left, something was found
 pub found-there : {A : Type 0} (g : Got ℕ A) (ys : List ℕ) → rests g ≡ found tt ys → (a : A) × (g ≡ found a ys)
 unfolding rests

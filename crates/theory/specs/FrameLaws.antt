@@ -7,14 +7,12 @@ use lib.ListN.{length, getD, replicate, length-append, length-replicate}
 use Rattle.pcrl.specs.Sheet.{size}
 use Rattle.pcrl.specs.Table.{Table, equation}
 use Rattle.pcrl.specs.Stack.{Frame, InSorts, used, padded, RightFrame}
+use Rattle.laws.specs.Places.{getD-zeros}
 use Rattle.laws.specs.Every.{every-getD, every-replicate}
 use Rattle.laws.specs.Each.{each-length}
 
-past-zeros : (n i : ℕ) → _≡_ {A = ℕ} (getD (replicate n 0) i 0) 0
-past-zeros n i = every-getD (λ v. v ≡ 0) (replicate n 0) 0 i (every-replicate _ n 0 refl) refl
-
 past-values : (vs : List ℕ) (n i : ℕ) → length vs ≤ i → getD (vs ++ replicate n 0) i 0 ≡ 0
-past-values [] n i h = past-zeros n i
+past-values [] n i h = getD-zeros n i
 past-values (v ∷ vs) n zero h = absurd (omega arith)
 past-values (v ∷ vs) n (suc i) h = past-values vs n i (omega arith)
 

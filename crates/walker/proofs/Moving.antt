@@ -7,6 +7,7 @@ use borrow.Author.Tests.{eq-eqb, lt-ltb, le-ltb}
 use lib.Dec.{ltb, eqb}
 use Rattle.pcrl.specs.Tests.{and}
 use Rattle.pcrl.specs.Walk.{walk-steps}
+use Rattle.laws.specs.Booleans.{and-false}
 use Rattle.laws.specs.Tests.{eqb-other}
 use Rattle.asking.specs.declared.Told.{Told}
 use Rattle.walker.specs.declared.Walk.{Walk}
@@ -19,10 +20,6 @@ module _ (w : Walk) (r : Told) where
 
   keeps : counts w r ≡ false → (x : Walk) → x .depth ≡ w .depth → x .taken ≡ w .taken → x .last ≡ r → x ≡ moved-by w r
   keeps e x a b c = let z : x ≡ moved-if false w r = λ i. record { depth = a i; taken = b i; last = c i } in z ∙ by-counts false e
-
-  and-false : (a : Bool) → and a false ≡ false
-  and-false true = refl
-  and-false false = refl
 
   pub refused-keeps : ¬ (r .refused ≡ 0) → (x : Walk) → x .depth ≡ w .depth → x .taken ≡ w .taken → x .last ≡ r → x ≡ moved-by w r
   refused-keeps h = keeps (ap (λ (b : Bool). and b (and (ltb 1 (r .kind)) (ltb (w .taken) walk-steps))) (eqb-other (r .refused) 0 h))

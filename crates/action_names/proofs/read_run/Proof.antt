@@ -5,13 +5,15 @@ use native.Mathlib.Omega.{arith}
 use lib.ListN.{drop, getD, length}
 use borrow.Author.Tests.{not-false, not-true}
 use borrow.Author.Needs.{needs}
-use Rattle.action_names.proofs.Run.{fails, holds}
+use Rattle.laws.specs.Tests.{of-true}
+use Rattle.laws.specs.Booleans.{false-not-true}
+use Rattle.action_names.proofs.Run.{fails}
 use Rattle.pcrl.specs.Bytes.{name-byte}
 use Rattle.pcrl.specs.Limits.{max-name}
 use Rattle.pcrl.specs.Reader.{counted, one, times}
 use Rattle.pcrl.specs.Tests.{T?, between?}
 use Rattle.pcrl.specs.Tokens.{before}
-use Rattle.terms.proofs.Rests.{counted-bad, counted-end, counted-pass, not-so, number-bad, number-end, number-pass, times-done, times-fail, times-pass}
+use Rattle.terms.proofs.Rests.{counted-bad, counted-end, counted-pass, number-bad, number-end, number-pass, times-done, times-fail, times-pass}
 use Rattle.terms.specs.Ends.{rests}
 use Rattle.action_names.proofs.read_run.Statement.{statement}
 use Rattle.action_names.proofs.read_run.Tie as tie
@@ -24,16 +26,16 @@ abbrev μ-loop : tie.MeasureT-loop
 μ-loop s at n i₀ left₀ i left = left
 
 returns : tie.Need-returns Inv-loop μ-loop
-returns c = (counted-end (between? 1 max-name) (c .before .before .args .s .now) (c .before .before .args .at) (one (λ (b : ℕ). T? (name-byte b))) (c .if1 .taken), λ h. not-so h)
+returns c = (counted-end (between? 1 max-name) (c .before .before .args .s .now) (c .before .before .args .at) (one (λ (b : ℕ). T? (name-byte b))) (c .if1 .taken), λ h. false-not-true h)
 
 shared-slice-read-n : tie.Need-shared-slice-read-n Inv-loop μ-loop
 shared-slice-read-n c = omega arith
 
 returns-2 : tie.Need-returns-2 Inv-loop μ-loop
-returns-2 c = (counted-bad (between? 1 max-name) (c .before .before .before .before .args .s .now) (c .before .before .before .before .args .at) (one (λ (b : ℕ). T? (name-byte b))) (omega arith) (λ k. let l = k .0 in omega arith), λ h. not-so h)
+returns-2 c = (counted-bad (between? 1 max-name) (c .before .before .before .before .args .s .now) (c .before .before .before .before .args .at) (one (λ (b : ℕ). T? (name-byte b))) (omega arith) (λ k. let l = k .0 in omega arith), λ h. false-not-true h)
 
 returns-3 : tie.Need-returns-3 Inv-loop μ-loop
-returns-3 c = (counted-bad (between? 1 max-name) (c .before .before .before .before .before .args .s .now) (c .before .before .before .before .before .args .at) (one (λ (b : ℕ). T? (name-byte b))) (omega arith) (λ k. let l = k .1 in omega arith), λ h. not-so h)
+returns-3 c = (counted-bad (between? 1 max-name) (c .before .before .before .before .before .args .s .now) (c .before .before .before .before .before .args .at) (one (λ (b : ℕ). T? (name-byte b))) (omega arith) (λ k. let l = k .1 in omega arith), λ h. false-not-true h)
 
 add-i : tie.Need-add-i Inv-loop μ-loop
 add-i c = omega arith
@@ -43,7 +45,7 @@ loop-holds c = (omega arith, omega arith, ap rests (counted-pass (between? 1 max
 
 returns-4 : tie.Need-returns-4 Inv-loop μ-loop
 unfolding rests
-returns-4 c = (c .before .before .loop .inv .2 ∙ times-fail (one (λ (b : ℕ). T? (name-byte b))) (c .before .before .loop .left) ((c .before .before .loop .left) - 1) (drop (c .before .before .loop .i) (c .before .before .before .before .before .before .before .before .args .s .now)) (omega arith) (ap rests (number-end (λ (b : ℕ). T? (name-byte b)) (c .before .before .before .before .before .before .before .before .args .s .now) (c .before .before .loop .i) (c .if4 .taken))), λ h. not-so h)
+returns-4 c = (c .before .before .loop .inv .2 ∙ times-fail (one (λ (b : ℕ). T? (name-byte b))) (c .before .before .loop .left) ((c .before .before .loop .left) - 1) (drop (c .before .before .loop .i) (c .before .before .before .before .before .before .before .before .args .s .now)) (omega arith) (ap rests (number-end (λ (b : ℕ). T? (name-byte b)) (c .before .before .before .before .before .before .before .before .args .s .now) (c .before .before .loop .i) (c .if4 .taken))), λ h. false-not-true h)
 
 shared-slice-read-name-byte : tie.Need-shared-slice-read-name-byte Inv-loop μ-loop
 shared-slice-read-name-byte c = omega arith
@@ -53,7 +55,7 @@ name-byte-requires c κs = search needs
 
 returns-5 : tie.Need-returns-5 Inv-loop μ-loop
 unfolding rests
-returns-5 c = (c .before .before .before .before .before .loop .inv .2 ∙ times-fail (one (λ (b : ℕ). T? (name-byte b))) (c .before .before .before .before .before .loop .left) ((c .before .before .before .before .before .loop .left) - 1) (drop (c .before .before .before .before .before .loop .i) (c .before .before .before .before .before .before .before .before .before .before .before .args .s .now)) (omega arith) (ap rests (number-bad (λ (b : ℕ). T? (name-byte b)) (c .before .before .before .before .before .before .before .before .before .before .before .args .s .now) (c .before .before .before .before .before .loop .i) (omega arith) (fails (name-byte (getD (c .before .before .before .before .before .before .before .before .before .before .before .args .s .now) (c .before .before .before .before .before .loop .i) 0)) (sym (c .before .name-byte .ensures) ∙ not-true _ (c .if5 .taken))))), λ h. not-so h)
+returns-5 c = (c .before .before .before .before .before .loop .inv .2 ∙ times-fail (one (λ (b : ℕ). T? (name-byte b))) (c .before .before .before .before .before .loop .left) ((c .before .before .before .before .before .loop .left) - 1) (drop (c .before .before .before .before .before .loop .i) (c .before .before .before .before .before .before .before .before .before .before .before .args .s .now)) (omega arith) (ap rests (number-bad (λ (b : ℕ). T? (name-byte b)) (c .before .before .before .before .before .before .before .before .before .before .before .args .s .now) (c .before .before .before .before .before .loop .i) (omega arith) (fails (name-byte (getD (c .before .before .before .before .before .before .before .before .before .before .before .args .s .now) (c .before .before .before .before .before .loop .i) 0)) (sym (c .before .name-byte .ensures) ∙ not-true _ (c .if5 .taken))))), λ h. false-not-true h)
 
 add-i-2 : tie.Need-add-i-2 Inv-loop μ-loop
 add-i-2 c = omega arith
@@ -70,7 +72,7 @@ loop-again c = (
   omega arith,
   c .before .before .before .before .before .loop .inv .1,
   c .before .before .before .before .before .loop .inv .2
-      ∙ times-pass (one (λ (b : ℕ). T? (name-byte b))) (c .before .before .before .before .before .loop .left) ((c .before .before .before .before .before .loop .left) - 1) (drop (c .before .before .before .before .before .loop .i) (c .before .before .before .before .before .before .before .before .before .before .before .args .s .now)) (drop ((c .before .before .before .before .before .loop .i) + 1) (c .before .before .before .before .before .before .before .before .before .before .before .args .s .now)) (omega arith) (ap rests (number-pass (λ (b : ℕ). T? (name-byte b)) (c .before .before .before .before .before .before .before .before .before .before .before .args .s .now) (c .before .before .before .before .before .loop .i) ((c .before .before .before .before .before .loop .i) + 1) (omega arith) (omega arith) (holds (name-byte (getD (c .before .before .before .before .before .before .before .before .before .before .before .args .s .now) (c .before .before .before .before .before .loop .i) 0)) (sym (c .before .name-byte .ensures) ∙ not-false _ (c .if5 .left))))),
+      ∙ times-pass (one (λ (b : ℕ). T? (name-byte b))) (c .before .before .before .before .before .loop .left) ((c .before .before .before .before .before .loop .left) - 1) (drop (c .before .before .before .before .before .loop .i) (c .before .before .before .before .before .before .before .before .before .before .before .args .s .now)) (drop ((c .before .before .before .before .before .loop .i) + 1) (c .before .before .before .before .before .before .before .before .before .before .before .args .s .now)) (omega arith) (ap rests (number-pass (λ (b : ℕ). T? (name-byte b)) (c .before .before .before .before .before .before .before .before .before .before .before .args .s .now) (c .before .before .before .before .before .loop .i) ((c .before .before .before .before .before .loop .i) + 1) (omega arith) (omega arith) (of-true (name-byte (getD (c .before .before .before .before .before .before .before .before .before .before .before .args .s .now) (c .before .before .before .before .before .loop .i) 0)) (sym (c .before .name-byte .ensures) ∙ not-false _ (c .if5 .left))))),
 )
 
 returns-6 : tie.Need-returns-6 Inv-loop μ-loop

@@ -7,7 +7,8 @@ use Prim.Native.Nat.{ℕ}
 use lib.ListN.{getD}
 use Rattle.pcrl.specs.Sheet.{no-action, sort-name}
 use Rattle.pcrl.specs.Right.{AreSorts}
-use Rattle.asking.proofs.Values.{two-values, values-two}
+use Rattle.laws.specs.Places.{two-elements}
+use Rattle.asking.proofs.Values.{values-two}
 use Rattle.asking.proofs.EncodingLaws.{encode-refused, encode-kind, encode-tau, encode-named, encode-action, takes-sorts, encode-sort}
 use Rattle.asking.proofs.encode.Statement.{statement}
 use Rattle.asking.proofs.encode.Tie as tie
@@ -93,7 +94,7 @@ returns-4 c = λ T right x there deep.
     let is = c .before .before .before .name .ensures (T .sig) x in
     c .encode-step2 .ensures (encode-action T right (r .action) (c .before .before .before .name .result .now) is) (encode-sort T right Ds are 0 (c .before .before .sort-name .result .now) first) (encode-sort T right Ds are 1 (c .before .sort-name2 .result .now) second)
     ∙ encode-named (T .sig) r (omega (arith, c .before .before .before .before .before .before .before .before .before .before .before .before .if1)) (omega (arith, c .before .before .before .before .before .before .before .before .before .before .before .if2)) deep (λ e. omega (arith, c .before .before .before .before .before .before .before .before .before .before .if3)) (c .before .before .before .name .result .now) (c .before .before .sort-name .result .now) (c .before .sort-name2 .result .now) is first second (c .before .before .before .before .counted .result) (c .before .before .before .before .before .before .before .before .value .result) (c .before .before .before .before .before .before .value2 .result) (getD (r .values) 0 0) (getD (r .values) 1 0)
-    (two-values (r .values) (values-two r _ (c .before .before .before .before .before .before .before .before .before .before .before .before .before .before .before .before .good .1 .1 .1 .1 .0))) (c .before .before .before .before .counted .ensures) (c .before .before .before .before .before .before .before .before .value .ensures) (c .before .before .before .before .before .before .value2 .ensures)
+    (two-elements (r .values) (values-two r _ (c .before .before .before .before .before .before .before .before .before .before .before .before .before .before .before .before .good .1 .1 .1 .1 .0))) (c .before .before .before .before .counted .ensures) (c .before .before .before .before .before .before .before .before .value .ensures) (c .before .before .before .before .before .before .value2 .ensures)
 
 pub encode-spec : {M : Type 1} → statement M
 encode-spec =

@@ -3,7 +3,7 @@ use borrow.Author.Needs.{needs}
 use native.Mathlib.Omega.{arith}
 use Prim.Native.Nat.{_-_, suc}
 use mathlib.Core.Path.{_≡_, refl, sym, _∙_}
-use Rattle.putting.proofs.PutLaws.{never}
+use Rattle.laws.specs.Booleans.{false-not-true}
 use Rattle.contexts.proofs.Spotting.{failed-ok}
 use Rattle.contexts.proofs.Following.{call-none, call-wide, call-down}
 use Rattle.contexts.proofs.down_call.Statement.{statement}
@@ -14,8 +14,8 @@ fail-requires c κs = search needs
 
 returns : tie.Need-returns
 returns c = (
-  λ t. never (sym (failed-ok (c .before .before .before .before .before .before .before .before .args .s) _ (c .fail .ensures)) ∙ t),
-  λ counts vars conds calls vw is H F hs rd sp. (λ t. never (sym (failed-ok (c .before .before .before .before .before .before .before .before .args .s) _ (c .fail .ensures)) ∙ t), λ t. call-none (c .before .before .before .before .before .before .before .before .args .cells .now) (c .before .before .before .before .before .before .before .before .args .starts .now) counts (c .before .before .before .before .before .before .before .before .args .firsts .now) (c .before .before .before .before .before .before .before .before .args .s) (c .before .before .before .before .before .before .before .before .args .slots .now) vars conds calls (c .before .before .before .before .before .before .before .before .args .d) vw is H F hs rd sp (omega arith)),
+  λ t. false-not-true (sym (failed-ok (c .before .before .before .before .before .before .before .before .args .s) _ (c .fail .ensures)) ∙ t),
+  λ counts vars conds calls vw is H F hs rd sp. (λ t. false-not-true (sym (failed-ok (c .before .before .before .before .before .before .before .before .args .s) _ (c .fail .ensures)) ∙ t), λ t. call-none (c .before .before .before .before .before .before .before .before .args .cells .now) (c .before .before .before .before .before .before .before .before .args .starts .now) counts (c .before .before .before .before .before .before .before .before .args .firsts .now) (c .before .before .before .before .before .before .before .before .args .s) (c .before .before .before .before .before .before .before .before .args .slots .now) vars conds calls (c .before .before .before .before .before .before .before .before .args .d) vw is H F hs rd sp (omega arith)),
 )
 
 fail-requires-2 : tie.Need-fail-requires-2
@@ -23,8 +23,8 @@ fail-requires-2 c κs = search needs
 
 returns-2 : tie.Need-returns-2
 returns-2 c = (
-  λ t. never (sym (failed-ok (c .before .before .before .before .before .before .before .before .before .args .s) _ (c .fail2 .ensures)) ∙ t),
-  λ counts vars conds calls vw is H F hs rd sp. (λ t. never (sym (failed-ok (c .before .before .before .before .before .before .before .before .before .args .s) _ (c .fail2 .ensures)) ∙ t), λ t. call-wide (c .before .before .before .before .before .before .before .before .before .args .cells .now) (c .before .before .before .before .before .before .before .before .before .args .starts .now) counts (c .before .before .before .before .before .before .before .before .before .args .firsts .now) (c .before .before .before .before .before .before .before .before .before .args .s) (c .before .before .before .before .before .before .before .before .before .args .slots .now) vars conds calls (c .before .before .before .before .before .before .before .before .before .args .d) vw is H F hs rd sp (omega arith)),
+  λ t. false-not-true (sym (failed-ok (c .before .before .before .before .before .before .before .before .before .args .s) _ (c .fail2 .ensures)) ∙ t),
+  λ counts vars conds calls vw is H F hs rd sp. (λ t. false-not-true (sym (failed-ok (c .before .before .before .before .before .before .before .before .before .args .s) _ (c .fail2 .ensures)) ∙ t), λ t. call-wide (c .before .before .before .before .before .before .before .before .before .args .cells .now) (c .before .before .before .before .before .before .before .before .before .args .starts .now) counts (c .before .before .before .before .before .before .before .before .before .args .firsts .now) (c .before .before .before .before .before .before .before .before .before .args .s) (c .before .before .before .before .before .before .before .before .before .args .slots .now) vars conds calls (c .before .before .before .before .before .before .before .before .before .args .d) vw is H F hs rd sp (omega arith)),
 )
 
 put-slots-requires : tie.Need-put-slots-requires
@@ -50,7 +50,7 @@ returns-3 c = let y = c .before .before .before .before .before .before .before 
       λ t. (omega arith, λ lk ls b. record { fuel-small = omega (arith, b .fuel-small); n-small = omega (arith, b .n-small); n-room = omega (arith, b .n-room); m-small = omega (arith, b .m-small); c-small = omega (arith, b .c-small); nv-few = omega (arith, b .nv-few); nc-few = omega (arith, b .nc-few); lc-few = omega (arith, b .lc-few); nk-few = omega (arith, b .nk-few); top-in = omega (arith, b .top-in); top-room = omega (arith, b .top-room) }),
       λ counts vars conds calls vw is H F hs rd sp. (
         λ t. (call-down (c .before .before .before .before .before .before .before .before .before .before .before .before .before .before .before .args .cells .now) (c .before .before .before .before .before .before .before .before .before .before .before .before .before .before .before .args .starts .now) counts (c .before .before .before .before .before .before .before .before .before .before .before .before .before .before .before .args .firsts .now) (c .before .before .before .before .before .before .before .before .before .before .before .before .before .before .before .args .s) (c .before .before .before .before .before .before .before .before .before .before .before .before .before .before .before .args .slots .now) vars conds calls (c .before .before .before .before .before .before .before .before .before .before .before .before .before .before .before .args .d) vw is H F hs rd sp ((c .before .before .before .before .before .before .before .before .before .before .before .before .before .before .before .args .s) .fuel - 1) g (c .before .before .before .before .before .put-slots .last .1 .1 .1 .1 .1 .0) (c .before .before .before .before .before .put-slots .ensures) (c .before .before .cell .result) (c .before .byte .result) (c .before .before .cell .ensures .0) (c .before .byte .ensures .0), refl, refl, refl),
-        λ t. never (sym t),
+        λ t. false-not-true (sym t),
       ),
     )
 

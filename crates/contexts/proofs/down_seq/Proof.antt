@@ -5,7 +5,7 @@ use Prim.Native.Nat.{_-_}
 use mathlib.Core.Path.{refl, sym, _∙_}
 use borrow.Author.Tests.{not-true, not-false}
 use lib.ListN.{length}
-use Rattle.putting.proofs.PutLaws.{never}
+use Rattle.laws.specs.Booleans.{false-not-true}
 use Rattle.contexts.specs.Spots.{arrays}
 use Rattle.contexts.proofs.Spotting.{bound-failed, failed-ok}
 use Rattle.contexts.proofs.Down.{fails, seq-long, seq-down}
@@ -28,7 +28,7 @@ returns : tie.Need-returns
 returns c = (
   λ ls b. bound-failed (length (c .before .before .before .before .before .before .before .before .before .before .before .before .before .before .args .calls .now)) ls (c .before .before .before .before .before .before .before .before .before .before .before .before .before .before .args .s) b _ (c .fail .ensures),
   (
-    λ t. never (sym (failed-ok (c .before .before .before .before .before .before .before .before .before .before .before .before .before .before .args .s) _ (c .fail .ensures)) ∙ t),
+    λ t. false-not-true (sym (failed-ok (c .before .before .before .before .before .before .before .before .before .before .before .before .before .before .args .s) _ (c .fail .ensures)) ∙ t),
     λ starts counts firsts vars conds vw is ra. fails (c .before .before .before .before .before .before .before .before .before .before .before .before .before .before .args .cells .now) starts counts firsts (c .before .before .before .before .before .before .before .before .before .before .before .before .before .before .args .s) (arrays (c .before .before .before .before .before .before .before .before .before .before .before .before .before .before .args .slots .now) vars conds (c .before .before .before .before .before .before .before .before .before .before .before .before .before .before .args .calls .now)) (seq-long (c .before .before .before .before .before .before .before .before .before .before .before .before .before .before .args .cells .now) starts counts firsts (c .before .before .before .before .before .before .before .before .before .before .before .before .before .before .args .s) (c .before .before .before .before .before .before .before .before .before .before .before .before .before .before .args .slots .now) vars conds (c .before .before .before .before .before .before .before .before .before .before .before .before .before .before .args .calls .now) (c .before .before .before .before .before .before .before .before .before .before .before .before .before .before .args .d) vw is (c .before .before .before .before .before .before .before .before .before .before .before .before .before .before .args .e) ra (c .before .before .before .before .before .before .before .push-calls .result) (c .before .before .before .before .before .before .before .push-calls .last .1 .1 .1 .1 .1 .1 .0) (c .before .before .before .before .before .before .before .push-calls .ensures .1 .0) (not-true _ (c .before .if1 .taken))) _ (c .fail .ensures) _ (record { slots-kept = refl; vars-kept = refl; conds-kept = refl; calls-kept = c .before .before .before .before .before .before .before .push-calls .ensures .1 .1 .1 }),
   ),
 )

@@ -5,7 +5,7 @@ use Prim.Native.Nat.{ℕ, _+_, _-_}
 use mathlib.Core.Path.{refl, sym, ap, _∙_, subst}
 use borrow.Author.Tests.{not-true, not-false}
 use lib.ListN.{take, set, length-set}
-use Rattle.putting.proofs.PutLaws.{never}
+use Rattle.laws.specs.Booleans.{false-not-true}
 use Rattle.putting.specs.Puts.{Puts}
 use Rattle.contexts.proofs.Spotting.{bound-failed, failed-ok}
 use Rattle.contexts.proofs.Sides.{side-plain, side-many, side-long, side-cond}
@@ -28,7 +28,7 @@ returns-2 : tie.Need-returns-2
 returns-2 c = (
   λ ec lk ls b. bound-failed lk ls (c .before .before .before .before .before .before .before .before .args .s) b _ (c .fail .ensures),
   (
-    λ t. never (sym (failed-ok (c .before .before .before .before .before .before .before .before .args .s) _ (c .fail .ensures)) ∙ t),
+    λ t. false-not-true (sym (failed-ok (c .before .before .before .before .before .before .before .before .args .s) _ (c .fail .ensures)) ∙ t),
     side-many (c .before .before .before .before .before .before .before .before .args .cells .now) (c .before .before .before .before .before .before .before .before .args .d) (c .before .before .before .before .before .before .before .before .args .s) (c .before .before .before .before .before .before .before .before .args .e) (c .before .before .before .before .before .before .before .before .args .slots .now) (c .before .before .before .before .before .before .before .before .args .conds .now) (omega arith) (omega arith) _ (c .fail .ensures),
   ),
 )
@@ -56,7 +56,7 @@ returns-3 c = let p = subst (λ (x : ℕ). Puts (c .before .before .before .befo
     let p2 = c .before .before .before .before .before .put-term .ensures .1 .0 ∙ ap (λ (x : ℕ). take ((c .before .before .before .before .before .before .before .before .before .before .before .before .before .before .before .args .s) .lc + 1) (set (c .before .before .before .before .before .before .before .before .before .before .before .before .before .before .before .args .conds .now) ((c .before .before .before .before .before .before .before .before .before .before .before .before .before .before .before .args .s) .lc) x)) (c .before .before .before .before .before .before .before .wanted .ensures) in (
       λ ec lk ls b. bound-failed lk ls (c .before .before .before .before .before .before .before .before .before .before .before .before .before .before .before .args .s) b _ (c .fail2 .ensures),
       (
-        λ t. never (sym (failed-ok (c .before .before .before .before .before .before .before .before .before .before .before .before .before .before .before .args .s) _ (c .fail2 .ensures)) ∙ t),
+        λ t. false-not-true (sym (failed-ok (c .before .before .before .before .before .before .before .before .before .before .before .before .before .before .before .args .s) _ (c .fail2 .ensures)) ∙ t),
         side-long (c .before .before .before .before .before .before .before .before .before .before .before .before .before .before .before .args .cells .now) (c .before .before .before .before .before .before .before .before .before .before .before .before .before .before .before .args .d) (c .before .before .before .before .before .before .before .before .before .before .before .before .before .before .before .args .s) (c .before .before .before .before .before .before .before .before .before .before .before .before .before .before .before .args .e) (c .before .before .before .before .before .before .before .before .before .before .before .before .before .before .before .args .slots .now) (c .before .before .before .before .before .before .before .before .before .before .before .before .before .before .before .args .conds .now) (omega arith) (c .before .before .before .before .before .put-term .result) (c .before .before .before .before .before .put-term .last .1 .1 .1 .1 .0) p p2 (not-true _ (c .before .if3 .taken)) _ (c .fail2 .ensures),
       ),
     )

@@ -3,7 +3,7 @@ use borrow.Author.Needs.{needs}
 use native.Mathlib.Omega.{arith}
 use Prim.Native.Nat.{_-_}
 use mathlib.Core.Path.{refl, sym, _∙_}
-use Rattle.putting.proofs.PutLaws.{never}
+use Rattle.laws.specs.Booleans.{false-not-true}
 use Rattle.contexts.specs.Spots.{arrays}
 use Rattle.contexts.proofs.Spotting.{bound-failed, failed-ok, kept-same}
 use Rattle.contexts.proofs.Down.{fails, sum-many, sum-deep, sum-down}
@@ -17,7 +17,7 @@ returns : tie.Need-returns
 returns c = (
   λ lk ls b. bound-failed lk ls (c .before .before .before .before .args .s) b _ (c .fail .ensures),
   (
-    λ t. never (sym (failed-ok (c .before .before .before .before .args .s) _ (c .fail .ensures)) ∙ t),
+    λ t. false-not-true (sym (failed-ok (c .before .before .before .before .args .s) _ (c .fail .ensures)) ∙ t),
     λ cells starts counts firsts conds calls vw is. fails cells starts counts firsts (c .before .before .before .before .args .s) (arrays (c .before .before .before .before .args .slots .now) (c .before .before .before .before .args .vars .now) conds calls) (sum-many cells starts counts firsts (c .before .before .before .before .args .s) (c .before .before .before .before .args .slots .now) (c .before .before .before .before .args .vars .now) conds calls (c .before .before .before .before .args .d) vw is (omega arith)) _ (c .fail .ensures) _ (kept-same (c .before .before .before .before .args .s) _),
   ),
 )
@@ -29,7 +29,7 @@ returns-2 : tie.Need-returns-2
 returns-2 c = (
   λ lk ls b. bound-failed lk ls (c .before .before .before .before .before .args .s) b _ (c .fail2 .ensures),
   (
-    λ t. never (sym (failed-ok (c .before .before .before .before .before .args .s) _ (c .fail2 .ensures)) ∙ t),
+    λ t. false-not-true (sym (failed-ok (c .before .before .before .before .before .args .s) _ (c .fail2 .ensures)) ∙ t),
     λ cells starts counts firsts conds calls vw is. fails cells starts counts firsts (c .before .before .before .before .before .args .s) (arrays (c .before .before .before .before .before .args .slots .now) (c .before .before .before .before .before .args .vars .now) conds calls) (sum-deep cells starts counts firsts (c .before .before .before .before .before .args .s) (c .before .before .before .before .before .args .slots .now) (c .before .before .before .before .before .args .vars .now) conds calls (c .before .before .before .before .before .args .d) vw is (omega arith)) _ (c .fail2 .ensures) _ (kept-same (c .before .before .before .before .before .args .s) _),
   ),
 )

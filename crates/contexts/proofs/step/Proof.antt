@@ -4,7 +4,7 @@ use native.Mathlib.Omega.{arith}
 use Prim.Native.Nat.{_-_}
 use mathlib.Core.Path.{sym, _∙_}
 use lib.ListN.{length}
-use Rattle.putting.proofs.PutLaws.{never}
+use Rattle.laws.specs.Booleans.{false-not-true}
 use Rattle.contexts.specs.Spots.{arrays}
 use Rattle.contexts.proofs.Spotting.{bound-failed, failed-ok, kept-same}
 use Rattle.contexts.proofs.Down.{fails, other-none}
@@ -62,7 +62,7 @@ returns-3 c = let q = c .before .before .before .before .before .before .before 
     let j = c .before .if2 .left in (
       bound-failed (length (c .before .before .before .before .before .before .before .before .before .before .args .calls .now)) (length (c .before .before .before .before .before .before .before .before .before .before .args .slots .now)) (c .before .before .before .before .before .before .before .before .before .before .args .s) (q .3) _ (c .fail .ensures),
       (
-        λ t. never (sym (failed-ok (c .before .before .before .before .before .before .before .before .before .before .args .s) _ (c .fail .ensures)) ∙ t),
+        λ t. false-not-true (sym (failed-ok (c .before .before .before .before .before .before .before .before .before .before .args .s) _ (c .fail .ensures)) ∙ t),
         λ conds starts counts firsts n₁ n₂ n₃ n₄. fails (c .before .before .before .before .before .before .before .before .before .before .args .cells .now) starts counts firsts (c .before .before .before .before .before .before .before .before .before .before .args .s) (arrays (c .before .before .before .before .before .before .before .before .before .before .args .slots .now) (c .before .before .before .before .before .before .before .before .before .before .args .vars .now) conds (c .before .before .before .before .before .before .before .before .before .before .args .calls .now)) (other-none (c .before .before .before .before .before .before .before .before .before .before .args .cells .now) starts counts firsts (c .before .before .before .before .before .before .before .before .before .before .args .s) (arrays (c .before .before .before .before .before .before .before .before .before .before .args .slots .now) (c .before .before .before .before .before .before .before .before .before .before .args .vars .now) conds (c .before .before .before .before .before .before .before .before .before .before .args .calls .now)) (c .before .before .before .before .before .before .before .before .before .before .args .d) (q .2) (λ z. i z) (λ z. j z) n₁ n₂ n₃ n₄) _ (c .fail .ensures) _ (kept-same (c .before .before .before .before .before .before .before .before .before .before .args .s) _),
       ),
     )

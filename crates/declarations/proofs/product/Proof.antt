@@ -7,9 +7,9 @@ use Prim.Native.Nat.{ℕ, suc, _+_, _-_, _*_, _≤_, _<_, min}
 use lib.ListN.{length, getD, take, drop}
 use lib.Seq.{take-all}
 use Rattle.pcrl.specs.Text.{bytes, byte, decimal}
+use Rattle.laws.specs.Places.{small-product}
 use Rattle.texts.specs.Wrote.{Wrote}
 use Rattle.texts.proofs.Writing.{wrote-nothing, wrote-more, wrote-fits, wrote-as}
-use Rattle.evaluation.proofs.Bytes.{product-small}
 use Rattle.declarations.proofs.product.Statement.{statement}
 use Rattle.declarations.proofs.product.Tie as tie
 
@@ -20,10 +20,10 @@ wide-requires-2 : tie.Need-wide-requires-2
 wide-requires-2 c κs = search needs
 
 mul-result : tie.Need-mul-result
-mul-result c = omega (arith, product-small (c .before .wide .result) (c .wide2 .result) (c .before .wide .ensures .1) (c .wide2 .ensures .1))
+mul-result c = omega (arith, small-product (c .before .wide .result) (c .wide2 .result) (c .before .wide .ensures .1) (c .wide2 .ensures .1))
 
 returns : tie.Need-returns
-returns c = (ap₂ (λ (x y : ℕ). x * y) (c .before .wide .ensures .0) (c .wide2 .ensures .0), omega (arith, product-small (c .before .wide .result) (c .wide2 .result) (c .before .wide .ensures .1) (c .wide2 .ensures .1)))
+returns c = (ap₂ (λ (x y : ℕ). x * y) (c .before .wide .ensures .0) (c .wide2 .ensures .0), omega (arith, small-product (c .before .wide .result) (c .wide2 .result) (c .before .wide .ensures .1) (c .wide2 .ensures .1)))
 
 pub product-spec : {M : Type 1} → statement M
 product-spec = tie.close (tie.spec wide-requires wide-requires-2 mul-result returns)

@@ -7,11 +7,11 @@ use lib.ListN.{getD, length, take}
 use lib.Seq.{length-take-le}
 use borrow.Author.Tests.{not-false, not-true}
 use borrow.Author.Needs.{needs}
+use Rattle.laws.specs.Booleans.{false-not-true}
 use Rattle.codec.specs.Lawful.{kept}
 use Rattle.equations.proofs.Equations.{no-params, params-laid, rows-read}
 use Rattle.pcrl.specs.Limits.{max-equations}
 use Rattle.pcrl.specs.Tokens.{before}
-use Rattle.terms.proofs.Rests.{not-so}
 use Rattle.equations.proofs.read_equations.Statement.{statement}
 use Rattle.equations.proofs.read_equations.Tie as tie
 
@@ -22,7 +22,7 @@ same-length : tie.Need-same-length
 same-length c = search needs
 
 returns : tie.Need-returns
-returns c = (λ S g. no-params S (c .before .before .before .before .before .before .before .before .before .before .before .before .args .s .now) (c .before .before .before .before .before .before .before .before .before .before .before .before .args .sizes .now) (c .before .before .before .before .before .before .before .before .before .before .before .before .args .funcs .now) (c .before .before .before .before .before .before .before .before .before .before .before .before .args .acts .now) g (c .before .before .before .before .before .before .before .before .before .before .before .before .args .at) ((c .before .before .before .before .read-params .result) .at) _ _ _ _ _ (params-laid S (c .before .before .before .before .before .before .before .before .before .before .before .before .args .s .now) (c .before .before .before .before .before .before .before .before .before .before .before .before .args .sizes .now) _ (c .before .before .before .before .before .before .before .before .before .before .before .before .args .at) ((c .before .before .before .before .read-params .result) .at) ((c .before .before .before .before .read-params .result) .ok) false (g .data-known .sizes-are) (not-true _ (c .if1 .taken)) (c .before .before .before .before .read-params .ensures .0)), λ h. not-so h)
+returns c = (λ S g. no-params S (c .before .before .before .before .before .before .before .before .before .before .before .before .args .s .now) (c .before .before .before .before .before .before .before .before .before .before .before .before .args .sizes .now) (c .before .before .before .before .before .before .before .before .before .before .before .before .args .funcs .now) (c .before .before .before .before .before .before .before .before .before .before .before .before .args .acts .now) g (c .before .before .before .before .before .before .before .before .before .before .before .before .args .at) ((c .before .before .before .before .read-params .result) .at) _ _ _ _ _ (params-laid S (c .before .before .before .before .before .before .before .before .before .before .before .before .args .s .now) (c .before .before .before .before .before .before .before .before .before .before .before .before .args .sizes .now) _ (c .before .before .before .before .before .before .before .before .before .before .before .before .args .at) ((c .before .before .before .before .read-params .result) .at) ((c .before .before .before .before .read-params .result) .ok) false (g .data-known .sizes-are) (not-true _ (c .if1 .taken)) (c .before .before .before .before .read-params .ensures .0)), λ h. false-not-true h)
 
 peek-requires : tie.Need-peek-requires
 peek-requires c κs = search needs

@@ -6,6 +6,7 @@ use native.Mathlib.Omega.{arith}
 use lib.ListN.{drop, getD, length, length-set, take}
 use borrow.Author.Tests.{not-false, not-true}
 use borrow.Author.Needs.{needs}
+use Rattle.laws.specs.Booleans.{false-not-true}
 use Rattle.equations.proofs.EachRow.{sorts-lawful}
 use Rattle.pcrl.specs.Decode.{read-sorts}
 use Rattle.pcrl.specs.Limits.{frame-width, max-equations}
@@ -15,7 +16,7 @@ use Rattle.pcrl.specs.Tests.{between?}
 use Rattle.pcrl.specs.Tokens.{before}
 use Rattle.terms.proofs.Laying.{Laying, lay-done, lay-fail, lay-pass, lay-start, not-laid, times-more, times-none}
 use Rattle.terms.proofs.Lists.{sorts-list}
-use Rattle.terms.proofs.Rests.{counted-bad, counted-end, counted-pass, failed, missing-there, not-so, passed}
+use Rattle.terms.proofs.Rests.{counted-bad, counted-end, counted-pass, failed, missing-there, passed}
 use Rattle.terms.specs.Ends.{rests}
 use Rattle.terms.specs.Laid.{Laid}
 use Rattle.terms.specs.Numbers.{read-list}
@@ -30,7 +31,7 @@ abbrev μ-loop : tie.MeasureT-loop
 μ-loop s sizes at params₀ n i₀ k₀ params i k = n - k
 
 returns : tie.Need-returns Inv-loop μ-loop
-returns c = (not-laid (counted (between? 1 max-equations) (read-sorts (c .before .before .before .before .args .sizes .now) frame-width) (drop (c .before .before .before .before .args .at) (c .before .before .before .before .args .s .now))) encode-numbers (c .before .before .before .before .args .s .now) 0 _ (missing-there (counted (between? 1 max-equations) (read-sorts (c .before .before .before .before .args .sizes .now) frame-width) (drop (c .before .before .before .before .args .at) (c .before .before .before .before .args .s .now))) (counted-end (between? 1 max-equations) (c .before .before .before .before .args .s .now) (c .before .before .before .before .args .at) (read-sorts (c .before .before .before .before .args .sizes .now) frame-width) (c .if1 .taken))), λ h. not-so h)
+returns c = (not-laid (counted (between? 1 max-equations) (read-sorts (c .before .before .before .before .args .sizes .now) frame-width) (drop (c .before .before .before .before .args .at) (c .before .before .before .before .args .s .now))) encode-numbers (c .before .before .before .before .args .s .now) 0 _ (missing-there (counted (between? 1 max-equations) (read-sorts (c .before .before .before .before .args .sizes .now) frame-width) (drop (c .before .before .before .before .args .at) (c .before .before .before .before .args .s .now))) (counted-end (between? 1 max-equations) (c .before .before .before .before .args .s .now) (c .before .before .before .before .args .at) (read-sorts (c .before .before .before .before .args .sizes .now) frame-width) (c .if1 .taken))), λ h. false-not-true h)
 
 shared-slice-read-wide : tie.Need-shared-slice-read-wide Inv-loop μ-loop
 shared-slice-read-wide c = omega arith
@@ -39,10 +40,10 @@ wide-requires : tie.Need-wide-requires Inv-loop μ-loop
 wide-requires c κs = search needs
 
 returns-2 : tie.Need-returns-2 Inv-loop μ-loop
-returns-2 c = (not-laid (counted (between? 1 max-equations) (read-sorts (c .before .before .before .before .before .before .before .args .sizes .now) frame-width) (drop (c .before .before .before .before .before .before .before .args .at) (c .before .before .before .before .before .before .before .args .s .now))) encode-numbers (c .before .before .before .before .before .before .before .args .s .now) 0 _ (missing-there (counted (between? 1 max-equations) (read-sorts (c .before .before .before .before .before .before .before .args .sizes .now) frame-width) (drop (c .before .before .before .before .before .before .before .args .at) (c .before .before .before .before .before .before .before .args .s .now))) (counted-bad (between? 1 max-equations) (c .before .before .before .before .before .before .before .args .s .now) (c .before .before .before .before .before .before .before .args .at) (read-sorts (c .before .before .before .before .before .before .before .args .sizes .now) frame-width) (omega arith) (λ k. let l = k .0 in omega arith))), λ h. not-so h)
+returns-2 c = (not-laid (counted (between? 1 max-equations) (read-sorts (c .before .before .before .before .before .before .before .args .sizes .now) frame-width) (drop (c .before .before .before .before .before .before .before .args .at) (c .before .before .before .before .before .before .before .args .s .now))) encode-numbers (c .before .before .before .before .before .before .before .args .s .now) 0 _ (missing-there (counted (between? 1 max-equations) (read-sorts (c .before .before .before .before .before .before .before .args .sizes .now) frame-width) (drop (c .before .before .before .before .before .before .before .args .at) (c .before .before .before .before .before .before .before .args .s .now))) (counted-bad (between? 1 max-equations) (c .before .before .before .before .before .before .before .args .s .now) (c .before .before .before .before .before .before .before .args .at) (read-sorts (c .before .before .before .before .before .before .before .args .sizes .now) frame-width) (omega arith) (λ k. let l = k .0 in omega arith))), λ h. false-not-true h)
 
 returns-3 : tie.Need-returns-3 Inv-loop μ-loop
-returns-3 c = (not-laid (counted (between? 1 max-equations) (read-sorts (c .before .before .before .before .before .before .before .before .args .sizes .now) frame-width) (drop (c .before .before .before .before .before .before .before .before .args .at) (c .before .before .before .before .before .before .before .before .args .s .now))) encode-numbers (c .before .before .before .before .before .before .before .before .args .s .now) 0 _ (missing-there (counted (between? 1 max-equations) (read-sorts (c .before .before .before .before .before .before .before .before .args .sizes .now) frame-width) (drop (c .before .before .before .before .before .before .before .before .args .at) (c .before .before .before .before .before .before .before .before .args .s .now))) (counted-bad (between? 1 max-equations) (c .before .before .before .before .before .before .before .before .args .s .now) (c .before .before .before .before .before .before .before .before .args .at) (read-sorts (c .before .before .before .before .before .before .before .before .args .sizes .now) frame-width) (omega arith) (λ k. let l = k .1 in omega arith))), λ h. not-so h)
+returns-3 c = (not-laid (counted (between? 1 max-equations) (read-sorts (c .before .before .before .before .before .before .before .before .args .sizes .now) frame-width) (drop (c .before .before .before .before .before .before .before .before .args .at) (c .before .before .before .before .before .before .before .before .args .s .now))) encode-numbers (c .before .before .before .before .before .before .before .before .args .s .now) 0 _ (missing-there (counted (between? 1 max-equations) (read-sorts (c .before .before .before .before .before .before .before .before .args .sizes .now) frame-width) (drop (c .before .before .before .before .before .before .before .before .args .at) (c .before .before .before .before .before .before .before .before .args .s .now))) (counted-bad (between? 1 max-equations) (c .before .before .before .before .before .before .before .before .args .s .now) (c .before .before .before .before .before .before .before .before .args .at) (read-sorts (c .before .before .before .before .before .before .before .before .args .sizes .now) frame-width) (omega arith) (λ k. let l = k .1 in omega arith))), λ h. false-not-true h)
 
 add-i : tie.Need-add-i Inv-loop μ-loop
 add-i c = omega arith
@@ -66,7 +67,7 @@ same-length : tie.Need-same-length Inv-loop μ-loop
 same-length c = c .before .before .before .before .loop .inv .1
 
 returns-4 : tie.Need-returns-4 Inv-loop μ-loop
-returns-4 c = (not-laid (counted (between? 1 max-equations) (read-sorts (c .before .before .before .before .before .before .before .before .before .before .before .before .before .args .sizes .now) frame-width) (drop (c .before .before .before .before .before .before .before .before .before .before .before .before .before .args .at) (c .before .before .before .before .before .before .before .before .before .before .before .before .before .args .s .now))) encode-numbers (c .before .before .before .before .before .before .before .before .before .before .before .before .before .args .s .now) 0 _ (lay-fail (counted (between? 1 max-equations) (read-sorts (c .before .before .before .before .before .before .before .before .before .before .before .before .before .args .sizes .now) frame-width) (drop (c .before .before .before .before .before .before .before .before .before .before .before .before .before .args .at) (c .before .before .before .before .before .before .before .before .before .before .before .before .before .args .s .now))) encode-numbers (c .before .before .before .before .before .before .before .before .before .before .before .before .before .args .s .now) (read-sorts (c .before .before .before .before .before .before .before .before .before .before .before .before .before .args .sizes .now) frame-width) (times (read-sorts (c .before .before .before .before .before .before .before .before .before .before .before .before .before .args .sizes .now) frame-width) ((c .before .before .before .before .before .before .before .wide .result) - (c .before .before .before .before .loop .k) - 1)) (times (read-sorts (c .before .before .before .before .before .before .before .before .before .before .before .before .before .args .sizes .now) frame-width) ((c .before .before .before .before .before .before .before .wide .result) - (c .before .before .before .before .loop .k)) (drop (c .before .before .before .before .loop .i) (c .before .before .before .before .before .before .before .before .before .before .before .before .before .args .s .now))) (take (c .before .before .before .before .loop .k) (c .before .before .before .before .loop .params)) (drop (c .before .before .before .before .loop .i) (c .before .before .before .before .before .before .before .before .before .before .before .before .before .args .s .now)) (c .before .before .before .before .loop .inv .6) (times-more (read-sorts (c .before .before .before .before .before .before .before .before .before .before .before .before .before .args .sizes .now) frame-width) ((c .before .before .before .before .before .before .before .wide .result) - (c .before .before .before .before .loop .k)) ((c .before .before .before .before .before .before .before .wide .result) - (c .before .before .before .before .loop .k) - 1) (drop (c .before .before .before .before .loop .i) (c .before .before .before .before .before .before .before .before .before .before .before .before .before .args .s .now)) (omega arith)) (failed ((read-sorts (c .before .before .before .before .before .before .before .before .before .before .before .before .before .args .sizes .now) frame-width) (drop (c .before .before .before .before .loop .i) (c .before .before .before .before .before .before .before .before .before .before .before .before .before .args .s .now))) ((c .before .before .read-list .result) .ok) (drop ((c .before .before .read-list .result) .at) (c .before .before .before .before .before .before .before .before .before .before .before .before .before .args .s .now)) (ap rests (sorts-list (c .before .before .before .before .before .before .before .before .before .before .before .before .before .args .sizes .now) (drop (c .before .before .before .before .loop .i) (c .before .before .before .before .before .before .before .before .before .before .before .before .before .args .s .now)) frame-width) ∙ c .before .before .read-list .ensures .0) (not-true _ (c .if4 .taken)))), λ h. not-so h)
+returns-4 c = (not-laid (counted (between? 1 max-equations) (read-sorts (c .before .before .before .before .before .before .before .before .before .before .before .before .before .args .sizes .now) frame-width) (drop (c .before .before .before .before .before .before .before .before .before .before .before .before .before .args .at) (c .before .before .before .before .before .before .before .before .before .before .before .before .before .args .s .now))) encode-numbers (c .before .before .before .before .before .before .before .before .before .before .before .before .before .args .s .now) 0 _ (lay-fail (counted (between? 1 max-equations) (read-sorts (c .before .before .before .before .before .before .before .before .before .before .before .before .before .args .sizes .now) frame-width) (drop (c .before .before .before .before .before .before .before .before .before .before .before .before .before .args .at) (c .before .before .before .before .before .before .before .before .before .before .before .before .before .args .s .now))) encode-numbers (c .before .before .before .before .before .before .before .before .before .before .before .before .before .args .s .now) (read-sorts (c .before .before .before .before .before .before .before .before .before .before .before .before .before .args .sizes .now) frame-width) (times (read-sorts (c .before .before .before .before .before .before .before .before .before .before .before .before .before .args .sizes .now) frame-width) ((c .before .before .before .before .before .before .before .wide .result) - (c .before .before .before .before .loop .k) - 1)) (times (read-sorts (c .before .before .before .before .before .before .before .before .before .before .before .before .before .args .sizes .now) frame-width) ((c .before .before .before .before .before .before .before .wide .result) - (c .before .before .before .before .loop .k)) (drop (c .before .before .before .before .loop .i) (c .before .before .before .before .before .before .before .before .before .before .before .before .before .args .s .now))) (take (c .before .before .before .before .loop .k) (c .before .before .before .before .loop .params)) (drop (c .before .before .before .before .loop .i) (c .before .before .before .before .before .before .before .before .before .before .before .before .before .args .s .now)) (c .before .before .before .before .loop .inv .6) (times-more (read-sorts (c .before .before .before .before .before .before .before .before .before .before .before .before .before .args .sizes .now) frame-width) ((c .before .before .before .before .before .before .before .wide .result) - (c .before .before .before .before .loop .k)) ((c .before .before .before .before .before .before .before .wide .result) - (c .before .before .before .before .loop .k) - 1) (drop (c .before .before .before .before .loop .i) (c .before .before .before .before .before .before .before .before .before .before .before .before .before .args .s .now)) (omega arith)) (failed ((read-sorts (c .before .before .before .before .before .before .before .before .before .before .before .before .before .args .sizes .now) frame-width) (drop (c .before .before .before .before .loop .i) (c .before .before .before .before .before .before .before .before .before .before .before .before .before .args .s .now))) ((c .before .before .read-list .result) .ok) (drop ((c .before .before .read-list .result) .at) (c .before .before .before .before .before .before .before .before .before .before .before .before .before .args .s .now)) (ap rests (sorts-list (c .before .before .before .before .before .before .before .before .before .before .before .before .before .args .sizes .now) (drop (c .before .before .before .before .loop .i) (c .before .before .before .before .before .before .before .before .before .before .before .before .before .args .s .now)) frame-width) ∙ c .before .before .read-list .ensures .0) (not-true _ (c .if4 .taken)))), λ h. false-not-true h)
 
 cast-params : tie.Need-cast-params Inv-loop μ-loop
 cast-params c = let h = c .before .before .read-list .ensures .1 (not-false _ (c .if4 .left)) in omega arith

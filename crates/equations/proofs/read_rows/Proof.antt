@@ -7,6 +7,7 @@ use native.Mathlib.Omega.{arith}
 use lib.ListN.{drop, length, length-set, take}
 use borrow.Author.Tests.{not-false, not-true}
 use borrow.Author.Needs.{needs}
+use Rattle.laws.specs.Booleans.{false-not-true}
 use Rattle.equations.proofs.EachRow.{own-short, row-fail, row-pass, rows-none, total-more}
 use Rattle.equations.specs.Reading.{KnownRows, KnownSig, total-at}
 use Rattle.pcrl.specs.Decode.{read-summands}
@@ -17,7 +18,7 @@ use Rattle.pcrl.specs.Stream.{encode-list, encode-summand}
 use Rattle.pcrl.specs.Tokens.{before}
 use Rattle.pcrl.specs.Values.{place}
 use Rattle.terms.proofs.Laying.{Laying, lay-done, lay-start, not-laid}
-use Rattle.terms.proofs.Rests.{failed, not-so, passed}
+use Rattle.terms.proofs.Rests.{failed, passed}
 use Rattle.terms.specs.Laid.{Laid}
 use Rattle.terms.specs.Stands.{list-at}
 use Rattle.equations.proofs.read_rows.Statement.{statement}
@@ -48,7 +49,7 @@ same-length : tie.Need-same-length Inv-loop μ-loop
 same-length c = c .before .before .before .before .before .before .loop .inv .1
 
 returns : tie.Need-returns Inv-loop μ-loop
-returns c = (λ S Ps g q. not-laid (each (read-summands S Ps) Ps (drop (c .before .before .before .before .before .before .before .before .before .before .before .before .before .args .at) (c .before .before .before .before .before .before .before .before .before .before .before .before .before .args .s .now))) (encode-list encode-summand) (c .before .before .before .before .before .before .before .before .before .before .before .before .before .args .s .now) 0 _ (row-fail S Ps (c .before .before .before .before .before .before .before .before .before .before .before .before .before .args .s .now) (c .before .before .before .before .before .before .before .before .before .before .before .before .before .args .sizes .now) (c .before .before .before .before .before .before .before .before .before .before .before .before .before .args .funcs .now) (c .before .before .before .before .before .before .before .before .before .before .before .before .before .args .acts .now) (c .before .before .before .before .before .before .before .before .before .before .before .before .before .args .params .now) g q (c .before .before .before .before .before .before .before .before .before .before .before .before .before .args .at) (c .before .before .before .before .before .before .loop .k) (c .before .before .before .before .before .before .loop .i) (c .before .before .before .list-at .result .now) (c .before .before .before .before .before .before .loop .rows) (omega arith) (c .before .before .before .list-at .ensures ∙ ap (λ (p : ℕ). list-at (c .before .before .before .before .before .before .before .before .before .before .before .before .before .args .s .now) p) (c .before .before .before .before .cell .ensures .0)) (c .before .before .before .before .before .before .loop .inv .7 S Ps g q) (failed (read-summands S Ps (c .before .before .before .list-at .result .now) (drop (c .before .before .before .before .before .before .loop .i) (c .before .before .before .before .before .before .before .before .before .before .before .before .before .args .s .now))) ((c .before .before .read-summands .result) .ok) (drop ((c .before .before .read-summands .result) .at) (c .before .before .before .before .before .before .before .before .before .before .before .before .before .args .s .now)) (c .before .before .read-summands .ensures .0 S Ps (g .data-known) (g .acts-known) (q .params-known) (own-short S Ps (c .before .before .before .before .before .before .before .before .before .before .before .before .before .args .s .now) (c .before .before .before .before .before .before .before .before .before .before .before .before .before .args .sizes .now) (c .before .before .before .before .before .before .before .before .before .before .before .before .before .args .funcs .now) (c .before .before .before .before .before .before .before .before .before .before .before .before .before .args .acts .now) (c .before .before .before .before .before .before .before .before .before .before .before .before .before .args .params .now) g q (c .before .before .before .before .before .before .before .before .before .before .before .before .before .args .at) (c .before .before .before .before .before .before .loop .k) (c .before .before .before .before .before .before .loop .i) (c .before .before .before .list-at .result .now) (c .before .before .before .before .before .before .loop .rows) (omega arith) (c .before .before .before .list-at .ensures ∙ ap (λ (p : ℕ). list-at (c .before .before .before .before .before .before .before .before .before .before .before .before .before .args .s .now) p) (c .before .before .before .before .cell .ensures .0)) (c .before .before .before .before .before .before .loop .inv .7 S Ps g q))) (not-true _ (c .if1 .taken)))), λ h. not-so h)
+returns c = (λ S Ps g q. not-laid (each (read-summands S Ps) Ps (drop (c .before .before .before .before .before .before .before .before .before .before .before .before .before .args .at) (c .before .before .before .before .before .before .before .before .before .before .before .before .before .args .s .now))) (encode-list encode-summand) (c .before .before .before .before .before .before .before .before .before .before .before .before .before .args .s .now) 0 _ (row-fail S Ps (c .before .before .before .before .before .before .before .before .before .before .before .before .before .args .s .now) (c .before .before .before .before .before .before .before .before .before .before .before .before .before .args .sizes .now) (c .before .before .before .before .before .before .before .before .before .before .before .before .before .args .funcs .now) (c .before .before .before .before .before .before .before .before .before .before .before .before .before .args .acts .now) (c .before .before .before .before .before .before .before .before .before .before .before .before .before .args .params .now) g q (c .before .before .before .before .before .before .before .before .before .before .before .before .before .args .at) (c .before .before .before .before .before .before .loop .k) (c .before .before .before .before .before .before .loop .i) (c .before .before .before .list-at .result .now) (c .before .before .before .before .before .before .loop .rows) (omega arith) (c .before .before .before .list-at .ensures ∙ ap (λ (p : ℕ). list-at (c .before .before .before .before .before .before .before .before .before .before .before .before .before .args .s .now) p) (c .before .before .before .before .cell .ensures .0)) (c .before .before .before .before .before .before .loop .inv .7 S Ps g q) (failed (read-summands S Ps (c .before .before .before .list-at .result .now) (drop (c .before .before .before .before .before .before .loop .i) (c .before .before .before .before .before .before .before .before .before .before .before .before .before .args .s .now))) ((c .before .before .read-summands .result) .ok) (drop ((c .before .before .read-summands .result) .at) (c .before .before .before .before .before .before .before .before .before .before .before .before .before .args .s .now)) (c .before .before .read-summands .ensures .0 S Ps (g .data-known) (g .acts-known) (q .params-known) (own-short S Ps (c .before .before .before .before .before .before .before .before .before .before .before .before .before .args .s .now) (c .before .before .before .before .before .before .before .before .before .before .before .before .before .args .sizes .now) (c .before .before .before .before .before .before .before .before .before .before .before .before .before .args .funcs .now) (c .before .before .before .before .before .before .before .before .before .before .before .before .before .args .acts .now) (c .before .before .before .before .before .before .before .before .before .before .before .before .before .args .params .now) g q (c .before .before .before .before .before .before .before .before .before .before .before .before .before .args .at) (c .before .before .before .before .before .before .loop .k) (c .before .before .before .before .before .before .loop .i) (c .before .before .before .list-at .result .now) (c .before .before .before .before .before .before .loop .rows) (omega arith) (c .before .before .before .list-at .ensures ∙ ap (λ (p : ℕ). list-at (c .before .before .before .before .before .before .before .before .before .before .before .before .before .args .s .now) p) (c .before .before .before .before .cell .ensures .0)) (c .before .before .before .before .before .before .loop .inv .7 S Ps g q))) (not-true _ (c .if1 .taken)))), λ h. false-not-true h)
 
 cast-rows : tie.Need-cast-rows Inv-loop μ-loop
 cast-rows c = let h = c .before .before .read-summands .ensures .1 (not-false _ (c .if1 .left)) in omega arith

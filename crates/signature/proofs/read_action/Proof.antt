@@ -5,8 +5,9 @@ use borrow.Author.Tests.{not-false, not-true}
 use borrow.Author.Needs.{needs}
 use Rattle.pcrl.specs.Decode.{read-name}
 use Rattle.pcrl.specs.Tokens.{before}
+use Rattle.laws.specs.Booleans.{false-not-true}
 use Rattle.signature.proofs.Funcs.{action-fail, action-sorts}
-use Rattle.terms.proofs.Rests.{failed, not-so, passed}
+use Rattle.terms.proofs.Rests.{failed, passed}
 use Rattle.terms.specs.Numbers.{read-list}
 use Rattle.signature.proofs.read_action.Statement.{statement}
 use Rattle.signature.proofs.read_action.Tie as tie
@@ -15,7 +16,7 @@ read-name-requires : tie.Need-read-name-requires
 read-name-requires c κs = search needs
 
 returns : tie.Need-returns
-returns c = (action-fail (c .before .before .before .before .before .args .sizes .now) (c .before .before .before .before .before .args .s .now) (c .before .before .before .before .before .args .at) (failed (read-name (drop (c .before .before .before .before .before .args .at) (c .before .before .before .before .before .args .s .now))) ((c .before .before .read-name .result) .ok) (drop ((c .before .before .read-name .result) .at) (c .before .before .before .before .before .args .s .now)) (c .before .before .read-name .ensures .0) (not-true _ (c .if1 .taken))), λ h. not-so h)
+returns c = (action-fail (c .before .before .before .before .before .args .sizes .now) (c .before .before .before .before .before .args .s .now) (c .before .before .before .before .before .args .at) (failed (read-name (drop (c .before .before .before .before .before .args .at) (c .before .before .before .before .before .args .s .now))) ((c .before .before .read-name .result) .ok) (drop ((c .before .before .read-name .result) .at) (c .before .before .before .before .before .args .s .now)) (c .before .before .read-name .ensures .0) (not-true _ (c .if1 .taken))), λ h. false-not-true h)
 
 read-list-requires : tie.Need-read-list-requires
 read-list-requires c κs = search needs

@@ -6,6 +6,7 @@ use native.Mathlib.Omega.{arith}
 use lib.ListN.{drop, getD, length, length-set, take}
 use borrow.Author.Tests.{not-false, not-true}
 use borrow.Author.Needs.{needs}
+use Rattle.laws.specs.Booleans.{false-not-true}
 use Rattle.codec.specs.StreamLaws.{action-law}
 use Rattle.pcrl.specs.Decode.{read-action}
 use Rattle.pcrl.specs.Limits.{max-actions}
@@ -14,7 +15,7 @@ use Rattle.pcrl.specs.Stream.{encode-action}
 use Rattle.pcrl.specs.Tests.{at-most?}
 use Rattle.pcrl.specs.Tokens.{before}
 use Rattle.terms.proofs.Laying.{Laying, lay-done, lay-fail, lay-pass, lay-start, not-laid, times-more, times-none}
-use Rattle.terms.proofs.Rests.{counted-bad, counted-end, counted-pass, failed, missing-there, not-so, passed}
+use Rattle.terms.proofs.Rests.{counted-bad, counted-end, counted-pass, failed, missing-there, passed}
 use Rattle.terms.specs.Laid.{Laid}
 use Rattle.signature.proofs.read_acts.Statement.{statement}
 use Rattle.signature.proofs.read_acts.Tie as tie
@@ -27,7 +28,7 @@ abbrev μ-loop : tie.MeasureT-loop
 μ-loop s sizes at acts₀ n i₀ k₀ acts i k = n - k
 
 returns : tie.Need-returns Inv-loop μ-loop
-returns c = (not-laid (counted (at-most? max-actions) (read-action (c .before .before .before .before .args .sizes .now)) (drop (c .before .before .before .before .args .at) (c .before .before .before .before .args .s .now))) encode-action (c .before .before .before .before .args .s .now) 0 _ (missing-there (counted (at-most? max-actions) (read-action (c .before .before .before .before .args .sizes .now)) (drop (c .before .before .before .before .args .at) (c .before .before .before .before .args .s .now))) (counted-end (at-most? max-actions) (c .before .before .before .before .args .s .now) (c .before .before .before .before .args .at) (read-action (c .before .before .before .before .args .sizes .now)) (c .if1 .taken))), λ h. not-so h)
+returns c = (not-laid (counted (at-most? max-actions) (read-action (c .before .before .before .before .args .sizes .now)) (drop (c .before .before .before .before .args .at) (c .before .before .before .before .args .s .now))) encode-action (c .before .before .before .before .args .s .now) 0 _ (missing-there (counted (at-most? max-actions) (read-action (c .before .before .before .before .args .sizes .now)) (drop (c .before .before .before .before .args .at) (c .before .before .before .before .args .s .now))) (counted-end (at-most? max-actions) (c .before .before .before .before .args .s .now) (c .before .before .before .before .args .at) (read-action (c .before .before .before .before .args .sizes .now)) (c .if1 .taken))), λ h. false-not-true h)
 
 shared-slice-read-wide : tie.Need-shared-slice-read-wide Inv-loop μ-loop
 shared-slice-read-wide c = omega arith
@@ -36,7 +37,7 @@ wide-requires : tie.Need-wide-requires Inv-loop μ-loop
 wide-requires c κs = search needs
 
 returns-2 : tie.Need-returns-2 Inv-loop μ-loop
-returns-2 c = (not-laid (counted (at-most? max-actions) (read-action (c .before .before .before .before .before .before .before .args .sizes .now)) (drop (c .before .before .before .before .before .before .before .args .at) (c .before .before .before .before .before .before .before .args .s .now))) encode-action (c .before .before .before .before .before .before .before .args .s .now) 0 _ (missing-there (counted (at-most? max-actions) (read-action (c .before .before .before .before .before .before .before .args .sizes .now)) (drop (c .before .before .before .before .before .before .before .args .at) (c .before .before .before .before .before .before .before .args .s .now))) (counted-bad (at-most? max-actions) (c .before .before .before .before .before .before .before .args .s .now) (c .before .before .before .before .before .before .before .args .at) (read-action (c .before .before .before .before .before .before .before .args .sizes .now)) (omega arith) (λ (h : getD (c .before .before .before .before .before .before .before .args .s .now) (c .before .before .before .before .before .before .before .args .at) 0 ≤ max-actions). omega arith))), λ h. not-so h)
+returns-2 c = (not-laid (counted (at-most? max-actions) (read-action (c .before .before .before .before .before .before .before .args .sizes .now)) (drop (c .before .before .before .before .before .before .before .args .at) (c .before .before .before .before .before .before .before .args .s .now))) encode-action (c .before .before .before .before .before .before .before .args .s .now) 0 _ (missing-there (counted (at-most? max-actions) (read-action (c .before .before .before .before .before .before .before .args .sizes .now)) (drop (c .before .before .before .before .before .before .before .args .at) (c .before .before .before .before .before .before .before .args .s .now))) (counted-bad (at-most? max-actions) (c .before .before .before .before .before .before .before .args .s .now) (c .before .before .before .before .before .before .before .args .at) (read-action (c .before .before .before .before .before .before .before .args .sizes .now)) (omega arith) (λ (h : getD (c .before .before .before .before .before .before .before .args .s .now) (c .before .before .before .before .before .before .before .args .at) 0 ≤ max-actions). omega arith))), λ h. false-not-true h)
 
 add-i : tie.Need-add-i Inv-loop μ-loop
 add-i c = omega arith
@@ -60,7 +61,7 @@ same-length : tie.Need-same-length Inv-loop μ-loop
 same-length c = c .before .before .before .before .loop .inv .1
 
 returns-3 : tie.Need-returns-3 Inv-loop μ-loop
-returns-3 c = (not-laid (counted (at-most? max-actions) (read-action (c .before .before .before .before .before .before .before .before .before .before .before .before .args .sizes .now)) (drop (c .before .before .before .before .before .before .before .before .before .before .before .before .args .at) (c .before .before .before .before .before .before .before .before .before .before .before .before .args .s .now))) encode-action (c .before .before .before .before .before .before .before .before .before .before .before .before .args .s .now) 0 _ (lay-fail (counted (at-most? max-actions) (read-action (c .before .before .before .before .before .before .before .before .before .before .before .before .args .sizes .now)) (drop (c .before .before .before .before .before .before .before .before .before .before .before .before .args .at) (c .before .before .before .before .before .before .before .before .before .before .before .before .args .s .now))) encode-action (c .before .before .before .before .before .before .before .before .before .before .before .before .args .s .now) (read-action (c .before .before .before .before .before .before .before .before .before .before .before .before .args .sizes .now)) (times (read-action (c .before .before .before .before .before .before .before .before .before .before .before .before .args .sizes .now)) ((c .before .before .before .before .before .before .wide .result) - (c .before .before .before .before .loop .k) - 1)) (times (read-action (c .before .before .before .before .before .before .before .before .before .before .before .before .args .sizes .now)) ((c .before .before .before .before .before .before .wide .result) - (c .before .before .before .before .loop .k)) (drop (c .before .before .before .before .loop .i) (c .before .before .before .before .before .before .before .before .before .before .before .before .args .s .now))) (take (c .before .before .before .before .loop .k) (c .before .before .before .before .loop .acts)) (drop (c .before .before .before .before .loop .i) (c .before .before .before .before .before .before .before .before .before .before .before .before .args .s .now)) (c .before .before .before .before .loop .inv .6) (times-more (read-action (c .before .before .before .before .before .before .before .before .before .before .before .before .args .sizes .now)) ((c .before .before .before .before .before .before .wide .result) - (c .before .before .before .before .loop .k)) ((c .before .before .before .before .before .before .wide .result) - (c .before .before .before .before .loop .k) - 1) (drop (c .before .before .before .before .loop .i) (c .before .before .before .before .before .before .before .before .before .before .before .before .args .s .now)) (omega arith)) (failed ((read-action (c .before .before .before .before .before .before .before .before .before .before .before .before .args .sizes .now)) (drop (c .before .before .before .before .loop .i) (c .before .before .before .before .before .before .before .before .before .before .before .before .args .s .now))) ((c .before .before .read-action .result) .ok) (drop ((c .before .before .read-action .result) .at) (c .before .before .before .before .before .before .before .before .before .before .before .before .args .s .now)) (c .before .before .read-action .ensures .0) (not-true _ (c .if3 .taken)))), λ h. not-so h)
+returns-3 c = (not-laid (counted (at-most? max-actions) (read-action (c .before .before .before .before .before .before .before .before .before .before .before .before .args .sizes .now)) (drop (c .before .before .before .before .before .before .before .before .before .before .before .before .args .at) (c .before .before .before .before .before .before .before .before .before .before .before .before .args .s .now))) encode-action (c .before .before .before .before .before .before .before .before .before .before .before .before .args .s .now) 0 _ (lay-fail (counted (at-most? max-actions) (read-action (c .before .before .before .before .before .before .before .before .before .before .before .before .args .sizes .now)) (drop (c .before .before .before .before .before .before .before .before .before .before .before .before .args .at) (c .before .before .before .before .before .before .before .before .before .before .before .before .args .s .now))) encode-action (c .before .before .before .before .before .before .before .before .before .before .before .before .args .s .now) (read-action (c .before .before .before .before .before .before .before .before .before .before .before .before .args .sizes .now)) (times (read-action (c .before .before .before .before .before .before .before .before .before .before .before .before .args .sizes .now)) ((c .before .before .before .before .before .before .wide .result) - (c .before .before .before .before .loop .k) - 1)) (times (read-action (c .before .before .before .before .before .before .before .before .before .before .before .before .args .sizes .now)) ((c .before .before .before .before .before .before .wide .result) - (c .before .before .before .before .loop .k)) (drop (c .before .before .before .before .loop .i) (c .before .before .before .before .before .before .before .before .before .before .before .before .args .s .now))) (take (c .before .before .before .before .loop .k) (c .before .before .before .before .loop .acts)) (drop (c .before .before .before .before .loop .i) (c .before .before .before .before .before .before .before .before .before .before .before .before .args .s .now)) (c .before .before .before .before .loop .inv .6) (times-more (read-action (c .before .before .before .before .before .before .before .before .before .before .before .before .args .sizes .now)) ((c .before .before .before .before .before .before .wide .result) - (c .before .before .before .before .loop .k)) ((c .before .before .before .before .before .before .wide .result) - (c .before .before .before .before .loop .k) - 1) (drop (c .before .before .before .before .loop .i) (c .before .before .before .before .before .before .before .before .before .before .before .before .args .s .now)) (omega arith)) (failed ((read-action (c .before .before .before .before .before .before .before .before .before .before .before .before .args .sizes .now)) (drop (c .before .before .before .before .loop .i) (c .before .before .before .before .before .before .before .before .before .before .before .before .args .s .now))) ((c .before .before .read-action .result) .ok) (drop ((c .before .before .read-action .result) .at) (c .before .before .before .before .before .before .before .before .before .before .before .before .args .s .now)) (c .before .before .read-action .ensures .0) (not-true _ (c .if3 .taken)))), λ h. false-not-true h)
 
 cast-acts : tie.Need-cast-acts Inv-loop μ-loop
 cast-acts c = let h = c .before .before .read-action .ensures .1 (not-false _ (c .if3 .left)) in omega arith

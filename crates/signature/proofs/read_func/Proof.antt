@@ -11,8 +11,9 @@ use Rattle.pcrl.specs.Reader.{one, times}
 use Rattle.pcrl.specs.Sorts.{volume}
 use Rattle.pcrl.specs.Tests.{below?}
 use Rattle.pcrl.specs.Tokens.{before}
+use Rattle.laws.specs.Booleans.{false-not-true}
 use Rattle.signature.proofs.Funcs.{between-is, func-fail, func-values, list-between, read-values, values-alike}
-use Rattle.terms.proofs.Rests.{byte-bad, byte-end, byte-pass, failed, not-so, passed}
+use Rattle.terms.proofs.Rests.{byte-bad, byte-end, byte-pass, failed, passed}
 use Rattle.terms.specs.Numbers.{read-list}
 use Rattle.terms.specs.Stands.{list-at}
 use Rattle.signature.proofs.read_func.Statement.{statement}
@@ -22,11 +23,11 @@ read-list-requires : tie.Need-read-list-requires
 read-list-requires c κs = search needs
 
 returns : tie.Need-returns
-returns c = (func-fail (c .before .before .before .before .before .args .sizes .now) (c .before .before .before .before .before .args .s .now) (c .before .before .before .before .before .args .at) (failed (read-list 1 max-arity 0 (length (c .before .before .before .before .before .args .sizes .now)) (drop (c .before .before .before .before .before .args .at) (c .before .before .before .before .before .args .s .now))) ((c .before .before .read-list .result) .ok) (drop ((c .before .before .read-list .result) .at) (c .before .before .before .before .before .args .s .now)) (c .before .before .read-list .ensures .0) (not-true _ (c .if1 .taken))), λ h. not-so h)
+returns c = (func-fail (c .before .before .before .before .before .args .sizes .now) (c .before .before .before .before .before .args .s .now) (c .before .before .before .before .before .args .at) (failed (read-list 1 max-arity 0 (length (c .before .before .before .before .before .args .sizes .now)) (drop (c .before .before .before .before .before .args .at) (c .before .before .before .before .before .args .s .now))) ((c .before .before .read-list .result) .ok) (drop ((c .before .before .read-list .result) .at) (c .before .before .before .before .before .args .s .now)) (c .before .before .read-list .ensures .0) (not-true _ (c .if1 .taken))), λ h. false-not-true h)
 
 returns-2 : tie.Need-returns-2
 unfolding read-values
-returns-2 c = (func-values (c .before .before .before .before .before .before .args .sizes .now) (c .before .before .before .before .before .before .args .s .now) (c .before .before .before .before .before .before .args .at) (drop ((c .before .before .before .read-list .result) .at) (c .before .before .before .before .before .before .args .s .now)) (passed (read-list 1 max-arity 0 (length (c .before .before .before .before .before .before .args .sizes .now)) (drop (c .before .before .before .before .before .before .args .at) (c .before .before .before .before .before .before .args .s .now))) ((c .before .before .before .read-list .result) .ok) (drop ((c .before .before .before .read-list .result) .at) (c .before .before .before .before .before .before .args .s .now)) (c .before .before .before .read-list .ensures .0) (not-false _ (c .before .if1 .left))) ∙ byte-end (below? (length (c .before .before .before .before .before .before .args .sizes .now))) (c .before .before .before .before .before .before .args .s .now) ((c .before .before .before .read-list .result) .at) (λ D. times (one (below? (getD (c .before .before .before .before .before .before .args .sizes .now) D 0))) (volume (c .before .before .before .before .before .before .args .sizes .now) (list-at (c .before .before .before .before .before .before .args .s .now) (c .before .before .before .before .before .before .args .at)))) (c .if2 .taken), λ h. not-so h)
+returns-2 c = (func-values (c .before .before .before .before .before .before .args .sizes .now) (c .before .before .before .before .before .before .args .s .now) (c .before .before .before .before .before .before .args .at) (drop ((c .before .before .before .read-list .result) .at) (c .before .before .before .before .before .before .args .s .now)) (passed (read-list 1 max-arity 0 (length (c .before .before .before .before .before .before .args .sizes .now)) (drop (c .before .before .before .before .before .before .args .at) (c .before .before .before .before .before .before .args .s .now))) ((c .before .before .before .read-list .result) .ok) (drop ((c .before .before .before .read-list .result) .at) (c .before .before .before .before .before .before .args .s .now)) (c .before .before .before .read-list .ensures .0) (not-false _ (c .before .if1 .left))) ∙ byte-end (below? (length (c .before .before .before .before .before .before .args .sizes .now))) (c .before .before .before .before .before .before .args .s .now) ((c .before .before .before .read-list .result) .at) (λ D. times (one (below? (getD (c .before .before .before .before .before .before .args .sizes .now) D 0))) (volume (c .before .before .before .before .before .before .args .sizes .now) (list-at (c .before .before .before .before .before .before .args .s .now) (c .before .before .before .before .before .before .args .at)))) (c .if2 .taken), λ h. false-not-true h)
 
 shared-slice-read-wide : tie.Need-shared-slice-read-wide
 shared-slice-read-wide c = search needs
@@ -36,7 +37,7 @@ wide-requires c κs = search needs
 
 returns-3 : tie.Need-returns-3
 unfolding read-values
-returns-3 c = (func-values (c .before .before .before .before .before .before .before .before .before .args .sizes .now) (c .before .before .before .before .before .before .before .before .before .args .s .now) (c .before .before .before .before .before .before .before .before .before .args .at) (drop ((c .before .before .before .before .before .before .read-list .result) .at) (c .before .before .before .before .before .before .before .before .before .args .s .now)) (passed (read-list 1 max-arity 0 (length (c .before .before .before .before .before .before .before .before .before .args .sizes .now)) (drop (c .before .before .before .before .before .before .before .before .before .args .at) (c .before .before .before .before .before .before .before .before .before .args .s .now))) ((c .before .before .before .before .before .before .read-list .result) .ok) (drop ((c .before .before .before .before .before .before .read-list .result) .at) (c .before .before .before .before .before .before .before .before .before .args .s .now)) (c .before .before .before .before .before .before .read-list .ensures .0) (not-false _ (c .before .before .before .before .if1 .left))) ∙ byte-bad (below? (length (c .before .before .before .before .before .before .before .before .before .args .sizes .now))) (c .before .before .before .before .before .before .before .before .before .args .s .now) ((c .before .before .before .before .before .before .read-list .result) .at) (λ D. times (one (below? (getD (c .before .before .before .before .before .before .before .before .before .args .sizes .now) D 0))) (volume (c .before .before .before .before .before .before .before .before .before .args .sizes .now) (list-at (c .before .before .before .before .before .before .before .before .before .args .s .now) (c .before .before .before .before .before .before .before .before .before .args .at)))) (omega arith) (λ (h : getD (c .before .before .before .before .before .before .before .before .before .args .s .now) ((c .before .before .before .before .before .before .read-list .result) .at) 0 < length (c .before .before .before .before .before .before .before .before .before .args .sizes .now)). omega arith), λ h. not-so h)
+returns-3 c = (func-values (c .before .before .before .before .before .before .before .before .before .args .sizes .now) (c .before .before .before .before .before .before .before .before .before .args .s .now) (c .before .before .before .before .before .before .before .before .before .args .at) (drop ((c .before .before .before .before .before .before .read-list .result) .at) (c .before .before .before .before .before .before .before .before .before .args .s .now)) (passed (read-list 1 max-arity 0 (length (c .before .before .before .before .before .before .before .before .before .args .sizes .now)) (drop (c .before .before .before .before .before .before .before .before .before .args .at) (c .before .before .before .before .before .before .before .before .before .args .s .now))) ((c .before .before .before .before .before .before .read-list .result) .ok) (drop ((c .before .before .before .before .before .before .read-list .result) .at) (c .before .before .before .before .before .before .before .before .before .args .s .now)) (c .before .before .before .before .before .before .read-list .ensures .0) (not-false _ (c .before .before .before .before .if1 .left))) ∙ byte-bad (below? (length (c .before .before .before .before .before .before .before .before .before .args .sizes .now))) (c .before .before .before .before .before .before .before .before .before .args .s .now) ((c .before .before .before .before .before .before .read-list .result) .at) (λ D. times (one (below? (getD (c .before .before .before .before .before .before .before .before .before .args .sizes .now) D 0))) (volume (c .before .before .before .before .before .before .before .before .before .args .sizes .now) (list-at (c .before .before .before .before .before .before .before .before .before .args .s .now) (c .before .before .before .before .before .before .before .before .before .args .at)))) (omega arith) (λ (h : getD (c .before .before .before .before .before .before .before .before .before .args .s .now) ((c .before .before .before .before .before .before .read-list .result) .at) 0 < length (c .before .before .before .before .before .before .before .before .before .args .sizes .now)). omega arith), λ h. false-not-true h)
 
 list-at-requires : tie.Need-list-at-requires
 list-at-requires c κs = search needs

@@ -6,6 +6,7 @@ use native.Mathlib.Omega.{arith}
 use lib.ListN.{drop, getD, length, length-set, take}
 use borrow.Author.Tests.{not-false, not-true}
 use borrow.Author.Needs.{needs}
+use Rattle.laws.specs.Booleans.{false-not-true}
 use Rattle.codec.specs.StreamLaws.{sort-law}
 use Rattle.pcrl.specs.Decode.{read-sort}
 use Rattle.pcrl.specs.Limits.{max-sorts}
@@ -14,7 +15,7 @@ use Rattle.pcrl.specs.Stream.{encode-sort}
 use Rattle.pcrl.specs.Tests.{Between, between?}
 use Rattle.pcrl.specs.Tokens.{before}
 use Rattle.terms.proofs.Laying.{Laying, lay-done, lay-fail, lay-pass, lay-start, not-laid, times-more, times-none}
-use Rattle.terms.proofs.Rests.{counted-bad, counted-end, counted-pass, failed, missing-there, not-so, passed}
+use Rattle.terms.proofs.Rests.{counted-bad, counted-end, counted-pass, failed, missing-there, passed}
 use Rattle.terms.specs.Laid.{Laid}
 use Rattle.signature.proofs.read_named.Statement.{statement}
 use Rattle.signature.proofs.read_named.Tie as tie
@@ -27,7 +28,7 @@ abbrev μ-loop : tie.MeasureT-loop
 μ-loop s at sorts₀ n i₀ k₀ sorts i k = n - k
 
 returns : tie.Need-returns Inv-loop μ-loop
-returns c = (not-laid (counted (between? 1 max-sorts) read-sort (drop (c .before .before .before .args .at) (c .before .before .before .args .s .now))) encode-sort (c .before .before .before .args .s .now) 0 _ (missing-there (counted (between? 1 max-sorts) read-sort (drop (c .before .before .before .args .at) (c .before .before .before .args .s .now))) (counted-end (between? 1 max-sorts) (c .before .before .before .args .s .now) (c .before .before .before .args .at) read-sort (c .if1 .taken))), λ h. not-so h)
+returns c = (not-laid (counted (between? 1 max-sorts) read-sort (drop (c .before .before .before .args .at) (c .before .before .before .args .s .now))) encode-sort (c .before .before .before .args .s .now) 0 _ (missing-there (counted (between? 1 max-sorts) read-sort (drop (c .before .before .before .args .at) (c .before .before .before .args .s .now))) (counted-end (between? 1 max-sorts) (c .before .before .before .args .s .now) (c .before .before .before .args .at) read-sort (c .if1 .taken))), λ h. false-not-true h)
 
 shared-slice-read-wide : tie.Need-shared-slice-read-wide Inv-loop μ-loop
 shared-slice-read-wide c = omega arith
@@ -36,10 +37,10 @@ wide-requires : tie.Need-wide-requires Inv-loop μ-loop
 wide-requires c κs = search needs
 
 returns-2 : tie.Need-returns-2 Inv-loop μ-loop
-returns-2 c = (not-laid (counted (between? 1 max-sorts) read-sort (drop (c .before .before .before .before .before .before .args .at) (c .before .before .before .before .before .before .args .s .now))) encode-sort (c .before .before .before .before .before .before .args .s .now) 0 _ (missing-there (counted (between? 1 max-sorts) read-sort (drop (c .before .before .before .before .before .before .args .at) (c .before .before .before .before .before .before .args .s .now))) (counted-bad (between? 1 max-sorts) (c .before .before .before .before .before .before .args .s .now) (c .before .before .before .before .before .before .args .at) read-sort (omega arith) (λ k. let l = k .0 in omega arith))), λ h. not-so h)
+returns-2 c = (not-laid (counted (between? 1 max-sorts) read-sort (drop (c .before .before .before .before .before .before .args .at) (c .before .before .before .before .before .before .args .s .now))) encode-sort (c .before .before .before .before .before .before .args .s .now) 0 _ (missing-there (counted (between? 1 max-sorts) read-sort (drop (c .before .before .before .before .before .before .args .at) (c .before .before .before .before .before .before .args .s .now))) (counted-bad (between? 1 max-sorts) (c .before .before .before .before .before .before .args .s .now) (c .before .before .before .before .before .before .args .at) read-sort (omega arith) (λ k. let l = k .0 in omega arith))), λ h. false-not-true h)
 
 returns-3 : tie.Need-returns-3 Inv-loop μ-loop
-returns-3 c = (not-laid (counted (between? 1 max-sorts) read-sort (drop (c .before .before .before .before .before .before .before .args .at) (c .before .before .before .before .before .before .before .args .s .now))) encode-sort (c .before .before .before .before .before .before .before .args .s .now) 0 _ (missing-there (counted (between? 1 max-sorts) read-sort (drop (c .before .before .before .before .before .before .before .args .at) (c .before .before .before .before .before .before .before .args .s .now))) (counted-bad (between? 1 max-sorts) (c .before .before .before .before .before .before .before .args .s .now) (c .before .before .before .before .before .before .before .args .at) read-sort (omega arith) (λ k. let l = k .1 in omega arith))), λ h. not-so h)
+returns-3 c = (not-laid (counted (between? 1 max-sorts) read-sort (drop (c .before .before .before .before .before .before .before .args .at) (c .before .before .before .before .before .before .before .args .s .now))) encode-sort (c .before .before .before .before .before .before .before .args .s .now) 0 _ (missing-there (counted (between? 1 max-sorts) read-sort (drop (c .before .before .before .before .before .before .before .args .at) (c .before .before .before .before .before .before .before .args .s .now))) (counted-bad (between? 1 max-sorts) (c .before .before .before .before .before .before .before .args .s .now) (c .before .before .before .before .before .before .before .args .at) read-sort (omega arith) (λ k. let l = k .1 in omega arith))), λ h. false-not-true h)
 
 add-i : tie.Need-add-i Inv-loop μ-loop
 add-i c = omega arith
@@ -63,7 +64,7 @@ same-length : tie.Need-same-length Inv-loop μ-loop
 same-length c = c .before .before .before .before .loop .inv .1
 
 returns-4 : tie.Need-returns-4 Inv-loop μ-loop
-returns-4 c = (not-laid (counted (between? 1 max-sorts) read-sort (drop (c .before .before .before .before .before .before .before .before .before .before .before .before .args .at) (c .before .before .before .before .before .before .before .before .before .before .before .before .args .s .now))) encode-sort (c .before .before .before .before .before .before .before .before .before .before .before .before .args .s .now) 0 _ (lay-fail (counted (between? 1 max-sorts) read-sort (drop (c .before .before .before .before .before .before .before .before .before .before .before .before .args .at) (c .before .before .before .before .before .before .before .before .before .before .before .before .args .s .now))) encode-sort (c .before .before .before .before .before .before .before .before .before .before .before .before .args .s .now) read-sort (times read-sort ((c .before .before .before .before .before .before .before .wide .result) - (c .before .before .before .before .loop .k) - 1)) (times read-sort ((c .before .before .before .before .before .before .before .wide .result) - (c .before .before .before .before .loop .k)) (drop (c .before .before .before .before .loop .i) (c .before .before .before .before .before .before .before .before .before .before .before .before .args .s .now))) (take (c .before .before .before .before .loop .k) (c .before .before .before .before .loop .sorts)) (drop (c .before .before .before .before .loop .i) (c .before .before .before .before .before .before .before .before .before .before .before .before .args .s .now)) (c .before .before .before .before .loop .inv .6) (times-more read-sort ((c .before .before .before .before .before .before .before .wide .result) - (c .before .before .before .before .loop .k)) ((c .before .before .before .before .before .before .before .wide .result) - (c .before .before .before .before .loop .k) - 1) (drop (c .before .before .before .before .loop .i) (c .before .before .before .before .before .before .before .before .before .before .before .before .args .s .now)) (omega arith)) (failed (read-sort (drop (c .before .before .before .before .loop .i) (c .before .before .before .before .before .before .before .before .before .before .before .before .args .s .now))) ((c .before .before .read-sort .result) .ok) (drop ((c .before .before .read-sort .result) .at) (c .before .before .before .before .before .before .before .before .before .before .before .before .args .s .now)) (c .before .before .read-sort .ensures .0) (not-true _ (c .if4 .taken)))), λ h. not-so h)
+returns-4 c = (not-laid (counted (between? 1 max-sorts) read-sort (drop (c .before .before .before .before .before .before .before .before .before .before .before .before .args .at) (c .before .before .before .before .before .before .before .before .before .before .before .before .args .s .now))) encode-sort (c .before .before .before .before .before .before .before .before .before .before .before .before .args .s .now) 0 _ (lay-fail (counted (between? 1 max-sorts) read-sort (drop (c .before .before .before .before .before .before .before .before .before .before .before .before .args .at) (c .before .before .before .before .before .before .before .before .before .before .before .before .args .s .now))) encode-sort (c .before .before .before .before .before .before .before .before .before .before .before .before .args .s .now) read-sort (times read-sort ((c .before .before .before .before .before .before .before .wide .result) - (c .before .before .before .before .loop .k) - 1)) (times read-sort ((c .before .before .before .before .before .before .before .wide .result) - (c .before .before .before .before .loop .k)) (drop (c .before .before .before .before .loop .i) (c .before .before .before .before .before .before .before .before .before .before .before .before .args .s .now))) (take (c .before .before .before .before .loop .k) (c .before .before .before .before .loop .sorts)) (drop (c .before .before .before .before .loop .i) (c .before .before .before .before .before .before .before .before .before .before .before .before .args .s .now)) (c .before .before .before .before .loop .inv .6) (times-more read-sort ((c .before .before .before .before .before .before .before .wide .result) - (c .before .before .before .before .loop .k)) ((c .before .before .before .before .before .before .before .wide .result) - (c .before .before .before .before .loop .k) - 1) (drop (c .before .before .before .before .loop .i) (c .before .before .before .before .before .before .before .before .before .before .before .before .args .s .now)) (omega arith)) (failed (read-sort (drop (c .before .before .before .before .loop .i) (c .before .before .before .before .before .before .before .before .before .before .before .before .args .s .now))) ((c .before .before .read-sort .result) .ok) (drop ((c .before .before .read-sort .result) .at) (c .before .before .before .before .before .before .before .before .before .before .before .before .args .s .now)) (c .before .before .read-sort .ensures .0) (not-true _ (c .if4 .taken)))), λ h. false-not-true h)
 
 cast-sorts : tie.Need-cast-sorts Inv-loop μ-loop
 cast-sorts c = let h = c .before .before .read-sort .ensures .1 (not-false _ (c .if4 .left)) in omega arith

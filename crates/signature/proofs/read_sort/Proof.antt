@@ -3,22 +3,22 @@ use mathlib.Core.Path.{_∙_}
 use Prim.Native.Nat.{_+_}
 use native.Mathlib.Omega.{arith}
 use borrow.Author.Needs.{needs}
-use Rattle.terms.proofs.Rests.{not-so}
+use Rattle.laws.specs.Booleans.{false-not-true}
 use Rattle.signature.proofs.Sorts.{sort-end, sort-bad, sort-behind}
 use Rattle.signature.proofs.read_sort.Statement.{statement}
 use Rattle.signature.proofs.read_sort.Tie as tie
 
 returns : tie.Need-returns
-returns c = (sort-end (c .before .before .args .s .now) (c .before .before .args .at) (c .if1 .taken), λ h. not-so h)
+returns c = (sort-end (c .before .before .args .s .now) (c .before .before .args .at) (c .if1 .taken), λ h. false-not-true h)
 
 shared-slice-read-n : tie.Need-shared-slice-read-n
 shared-slice-read-n c = omega arith
 
 returns-2 : tie.Need-returns-2
-returns-2 c = (sort-bad (c .before .before .before .before .args .s .now) (c .before .before .before .before .args .at) (omega arith) (λ k. let l = k .0 in omega arith), λ h. not-so h)
+returns-2 c = (sort-bad (c .before .before .before .before .args .s .now) (c .before .before .before .before .args .at) (omega arith) (λ k. let l = k .0 in omega arith), λ h. false-not-true h)
 
 returns-3 : tie.Need-returns-3
-returns-3 c = (sort-bad (c .before .before .before .before .before .args .s .now) (c .before .before .before .before .before .args .at) (omega arith) (λ k. let l = k .1 in omega arith), λ h. not-so h)
+returns-3 c = (sort-bad (c .before .before .before .before .before .args .s .now) (c .before .before .before .before .before .args .at) (omega arith) (λ k. let l = k .1 in omega arith), λ h. false-not-true h)
 
 add-read-sort-name : tie.Need-add-read-sort-name
 add-read-sort-name c = omega arith

@@ -5,7 +5,8 @@ use native.Mathlib.Omega.{arith}
 use lib.ListN.{getD}
 use borrow.Author.Needs.{needs}
 use Rattle.pcrl.specs.Tokens.{before}
-use Rattle.signature.proofs.Funcs.{small-product, volume-one, volume-two}
+use Rattle.laws.specs.Places.{small-product}
+use Rattle.signature.proofs.Funcs.{volume-one, volume-two}
 use mir.Facts.{fits-below}
 use Rattle.signature.proofs.volume.Statement.{statement}
 use Rattle.signature.proofs.volume.Tie as tie

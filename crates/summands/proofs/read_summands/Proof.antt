@@ -12,7 +12,8 @@ use Rattle.pcrl.specs.Reader.{times}
 use Rattle.pcrl.specs.Sheet.{Sig}
 use Rattle.pcrl.specs.Tests.{at-most?}
 use Rattle.pcrl.specs.Tokens.{before}
-use Rattle.terms.proofs.Rests.{counted-end, counted-pass, failed, not-so, passed, times-done, times-fail, times-pass}
+use Rattle.laws.specs.Booleans.{false-not-true}
+use Rattle.terms.proofs.Rests.{counted-end, counted-pass, failed, passed, times-done, times-fail, times-pass}
 use Rattle.terms.specs.Ends.{rests}
 use Rattle.terms.specs.Stands.{KnownActs, KnownData, KnownParams}
 use Rattle.summands.proofs.read_summands.Statement.{statement}
@@ -28,7 +29,7 @@ abbrev μ-loop : tie.MeasureT-loop
 
 returns : tie.Need-returns Inv-loop μ-loop
 unfolding read-summands
-returns c = (λ S Ps k a q h. counted-end (at-most? max-summands) (c .before .before .before .before .before .before .before .args .s .now) (c .before .before .before .before .before .before .before .args .at) (read-summand S Ps (c .before .before .before .before .before .before .before .args .own .now)) (c .if1 .taken), λ e. not-so e)
+returns c = (λ S Ps k a q h. counted-end (at-most? max-summands) (c .before .before .before .before .before .before .before .args .s .now) (c .before .before .before .before .before .before .before .args .at) (read-summand S Ps (c .before .before .before .before .before .before .before .args .own .now)) (c .if1 .taken), λ e. false-not-true e)
 
 add-i : tie.Need-add-i Inv-loop μ-loop
 add-i c = omega arith
@@ -45,7 +46,7 @@ read-summand-requires : tie.Need-read-summand-requires Inv-loop μ-loop
 read-summand-requires c κs = search needs
 
 returns-2 : tie.Need-returns-2 Inv-loop μ-loop
-returns-2 c = (λ S Ps k a q h. c .before .before .before .before .loop .inv .2 S Ps k a q h ∙ times-fail (read-summand S Ps (c .before .before .before .before .before .before .before .before .before .before .before .before .before .args .own .now)) (c .before .before .before .before .loop .left) ((c .before .before .before .before .loop .left) - 1) (drop (c .before .before .before .before .loop .i) (c .before .before .before .before .before .before .before .before .before .before .before .before .before .args .s .now)) (omega arith) (failed ((read-summand S Ps (c .before .before .before .before .before .before .before .before .before .before .before .before .before .args .own .now)) (drop (c .before .before .before .before .loop .i) (c .before .before .before .before .before .before .before .before .before .before .before .before .before .args .s .now))) ((c .before .before .read-summand .result) .ok) (drop ((c .before .before .read-summand .result) .at) (c .before .before .before .before .before .before .before .before .before .before .before .before .before .args .s .now)) (c .before .before .read-summand .ensures S Ps k a q h) (not-true _ (c .if2 .taken))), λ e. not-so e)
+returns-2 c = (λ S Ps k a q h. c .before .before .before .before .loop .inv .2 S Ps k a q h ∙ times-fail (read-summand S Ps (c .before .before .before .before .before .before .before .before .before .before .before .before .before .args .own .now)) (c .before .before .before .before .loop .left) ((c .before .before .before .before .loop .left) - 1) (drop (c .before .before .before .before .loop .i) (c .before .before .before .before .before .before .before .before .before .before .before .before .before .args .s .now)) (omega arith) (failed ((read-summand S Ps (c .before .before .before .before .before .before .before .before .before .before .before .before .before .args .own .now)) (drop (c .before .before .before .before .loop .i) (c .before .before .before .before .before .before .before .before .before .before .before .before .before .args .s .now))) ((c .before .before .read-summand .result) .ok) (drop ((c .before .before .read-summand .result) .at) (c .before .before .before .before .before .before .before .before .before .before .before .before .before .args .s .now)) (c .before .before .read-summand .ensures S Ps k a q h) (not-true _ (c .if2 .taken))), λ e. false-not-true e)
 
 sub-left : tie.Need-sub-left Inv-loop μ-loop
 sub-left c = omega arith

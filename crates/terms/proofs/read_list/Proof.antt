@@ -6,8 +6,9 @@ use lib.ListN.{drop, getD, length}
 use borrow.Author.Needs.{needs}
 use Rattle.pcrl.specs.Reader.{one, times}
 use Rattle.pcrl.specs.Tests.{between?}
+use Rattle.laws.specs.Booleans.{false-not-true}
 use Rattle.terms.proofs.Places.{before}
-use Rattle.terms.proofs.Rests.{counted-bad, counted-end, counted-pass, not-so, number-bad, number-end, number-pass, times-done, times-fail, times-pass}
+use Rattle.terms.proofs.Rests.{counted-bad, counted-end, counted-pass, number-bad, number-end, number-pass, times-done, times-fail, times-pass}
 use Rattle.terms.specs.Ends.{rests}
 use Rattle.terms.specs.Numbers.{from?, read-list}
 use Rattle.terms.proofs.read_list.Statement.{statement}
@@ -22,18 +23,18 @@ abbrev μ-loop : tie.MeasureT-loop
 
 returns : tie.Need-returns Inv-loop μ-loop
 unfolding read-list
-returns c = (counted-end (between? (c .before .before .args .least) (c .before .before .args .most)) (c .before .before .args .s .now) (c .before .before .args .at) (one (from? (c .before .before .args .low) (c .before .before .args .limit))) (c .if1 .taken), λ h. not-so h)
+returns c = (counted-end (between? (c .before .before .args .least) (c .before .before .args .most)) (c .before .before .args .s .now) (c .before .before .args .at) (one (from? (c .before .before .args .low) (c .before .before .args .limit))) (c .if1 .taken), λ h. false-not-true h)
 
 shared-slice-read-n : tie.Need-shared-slice-read-n Inv-loop μ-loop
 shared-slice-read-n c = omega arith
 
 returns-2 : tie.Need-returns-2 Inv-loop μ-loop
 unfolding read-list
-returns-2 c = (counted-bad (between? (c .before .before .before .before .args .least) (c .before .before .before .before .args .most)) (c .before .before .before .before .args .s .now) (c .before .before .before .before .args .at) (one (from? (c .before .before .before .before .args .low) (c .before .before .before .before .args .limit))) (omega arith) (λ k. let l = k .0 in omega arith), λ h. not-so h)
+returns-2 c = (counted-bad (between? (c .before .before .before .before .args .least) (c .before .before .before .before .args .most)) (c .before .before .before .before .args .s .now) (c .before .before .before .before .args .at) (one (from? (c .before .before .before .before .args .low) (c .before .before .before .before .args .limit))) (omega arith) (λ k. let l = k .0 in omega arith), λ h. false-not-true h)
 
 returns-3 : tie.Need-returns-3 Inv-loop μ-loop
 unfolding read-list
-returns-3 c = (counted-bad (between? (c .before .before .before .before .before .args .least) (c .before .before .before .before .before .args .most)) (c .before .before .before .before .before .args .s .now) (c .before .before .before .before .before .args .at) (one (from? (c .before .before .before .before .before .args .low) (c .before .before .before .before .before .args .limit))) (omega arith) (λ k. let l = k .1 in omega arith), λ h. not-so h)
+returns-3 c = (counted-bad (between? (c .before .before .before .before .before .args .least) (c .before .before .before .before .before .args .most)) (c .before .before .before .before .before .args .s .now) (c .before .before .before .before .before .args .at) (one (from? (c .before .before .before .before .before .args .low) (c .before .before .before .before .before .args .limit))) (omega arith) (λ k. let l = k .1 in omega arith), λ h. false-not-true h)
 
 add-i : tie.Need-add-i Inv-loop μ-loop
 add-i c = omega arith
@@ -44,14 +45,14 @@ loop-holds c = (omega arith, omega arith, omega arith, refl, omega arith, ap res
 
 returns-4 : tie.Need-returns-4 Inv-loop μ-loop
 unfolding rests
-returns-4 c = (c .before .before .loop .inv .5 ∙ times-fail (one (from? (c .before .before .before .before .before .before .before .before .args .low) (c .before .before .before .before .before .before .before .before .args .limit))) (c .before .before .loop .left) ((c .before .before .loop .left) - 1) (drop (c .before .before .loop .i) (c .before .before .before .before .before .before .before .before .args .s .now)) (omega arith) (ap rests (number-end (from? (c .before .before .before .before .before .before .before .before .args .low) (c .before .before .before .before .before .before .before .before .args .limit)) (c .before .before .before .before .before .before .before .before .args .s .now) (c .before .before .loop .i) (c .if4 .taken))), λ h. not-so h)
+returns-4 c = (c .before .before .loop .inv .5 ∙ times-fail (one (from? (c .before .before .before .before .before .before .before .before .args .low) (c .before .before .before .before .before .before .before .before .args .limit))) (c .before .before .loop .left) ((c .before .before .loop .left) - 1) (drop (c .before .before .loop .i) (c .before .before .before .before .before .before .before .before .args .s .now)) (omega arith) (ap rests (number-end (from? (c .before .before .before .before .before .before .before .before .args .low) (c .before .before .before .before .before .before .before .before .args .limit)) (c .before .before .before .before .before .before .before .before .args .s .now) (c .before .before .loop .i) (c .if4 .taken))), λ h. false-not-true h)
 
 shared-slice-read-if5 : tie.Need-shared-slice-read-if5 Inv-loop μ-loop
 shared-slice-read-if5 c = omega arith
 
 returns-5 : tie.Need-returns-5 Inv-loop μ-loop
 unfolding rests
-returns-5 c = (c .before .before .before .before .loop .inv .5 ∙ times-fail (one (from? (c .before .before .before .before .before .before .before .before .before .before .args .low) (c .before .before .before .before .before .before .before .before .before .before .args .limit))) (c .before .before .before .before .loop .left) ((c .before .before .before .before .loop .left) - 1) (drop (c .before .before .before .before .loop .i) (c .before .before .before .before .before .before .before .before .before .before .args .s .now)) (omega arith) (ap rests (number-bad (from? (c .before .before .before .before .before .before .before .before .before .before .args .low) (c .before .before .before .before .before .before .before .before .before .before .args .limit)) (c .before .before .before .before .before .before .before .before .before .before .args .s .now) (c .before .before .before .before .loop .i) (omega arith) (λ k. let l = k .0 in omega arith))), λ h. not-so h)
+returns-5 c = (c .before .before .before .before .loop .inv .5 ∙ times-fail (one (from? (c .before .before .before .before .before .before .before .before .before .before .args .low) (c .before .before .before .before .before .before .before .before .before .before .args .limit))) (c .before .before .before .before .loop .left) ((c .before .before .before .before .loop .left) - 1) (drop (c .before .before .before .before .loop .i) (c .before .before .before .before .before .before .before .before .before .before .args .s .now)) (omega arith) (ap rests (number-bad (from? (c .before .before .before .before .before .before .before .before .before .before .args .low) (c .before .before .before .before .before .before .before .before .before .before .args .limit)) (c .before .before .before .before .before .before .before .before .before .before .args .s .now) (c .before .before .before .before .loop .i) (omega arith) (λ k. let l = k .0 in omega arith))), λ h. false-not-true h)
 
 shared-slice-read-wide : tie.Need-shared-slice-read-wide Inv-loop μ-loop
 shared-slice-read-wide c = omega arith
@@ -61,7 +62,7 @@ wide-requires c κs = search needs
 
 returns-6 : tie.Need-returns-6 Inv-loop μ-loop
 unfolding rests
-returns-6 c = (c .before .before .before .before .before .before .before .loop .inv .5 ∙ times-fail (one (from? (c .before .before .before .before .before .before .before .before .before .before .before .before .before .args .low) (c .before .before .before .before .before .before .before .before .before .before .before .before .before .args .limit))) (c .before .before .before .before .before .before .before .loop .left) ((c .before .before .before .before .before .before .before .loop .left) - 1) (drop (c .before .before .before .before .before .before .before .loop .i) (c .before .before .before .before .before .before .before .before .before .before .before .before .before .args .s .now)) (omega arith) (ap rests (number-bad (from? (c .before .before .before .before .before .before .before .before .before .before .before .before .before .args .low) (c .before .before .before .before .before .before .before .before .before .before .before .before .before .args .limit)) (c .before .before .before .before .before .before .before .before .before .before .before .before .before .args .s .now) (c .before .before .before .before .before .before .before .loop .i) (omega arith) (λ k. let l = k .1 in omega arith))), λ h. not-so h)
+returns-6 c = (c .before .before .before .before .before .before .before .loop .inv .5 ∙ times-fail (one (from? (c .before .before .before .before .before .before .before .before .before .before .before .before .before .args .low) (c .before .before .before .before .before .before .before .before .before .before .before .before .before .args .limit))) (c .before .before .before .before .before .before .before .loop .left) ((c .before .before .before .before .before .before .before .loop .left) - 1) (drop (c .before .before .before .before .before .before .before .loop .i) (c .before .before .before .before .before .before .before .before .before .before .before .before .before .args .s .now)) (omega arith) (ap rests (number-bad (from? (c .before .before .before .before .before .before .before .before .before .before .before .before .before .args .low) (c .before .before .before .before .before .before .before .before .before .before .before .before .before .args .limit)) (c .before .before .before .before .before .before .before .before .before .before .before .before .before .args .s .now) (c .before .before .before .before .before .before .before .loop .i) (omega arith) (λ k. let l = k .1 in omega arith))), λ h. false-not-true h)
 
 add-i-2 : tie.Need-add-i-2 Inv-loop μ-loop
 add-i-2 c = omega arith

@@ -1,5 +1,6 @@
 -- The two values are all the values.
 use borrow.Author.Needs.{needs}
+use Rattle.laws.specs.Places.{two-elements}
 use Rattle.walker.proofs.put_step.Statement.{statement}
 use Rattle.walker.proofs.put_step.Tie as tie
 use mathlib.Core.Path.{sym, ap}
@@ -8,7 +9,7 @@ use Prim.Native.Nat.{ℕ, _%_}
 use lib.ListN.{take}
 use Rattle.pcrl.specs.Walk.{step-line}
 use Rattle.labels.specs.Labels.{label-of}
-use Rattle.asking.proofs.Values.{two-values, values-two}
+use Rattle.asking.proofs.Values.{values-two}
 use Rattle.texts.proofs.Writing.{wrote-as}
 
 element-copy-out-put-line : tie.Need-element-copy-out-put-line
@@ -29,7 +30,7 @@ returns c = (
   λ T x.
       let a = c .before .before .before .before .before .before .before .before .args in
       let r = a .t6 in
-      wrote-as _ _ _ _ _ _ (ap (λ (vs : List ℕ). step-line (a .i % 256) (label-of (T .sig) (r .action) (take (r .arity) vs)) (r .depth % 256)) (sym (two-values (r .values) (values-two r _ (c .before .before .before .before .before .before .before .before .good .1 .1 .1 .1 .1 .0))))) (c .before .before .put-line .ensures .1 T x),
+      wrote-as _ _ _ _ _ _ (ap (λ (vs : List ℕ). step-line (a .i % 256) (label-of (T .sig) (r .action) (take (r .arity) vs)) (r .depth % 256)) (sym (two-elements (r .values) (values-two r _ (c .before .before .before .before .before .before .before .before .good .1 .1 .1 .1 .1 .0))))) (c .before .before .put-line .ensures .1 T x),
 )
 
 pub put-step-spec : {M : Type 1} → statement M

@@ -5,11 +5,12 @@ use Prim.Native.Nat.{ℕ, _+_, _*_, _≤_, _<_}
 use mathlib.Core.Path.{_≡_, refl, sym, _∙_}
 use mathlib.Core.Bool.{Bool, true, false}
 use lib.Dec.{lit<}
+use Rattle.laws.specs.Places.{getD-zeros}
 use Rattle.assignments.specs.Places.{valuesOf}
 use Rattle.assignments.specs.Conditions.{env}
 use Rattle.assignments.specs.Parting.{part-met}
 use Rattle.assignments.proofs.Passing.{going-start}
-use Rattle.assignments.proofs.InRows.{came-at, zero-at, zero-room}
+use Rattle.assignments.proofs.InRows.{came-at, zero-room}
 use Rattle.assignments.proofs.in_rows.find_rows.Statement.{statement}
 use Rattle.assignments.proofs.in_rows.find_rows.Tie as tie
 
@@ -65,7 +66,7 @@ by-strips-requires c κs = let a = c .before .before .before .before .before .be
 )
 
 returns-3 : tie.Need-returns-3
-returns-3 c = let r = c .before .before .before .before .before .by-strips .ensures in (r .0, (r .1 .0, (r .1 .1 .0, λ lv q part. r .1 .1 .1 part (λ i h e x o. zero-at 2560 (i * 128 + x) ∙ sym (zero-at 2560 (i * 128 + 0))) (λ x h. zero-at 2560 x))))
+returns-3 c = let r = c .before .before .before .before .before .by-strips .ensures in (r .0, (r .1 .0, (r .1 .1 .0, λ lv q part. r .1 .1 .1 part (λ i h e x o. getD-zeros 2560 (i * 128 + x) ∙ sym (getD-zeros 2560 (i * 128 + 0))) (λ x h. getD-zeros 2560 x))))
 
 pub find-rows-spec : {M : Type 1} → statement M
 find-rows-spec =

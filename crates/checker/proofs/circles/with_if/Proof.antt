@@ -4,8 +4,8 @@ use mathlib.Core.Path.{ap, sym, _∙_}
 use mathlib.Core.Bool.{Bool}
 use lib.Dec.{eqb}
 use Rattle.pcrl.specs.Tests.{and, or}
+use Rattle.laws.specs.Booleans.{or-false}
 use Rattle.nodes.specs.Bits.{bit}
-use Rattle.checker.proofs.Sets.{or-false}
 use Rattle.checker.proofs.circles.with_if.Statement.{statement}
 use Rattle.checker.proofs.circles.with_if.Tie as tie
 

@@ -1,7 +1,7 @@
 -- `heads::alternatives::parted` meets its contract.
-use Rattle.putting.proofs.PutLaws.{never}
 use mathlib.Core.Path.{sym}
 use mathlib.Core.Logic.{_⊎_, inl, inr}
+use Rattle.laws.specs.Booleans.{false-not-true}
 use Rattle.heads.proofs.alternatives.parted.Statement.{statement}
 use Rattle.heads.proofs.alternatives.parted.Tie as tie
 
@@ -11,7 +11,7 @@ neither n m (inl (inr b)) = n .1 b
 neither n m (inr c) = m c
 
 returns : tie.Need-returns
-returns c = λ t. never (sym t)
+returns c = λ t. false-not-true (sym t)
 
 choice-requires : tie.Need-choice-requires
 choice-requires c κs = tt

@@ -7,9 +7,9 @@ use mathlib.Core.Logic.{inr}
 use borrow.Author.Tests.{not-true, not-false}
 use lib.ListN.{length, take}
 use Rattle.pcrl.specs.Limits.{max-variables}
+use Rattle.laws.specs.Booleans.{false-not-true}
 use Rattle.putting.specs.Slots.{slot-width}
 use Rattle.following.specs.Follows.{calls-room}
-use Rattle.putting.proofs.PutLaws.{never}
 use Rattle.putting.proofs.Bytes.{kept-front}
 use Rattle.contexts.specs.Spots.{arrays, Bound}
 use Rattle.contexts.specs.Steps.{call-room, terms-room}
@@ -341,7 +341,7 @@ walk-loop-holds t c =
       (refl, refl, refl, refl, refl, refl, refl, refl),
       (itself, pre .2, refl),
       λ ok. steady-start (length (a .calls .now)) (length (a .slots .now)) (a .s0 .fuel) (a .q0) (a .s0) (a .q0) (a .later .now) (pre .0) refl (pre .3),
-      λ ok₀. (λ ok. goes-start (a .cells .now) (a .starts .now) (a .counts .now) (a .firsts .now) (a .s0) B₀ (a .w) (a .out .now) (a .heads0) (a .q0) (a .later .now) (pre .2), λ bad. never (sym bad ∙ ok₀)),
+      λ ok₀. (λ ok. goes-start (a .cells .now) (a .starts .now) (a .counts .now) (a .firsts .now) (a .s0) B₀ (a .w) (a .out .now) (a .heads0) (a .q0) (a .later .now) (pre .2), λ bad. false-not-true (sym bad ∙ ok₀)),
       pre .4,
     )
 

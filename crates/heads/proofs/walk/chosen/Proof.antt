@@ -5,8 +5,8 @@ use Prim.Native.Nat.{_+_, _-_, _*_, _≤_, _<_}
 use mathlib.Core.Path.{_≡_, refl, sym, ap, _∙_, subst}
 use mathlib.Core.Logic.{inl, inr}
 use lib.ListN.{length}
+use Rattle.laws.specs.Booleans.{false-not-true}
 use Rattle.putting.specs.declared.Done.{Done}
-use Rattle.putting.proofs.PutLaws.{never}
 use Rattle.contexts.specs.declared.Side.{Side}
 use Rattle.heads.specs.declared.walk.Turn.{Turn}
 use Rattle.heads.specs.Stack.{later-cells}
@@ -72,9 +72,9 @@ returns-3 c =
     let less : a .g .a .heads < a .heads = omega (arith, c .before .before .if2 .left) in (
       (ap (λ (x : Done). x .w) (eo .1), refl),
       λ cells counts lo is. (
-        λ still. never (sym still ∙ eo .0),
-        λ lk ls f q₀ few y still. never (sym still ∙ eo .0),
-        λ starts firsts B o S on. (λ still. never (sym still ∙ eo .0), λ z. has-room cells starts counts firsts (a .g) lo is (c .before .before .before .before .second-side .result) (c .before .before .before .before .second-side .ensures) S (a .heads) (a .left) (a .q) (a .w) B l o on (c .before .before .before .if1 .left) less full (r .done) B o),
+        λ still. false-not-true (sym still ∙ eo .0),
+        λ lk ls f q₀ few y still. false-not-true (sym still ∙ eo .0),
+        λ starts firsts B o S on. (λ still. false-not-true (sym still ∙ eo .0), λ z. has-room cells starts counts firsts (a .g) lo is (c .before .before .before .before .second-side .result) (c .before .before .before .before .second-side .ensures) S (a .heads) (a .left) (a .q) (a .w) B l o on (c .before .before .before .if1 .left) less full (r .done) B o),
       ),
     )
 

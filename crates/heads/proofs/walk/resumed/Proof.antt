@@ -6,8 +6,8 @@ use mathlib.Core.Path.{refl, sym, ap, _∙_, subst}
 use mathlib.Core.Logic.{inl}
 use mathlib.Core.Bool.{false}
 use borrow.Author.Tests.{not-true, not-false}
+use Rattle.laws.specs.Booleans.{false-not-true}
 use Rattle.putting.specs.declared.Done.{Done}
-use Rattle.putting.proofs.PutLaws.{never}
 use Rattle.contexts.specs.Spots.{Bound}
 use Rattle.heads.specs.declared.waiting.Later.{Later}
 use Rattle.heads.specs.Progress.{WrittenBy}
@@ -25,9 +25,9 @@ returns c =
     let eo = c .over .ensures in (
       ap (λ (z : Done). z .w) (eo .1),
       (
-        λ lk ls f y still. never (sym still ∙ eo .0),
+        λ lk ls f y still. false-not-true (sym still ∙ eo .0),
         λ starts counts firsts B o S eq lf. (
-          λ still. never (sym still ∙ eo .0),
+          λ still. false-not-true (sym still ∙ eo .0),
           λ z.
               subst (λ (d : Done). WrittenBy (a .cells .now) starts counts firsts S d B o) (sym (eo .1))
               (resume-fails (a .cells .now) starts counts firsts S (a .g .s) (a .heads) (a .left) (a .q) (a .x) B (a .later .now) o lf (not-true _ (c .before .if1 .taken))),
@@ -44,9 +44,9 @@ returns-2 c =
     let eo = c .over2 .ensures in (
       ap (λ (z : Done). z .w) (eo .1),
       (
-        λ lk ls f y still. never (sym still ∙ eo .0),
+        λ lk ls f y still. false-not-true (sym still ∙ eo .0),
         λ starts counts firsts B o S eq lf. (
-          λ still. never (sym still ∙ eo .0),
+          λ still. false-not-true (sym still ∙ eo .0),
           λ z.
               subst (λ (d : Done). WrittenBy (a .cells .now) starts counts firsts S d B o) (sym (eo .1))
               (resume-done (a .cells .now) starts counts firsts S (a .g .s) (a .heads) (a .left) (a .q) (a .x) B (a .later .now) o lf (not-false _ (c .before .before .if1 .left)) (omega (arith, c .before .if2 .taken))),
@@ -63,9 +63,9 @@ returns-3 c =
     let eo = c .over3 .ensures in (
       ap (λ (z : Done). z .w) (eo .1),
       (
-        λ lk ls f y still. never (sym still ∙ eo .0),
+        λ lk ls f y still. false-not-true (sym still ∙ eo .0),
         λ starts counts firsts B o S eq lf. (
-          λ still. never (sym still ∙ eo .0),
+          λ still. false-not-true (sym still ∙ eo .0),
           λ z.
               subst (λ (d : Done). WrittenBy (a .cells .now) starts counts firsts S d B o) (sym (eo .1))
               (resume-none (a .cells .now) starts counts firsts S (a .g .s) (a .heads) (a .left) (a .q) (a .x) B (a .later .now) o lf (omega (arith, c .before .before .if2 .left)) (omega (arith, c .before .if3 .taken, eq)) (record { ok = false; w = a .x .w })),
@@ -82,9 +82,9 @@ returns-4 c =
     let eo = c .over4 .ensures in (
       ap (λ (z : Done). z .w) (eo .1),
       (
-        λ lk ls f y still. never (sym still ∙ eo .0),
+        λ lk ls f y still. false-not-true (sym still ∙ eo .0),
         λ starts counts firsts B o S eq lf. (
-          λ still. never (sym still ∙ eo .0),
+          λ still. false-not-true (sym still ∙ eo .0),
           λ z.
               subst (λ (d : Done). WrittenBy (a .cells .now) starts counts firsts S d B o) (sym (eo .1))
               (resume-empty (a .cells .now) starts counts firsts S (a .g .s) (a .heads) (a .left) (a .q) (a .x) B (a .later .now) o lf (c .before .if4 .taken) (record { ok = false; w = a .x .w })),
@@ -107,9 +107,9 @@ returns-5 c =
     let eo = c .over5 .ensures in (
       ap (λ (z : Done). z .w) (eo .1),
       (
-        λ lk ls f y still. never (sym still ∙ eo .0),
+        λ lk ls f y still. false-not-true (sym still ∙ eo .0),
         λ starts counts firsts B o S eq lf. (
-          λ still. never (sym still ∙ eo .0),
+          λ still. false-not-true (sym still ∙ eo .0),
           λ z.
               subst (λ (d : Done). WrittenBy (a .cells .now) starts counts firsts S d B o) (sym (eo .1))
               (resume-out (a .cells .now) starts counts firsts S (a .g .s) (a .heads) (a .left) (a .q) (a .x) B (a .later .now) o lf (omega (arith, c .before .before .before .before .before .before .if3 .left, eq)) (c .before .before .before .before .later-at .result) (c .before .before .before .before .later-at .ensures) (omega (arith, c .before .if5 .taken)) (record { ok = false; w = a .x .w })),

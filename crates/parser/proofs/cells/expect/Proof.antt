@@ -1,8 +1,8 @@
 -- `cells::expect` meets its contract: a sign that stands next is no 0, so its place is within the list.
 use mathlib.Core.Path.{sym, _∙_}
 use native.Mathlib.Omega.{arith}
+use Rattle.laws.specs.Places.{getD-positive}
 use Rattle.parser.specs.Reading.{next, wrong}
-use Rattle.parser.proofs.Reading.{live}
 use borrow.Author.Needs.{needs}
 use Rattle.parser.proofs.cells.expect.Statement.{statement}
 use Rattle.parser.proofs.cells.expect.Tie as tie
@@ -13,7 +13,7 @@ peek-cell-requires c κs = tt
 add-result : tie.Need-add-result
 add-result c =
     let at-start = c .before .before .before in
-    let l = live (at-start .args .toks .now) (at-start .args .at) (omega arith) in
+    let l = getD-positive (at-start .args .toks .now) (at-start .args .at) (omega arith) in
     omega arith
 
 add-result-2 : tie.Need-add-result-2

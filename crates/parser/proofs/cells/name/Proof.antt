@@ -1,6 +1,6 @@
 -- `cells::name` meets its contract.
 use native.Mathlib.Omega.{arith}
-use Rattle.parser.proofs.Reading.{live}
+use Rattle.laws.specs.Places.{getD-positive}
 use Rattle.parser.proofs.Words.{name-missing, reads-missing, reads-name}
 use Rattle.parser.proofs.cells.name.Statement.{statement}
 use Rattle.parser.proofs.cells.name.Tie as tie
@@ -21,7 +21,7 @@ returns c =
 add-t7 : tie.Need-add-t7
 add-t7 c =
     let at-start = c .before .before .before .before in
-    let l = live (at-start .args .toks .now) (at-start .args .at) (omega arith) in
+    let l = getD-positive (at-start .args .toks .now) (at-start .args .at) (omega arith) in
     omega arith
 
 put-requires : tie.Need-put-requires

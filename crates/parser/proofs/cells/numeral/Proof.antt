@@ -1,6 +1,6 @@
 -- `cells::numeral` meets its contract.
 use native.Mathlib.Omega.{arith}
-use Rattle.parser.proofs.Reading.{live}
+use Rattle.laws.specs.Places.{getD-positive}
 use Rattle.parser.proofs.Words.{numeral-missing-low, numeral-missing-high, reads-missing, reads-numeral}
 use Rattle.parser.proofs.cells.numeral.Statement.{statement}
 use Rattle.parser.proofs.cells.numeral.Tie as tie
@@ -31,7 +31,7 @@ returns-2 c =
 add-t7 : tie.Need-add-t7
 add-t7 c =
     let at-start = c .before .before .before .before .before in
-    let l = live (at-start .args .toks .now) (at-start .args .at) (omega arith) in
+    let l = getD-positive (at-start .args .toks .now) (at-start .args .at) (omega arith) in
     omega arith
 
 put-requires : tie.Need-put-requires

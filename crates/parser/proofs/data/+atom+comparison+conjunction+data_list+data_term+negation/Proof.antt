@@ -7,9 +7,9 @@ use mathlib.Core.List.{List}
 use native.Mathlib.Omega.{arith}
 use lib.ListN.{length}
 use Rattle.pcrl.specs.Grammar as G
+use Rattle.laws.specs.Places.{getD-positive}
 use Rattle.parser.specs.Cells.{enc-ors, enc-ands, enc-negation, enc-datas, more-ors, more-ands}
 use Rattle.parser.specs.Reading.{left}
-use Rattle.parser.proofs.Reading.{live}
 use Rattle.parser.proofs.Going.{Goes, goes-start, goes-then}
 use Rattle.parser.proofs.Operands.{Joins, joins-start, joins-then, or-last, or-more, data-read, and-last, and-more, conjunction-read}
 use Rattle.parser.proofs.DataLaws.{comparison-alone, comparison-equal, negation-atom, negation-not, atom-nest, atom-none, atom-value, atom-variable, atom-apply, list-one, list-more}
@@ -124,13 +124,13 @@ negation-calls t = (peek-cell-reads.Asked, peek-cell-reads.Learnt, put-reads.Ask
 atom-add-data-term : (t : ℕ) → atom-lts.Need-add-data-term (atom-calls t) (atom-at t) atom.Post
 atom-add-data-term t c =
     let at-start = c .before .before .before .before .before .before .before .before in
-    let l = live (at-start .args .toks .now) (at-start .args .at) (omega arith) in
+    let l = getD-positive (at-start .args .toks .now) (at-start .args .at) (omega arith) in
     omega arith
 
 atom-data-term-requires : (t : ℕ) → atom-lts.Need-data-term-requires (atom-calls t) (atom-at t) atom.Post
 atom-data-term-requires t c κs =
     let at-start = c .before .before .before .before .before .before .before .before .before in
-    let l = live (at-start .args .toks .now) (at-start .args .at) (omega arith) in
+    let l = getD-positive (at-start .args .toks .now) (at-start .args .at) (omega arith) in
     (omega arith, tt)
 
 atom-expect-requires : (t : ℕ) → atom-lts.Need-expect-requires (atom-calls t) (atom-at t) atom.Post
@@ -144,7 +144,7 @@ atom-returns t c =
     let at-peek = c .before .before .before .before .before .before .before .before .before .before .peek-cell in
     let at-if1 = c .before .before .before .before .before .before .before .before .before .if1 in
     let at-put = c .before .before .before .before .before .before .before .put in
-    let l = live (at-start .args .toks .now) (at-start .args .at) (omega arith) in (
+    let l = getD-positive (at-start .args .toks .now) (at-start .args .at) (omega arith) in (
       omega (arith, at-data-term .ensures .0, at-expect .ensures .0),
       λ s. atom-nest s (at-start .args .toks .now) (at-start .args .at) (sym (at-peek .ensures) ∙ at-if1 .taken) (at-put .ensures) (at-data-term .ensures .0) (at-data-term .ensures .1 s) (at-expect .ensures .0) (at-expect .ensures .1),
     )
@@ -162,7 +162,7 @@ atom-returns-2 t c =
 atom-add-t20 : (t : ℕ) → atom-lts.Need-add-t20 (atom-calls t) (atom-at t) atom.Post
 atom-add-t20 t c =
     let at-start = c .before .before .before .before .before .before .before .before .before .before in
-    let l = live (at-start .args .toks .now) (at-start .args .at) (omega arith) in
+    let l = getD-positive (at-start .args .toks .now) (at-start .args .at) (omega arith) in
     omega arith
 
 atom-returns-3 : (t : ℕ) → atom-lts.Need-returns-3 (atom-calls t) (atom-at t) atom.Post
@@ -171,7 +171,7 @@ atom-returns-3 t c =
     let at-peek = c .before .before .before .before .before .before .before .before .before .before .before .peek-cell in
     let at-put3 = c .before .before .put3 in
     let at-put2 = c .before .before .before .before .before .before .put2 in
-    let l = live (at-start .args .toks .now) (at-start .args .at) (omega arith) in (
+    let l = getD-positive (at-start .args .toks .now) (at-start .args .at) (omega arith) in (
       omega arith,
       λ s. atom-value s (at-start .args .toks .now) (at-start .args .at) (at-peek .ensures) (at-put3 .ensures) (at-put2 .ensures) (omega arith) (omega arith),
     )
@@ -179,7 +179,7 @@ atom-returns-3 t c =
 atom-add-p : (t : ℕ) → atom-lts.Need-add-p (atom-calls t) (atom-at t) atom.Post
 atom-add-p t c =
     let at-start = c .before .before .before .before .before .before .before .before .before .before .before .before .before .before in
-    let l = live (at-start .args .toks .now) (at-start .args .at) (omega arith) in
+    let l = getD-positive (at-start .args .toks .now) (at-start .args .at) (omega arith) in
     omega arith
 
 atom-returns-4 : (t : ℕ) → atom-lts.Need-returns-4 (atom-calls t) (atom-at t) atom.Post
@@ -190,7 +190,7 @@ atom-returns-4 t c =
     let at-put4 = c .before .before .before .before .before .before .before .before .put4 in
     let at-if4 = c .if4 in
     let at-peek2 = c .before .peek-cell2 in
-    let l = live (at-start .args .toks .now) (at-start .args .at) (omega arith) in (
+    let l = getD-positive (at-start .args .toks .now) (at-start .args .at) (omega arith) in (
       omega arith,
       λ s. atom-variable s (at-start .args .toks .now) (at-start .args .at) (at-peek .ensures) (at-put5 .ensures) (at-put4 .ensures) (omega arith) (λ e. at-if4 .taken (at-peek2 .ensures ∙ e)),
     )
@@ -198,13 +198,13 @@ atom-returns-4 t c =
 atom-add-data-list : (t : ℕ) → atom-lts.Need-add-data-list (atom-calls t) (atom-at t) atom.Post
 atom-add-data-list t c =
     let at-start = c .before .before .before .before .before .before .before .before .before .before .before .before .before .before .before .before .before .before .before .before in
-    let l = live (at-start .args .toks .now) ((at-start .args .at) + 1) (omega arith) in
+    let l = getD-positive (at-start .args .toks .now) ((at-start .args .at) + 1) (omega arith) in
     omega arith
 
 atom-data-list-requires : (t : ℕ) → atom-lts.Need-data-list-requires (atom-calls t) (atom-at t) atom.Post
 atom-data-list-requires t c κs =
     let at-start = c .before .before .before .before .before .before .before .before .before .before .before .before .before .before .before .before .before .before .before .before .before in
-    let l = live (at-start .args .toks .now) ((at-start .args .at) + 1) (omega arith) in
+    let l = getD-positive (at-start .args .toks .now) ((at-start .args .at) + 1) (omega arith) in
     (omega arith, tt)
 
 atom-returns-5 : (t : ℕ) → atom-lts.Need-returns-5 (atom-calls t) (atom-at t) atom.Post
@@ -220,7 +220,7 @@ atom-returns-5 t c =
     let at-put6 = c .before .before .before .before .before .before .put6 in
     let q = at-if3 .left in
     let e = at-peek .ensures in
-    let l = live (at-start .args .toks .now) ((at-start .args .at) + 1) (omega arith) in (
+    let l = getD-positive (at-start .args .toks .now) ((at-start .args .at) + 1) (omega arith) in (
       omega (arith, at-data-list .ensures .0),
       λ s. atom-apply s (at-start .args .toks .now) (at-start .args .at) (at-peek .ensures) (at-put5 .ensures) (at-put4 .ensures) (omega arith) (sym (at-peek2 .ensures) ∙ at-if4 .left) (at-put6 .ensures) (at-data-list .ensures .1 s),
     )
@@ -243,14 +243,14 @@ comparison-add-negation : (t : ℕ) → comparison-lts.Need-add-negation (compar
 comparison-add-negation t c =
     let at-start = c .before .before .before .before .before .before .before .before .before .before .before .before .before .before .before .before .before in
     let at-negation = c .before .before .before .before .before .before .before .before .before .negation in
-    let l = live (at-start .args .toks .now) (at-negation .result .at) (omega arith) in
+    let l = getD-positive (at-start .args .toks .now) (at-negation .result .at) (omega arith) in
     omega arith
 
 comparison-negation-requires-2 : (t : ℕ) → comparison-lts.Need-negation-requires-2 (comparison-calls t) (comparison-at t) comparison.Post
 comparison-negation-requires-2 t c κs =
     let at-start = c .before .before .before .before .before .before .before .before .before .before .before .before .before .before .before .before .before .before in
     let at-negation = c .before .before .before .before .before .before .before .before .before .before .negation in
-    let l = live (at-start .args .toks .now) (at-negation .result .at) (omega arith) in
+    let l = getD-positive (at-start .args .toks .now) (at-negation .result .at) (omega arith) in
     (omega (arith, at-negation .ensures .0), tt)
 
 comparison-returns-2 : (t : ℕ) → comparison-lts.Need-returns-2 (comparison-calls t) (comparison-at t) comparison.Post
@@ -262,7 +262,7 @@ comparison-returns-2 t c =
     let at-peek = c .before .before .before .before .before .before .before .before .before .before .peek-cell in
     let at-if1 = c .before .before .before .before .before .before .before .before .before .if1 in
     let at-put2 = c .before .before .before .before .before .before .before .put2 in
-    let l = live (at-start .args .toks .now) (at-negation .result .at) (omega arith) in (
+    let l = getD-positive (at-start .args .toks .now) (at-negation .result .at) (omega arith) in (
       omega (arith, at-negation .ensures .0, at-negation2 .ensures .0),
       λ s. comparison-equal s (at-start .args .toks .now) (at-start .args .at) (at-put .ensures) (at-negation .ensures .0) (at-negation .ensures .1 s) (sym (at-peek .ensures) ∙ at-if1 .left) (at-put2 .ensures) (at-negation2 .ensures .1 s),
     )
@@ -307,21 +307,21 @@ conjunction-add-from : (t : ℕ) → conjunction-lts.Need-add-from (conjunction-
 conjunction-add-from t c =
     let at-start = c .before .before .before .before .before .before .before .before .before .before .before .before .before .before in
     let at-comparison = c .before .before .before .before .before .comparison in
-    let l = live (at-start .args .toks .now) (at-comparison .result .at) (omega arith) in
+    let l = getD-positive (at-start .args .toks .now) (at-comparison .result .at) (omega arith) in
     omega arith
 
 conjunction-add-n : (t : ℕ) → conjunction-lts.Need-add-n (conjunction-calls t) (conjunction-at t) conjunction.Post conjunction-Inv-loop conjunction-μ-loop
 conjunction-add-n t c =
     let at-start = c .before .before .before .before .before .before .before .before .before .before .before .before .before .before in
     let at-comparison = c .before .before .before .before .before .comparison in
-    let l = live (at-start .args .toks .now) (at-comparison .result .at) (omega arith) in
+    let l = getD-positive (at-start .args .toks .now) (at-comparison .result .at) (omega arith) in
     omega (arith, at-comparison .ensures .0)
 
 conjunction-loop-less : (t : ℕ) → conjunction-lts.Need-loop-less (conjunction-calls t) (conjunction-at t) conjunction.Post conjunction-Inv-loop conjunction-μ-loop
 conjunction-loop-less t c =
     let at-start = c .before .before .before .before .before .before .before .before .before .before .before .before .before .before in
     let at-comparison = c .before .before .before .before .before .comparison in
-    let l = live (at-start .args .toks .now) (at-comparison .result .at) (omega arith) in
+    let l = getD-positive (at-start .args .toks .now) (at-comparison .result .at) (omega arith) in
     omega (arith, at-comparison .ensures .0)
 
 conjunction-loop-again : (t : ℕ) → conjunction-lts.Need-loop-again (conjunction-calls t) (conjunction-at t) conjunction.Post conjunction-Inv-loop conjunction-μ-loop
@@ -331,7 +331,7 @@ conjunction-loop-again t c =
     let at-loop = c .before .before .before .before .before .before .before .loop in
     let at-peek = c .before .before .peek-cell in
     let at-if1 = c .before .if1 in
-    let l = live (at-start .args .toks .now) (at-comparison .result .at) (omega arith) in (
+    let l = getD-positive (at-start .args .toks .now) (at-comparison .result .at) (omega arith) in (
       omega (arith, at-comparison .ensures .0),
       omega (arith, at-comparison .kept .1 .1 .0),
       λ s. joins-then (at-loop .inv .2 s) (record { on = and-more s (at-start .args .toks .now) (at-loop .from) (at-comparison .ensures .0) (at-comparison .ensures .1 s) (sym (at-peek .ensures) ∙ at-if1 .left) }),
@@ -375,14 +375,14 @@ data-list-add-from : (t : ℕ) → data-list-lts.Need-add-from (data-list-calls 
 data-list-add-from t c =
     let at-start = c .before .before .before .before .before .before .before .before .before .before .before .before .before .before .before .before .before .before in
     let at-data-term = c .before .before .before .before .before .before .before .before .before .data-term in
-    let l = live (at-start .args .toks .now) (at-data-term .result .at) (omega arith) in
+    let l = getD-positive (at-start .args .toks .now) (at-data-term .result .at) (omega arith) in
     omega arith
 
 data-list-loop-less : (t : ℕ) → data-list-lts.Need-loop-less (data-list-calls t) (data-list-at t) data-list.Post data-list-Inv-loop data-list-μ-loop
 data-list-loop-less t c =
     let at-start = c .before .before .before .before .before .before .before .before .before .before .before .before .before .before .before .before .before .before in
     let at-data-term = c .before .before .before .before .before .before .before .before .before .data-term in
-    let l = live (at-start .args .toks .now) (at-data-term .result .at) (omega arith) in
+    let l = getD-positive (at-start .args .toks .now) (at-data-term .result .at) (omega arith) in
     omega (arith, at-data-term .ensures .0)
 
 data-list-loop-again : (t : ℕ) → data-list-lts.Need-loop-again (data-list-calls t) (data-list-at t) data-list.Post data-list-Inv-loop data-list-μ-loop
@@ -394,7 +394,7 @@ data-list-loop-again t c =
     let at-loop = c .before .before .before .before .before .before .before .before .before .before .before .before .before .before .before .loop in
     let at-peek = c .before .before .before .before .before .before .peek-cell in
     let at-if1 = c .before .before .before .before .before .if1 in
-    let l = live (at-start .args .toks .now) (at-data-term .result .at) (omega arith) in (
+    let l = getD-positive (at-start .args .toks .now) (at-data-term .result .at) (omega arith) in (
       omega (arith, at-data-term .ensures .0),
       omega (arith, at-put2 .kept .0, at-data-term .kept .1 .1 .0, at-put .kept .0),
       λ s. goes-then (at-loop .inv .2 s) (record { on = list-more s (at-start .args .toks .now) (at-loop .from) (at-put .ensures) (at-data-term .ensures .0) (at-data-term .ensures .1 s) (sym (at-peek .ensures) ∙ at-if1 .left) (at-put2 .ensures) }),
@@ -440,21 +440,21 @@ data-term-add-from : (t : ℕ) → data-term-lts.Need-add-from (data-term-calls 
 data-term-add-from t c =
     let at-start = c .before .before .before .before .before .before .before .before .before .before .before .before .before .before in
     let at-conjunction = c .before .before .before .before .before .conjunction in
-    let l = live (at-start .args .toks .now) (at-conjunction .result .at) (omega arith) in
+    let l = getD-positive (at-start .args .toks .now) (at-conjunction .result .at) (omega arith) in
     omega arith
 
 data-term-add-n : (t : ℕ) → data-term-lts.Need-add-n (data-term-calls t) (data-term-at t) data-term.Post data-term-Inv-loop data-term-μ-loop
 data-term-add-n t c =
     let at-start = c .before .before .before .before .before .before .before .before .before .before .before .before .before .before in
     let at-conjunction = c .before .before .before .before .before .conjunction in
-    let l = live (at-start .args .toks .now) (at-conjunction .result .at) (omega arith) in
+    let l = getD-positive (at-start .args .toks .now) (at-conjunction .result .at) (omega arith) in
     omega (arith, at-conjunction .ensures .0)
 
 data-term-loop-less : (t : ℕ) → data-term-lts.Need-loop-less (data-term-calls t) (data-term-at t) data-term.Post data-term-Inv-loop data-term-μ-loop
 data-term-loop-less t c =
     let at-start = c .before .before .before .before .before .before .before .before .before .before .before .before .before .before in
     let at-conjunction = c .before .before .before .before .before .conjunction in
-    let l = live (at-start .args .toks .now) (at-conjunction .result .at) (omega arith) in
+    let l = getD-positive (at-start .args .toks .now) (at-conjunction .result .at) (omega arith) in
     omega (arith, at-conjunction .ensures .0)
 
 data-term-loop-again : (t : ℕ) → data-term-lts.Need-loop-again (data-term-calls t) (data-term-at t) data-term.Post data-term-Inv-loop data-term-μ-loop
@@ -464,7 +464,7 @@ data-term-loop-again t c =
     let at-loop = c .before .before .before .before .before .before .before .loop in
     let at-peek = c .before .before .peek-cell in
     let at-if1 = c .before .if1 in
-    let l = live (at-start .args .toks .now) (at-conjunction .result .at) (omega arith) in (
+    let l = getD-positive (at-start .args .toks .now) (at-conjunction .result .at) (omega arith) in (
       omega (arith, at-conjunction .ensures .0),
       omega (arith, at-conjunction .kept .1 .1 .0),
       λ s. joins-then (at-loop .inv .2 s) (record { on = or-more s (at-start .args .toks .now) (at-loop .from) (at-conjunction .ensures .0) (at-conjunction .ensures .1 s) (sym (at-peek .ensures) ∙ at-if1 .left) }),
@@ -483,14 +483,14 @@ negation-add-from : (t : ℕ) → negation-lts.Need-add-from (negation-calls t) 
 negation-add-from t c =
     let at-start = c .before .before .before .before .before .before .before .before .before in
     let at-loop = c .before .before .before .before .before .before .loop in
-    let l = live (at-start .args .toks .now) (at-loop .from) (omega arith) in
+    let l = getD-positive (at-start .args .toks .now) (at-loop .from) (omega arith) in
     omega arith
 
 negation-loop-less : (t : ℕ) → negation-lts.Need-loop-less (negation-calls t) (negation-at t) negation.Post negation-Inv-loop negation-μ-loop
 negation-loop-less t c =
     let at-start = c .before .before .before .before .before .before .before .before .before in
     let at-loop = c .before .before .before .before .before .before .loop in
-    let l = live (at-start .args .toks .now) (at-loop .from) (omega arith) in
+    let l = getD-positive (at-start .args .toks .now) (at-loop .from) (omega arith) in
     omega arith
 
 negation-loop-again : (t : ℕ) → negation-lts.Need-loop-again (negation-calls t) (negation-at t) negation.Post negation-Inv-loop negation-μ-loop

@@ -1,7 +1,7 @@
 -- `data::named` meets its contract, with or without bracketed data.
 use mathlib.Core.Path.{sym, _∙_}
 use native.Mathlib.Omega.{arith}
-use Rattle.parser.proofs.Reading.{live}
+use Rattle.laws.specs.Places.{getD-positive}
 use Rattle.parser.proofs.DataLaws.{call-bare, call-given}
 use Rattle.parser.proofs.data.named.Statement.{statement}
 use Rattle.parser.proofs.data.named.Tie as tie
@@ -36,7 +36,7 @@ add-data-list : tie.Need-add-data-list
 add-data-list c =
     let at-start = c .before .before .before .before .before .before .before .before .before .before .before .before .before .before .before .before .before in
     let at-name = c .before .before .before .before .before .before .before .before .before .name in
-    let l = live (at-start .args .toks .now) (at-name .result .at) (omega arith) in
+    let l = getD-positive (at-start .args .toks .now) (at-name .result .at) (omega arith) in
     omega arith
 
 data-list-requires : tie.Need-data-list-requires
@@ -54,7 +54,7 @@ returns-2 c =
     let at-peek = c .before .before .before .before .before .before .before .before .before .before .peek-cell in
     let at-if1 = c .before .before .before .before .before .before .before .before .before .if1 in
     let at-put2 = c .before .before .before .before .before .before .before .put2 in
-    let l = live (at-start .args .toks .now) (at-name .result .at) (omega arith) in (
+    let l = getD-positive (at-start .args .toks .now) (at-name .result .at) (omega arith) in (
       omega (arith, at-name .ensures .0, at-data-list .ensures .0),
       λ s. call-given s (at-start .args .toks .now) (at-start .args .at) (at-put .ensures) (at-name .ensures .0) (at-name .ensures .1 s 1 (omega arith)) (sym (at-peek .ensures) ∙ at-if1 .left) (at-put2 .ensures) (at-data-list .ensures .1 s),
     )

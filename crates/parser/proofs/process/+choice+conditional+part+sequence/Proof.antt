@@ -7,9 +7,9 @@ use mathlib.Core.List.{List}
 use native.Mathlib.Omega.{arith}
 use lib.ListN.{length}
 use Rattle.pcrl.specs.Grammar as G
+use Rattle.laws.specs.Places.{getD-positive}
 use Rattle.parser.specs.Cells.{enc-choice, enc-sequence}
 use Rattle.parser.specs.Reading.{left}
-use Rattle.parser.proofs.Reading.{live}
 use Rattle.parser.proofs.Going.{Goes, goes-start, goes-then}
 use Rattle.parser.proofs.ProcessLaws.{choice-only, choice-plus, conditional-plain, conditional-cond, sequence-last, sequence-then, part-delta, part-tau, part-sum, part-group, part-named}
 use Prim.Native.Nat.{ℕ, _<_}
@@ -130,14 +130,14 @@ choice-add-from : (t : ℕ) → choice-lts.Need-add-from (choice-calls t) (choic
 choice-add-from t c =
     let at-start = c .before .before .before .before .before .before .before .before .before .before .before .before .before .before .before .before .before .before in
     let at-conditional = c .before .before .before .before .before .before .before .before .before .conditional in
-    let l = live (at-start .args .toks .now) (at-conditional .result .at) (omega arith) in
+    let l = getD-positive (at-start .args .toks .now) (at-conditional .result .at) (omega arith) in
     omega arith
 
 choice-loop-less : (t : ℕ) → choice-lts.Need-loop-less (choice-calls t) (choice-at t) choice.Post choice-Inv-loop choice-μ-loop
 choice-loop-less t c =
     let at-start = c .before .before .before .before .before .before .before .before .before .before .before .before .before .before .before .before .before .before in
     let at-conditional = c .before .before .before .before .before .before .before .before .before .conditional in
-    let l = live (at-start .args .toks .now) (at-conditional .result .at) (omega arith) in
+    let l = getD-positive (at-start .args .toks .now) (at-conditional .result .at) (omega arith) in
     omega (arith, at-conditional .ensures .0)
 
 choice-loop-again : (t : ℕ) → choice-lts.Need-loop-again (choice-calls t) (choice-at t) choice.Post choice-Inv-loop choice-μ-loop
@@ -149,7 +149,7 @@ choice-loop-again t c =
     let at-loop = c .before .before .before .before .before .before .before .before .before .before .before .before .before .before .before .loop in
     let at-peek = c .before .before .before .before .before .before .peek-cell in
     let at-if1 = c .before .before .before .before .before .if1 in
-    let l = live (at-start .args .toks .now) (at-conditional .result .at) (omega arith) in (
+    let l = getD-positive (at-start .args .toks .now) (at-conditional .result .at) (omega arith) in (
       omega (arith, at-conditional .ensures .0),
       omega (arith, at-put2 .kept .0, at-conditional .kept .1 .1 .0, at-put .kept .0),
       λ s. goes-then (at-loop .inv .2 s) (record { on = choice-plus s (at-start .args .toks .now) (at-loop .from) (at-put .ensures) (at-conditional .ensures .0) (at-conditional .ensures .1 s) (sym (at-peek .ensures) ∙ at-if1 .left) (at-put2 .ensures) }),
@@ -185,7 +185,7 @@ conditional-add-data-term : (t : ℕ) → conditional-lts.Need-add-data-term (co
 conditional-add-data-term t c =
     let at-start = c .before .before .before .before .before .before .before .before .before .before .before .before .before .before .before .before .before in
     let at-sequence = c .before .before .before .before .before .before .before .before .before .sequence in
-    let l = live (at-start .args .toks .now) (at-sequence .result .at) (omega arith) in
+    let l = getD-positive (at-start .args .toks .now) (at-sequence .result .at) (omega arith) in
     omega arith
 
 conditional-data-term-requires : (t : ℕ) → conditional-lts.Need-data-term-requires (conditional-calls t) (conditional-at t) conditional.Post
@@ -204,7 +204,7 @@ conditional-sequence-requires-2 t c κs =
     let at-expect = c .before .expect in
     let q = at-if1 .left in
     let e = at-peek .ensures in
-    let l = live (at-start .args .toks .now) (at-sequence .result .at) (omega arith) in
+    let l = getD-positive (at-start .args .toks .now) (at-sequence .result .at) (omega arith) in
     (omega (arith, at-sequence .ensures .0, at-data-term .ensures .0, at-expect .ensures .0), tt)
 
 conditional-same-length-2 : (t : ℕ) → conditional-lts.Need-same-length-2 (conditional-calls t) (conditional-at t) conditional.Post
@@ -221,7 +221,7 @@ conditional-returns-2 t c =
     let at-peek = c .before .before .before .before .before .before .before .before .before .before .before .before .before .before .before .peek-cell in
     let at-if1 = c .before .before .before .before .before .before .before .before .before .before .before .before .before .before .if1 in
     let at-put2 = c .before .before .before .before .before .before .before .before .before .before .before .before .put2 in
-    let l = live (at-start .args .toks .now) (at-sequence .result .at) (omega arith) in (
+    let l = getD-positive (at-start .args .toks .now) (at-sequence .result .at) (omega arith) in (
       omega (arith, at-sequence .ensures .0, at-data-term .ensures .0, at-expect .ensures .0, at-sequence2 .ensures .0),
       λ s. conditional-cond s (at-start .args .toks .now) (at-start .args .at) (at-put .ensures) (at-sequence .ensures .0) (at-sequence .ensures .1 s) (sym (at-peek .ensures) ∙ at-if1 .left) (at-put2 .ensures) (at-data-term .ensures .0) (at-data-term .ensures .1 s) (at-expect .ensures .0) (at-expect .ensures .1) (at-sequence2 .ensures .0) (at-sequence2 .ensures .1 s),
     )
@@ -232,7 +232,7 @@ part-peek-requires t c κs = tt
 part-add-t12 : (t : ℕ) → part-lts.Need-add-t12 (part-calls t) (part-at t) part.Post
 part-add-t12 t c =
     let at-start = c .before .before .before .before in
-    let l = live (at-start .args .toks .now) (at-start .args .at) (omega arith) in
+    let l = getD-positive (at-start .args .toks .now) (at-start .args .at) (omega arith) in
     omega arith
 
 part-put-requires : (t : ℕ) → part-lts.Need-put-requires (part-calls t) (part-at t) part.Post
@@ -247,7 +247,7 @@ part-returns t c =
     let at-put = c .before .before .put in
     let at-peek = c .before .before .before .before .before .peek-cell in
     let at-if1 = c .before .before .before .before .if1 in
-    let l = live (at-start .args .toks .now) (at-start .args .at) (omega arith) in (
+    let l = getD-positive (at-start .args .toks .now) (at-start .args .at) (omega arith) in (
       omega arith,
       λ s. part-delta s (at-start .args .toks .now) (at-start .args .at) (at-put .ensures) (sym (at-peek .ensures) ∙ at-if1 .taken),
     )
@@ -255,7 +255,7 @@ part-returns t c =
 part-add-t16 : (t : ℕ) → part-lts.Need-add-t16 (part-calls t) (part-at t) part.Post
 part-add-t16 t c =
     let at-start = c .before .before .before .before .before in
-    let l = live (at-start .args .toks .now) (at-start .args .at) (omega arith) in
+    let l = getD-positive (at-start .args .toks .now) (at-start .args .at) (omega arith) in
     omega arith
 
 part-put-requires-2 : (t : ℕ) → part-lts.Need-put-requires-2 (part-calls t) (part-at t) part.Post
@@ -271,7 +271,7 @@ part-returns-2 t c =
     let at-peek = c .before .before .before .before .before .before .peek-cell in
     let at-put2 = c .before .before .put2 in
     let at-if2 = c .before .before .before .before .if2 in
-    let l = live (at-start .args .toks .now) (at-start .args .at) (omega arith) in (
+    let l = getD-positive (at-start .args .toks .now) (at-start .args .at) (omega arith) in (
       omega arith,
       λ s. part-tau s (at-start .args .toks .now) (at-start .args .at) (λ e. at-if1 .left (at-peek .ensures ∙ e)) (at-put2 .ensures) (sym (at-peek .ensures) ∙ at-if2 .taken),
     )
@@ -282,7 +282,7 @@ part-put-requires-3 t c κs = tt
 part-add-sum-head : (t : ℕ) → part-lts.Need-add-sum-head (part-calls t) (part-at t) part.Post
 part-add-sum-head t c =
     let at-start = c .before .before .before .before .before .before .before .before .before .before in
-    let l = live (at-start .args .toks .now) (at-start .args .at) (omega arith) in
+    let l = getD-positive (at-start .args .toks .now) (at-start .args .at) (omega arith) in
     omega arith
 
 part-sum-head-requires : (t : ℕ) → part-lts.Need-sum-head-requires (part-calls t) (part-at t) part.Post
@@ -292,7 +292,7 @@ part-choice-requires : (t : ℕ) → part-lts.Need-choice-requires (part-calls t
 part-choice-requires t c κs =
     let at-start = c .before .before .before .before .before .before .before .before .before .before .before .before .before .before .before in
     let at-sum-head = c .before .before .before .sum-head in
-    let l = live (at-start .args .toks .now) (at-start .args .at) (omega arith) in
+    let l = getD-positive (at-start .args .toks .now) (at-start .args .at) (omega arith) in
     (omega (arith, at-sum-head .ensures .0), tt)
 
 part-expect-requires : (t : ℕ) → part-lts.Need-expect-requires (part-calls t) (part-at t) part.Post
@@ -312,7 +312,7 @@ part-returns-3 t c =
     let at-if2 = c .before .before .before .before .before .before .before .before .before .before .before .before .before .before .if2 in
     let at-put3 = c .before .before .before .before .before .before .before .before .before .before .before .put3 in
     let at-if3 = c .before .before .before .before .before .before .before .before .before .before .before .before .before .if3 in
-    let l = live (at-start .args .toks .now) (at-start .args .at) (omega arith) in (
+    let l = getD-positive (at-start .args .toks .now) (at-start .args .at) (omega arith) in (
       omega (arith, at-sum-head .ensures .0, at-choice .ensures .0, at-expect .ensures .0),
       λ s. part-sum s (at-start .args .toks .now) (at-start .args .at) (λ e. at-if1 .left (at-peek .ensures ∙ e)) (λ e. at-if2 .left (at-peek .ensures ∙ e)) (at-put3 .ensures) (sym (at-peek .ensures) ∙ at-if3 .taken) (at-sum-head .ensures .0) (at-sum-head .ensures .1 s 1 (omega arith)) (at-choice .ensures .0) (at-choice .ensures .1 s) (at-expect .ensures .0) (at-expect .ensures .1),
     )
@@ -323,13 +323,13 @@ part-put-requires-4 t c κs = tt
 part-add-choice : (t : ℕ) → part-lts.Need-add-choice (part-calls t) (part-at t) part.Post
 part-add-choice t c =
     let at-start = c .before .before .before .before .before .before .before .before .before .before .before in
-    let l = live (at-start .args .toks .now) (at-start .args .at) (omega arith) in
+    let l = getD-positive (at-start .args .toks .now) (at-start .args .at) (omega arith) in
     omega arith
 
 part-choice-requires-2 : (t : ℕ) → part-lts.Need-choice-requires-2 (part-calls t) (part-at t) part.Post
 part-choice-requires-2 t c κs =
     let at-start = c .before .before .before .before .before .before .before .before .before .before .before .before in
-    let l = live (at-start .args .toks .now) (at-start .args .at) (omega arith) in
+    let l = getD-positive (at-start .args .toks .now) (at-start .args .at) (omega arith) in
     (omega arith, tt)
 
 part-expect-requires-2 : (t : ℕ) → part-lts.Need-expect-requires-2 (part-calls t) (part-at t) part.Post
@@ -349,7 +349,7 @@ part-returns-4 t c =
     let at-if3 = c .before .before .before .before .before .before .before .before .before .before .if3 in
     let at-put4 = c .before .before .before .before .before .before .before .put4 in
     let at-if4 = c .before .before .before .before .before .before .before .before .before .if4 in
-    let l = live (at-start .args .toks .now) (at-start .args .at) (omega arith) in (
+    let l = getD-positive (at-start .args .toks .now) (at-start .args .at) (omega arith) in (
       omega (arith, at-choice2 .ensures .0, at-expect2 .ensures .0),
       λ s. part-group s (at-start .args .toks .now) (at-start .args .at) (λ e. at-if1 .left (at-peek .ensures ∙ e)) (λ e. at-if2 .left (at-peek .ensures ∙ e)) (λ e. at-if3 .left (at-peek .ensures ∙ e)) (at-put4 .ensures) (sym (at-peek .ensures) ∙ at-if4 .taken) (at-choice2 .ensures .0) (at-choice2 .ensures .1 s) (at-expect2 .ensures .0) (at-expect2 .ensures .1),
     )
@@ -416,14 +416,14 @@ sequence-add-from : (t : ℕ) → sequence-lts.Need-add-from (sequence-calls t) 
 sequence-add-from t c =
     let at-start = c .before .before .before .before .before .before .before .before .before .before .before .before .before .before .before .before .before .before in
     let at-part = c .before .before .before .before .before .before .before .before .before .part in
-    let l = live (at-start .args .toks .now) (at-part .result .at) (omega arith) in
+    let l = getD-positive (at-start .args .toks .now) (at-part .result .at) (omega arith) in
     omega arith
 
 sequence-loop-less : (t : ℕ) → sequence-lts.Need-loop-less (sequence-calls t) (sequence-at t) sequence.Post sequence-Inv-loop sequence-μ-loop
 sequence-loop-less t c =
     let at-start = c .before .before .before .before .before .before .before .before .before .before .before .before .before .before .before .before .before .before in
     let at-part = c .before .before .before .before .before .before .before .before .before .part in
-    let l = live (at-start .args .toks .now) (at-part .result .at) (omega arith) in
+    let l = getD-positive (at-start .args .toks .now) (at-part .result .at) (omega arith) in
     omega (arith, at-part .ensures .0)
 
 sequence-loop-again : (t : ℕ) → sequence-lts.Need-loop-again (sequence-calls t) (sequence-at t) sequence.Post sequence-Inv-loop sequence-μ-loop
@@ -435,7 +435,7 @@ sequence-loop-again t c =
     let at-loop = c .before .before .before .before .before .before .before .before .before .before .before .before .before .before .before .loop in
     let at-peek = c .before .before .before .before .before .before .peek-cell in
     let at-if1 = c .before .before .before .before .before .if1 in
-    let l = live (at-start .args .toks .now) (at-part .result .at) (omega arith) in (
+    let l = getD-positive (at-start .args .toks .now) (at-part .result .at) (omega arith) in (
       omega (arith, at-part .ensures .0),
       omega (arith, at-put2 .kept .0, at-part .kept .1 .1 .0, at-put .kept .0),
       λ s. goes-then (at-loop .inv .2 s) (record { on = sequence-then s (at-start .args .toks .now) (at-loop .from) (at-put .ensures) (at-part .ensures .0) (at-part .ensures .1 s) (sym (at-peek .ensures) ∙ at-if1 .left) (at-put2 .ensures) }),

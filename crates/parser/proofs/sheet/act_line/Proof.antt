@@ -1,7 +1,7 @@
 -- `sheet::act_line` meets its contract.
 use mathlib.Core.Path.{sym, _∙_}
 use native.Mathlib.Omega.{arith}
-use Rattle.parser.proofs.Reading.{live}
+use Rattle.laws.specs.Places.{getD-positive}
 use Rattle.parser.proofs.LineLaws.{act-bare, act-sorts}
 use Rattle.parser.proofs.sheet.act_line.Statement.{statement}
 use Rattle.parser.proofs.sheet.act_line.Tie as tie
@@ -37,7 +37,7 @@ add-one-or-two : tie.Need-add-one-or-two
 add-one-or-two c =
     let at-start = c .before .before .before .before .before .before .before .before .before .before .before .before .before in
     let at-name = c .before .before .before .before .before .name in
-    let l = live (at-start .args .toks .now) (at-name .result .at) (omega arith) in
+    let l = getD-positive (at-start .args .toks .now) (at-name .result .at) (omega arith) in
     omega arith
 
 one-or-two-requires : tie.Need-one-or-two-requires
@@ -54,7 +54,7 @@ returns-2 c =
     let at-put = c .before .before .before .before .before .before .before .before .before .before .before .before .before .put in
     let at-peek = c .before .before .before .before .before .before .peek-cell in
     let at-if1 = c .before .before .before .before .before .if1 in
-    let l = live (at-start .args .toks .now) (at-name .result .at) (omega arith) in (
+    let l = getD-positive (at-start .args .toks .now) (at-name .result .at) (omega arith) in (
       omega (arith, (at-name .ensures .0), (at-one-or-two .ensures .0)),
       λ s f l. act-sorts s (at-start .args .toks .now) (at-start .args .at) (at-put .ensures) (at-name .ensures .1 s 1 (omega arith)) (sym (at-peek .ensures) ∙ at-if1 .left) (at-one-or-two .ensures .1 s 1 (omega arith)),
     )

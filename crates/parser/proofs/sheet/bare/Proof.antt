@@ -1,6 +1,6 @@
 -- `sheet::bare` meets its contract.
 use native.Mathlib.Omega.{arith}
-use Rattle.parser.proofs.Reading.{live}
+use Rattle.laws.specs.Places.{getD-positive}
 use Rattle.parser.proofs.InitLaws.{called-low, called-told}
 use Rattle.parser.proofs.sheet.bare.Statement.{statement}
 use Rattle.parser.proofs.sheet.bare.Tie as tie
@@ -16,7 +16,7 @@ returns c =
 add-peek-cell : tie.Need-add-peek-cell
 add-peek-cell c =
     let at-start = c .before .before .before in
-    let l = live (at-start .args .toks .now) (at-start .args .at) (omega arith) in
+    let l = getD-positive (at-start .args .toks .now) (at-start .args .at) (omega arith) in
     omega arith
 
 peek-cell-requires-2 : tie.Need-peek-cell-requires-2

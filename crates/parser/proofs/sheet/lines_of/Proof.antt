@@ -6,8 +6,8 @@ use mathlib.Core.Path.{_≡_, sym, _∙_, refl}
 use mathlib.Core.List.{List}
 use native.Mathlib.Omega.{arith}
 use lib.ListN.{length}
+use Rattle.laws.specs.Places.{getD-positive}
 use Rattle.parser.specs.Kinds.{kind-of}
-use Rattle.parser.proofs.Reading.{live}
 use Rattle.parser.proofs.RunLaws.{RunGoes, run-start, run-then, kind-sign, run-none, run-more}
 use Rattle.parser.proofs.sheet.lines_of.Statement.{statement}
 use Rattle.parser.proofs.sheet.lines_of.Tie as tie
@@ -37,7 +37,7 @@ add-line c =
     let at-peek = c .before .before .before .before .before .before .peek-cell in
     let at-if1 = c .before .before .before .before .before .if1 in
     let q = at-start .pre in
-    let l = live (at-start .args .toks .now) (at-loop .from) (omega (arith, at-peek .ensures, at-if1 .taken)) in
+    let l = getD-positive (at-start .args .toks .now) (at-loop .from) (omega (arith, at-peek .ensures, at-if1 .taken)) in
     omega arith
 
 line-requires : tie.Need-line-requires Inv-loop μ-loop
@@ -53,7 +53,7 @@ add-i c =
     let at-peek = c .before .before .before .before .before .before .before .before .before .before .before .peek-cell in
     let at-if1 = c .before .before .before .before .before .before .before .before .before .before .if1 in
     let q = at-start .pre in
-    let l = live (at-start .args .toks .now) (at-loop .from) (omega (arith, at-peek .ensures, at-if1 .taken)) in
+    let l = getD-positive (at-start .args .toks .now) (at-loop .from) (omega (arith, at-peek .ensures, at-if1 .taken)) in
     omega (arith, at-loop .inv .1)
 
 loop-less : tie.Need-loop-less Inv-loop μ-loop
@@ -65,7 +65,7 @@ loop-less c =
     let at-line = c .before .before .before .line in
     let at-expect = c .expect in
     let q = at-start .pre in
-    let l = live (at-start .args .toks .now) (at-loop .from) (omega (arith, at-peek .ensures, at-if1 .taken)) in
+    let l = getD-positive (at-start .args .toks .now) (at-loop .from) (omega (arith, at-peek .ensures, at-if1 .taken)) in
     omega (arith, at-line .ensures .0, at-expect .ensures .0)
 
 loop-again : tie.Need-loop-again Inv-loop μ-loop
@@ -79,7 +79,7 @@ loop-again c =
     let at-line = c .before .before .before .line in
     let at-expect = c .expect in
     let q = at-start .pre in
-    let l = live (at-start .args .toks .now) (at-loop .from) (omega (arith, at-peek .ensures, at-if1 .taken)) in
+    let l = getD-positive (at-start .args .toks .now) (at-loop .from) (omega (arith, at-peek .ensures, at-if1 .taken)) in
     let b : at-loop .from < at-expect .result = omega (arith, at-line .ensures .0, at-expect .ensures .0) in (
       omega (arith, at-loop .inv .0, b),
       omega (arith, at-loop .inv .1, b),

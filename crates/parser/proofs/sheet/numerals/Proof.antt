@@ -5,9 +5,9 @@ use mathlib.Core.List.{List}
 use native.Mathlib.Omega.{arith}
 use lib.ListN.{length}
 use Rattle.pcrl.specs.Grammar as G
+use Rattle.laws.specs.Places.{getD-positive}
 use Rattle.parser.specs.Cells.{enc-items, enc-numeral}
 use Rattle.parser.specs.Reading.{left}
-use Rattle.parser.proofs.Reading.{live}
 use Rattle.parser.proofs.Going.{Goes, goes-start, goes-then}
 use Rattle.parser.proofs.LineLaws.{numerals-last, numerals-more}
 use Rattle.parser.proofs.sheet.numerals.Statement.{statement}
@@ -58,14 +58,14 @@ add-from : tie.Need-add-from Inv-loop μ-loop
 add-from c =
     let at-start = c .before .before .before .before .before .before .before .before .before .before .before .before .before .before in
     let at-numeral = c .before .before .before .before .before .numeral in
-    let l = live (at-start .args .toks .now) (at-numeral .result .at) (omega arith) in
+    let l = getD-positive (at-start .args .toks .now) (at-numeral .result .at) (omega arith) in
     omega arith
 
 loop-less : tie.Need-loop-less Inv-loop μ-loop
 loop-less c =
     let at-start = c .before .before .before .before .before .before .before .before .before .before .before .before .before .before in
     let at-numeral = c .before .before .before .before .before .numeral in
-    let l = live (at-start .args .toks .now) (at-numeral .result .at) (omega arith) in
+    let l = getD-positive (at-start .args .toks .now) (at-numeral .result .at) (omega arith) in
     omega (arith, at-numeral .ensures .0)
 
 loop-again : tie.Need-loop-again Inv-loop μ-loop
@@ -76,7 +76,7 @@ loop-again c =
     let at-numeral = c .before .before .before .before .before .numeral in
     let at-peek = c .before .before .peek-cell in
     let at-if1 = c .before .if1 in
-    let l = live (at-start .args .toks .now) (at-numeral .result .at) (omega arith) in (
+    let l = getD-positive (at-start .args .toks .now) (at-numeral .result .at) (omega arith) in (
       omega (arith, at-numeral .ensures .0),
       omega (arith, at-numeral .kept .1 .1 .0, at-put .kept .0),
       λ s. goes-then (at-loop .inv .2 s) (record { on = numerals-more s (at-start .args .toks .now) (at-loop .from) (at-put .ensures) (at-numeral .ensures .0) (at-numeral .ensures .1 s 1 (omega arith)) (sym (at-peek .ensures) ∙ at-if1 .left) }),

@@ -1,7 +1,7 @@
 -- `sheet::one_or_two` meets its contract.
 use mathlib.Core.Path.{sym, _∙_}
 use native.Mathlib.Omega.{arith}
-use Rattle.parser.proofs.Reading.{live}
+use Rattle.laws.specs.Places.{getD-positive}
 use Rattle.parser.proofs.LineLaws.{sorts-one, sorts-two}
 use Rattle.parser.proofs.sheet.one_or_two.Statement.{statement}
 use Rattle.parser.proofs.sheet.one_or_two.Tie as tie
@@ -40,7 +40,7 @@ add-name : tie.Need-add-name
 add-name c =
     let at-start = c .before .before .before .before .before .before .before .before .before .before .before .before .before .before .before .before .before in
     let at-name = c .before .before .before .before .before .before .before .before .before .name in
-    let l = live (at-start .args .toks .now) (at-name .result .at) (omega arith) in
+    let l = getD-positive (at-start .args .toks .now) (at-name .result .at) (omega arith) in
     omega arith
 
 name-requires-2 : tie.Need-name-requires-2
@@ -62,7 +62,7 @@ returns-2 c =
     let at-if1 = c .before .before .before .before .before .before .before .before .before .before .before .before .before .if1 in
     let at-put3 = c .before .before .before .before .before .before .before .before .before .before .before .put3 in
     let at-put4 = c .before .before .put4 in
-    let l = live (at-start .args .toks .now) (at-name .result .at) (omega arith) in (
+    let l = getD-positive (at-start .args .toks .now) (at-name .result .at) (omega arith) in (
       omega (arith, (at-name .ensures .0), (at-name2 .ensures .0)),
       λ s f l. sorts-two s (at-start .args .toks .now) (at-start .args .at) (at-put .ensures) (at-name .ensures .1 s 1 (omega arith)) (sym (at-peek .ensures) ∙ at-if1 .left) (at-put3 .ensures) (at-name2 .ensures .1 s 1 (omega arith)) (at-put4 .ensures),
     )

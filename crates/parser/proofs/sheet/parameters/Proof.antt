@@ -6,9 +6,10 @@ use mathlib.Core.List.{List}
 use native.Mathlib.Omega.{arith}
 use lib.ListN.{length}
 use Rattle.pcrl.specs.Grammar as G
+use Rattle.laws.specs.Places.{getD-positive}
 use Rattle.parser.specs.Cells.{enc-items, enc-param}
 use Rattle.parser.specs.Reading.{left}
-use Rattle.parser.proofs.Reading.{live, ahead-then}
+use Rattle.parser.proofs.Reading.{ahead-then}
 use Rattle.parser.proofs.Going.{Goes, goes-start, goes-then}
 use Rattle.parser.proofs.LineLaws.{parameters-last, parameters-more}
 use Rattle.parser.proofs.sheet.parameters.Statement.{statement}
@@ -75,7 +76,7 @@ add-from : tie.Need-add-from Inv-loop μ-loop
 add-from c =
     let at-start = c .before .before .before .before .before .before .before .before .before .before .before .before .before .before .before .before .before .before .before in
     let at-name2 = c .before .before .before .before .before .name2 in
-    let l = live (at-start .args .toks .now) (at-name2 .result .at) (omega arith) in
+    let l = getD-positive (at-start .args .toks .now) (at-name2 .result .at) (omega arith) in
     omega arith
 
 loop-less : tie.Need-loop-less Inv-loop μ-loop
@@ -85,7 +86,7 @@ loop-less c =
     let at-name = c .before .before .before .before .before .before .before .before .before .before .name in
     let at-expect = c .before .before .before .before .before .before .before .expect in
     let at-name2 = c .before .before .before .before .before .name2 in
-    let l = live (at-start .args .toks .now) (at-name2 .result .at) (omega arith) in
+    let l = getD-positive (at-start .args .toks .now) (at-name2 .result .at) (omega arith) in
     let a = ahead-then (length (at-start .args .toks .now)) (at-loop .from) (at-name .ensures .0) (at-expect .ensures .0) in
     let h = ahead-then (length (at-start .args .toks .now)) (at-loop .from) a (at-name2 .ensures .0) in
     omega arith
@@ -100,7 +101,7 @@ loop-again c =
     let at-name2 = c .before .before .before .before .before .name2 in
     let at-peek = c .before .before .peek-cell in
     let at-if1 = c .before .if1 in
-    let l = live (at-start .args .toks .now) (at-name2 .result .at) (omega arith) in
+    let l = getD-positive (at-start .args .toks .now) (at-name2 .result .at) (omega arith) in
     let a = ahead-then (length (at-start .args .toks .now)) (at-loop .from) (at-name .ensures .0) (at-expect .ensures .0) in
     let h = ahead-then (length (at-start .args .toks .now)) (at-loop .from) a (at-name2 .ensures .0) in (
       omega arith,

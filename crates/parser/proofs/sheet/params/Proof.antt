@@ -1,7 +1,7 @@
 -- `sheet::params` meets its contract.
 use mathlib.Core.Path.{sym, _∙_}
 use native.Mathlib.Omega.{arith}
-use Rattle.parser.proofs.Reading.{live}
+use Rattle.laws.specs.Places.{getD-positive}
 use Rattle.parser.proofs.LineLaws.{params-none, params-some}
 use Rattle.parser.proofs.sheet.params.Statement.{statement}
 use Rattle.parser.proofs.sheet.params.Tie as tie
@@ -28,7 +28,7 @@ returns c =
 add-parameters : tie.Need-add-parameters
 add-parameters c =
     let at-start = c .before .before .before .before in
-    let l = live (at-start .args .toks .now) (at-start .args .at) (omega arith) in
+    let l = getD-positive (at-start .args .toks .now) (at-start .args .at) (omega arith) in
     omega arith
 
 parameters-requires : tie.Need-parameters-requires
@@ -43,7 +43,7 @@ returns-2 c =
     let at-parameters = c .before .before .parameters in
     let at-peek = c .before .before .before .before .before .peek-cell in
     let at-if1 = c .before .before .before .before .if1 in
-    let l = live (at-start .args .toks .now) (at-start .args .at) (omega arith) in (
+    let l = getD-positive (at-start .args .toks .now) (at-start .args .at) (omega arith) in (
       omega (arith, (at-parameters .ensures .0)),
       λ i s. params-some s (at-start .args .toks .now) (at-start .args .at) (sym (at-peek .ensures) ∙ at-if1 .left) (at-parameters .ensures .1 s),
     )

@@ -4,10 +4,10 @@ use mathlib.Core.Path.{_≡_, refl, sym, _∙_}
 use Prim.Native.Nat.{ℕ, _+_, _-_, _*_, _≤_, _<_}
 use native.Mathlib.Omega.{arith}
 use lib.ListN.{length}
+use Rattle.laws.specs.Places.{getD-positive}
 use Rattle.names.specs.NameList.{names-in, kinds-in}
 use Rattle.parser.specs.Cells.{enc-conjunction, enc-comparison}
 use Rattle.resolver.specs.Resolving.{conjunction-cells, comparison-cells}
-use Rattle.resolver.proofs.Symbols.{live}
 use Rattle.resolver.proofs.DataLaws.{value-lost, value-took, variable-lost, variable-took, apply-lost, apply-took, nest-took, other-lost, DatasLeft, list-start, list-step, list-lost, list-took}
 use Rattle.resolver.proofs.OperatorLaws.{NotsLeft, nots-start, nots-step, nots-end, alone-took, comparison-lost, equal-took, OperandsLeft, operands-start, operands-step, conjunction-lost, conjunction-took, data-lost, data-took}
 use borrow.Fn.Kinds.{In}
@@ -129,7 +129,7 @@ atom-add-data-term : (t : ℕ) → atom-lts.Need-add-data-term (atom-calls t) (a
 atom-add-data-term t c =
     let start = c .before .before .before .before .before .before .before in
     let args = start .args in
-    let l = live (args .raw .now) (args .at) (let k = c .before .peek-cell .ensures in omega arith) in
+    let l = getD-positive (args .raw .now) (args .at) (let k = c .before .peek-cell .ensures in omega arith) in
     omega arith
 
 atom-data-term-requires : (t : ℕ) → atom-lts.Need-data-term-requires (atom-calls t) (atom-at t) atom.Post
@@ -138,7 +138,7 @@ atom-data-term-requires t c κs =
     let args = start .args in
     let q = start .pre .1 .0 in
     let m = start .pre .0 in
-    let l = live (args .raw .now) (args .at) (let k = c .before .before .peek-cell .ensures in omega arith) in
+    let l = getD-positive (args .raw .now) (args .at) (let k = c .before .before .peek-cell .ensures in omega arith) in
     (omega arith, (omega arith, start .pre .1 .1))
 
 atom-same-length : (t : ℕ) → atom-lts.Need-same-length (atom-calls t) (atom-at t) atom.Post
@@ -155,7 +155,7 @@ atom-returns t c =
 atom-add-cell : (t : ℕ) → atom-lts.Need-add-peek-cell (atom-calls t) (atom-at t) atom.Post
 atom-add-cell t c =
     let args = c .before .before .before .before .before .before .before .before .args in
-    let l = live (args .raw .now) (args .at) (let k = c .before .before .peek-cell .ensures in omega arith) in
+    let l = getD-positive (args .raw .now) (args .at) (let k = c .before .before .peek-cell .ensures in omega arith) in
     omega arith
 
 atom-cell-requires-2 : (t : ℕ) → atom-lts.Need-peek-cell-requires-2 (atom-calls t) (atom-at t) atom.Post
@@ -180,7 +180,7 @@ atom-returns-3 t c =
 atom-add-t20 : (t : ℕ) → atom-lts.Need-add-t20 (atom-calls t) (atom-at t) atom.Post
 atom-add-t20 t c =
     let args = c .before .before .before .before .before .before .before .before .before .before .before .args in
-    let l = live (args .raw .now) (args .at) (let k = c .before .before .before .before .before .peek-cell .ensures in omega arith) in
+    let l = getD-positive (args .raw .now) (args .at) (let k = c .before .before .before .before .before .peek-cell .ensures in omega arith) in
     omega arith
 
 atom-mul-put : (t : ℕ) → atom-lts.Need-mul-put (atom-calls t) (atom-at t) atom.Post
@@ -202,7 +202,7 @@ atom-returns-4 t c =
 atom-add-cell-2 : (t : ℕ) → atom-lts.Need-add-peek-cell-2 (atom-calls t) (atom-at t) atom.Post
 atom-add-cell-2 t c =
     let args = c .before .before .before .before .before .before .before .before .before .args in
-    let l = live (args .raw .now) (args .at) (let k = c .before .before .before .peek-cell .ensures in omega arith) in
+    let l = getD-positive (args .raw .now) (args .at) (let k = c .before .before .before .peek-cell .ensures in omega arith) in
     omega arith
 
 atom-cell-requires-3 : (t : ℕ) → atom-lts.Need-peek-cell-requires-3 (atom-calls t) (atom-at t) atom.Post
@@ -225,7 +225,7 @@ atom-returns-5 t c =
 atom-add-t28 : (t : ℕ) → atom-lts.Need-add-t28 (atom-calls t) (atom-at t) atom.Post
 atom-add-t28 t c =
     let args = c .before .before .before .before .before .before .before .before .before .before .before .before .args in
-    let l = live (args .raw .now) (args .at) (let k = c .before .before .before .before .before .before .peek-cell .ensures in omega arith) in
+    let l = getD-positive (args .raw .now) (args .at) (let k = c .before .before .before .before .before .before .peek-cell .ensures in omega arith) in
     omega arith
 
 atom-mul-short : (t : ℕ) → atom-lts.Need-mul-short (atom-calls t) (atom-at t) atom.Post
@@ -266,7 +266,7 @@ atom-returns-7 t c =
 atom-add-cell-3 : (t : ℕ) → atom-lts.Need-add-peek-cell-3 (atom-calls t) (atom-at t) atom.Post
 atom-add-cell-3 t c =
     let args = c .before .before .before .before .before .before .before .before .before .before .args in
-    let l = live (args .raw .now) (args .at) (let k = c .before .before .before .before .peek-cell .ensures in omega arith) in
+    let l = getD-positive (args .raw .now) (args .at) (let k = c .before .before .before .before .peek-cell .ensures in omega arith) in
     omega arith
 
 atom-cell-requires-4 : (t : ℕ) → atom-lts.Need-peek-cell-requires-4 (atom-calls t) (atom-at t) atom.Post
@@ -308,7 +308,7 @@ atom-add-data-list t c =
     let args = c .before .before .before .before .before .before .before .before .before .before .before .before .before .before .before .before .before .before .before .before .before .before .before .args in
     let q = c .before .before .before .before .before .before .before .before .before .before .before .before .before .before .before .before .before .before .before .before .before .before .before .pre .1 .0 in
     let z = c .before .before .before .before .before .before .before .before .before .before .before .before .before .if7 .left in
-    let l = live (args .raw .now) (args .at) (let k = c .before .before .before .before .before .before .before .before .before .before .before .before .before .before .before .before .before .peek-cell .ensures in omega arith) in
+    let l = getD-positive (args .raw .now) (args .at) (let k = c .before .before .before .before .before .before .before .before .before .before .before .before .before .before .before .before .before .peek-cell .ensures in omega arith) in
     omega arith
 
 atom-data-list-requires : (t : ℕ) → atom-lts.Need-data-list-requires (atom-calls t) (atom-at t) atom.Post
@@ -318,7 +318,7 @@ atom-data-list-requires t c κs =
     let q = start .pre .1 .0 in
     let m = start .pre .0 in
     let z = c .before .before .before .before .before .before .before .before .before .before .before .before .before .before .if7 .left in
-    let l = live (args .raw .now) (args .at) (let k = c .before .before .before .before .before .before .before .before .before .before .before .before .before .before .before .before .before .before .peek-cell .ensures in omega arith) in
+    let l = getD-positive (args .raw .now) (args .at) (let k = c .before .before .before .before .before .before .before .before .before .before .before .before .before .before .before .before .before .before .peek-cell .ensures in omega arith) in
     (omega arith, (omega arith, start .pre .1 .1))
 
 atom-short-requires-3 : (t : ℕ) → atom-lts.Need-short-requires-3 (atom-calls t) (atom-at t) atom.Post
@@ -346,7 +346,7 @@ atom-returns-9 t c =
     let q = start .pre .1 in
     let z = c .before .before .before .before .before .before .before .before .before .before .before .before .before .before .before .before .before .before .before .before .before .before .if7 .left in
     let k = cell .ensures in
-    let l = live (args .raw .now) (args .at) (omega arith) in
+    let l = getD-positive (args .raw .now) (args .at) (omega arith) in
     let a = called .ensures .0 in
     (omega arith, apply-took (args .s .now) (args .raw .now) (names-in (args .declared .now)) (kinds-in (args .declared .now)) (args .scope .now) (args .n) (args .at) (args .w) (args .out .now) (sym (cell .ensures) ∙ (omega arith)) (cell4 .result) (func-in .result) (cell4 .ensures) (func-in .ensures .1) (short2 .result) (put3 .result) (put4 .result) (put5 .result) (short3 .result) (called .result) (put3 .last .0) (put4 .last .0) (called .last .1 .1 .1 .1 .1 .1 .0) (put5 .last .0) (omega (arith, c .before .before .before .before .before .before .before .before .before .before .before .before .before .before .before .before .before .before .before .cell .ensures, c .before .before .before .before .before .before .before .before .before .before .before .before .before .before .before .before .before .before .if8 .left)) (short2 .ensures (omega arith)) (put3 .ensures) (put4 .ensures) (called .ensures .1) (short3 .ensures) (put5 .ensures))
 
@@ -357,7 +357,7 @@ comparison-add-negation : (t : ℕ) → comparison-lts.Need-add-negation (compar
 comparison-add-negation t c =
     let start = c .before .before .before .before .before .before .before in
     let args = start .args in
-    let l = live (args .raw .now) (args .at) (let k = c .before .peek-cell .ensures in omega arith) in
+    let l = getD-positive (args .raw .now) (args .at) (let k = c .before .peek-cell .ensures in omega arith) in
     omega arith
 
 comparison-negation-requires : (t : ℕ) → comparison-lts.Need-negation-requires (comparison-calls t) (comparison-at t) comparison.Post
@@ -366,7 +366,7 @@ comparison-negation-requires t c κs =
     let args = start .args in
     let q = start .pre .1 .0 in
     let m = start .pre .0 in
-    let l = live (args .raw .now) (args .at) (let k = c .before .before .peek-cell .ensures in omega arith) in
+    let l = getD-positive (args .raw .now) (args .at) (let k = c .before .before .peek-cell .ensures in omega arith) in
     (omega arith, (omega arith, start .pre .1 .1))
 
 comparison-same-length : (t : ℕ) → comparison-lts.Need-same-length (comparison-calls t) (comparison-at t) comparison.Post
@@ -401,7 +401,7 @@ comparison-add-negation-2 t c =
     let start = c .before .before .before .before .before .before .before .before .before .before .before .before .before .before .before .before in
     let args = start .args in
     let z = c .before .before .before .before .before .before .before .before .if2 .left in
-    let l = live (args .raw .now) (args .at) (let k = c .before .before .before .before .before .before .before .before .before .before .peek-cell .ensures in omega arith) in
+    let l = getD-positive (args .raw .now) (args .at) (let k = c .before .before .before .before .before .before .before .before .before .before .peek-cell .ensures in omega arith) in
     omega arith
 
 comparison-negation-requires-2 : (t : ℕ) → comparison-lts.Need-negation-requires-2 (comparison-calls t) (comparison-at t) comparison.Post
@@ -411,7 +411,7 @@ comparison-negation-requires-2 t c κs =
     let q = start .pre .1 .0 in
     let m = start .pre .0 in
     let z = c .before .before .before .before .before .before .before .before .before .if2 .left in
-    let l = live (args .raw .now) (args .at) (let k = c .before .before .before .before .before .before .before .before .before .before .before .peek-cell .ensures in omega arith) in
+    let l = getD-positive (args .raw .now) (args .at) (let k = c .before .before .before .before .before .before .before .before .before .before .before .peek-cell .ensures in omega arith) in
     (omega arith, (omega arith, start .pre .1 .1))
 
 comparison-negation-requires-3 : (t : ℕ) → comparison-lts.Need-negation-requires-3 (comparison-calls t) (comparison-at t) comparison.Post
@@ -422,7 +422,7 @@ comparison-negation-requires-3 t c κs =
     let m = start .pre .0 in
     let z = c .before .before .before .before .before .before .before .before .before .before .before .before .before .if2 .left in
     let a = c .before .before .before .negation2 .ensures .0 in
-    let l = live (args .raw .now) (args .at) (let k = c .before .before .before .before .before .before .before .before .before .before .before .before .before .before .before .peek-cell .ensures in omega arith) in
+    let l = getD-positive (args .raw .now) (args .at) (let k = c .before .before .before .before .before .before .before .before .before .before .before .before .before .before .before .peek-cell .ensures in omega arith) in
     (omega arith, (omega arith, start .pre .1 .1))
 
 comparison-cell-requires-2 : (t : ℕ) → comparison-lts.Need-peek-cell-requires-2 (comparison-calls t) (comparison-at t) comparison.Post
@@ -445,7 +445,7 @@ comparison-returns-3 t c =
     let start = c .before .before .before .before .before .before .before .before .before .before .before .before .before .before .before .before .before .before .before .before .before .before .before .before .before .before .before .before .before .before .before .before .before in
     let args = start .args in
     let z = c .before .before .before .before .before .before .before .before .before .before .before .before .before .before .before .before .before .before .before .before .before .before .before .before .before .if2 .left in
-    let l = live (args .raw .now) (args .at) (let k = c .before .before .before .before .before .before .before .before .before .before .before .before .before .before .before .before .before .before .before .before .before .before .before .before .before .before .before .peek-cell .ensures in omega arith) in
+    let l = getD-positive (args .raw .now) (args .at) (let k = c .before .before .before .before .before .before .before .before .before .before .before .before .before .before .before .before .before .before .before .before .before .before .before .before .before .before .before .peek-cell .ensures in omega arith) in
     let first = c .before .before .before .before .before .before .before .before .before .before .before .before .before .before .before .negation2 in
     let second = c .before .before .before .before .before .before .before .before .before .before .before .negation3 in
     let a = first .ensures .0 in
@@ -477,7 +477,7 @@ conjunction-add-p : (t : ℕ) → conjunction-lts.Need-add-p (conjunction-calls 
 conjunction-add-p t c =
     let start = c .before .before .before .before .before .before .before .before in
     let args = start .args in
-    let l = live (args .raw .now) (args .at) (let k = c .before .before .peek-cell .ensures in omega arith) in
+    let l = getD-positive (args .raw .now) (args .at) (let k = c .before .before .peek-cell .ensures in omega arith) in
     omega arith
 
 conjunction-put-joins-requires : (t : ℕ) → conjunction-lts.Need-put-joins-requires (conjunction-calls t) (conjunction-at t) conjunction.Post conjunction-Inv-loop conjunction-μ-loop
@@ -496,7 +496,7 @@ conjunction-comparison-requires t c κs =
     let q = start .pre .1 .0 in
     let m = start .pre .0 in
     let i = c .before .before .loop .inv .0 in
-    let l = live (args .raw .now) (args .at) (let k = c .before .before .before .before .before .before .before .before .before .peek-cell .ensures in omega arith) in
+    let l = getD-positive (args .raw .now) (args .at) (let k = c .before .before .before .before .before .before .before .before .before .peek-cell .ensures in omega arith) in
     (omega arith, (omega arith, start .pre .1 .1))
 
 conjunction-add-i : (t : ℕ) → conjunction-lts.Need-add-i (conjunction-calls t) (conjunction-at t) conjunction.Post conjunction-Inv-loop conjunction-μ-loop
@@ -516,7 +516,7 @@ conjunction-loop-again : (t : ℕ) → conjunction-lts.Need-loop-again (conjunct
 conjunction-loop-again t c =
     let start = c .before .before .before .before .before .before .before .before .before .before .before .before .before .before .before .before .before .before in
     let args = start .args in
-    let l = live (args .raw .now) (args .at) (let k = c .before .before .before .before .before .before .before .before .before .before .before .before .peek-cell .ensures in let z = c .before .before .before .before .before .before .before .before .before .before .before .if1 .left in omega arith) in
+    let l = getD-positive (args .raw .now) (args .at) (let k = c .before .before .before .before .before .before .before .before .before .before .before .before .peek-cell .ensures in let z = c .before .before .before .before .before .before .before .before .before .before .before .if1 .left in omega arith) in
     let h = c .before .before .before .before .loop-test .taken in
     let here = c .before .before .before .before .before .loop in
     let called = c .before .before .comparison in
@@ -531,7 +531,7 @@ conjunction-returns-2 : (t : ℕ) → conjunction-lts.Need-returns-2 (conjunctio
 conjunction-returns-2 t c =
     let start = c .before .before .before .before .before .before .before .before .before .before .before .before .before .before in
     let args = start .args in
-    let l = live (args .raw .now) (args .at) (let k = c .before .before .before .before .before .before .before .before .peek-cell .ensures in omega arith) in
+    let l = getD-positive (args .raw .now) (args .at) (let k = c .before .before .before .before .before .before .before .before .peek-cell .ensures in omega arith) in
     let here = c .before .loop in
     let i = here .inv .0 in
     (omega arith, conjunction-took (args .s .now) (args .raw .now) (names-in (args .declared .now)) (kinds-in (args .declared .now)) (args .scope .now) (args .n) (args .at) (args .w) (c .before .before .before .before .put-joins .result) (args .out .now) (c .before .before .before .before .put-joins .last .0) (c .before .before .before .before .before .before .wide-cell .result) (here .p) (here .v) (here .i) (here .out) (let k = c .before .before .before .before .before .before .before .before .peek-cell .ensures in let m = c .before .before .before .before .before .before .wide-cell .ensures .0 in omega arith) (c .before .before .before .before .put-joins .ensures) (here .inv .1) (omega arith))
@@ -552,24 +552,24 @@ data-list-cell-requires t c κs = tt
 
 data-list-add-data-term : (t : ℕ) → data-list-lts.Need-add-data-term (data-list-calls t) (data-list-at t) data-list.Post data-list-Inv-loop data-list-μ-loop
 data-list-add-data-term t c =
-    let l = live (c .before .before .before .before .before .before .before .before .args .raw .now) (c .before .before .loop .p) (let k = c .before .peek-cell .ensures in omega arith) in
+    let l = getD-positive (c .before .before .before .before .before .before .before .before .args .raw .now) (c .before .before .loop .p) (let k = c .before .peek-cell .ensures in omega arith) in
     omega arith
 
 data-list-data-term-requires : (t : ℕ) → data-list-lts.Need-data-term-requires (data-list-calls t) (data-list-at t) data-list.Post data-list-Inv-loop data-list-μ-loop
 data-list-data-term-requires t c κs =
     let start = c .before .before .before .before .before .before .before .before .before in
     let q = start .pre .1 in
-    let l = live (start .args .raw .now) (c .before .before .before .loop .p) (let k = c .before .before .peek-cell .ensures in omega arith) in
+    let l = getD-positive (start .args .raw .now) (c .before .before .before .loop .p) (let k = c .before .before .peek-cell .ensures in omega arith) in
     (omega arith, (omega arith, start .pre .1 .1))
 
 data-list-add-count : (t : ℕ) → data-list-lts.Need-add-count (data-list-calls t) (data-list-at t) data-list.Post data-list-Inv-loop data-list-μ-loop
 data-list-add-count t c =
-    let l = live (c .before .before .before .before .before .before .before .before .before .before .before .before .args .raw .now) (c .before .before .before .before .before .before .loop .p) (let k = c .before .before .before .before .before .peek-cell .ensures in omega arith) in
+    let l = getD-positive (c .before .before .before .before .before .before .before .before .before .before .before .before .args .raw .now) (c .before .before .before .before .before .before .loop .p) (let k = c .before .before .before .before .before .peek-cell .ensures in omega arith) in
     omega arith
 
 data-list-loop-less : (t : ℕ) → data-list-lts.Need-loop-less (data-list-calls t) (data-list-at t) data-list.Post data-list-Inv-loop data-list-μ-loop
 data-list-loop-less t c =
-    let l = live (c .before .before .before .before .before .before .before .before .before .before .before .before .args .raw .now) (c .before .before .before .before .before .before .loop .p) (let k = c .before .before .before .before .before .peek-cell .ensures in omega arith) in
+    let l = getD-positive (c .before .before .before .before .before .before .before .before .before .before .before .before .args .raw .now) (c .before .before .before .before .before .before .loop .p) (let k = c .before .before .before .before .before .peek-cell .ensures in omega arith) in
     let a = c .before .before .data-term .ensures .0 in
     omega arith
 
@@ -579,7 +579,7 @@ data-list-loop-again t c =
     let here = c .before .before .before .before .before .before .loop in
     let cell = c .before .before .before .before .before .peek-cell in
     let called = c .before .before .data-term in
-    let l = live (args .raw .now) (here .p) (let k = cell .ensures in omega arith) in
+    let l = getD-positive (args .raw .now) (here .p) (let k = cell .ensures in omega arith) in
     let a = called .ensures .0 in
     ((omega arith, called .kept .1 .1 .1 .1 .1 .1 .0 ∙ here .inv .0 .1), list-step (args .s .now) (args .raw .now) (names-in (args .declared .now)) (kinds-in (args .declared .now)) (args .scope .now) (args .n) (args .at) (args .w) (args .out .now) (here .p) (here .v) (here .count) (here .out) (here .inv .1) (sym (cell .ensures) ∙ c .before .before .before .before .if1 .taken) (called .result) (called .last .1 .1 .1 .1 .1 .1 .0) (called .ensures .1))
 
@@ -601,19 +601,19 @@ data-list-returns t c =
 
 data-list-add-data-term-2 : (t : ℕ) → data-list-lts.Need-add-data-term-2 (data-list-calls t) (data-list-at t) data-list.Post data-list-Inv-loop data-list-μ-loop
 data-list-add-data-term-2 t c =
-    let l = live (c .before .before .before .before .before .before .before .before .before .before .args .raw .now) (c .before .before .before .before .loop .p) (let k = c .before .peek-cell2 .ensures in omega arith) in
+    let l = getD-positive (c .before .before .before .before .before .before .before .before .before .before .args .raw .now) (c .before .before .before .before .loop .p) (let k = c .before .peek-cell2 .ensures in omega arith) in
     omega arith
 
 data-list-data-term-requires-2 : (t : ℕ) → data-list-lts.Need-data-term-requires-2 (data-list-calls t) (data-list-at t) data-list.Post data-list-Inv-loop data-list-μ-loop
 data-list-data-term-requires-2 t c κs =
     let start = c .before .before .before .before .before .before .before .before .before .before .before in
     let q = start .pre .1 in
-    let l = live (start .args .raw .now) (c .before .before .before .before .before .loop .p) (let k = c .before .before .peek-cell2 .ensures in omega arith) in
+    let l = getD-positive (start .args .raw .now) (c .before .before .before .before .before .loop .p) (let k = c .before .before .peek-cell2 .ensures in omega arith) in
     (omega arith, (omega arith, start .pre .1 .1))
 
 data-list-add-t22 : (t : ℕ) → data-list-lts.Need-add-t22 (data-list-calls t) (data-list-at t) data-list.Post data-list-Inv-loop data-list-μ-loop
 data-list-add-t22 t c =
-    let l = live (c .before .before .before .before .before .before .before .before .before .before .before .before .before .before .args .raw .now) (c .before .before .before .before .before .before .before .before .loop .p) (let k = c .before .before .before .before .before .peek-cell2 .ensures in omega arith) in
+    let l = getD-positive (c .before .before .before .before .before .before .before .before .before .before .before .before .before .before .args .raw .now) (c .before .before .before .before .before .before .before .before .loop .p) (let k = c .before .before .before .before .before .peek-cell2 .ensures in omega arith) in
     omega arith
 
 data-list-same-length-2 : (t : ℕ) → data-list-lts.Need-same-length-2 (data-list-calls t) (data-list-at t) data-list.Post data-list-Inv-loop data-list-μ-loop
@@ -626,7 +626,7 @@ data-list-returns-2 t c =
     let here = c .before .before .before .before .before .before .before .before .loop in
     let data-term2 = c .before .before .data-term2 in
     let q = start .pre .1 in
-    let l = live (args .raw .now) (here .p) (let k = c .before .before .before .before .before .peek-cell2 .ensures in omega arith) in
+    let l = getD-positive (args .raw .now) (here .p) (let k = c .before .before .before .before .before .peek-cell2 .ensures in omega arith) in
     let a = data-term2 .ensures .0 in
     (omega arith, list-took (args .s .now) (args .raw .now) (names-in (args .declared .now)) (kinds-in (args .declared .now)) (args .scope .now) (args .n) (args .at) (args .w) (args .out .now) (here .p) (here .v) (here .count) (here .out) (here .inv .1) (omega arith) (omega arith) (data-term2 .result) (data-term2 .last .1 .1 .1 .1 .1 .1 .0) (data-term2 .ensures .1))
 
@@ -664,7 +664,7 @@ data-term-add-p : (t : ℕ) → data-term-lts.Need-add-p (data-term-calls t) (da
 data-term-add-p t c =
     let start = c .before .before .before .before .before .before .before .before .before in
     let args = start .args in
-    let l = live (args .raw .now) (args .at) (let k = c .before .before .before .peek-cell .ensures in omega arith) in
+    let l = getD-positive (args .raw .now) (args .at) (let k = c .before .before .before .peek-cell .ensures in omega arith) in
     omega arith
 
 data-term-put-joins-requires : (t : ℕ) → data-term-lts.Need-put-joins-requires (data-term-calls t) (data-term-at t) data-term.Post data-term-Inv-loop data-term-μ-loop
@@ -683,7 +683,7 @@ data-term-conjunction-requires t c κs =
     let q = start .pre .1 .0 in
     let m = start .pre .0 in
     let i = c .before .before .loop .inv .0 in
-    let l = live (args .raw .now) (args .at) (let k = c .before .before .before .before .before .before .before .before .before .before .peek-cell .ensures in omega arith) in
+    let l = getD-positive (args .raw .now) (args .at) (let k = c .before .before .before .before .before .before .before .before .before .before .peek-cell .ensures in omega arith) in
     (omega arith, (omega arith, start .pre .1 .1))
 
 data-term-add-i : (t : ℕ) → data-term-lts.Need-add-i (data-term-calls t) (data-term-at t) data-term.Post data-term-Inv-loop data-term-μ-loop
@@ -703,7 +703,7 @@ data-term-loop-again : (t : ℕ) → data-term-lts.Need-loop-again (data-term-ca
 data-term-loop-again t c =
     let start = c .before .before .before .before .before .before .before .before .before .before .before .before .before .before .before .before .before .before .before in
     let args = start .args in
-    let l = live (args .raw .now) (args .at) (let k = c .before .before .before .before .before .before .before .before .before .before .before .before .before .peek-cell .ensures in let z = c .before .before .before .before .before .before .before .before .before .before .before .before .if1 .left in omega arith) in
+    let l = getD-positive (args .raw .now) (args .at) (let k = c .before .before .before .before .before .before .before .before .before .before .before .before .before .peek-cell .ensures in let z = c .before .before .before .before .before .before .before .before .before .before .before .before .if1 .left in omega arith) in
     let h = c .before .before .before .before .loop-test .taken in
     let here = c .before .before .before .before .before .loop in
     let called = c .before .before .conjunction in
@@ -718,7 +718,7 @@ data-term-returns-3 : (t : ℕ) → data-term-lts.Need-returns-3 (data-term-call
 data-term-returns-3 t c =
     let start = c .before .before .before .before .before .before .before .before .before .before .before .before .before .before .before in
     let args = start .args in
-    let l = live (args .raw .now) (args .at) (let k = c .before .before .before .before .before .before .before .before .before .peek-cell .ensures in omega arith) in
+    let l = getD-positive (args .raw .now) (args .at) (let k = c .before .before .before .before .before .before .before .before .before .peek-cell .ensures in omega arith) in
     let here = c .before .loop in
     let i = here .inv .0 in
     (omega arith, data-took (args .s .now) (args .raw .now) (names-in (args .declared .now)) (kinds-in (args .declared .now)) (args .scope .now) (args .n) (args .at) (args .w) (c .before .before .before .before .put-joins .result) (args .out .now) (c .before .before .before .before .put-joins .last .0) (c .before .before .before .before .before .before .wide-cell .result) (here .p) (here .v) (here .i) (here .out) (let k = c .before .before .before .before .before .before .before .before .before .peek-cell .ensures in let m = c .before .before .before .before .before .before .wide-cell .ensures .0 in omega arith) (c .before .before .before .before .put-joins .ensures) (here .inv .1) (omega arith))
@@ -749,7 +749,7 @@ negation-add-p t c =
     let start = c .before .before .before .before .before .before .before .before .before .before .before .before .before .before .before .before in
     let args = start .args in
     let here = c .before .before .before .before .before .before .before .before .before .before .loop in
-    let l = live (args .raw .now) (here .p) (let k = c .before .before .before .before .before .before .before .before .before .peek-cell .ensures in omega arith) in
+    let l = getD-positive (args .raw .now) (here .p) (let k = c .before .before .before .before .before .before .before .before .before .peek-cell .ensures in omega arith) in
     omega arith
 
 negation-loop-less : (t : ℕ) → negation-lts.Need-loop-less (negation-calls t) (negation-at t) negation.Post negation-Inv-loop negation-μ-loop
@@ -757,7 +757,7 @@ negation-loop-less t c =
     let start = c .before .before .before .before .before .before .before .before .before .before .before .before .before .before .before .before in
     let args = start .args in
     let here = c .before .before .before .before .before .before .before .before .before .before .loop in
-    let l = live (args .raw .now) (here .p) (let k = c .before .before .before .before .before .before .before .before .before .peek-cell .ensures in omega arith) in
+    let l = getD-positive (args .raw .now) (here .p) (let k = c .before .before .before .before .before .before .before .before .before .peek-cell .ensures in omega arith) in
     omega arith
 
 negation-loop-again : (t : ℕ) → negation-lts.Need-loop-again (negation-calls t) (negation-at t) negation.Post negation-Inv-loop negation-μ-loop
@@ -765,7 +765,7 @@ negation-loop-again t c =
     let start = c .before .before .before .before .before .before .before .before .before .before .before .before .before .before .before .before in
     let args = start .args in
     let here = c .before .before .before .before .before .before .before .before .before .before .loop in
-    let l = live (args .raw .now) (here .p) (let k = c .before .before .before .before .before .before .before .before .before .peek-cell .ensures in omega arith) in
+    let l = getD-positive (args .raw .now) (here .p) (let k = c .before .before .before .before .before .before .before .before .before .peek-cell .ensures in omega arith) in
     ((omega arith, c .before .before .put2 .kept .0 ∙ c .before .before .before .before .before .before .put .kept .0 ∙ here .inv .0 .1), nots-step (args .s .now) (args .raw .now) (names-in (args .declared .now)) (kinds-in (args .declared .now)) (args .scope .now) (args .n) (args .at) (args .w) (args .out .now) (here .p) (here .v) (here .out) (here .inv .1) (sym (c .before .before .before .before .before .before .before .before .before .peek-cell .ensures) ∙ c .before .before .before .before .before .before .before .before .if1 .taken) (c .before .before .before .before .before .before .put .result) (c .before .before .put2 .result) (c .before .before .before .before .before .before .put .last .0) (c .before .before .put2 .last .0) (c .before .before .before .before .before .before .put .ensures) (c .before .before .put2 .ensures))
 
 negation-atom-requires : (t : ℕ) → negation-lts.Need-atom-requires (negation-calls t) (negation-at t) negation.Post negation-Inv-loop negation-μ-loop

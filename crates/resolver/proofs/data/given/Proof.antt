@@ -1,8 +1,8 @@
 -- Places for the counts, the data terms, and then the counts.
 use mathlib.Core.Path.{sym, _∙_}
 use native.Mathlib.Omega.{arith}
+use Rattle.laws.specs.Places.{getD-positive}
 use Rattle.names.specs.NameList.{names-in, kinds-in}
-use Rattle.resolver.proofs.Symbols.{live}
 use Rattle.resolver.proofs.GivenLaws.{given-lost, given-bare, given-took}
 use Rattle.resolver.proofs.data.given.Statement.{statement}
 use Rattle.resolver.proofs.data.given.Tie as tie
@@ -20,7 +20,7 @@ add-t18 : tie.Need-add-t18
 add-t18 c =
     let start = c .before .before .before .before .before .before .before .before .before .before .before .before .before .before .before in
     let args = start .args in
-    let l = live (args .raw .now) (args .at) (let k = c .before .before .before .before .before .before .before .before .before .peek-cell .ensures in omega arith) in
+    let l = getD-positive (args .raw .now) (args .at) (let k = c .before .before .before .before .before .before .before .before .before .peek-cell .ensures in omega arith) in
     omega arith
 
 same-length : tie.Need-same-length
@@ -51,7 +51,7 @@ add-data-list : tie.Need-add-data-list
 add-data-list c =
     let start = c .before .before .before .before .before .before .before .before .before .before .before .before .before .before .before .before in
     let args = start .args in
-    let l = live (args .raw .now) (args .at) (let k = c .before .before .before .before .before .before .before .before .before .before .peek-cell .ensures in omega arith) in
+    let l = getD-positive (args .raw .now) (args .at) (let k = c .before .before .before .before .before .before .before .before .before .before .peek-cell .ensures in omega arith) in
     omega arith
 
 data-list-requires : tie.Need-data-list-requires
@@ -76,7 +76,7 @@ returns-3 : tie.Need-returns-3
 returns-3 c =
     let start = c .before .before .before .before .before .before .before .before .before .before .before .before .before .before .before .before .before .before .before .before .before .before .before .before .before .before .before .before .before .before in
     let args = start .args in
-    let l = live (args .raw .now) (args .at) (let k = c .before .before .before .before .before .before .before .before .before .before .before .before .before .before .before .before .before .before .before .before .before .before .before .before .peek-cell .ensures in omega arith) in
+    let l = getD-positive (args .raw .now) (args .at) (let k = c .before .before .before .before .before .before .before .before .before .before .before .before .before .before .before .before .before .before .before .before .before .before .before .before .peek-cell .ensures in omega arith) in
     let list = c .before .before .before .before .before .before .before .before .before .before .before .before .data-list in
     let put = c .before .before .before .before .before .before .before .before .before .before .before .before .before .before .before .before .before .before .before .before .before .before .put in
     let put2 = c .before .before .before .before .before .before .before .before .before .before .before .before .before .before .before .before .before .before .put2 in
