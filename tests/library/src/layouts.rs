@@ -83,18 +83,42 @@ fn glossed(text: &str) -> Result<Vec<(usize, &str)>, String> {
     Ok(pairs)
 }
 
+/// Where the numbers stand that constants of other files are made of.
+const LIMITS: &str = "crates/limits/src/lib.rt";
+
+/// The number that a sum of products of numbers and constants is worth, if each is known.
+fn worth(value: &str, known: &Numbers, limits: &Numbers) -> Option<usize> {
+    let factor = |word: &str| match word.strip_prefix("limits::") {
+        Some(name) => limits.get(name).copied(),
+        None => word.parse().ok().or_else(|| known.get(word).copied()),
+    };
+    let product = |words: &str| words.split(" * ").map(factor).product::<Option<usize>>();
+    value.split(" + ").map(product).sum()
+}
+
 /// The public constants of a source file.
 fn constants(file: &str) -> Result<Numbers, String> {
     let path = Path::new(env!("CARGO_MANIFEST_DIR"))
         .join("../..")
         .join(file);
     let text = std::fs::read_to_string(path).map_err(|wrong| format!("{file}: {wrong}"))?;
-    let constant = |line: &str| {
+    let limits = if file == LIMITS {
+        Numbers::new()
+    } else {
+        constants(LIMITS)?
+    };
+    let mut known = Numbers::new();
+    let stated = |line: &str| -> Option<(String, String)> {
         let (name, rest) = line.strip_prefix("pub const ")?.split_once(": ")?;
         let (_, value) = rest.strip_suffix(';')?.split_once(" = ")?;
-        Some((name.to_string(), value.parse().ok()?))
+        Some((name.to_string(), value.to_string()))
     };
-    Ok(text.lines().filter_map(constant).collect())
+    for (name, value) in text.lines().filter_map(stated) {
+        if let Some(number) = worth(&value, &known, &limits) {
+            known.insert(name, number);
+        }
+    }
+    Ok(known)
 }
 
 /// The public constants of a file are these: names, each with its number.
