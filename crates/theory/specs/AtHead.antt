@@ -50,7 +50,7 @@ module _ (H : Sheet) where
   abbrev pub HeadsThere : Type 0
   HeadsThere = (j : ℕ) → AtHead (λ k. k < length (H .procs)) (right H j)
 
-  absent-right : (j : ℕ) → length (H .procs) ≤ j → right H j ≡ delta
+  pub absent-right : (j : ℕ) → length (H .procs) ≤ j → right H j ≡ delta
   unfolding right
   absent-right j h = ap (λ (p : Process). p .right) (List·getD-eq-default (H .procs) no-process h)
 

@@ -83,7 +83,7 @@ module _ (H : Sheet) where
   each-all-true [] f = tt
   each-all-true (b ∷ bs) f = pass-both b _ (f 0 (omega arith)) (each-all-true bs (λ k w. f (suc k) (omega arith)))
 
-  guarded-passes : T (guarded H) → (k : ℕ) → k < length (H .procs) → Passes (length (H .procs)) k
+  pub guarded-passes : T (guarded H) → (k : ℕ) → k < length (H .procs) → Passes (length (H .procs)) k
   unfolding guarded Passes
   guarded-passes h k w = all-true-each _ h k (rw (passed-length (length (H .procs))) w)
 

@@ -1,6 +1,6 @@
-//! States with labelled transitions, and equality to n steps between any two of them.
+//! States with labelled transitions, equality to n steps between any two of them, and runs.
 
-use std::collections::HashMap;
+use std::collections::{HashMap, HashSet};
 use std::fmt;
 use std::hash::Hash;
 
@@ -96,4 +96,16 @@ impl<A: Transitions, B: Transitions> Game<'_, A, B> {
         left.iter().all(|p| right.iter().any(|q| pair(p, q)))
             && right.iter().all(|q| left.iter().any(|p| pair(p, q)))
     }
+}
+
+/// Whether some run from the state bears the labels: steps, one after another, that bear them in
+/// order.
+pub fn bears<T: Transitions>(system: &T, state: &T::State, labels: &[Label]) -> bool {
+    let mut reached = HashSet::from([state.clone()]);
+    for label in labels {
+        let steps = reached.iter().flat_map(|state| system.steps(state));
+        let borne = steps.filter(|(borne, _)| borne == label);
+        reached = borne.map(|(_, next)| next).collect();
+    }
+    !reached.is_empty()
 }

@@ -1,9 +1,11 @@
-//! Closed terms, what stacks stand for, and equality to n steps.
+//! Closed terms, what stacks stand for, equality to n steps, and runs.
 
 mod common;
 
-use common::table;
-use reader::{check_sheet, equal_to, Frame, Terms, Transitions};
+use common::json::Json;
+use common::states::Given;
+use common::{label, table, vectors};
+use reader::{bears, check_sheet, equal_to, Frame, Label, Terms, Transitions};
 
 /// Whether two terms of a small sheet are equal to n steps.
 fn equal(n: usize, left: &str, right: &str) -> bool {
@@ -163,4 +165,65 @@ fn deep_stacks_are_states_too() {
     assert!(equal(99, 100, 101));
     assert!(!equal(100, 100, 101));
     assert!(equal(150, 100, 100));
+}
+
+#[test]
+fn a_run_bears_the_labels_of_its_steps_in_order() {
+    let table = table("sort D 2;act a;act b:D;proc X=a.b(0).X+a.(b(1)+tau);init X;");
+    let (a, b) = (label("a", &[], &[]), |v| label("b", &["D"], &[v]));
+    let from_start = |labels: &[Label]| bears(&table, &table.start_stack(), labels);
+    assert!(from_start(&[]) && from_start(&[a.clone()]));
+    assert!(from_start(&[a.clone(), Label::Tau]) && from_start(&[a.clone(), b(1)]));
+    assert!(from_start(&[a.clone(), b(0), a.clone(), b(0), a.clone()]));
+    assert!(!from_start(&[b(0)]) && !from_start(&[a.clone(), a.clone()]));
+    assert!(!from_start(&[a.clone(), b(1), a.clone()]));
+    assert!(!from_start(&[a, label("b", &["Bool"], &[0])]));
+    assert!(bears(&table, &vec![], &[]) && !bears(&table, &vec![], &[Label::Tau]));
+}
+
+/// The cases of `equal` that have this member.
+fn cases(member: &str) -> Vec<Json> {
+    let mut cases = vectors::of("equal");
+    cases.retain(|case| case.get(member).is_some());
+    cases
+}
+
+/// The sheet or the table that a state is described by; its text, if it has one, is the sheet.
+fn given(described: &Json) -> Given {
+    if described.get("text").is_some() {
+        let text = described.text("text").as_bytes();
+        assert_eq!(text, described.bytes("sheet"));
+    }
+    Given::of(described)
+}
+
+#[test]
+fn vectors_of_equality() {
+    let cases = cases("equal");
+    for case in &cases {
+        let described = ["left", "right"].map(|side| case.get(side).expect(side));
+        let [left, right] = described.map(given);
+        let equal = equal_to(
+            case.number("n") as usize,
+            (&left.states(), &left.state(described[0])),
+            (&right.states(), &right.state(described[1])),
+        );
+        assert_eq!(equal, case.is("equal"), "{}", case.text("name"));
+    }
+    let equal = cases.iter().filter(|case| case.is("equal")).count();
+    assert_eq!((cases.len(), equal), (164, 100));
+}
+
+#[test]
+fn vectors_of_runs() {
+    let cases = cases("bears");
+    for case in &cases {
+        let described = case.get("of").expect("of");
+        let given = given(described);
+        let labels: Vec<Label> = case.list("labels").iter().map(vectors::label).collect();
+        let borne = bears(&given.states(), &given.state(described), &labels);
+        assert_eq!(borne, case.is("bears"), "{}", case.text("name"));
+    }
+    let borne = cases.iter().filter(|case| case.is("bears")).count();
+    assert_eq!((cases.len(), borne), (59, 30));
 }

@@ -1,8 +1,9 @@
-//! A parser for the vectors' JSON lines: objects, lists, texts and whole numbers.
+//! A parser for the vectors' JSON lines: objects, lists, texts, whole numbers, true and false.
 
 /// A JSON value.
 #[derive(Clone, Debug, PartialEq, Eq)]
 pub enum Json {
+    Bool(bool),
     Number(u64),
     Text(String),
     List(Vec<Json>),
@@ -33,28 +34,36 @@ impl Json {
         }
     }
 
+    pub fn is(&self, key: &str) -> bool {
+        match self.get(key) {
+            Some(Json::Bool(is)) => *is,
+            other => panic!("{key}: not true or false: {other:?}"),
+        }
+    }
+
     pub fn bytes(&self, key: &str) -> Vec<u8> {
         reader::from_hex(self.text(key)).expect(key)
     }
 
+    pub fn list(&self, key: &str) -> &[Json] {
+        match self.get(key) {
+            Some(Json::List(items)) => items,
+            other => panic!("{key}: no list: {other:?}"),
+        }
+    }
+
     /// A list of lists of numbers.
     pub fn rows(&self, key: &str) -> Vec<Vec<u64>> {
-        let Some(Json::List(rows)) = self.get(key) else {
-            panic!("{key}: no list");
-        };
-        rows.iter().map(Json::numbers).collect()
+        self.list(key).iter().map(Json::numbers).collect()
     }
 
     /// A list of texts.
     pub fn texts(&self, key: &str) -> Vec<String> {
-        let Some(Json::List(items)) = self.get(key) else {
-            panic!("{key}: no list");
-        };
         let text = |item: &Json| match item {
             Json::Text(text) => text.clone(),
             other => panic!("no text: {other:?}"),
         };
-        items.iter().map(text).collect()
+        self.list(key).iter().map(text).collect()
     }
 
     fn numbers(&self) -> Vec<u64> {
@@ -97,6 +106,12 @@ impl Parser<'_> {
         taken
     }
 
+    fn word(&mut self, wanted: &str) -> bool {
+        let behind = self.rest.strip_prefix(wanted);
+        self.rest = behind.unwrap_or(self.rest);
+        behind.is_some()
+    }
+
     fn value(&mut self) -> Json {
         if self.take('{') {
             Json::Object(self.items('}', Parser::member))
@@ -104,6 +119,10 @@ impl Parser<'_> {
             Json::List(self.items(']', Parser::value))
         } else if self.take('"') {
             Json::Text(self.text())
+        } else if self.word("true") {
+            Json::Bool(true)
+        } else if self.word("false") {
+            Json::Bool(false)
         } else {
             Json::Number(self.number())
         }

@@ -10,6 +10,7 @@ pub mod operators;
 pub mod random;
 pub mod slow;
 pub mod sort_sections;
+pub mod states;
 pub mod table_limits;
 pub mod tables;
 pub mod vectors;

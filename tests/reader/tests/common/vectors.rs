@@ -111,13 +111,18 @@ pub fn walk(case: &Json) -> String {
 
 /// Frames of a case; those of zeros at the end of the lent ones are left out there.
 pub fn frames(case: &Json, key: &str) -> Vec<Frame> {
+    let mut frames = used_frames(case, key);
+    frames.resize(case.number("lent") as usize, Frame::default());
+    frames
+}
+
+/// The frames that a case lists, each an equation and values.
+pub fn used_frames(case: &Json, key: &str) -> Vec<Frame> {
     let frame = |row: &Vec<u64>| {
         let values: Vec<u8> = row[1..].iter().map(|&value| value as u8).collect();
         Frame::new(row[0] as usize, &values)
     };
-    let mut frames: Vec<Frame> = case.rows(key).iter().map(frame).collect();
-    frames.resize(case.number("lent") as usize, Frame::default());
-    frames
+    case.rows(key).iter().map(frame).collect()
 }
 
 /// The names of an action's sorts in the text that a table file is printed as.
@@ -133,7 +138,7 @@ pub fn printed_sorts(file: &[u8], action: &str) -> Vec<String> {
 
 /// The label of a case: its text, and the names of its sorts. Of a table that has none they are those
 /// that it is printed with.
-fn label(case: &Json) -> Label {
+pub fn label(case: &Json) -> Label {
     let text = case.text("label");
     let (name, values) = text.split_once('(').unwrap_or((text, ""));
     if name == "tau" {
