@@ -1,3 +1,4 @@
+#![tactic(auto)]
 // Elements of slices, 0 past the end; numbers made wider and narrower; the smaller and the larger of two.
 ghost use Rattle.std.specs.Prelude.{◌≡◌, ◌+◌, ◌%◌, ◌≤◌, ◌<◌, min, max, get_or};
 ghost use Rattle.pcrl.specs.Tests as tests;

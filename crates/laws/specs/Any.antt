@@ -47,6 +47,7 @@ module _ {A B : Type 0} {P : B → Type 0} (f : A → B) where
   any_map (there r) = there (any_map r)
 
   pub any_of_map : (xs : List A) → Any P (map f xs) → Any (λ x. P (f x)) xs
+  any_of_map [] h = elim h [ ]
   any_of_map (x ∷ xs) (here q) = here q
   any_of_map (x ∷ xs) (there r) = there (any_of_map xs r)
 
@@ -85,7 +86,7 @@ module _ {A : Type 0} where
   place_in (y ∷ xs) zero x h = let e : y ≡ x = cc in here e
   place_in (y ∷ xs) (suc k) x h = there (place_in xs k x h)
 
-  pub in_place : {xs : List A} {x : A} → In x xs → (k : ℕ) × (get_elem? xs k ≡ some x)
+  pub in_place : {x : A} {xs : List A} → In x xs → (k : ℕ) × (get_elem? xs k ≡ some x)
   in_place (here q) = (zero, ap some q)
   in_place (there r) = let (k, e) = in_place r in (suc k, e)
 
@@ -96,5 +97,6 @@ any_found (there r) = let (x, a, q) = any_found r in (x, there a, q)
 -- one element of which something holds, among elements of which something else holds
 pub every_any : {A : Type 0} {Q R : A → Type 0} (xs : List A) → Every Q xs → Any R xs → (x : A) × Q x × R x
 unfolding Every
+every_any [] h k = elim k [ ]
 every_any (x ∷ xs) h (here r) = (x, h.0, r)
 every_any (x ∷ xs) h (there k) = every_any xs h.1 k

@@ -1,3 +1,4 @@
+#![tactic(auto)]
 // The numbers of document 01 in code, each once: limits, in the order of pcrl's Limits, and questions.
 
 // "At most 4,096 bytes"
@@ -84,7 +85,7 @@ pub const AND_CODE: usize = 0x62;
 
 pub const OR_CODE: usize = 0x63;
 
-// The most bytes of a data term, `max-term` of crate laws.
+// The most bytes of a data term, `max_term` of crate laws.
 pub const MAX_TERM: usize = 46;
 
 // In the index of a table: a place for each function, and behind them the size of each sort.

@@ -1,1 +1,2 @@
+#![tactic(auto)]
 // The rules of document 01 as definitions, in specs/. There is no code here.
