@@ -11,7 +11,5 @@ pub mod Crc
 pub mod BlockLaws
 pub mod FileOfStream
 pub mod FileLaws
-pub mod Layouts
-pub mod FileBytes
 pub mod Older
 pub mod Examples

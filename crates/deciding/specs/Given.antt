@@ -8,13 +8,10 @@ use Rattle.pcrl.specs.Table.{Table, with_names}
 use Rattle.pcrl.specs.Circles.{passed_after, all_true, guarded}
 use Rattle.pcrl.specs.Stack.{Frame, padded}
 use Rattle.pcrl.specs.Terms.{still}
-use Rattle.pcrl.specs.Equality.{System, Equal, Run}
+use Rattle.pcrl.specs.Equality.{System}
 use Rattle.pcrl.specs.States.{State, of_term, of_stack, system, stands_for}
 use Rattle.pcrl.specs.Answers.{sheet_read, table_made, table_checked, start_stack}
 use Rattle.theory.specs.Questions.{accepted_all}
-use Rattle.deciding.specs.Labels.{same_label?}
-use Rattle.deciding.specs.Listed.{Listed, equal?, bears?}
-use Rattle.deciding.specs.StatesListed.{states_listed}
 
 pub data Given : Type 0 where
   a_sheet a_file : List ℕ → Given
@@ -69,12 +66,3 @@ given_guarded (a_sheet s) = go (sheet_read s) refl
     go (refused n) e = tt
     go (accepted H) e = (accepted_all s H e).no_circle
 given_guarded (a_file f) = tt
-
-abbrev pub given_listed : (g : Given) → Listed (states_given g)
-given_listed g = states_listed frame_width (sheet_given g) (table_given g) (given_guarded g)
-
-unfoldable pub equal_given? : (g h : Given) (n : ℕ) (s t : State) → Dec (Equal (states_given g) (states_given h) n s t)
-equal_given? g h = equal? (states_given g) (states_given h) same_label? (given_listed g) (given_listed h)
-
-unfoldable pub bears_given? : (g : Given) (ls : List Label) (s : State) → Dec ((t : State) × Run (states_given g) s ls t)
-bears_given? g = bears? same_label? (given_listed g)

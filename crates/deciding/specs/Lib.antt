@@ -1,4 +1,3 @@
-pub mod Accepted
 pub mod Decisions
 pub mod Given
 pub mod Labels

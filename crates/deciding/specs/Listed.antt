@@ -3,14 +3,14 @@ use Rattle.std.specs.Prelude.{◌≡◌, ◌↔◌}
 use Rattle.std.proofs.Math.Path.{refl, subst}
 use Rattle.std.proofs.Common.{ap, sym}
 use mathlib.Core.List.{List, [], ◌∷◌}
-use Prim.Native.Nat.{ℕ, zero, suc}
+use Prim.Native.Nat.{ℕ, suc}
 use Rattle.pcrl.specs.Reader.{all}
 use Rattle.pcrl.specs.Steps.{here, if_met}
 use Rattle.pcrl.specs.Equality.{System, Equal, Run, stay, go}
 use Rattle.laws.specs.Any.{In, any_to, any_found, any_one, any_all, any_of_all}
 use Rattle.theory.specs.Listing.{any_if_met, any_of_if_met}
-use Rattle.deciding.specs.Decisions.{and_then?, iff?, as?, inhabited?}
-use Rattle.deciding.specs.Matching.{Matched, matched?}
+use Rattle.deciding.specs.Decisions.{inhabited?}
+use Rattle.deciding.specs.Matching.{Matched}
 
 -- for each state whether it has ended, and the list of its steps: these and no others
 pub record Listed {L : Type 0} (A : System L) : Type 0 where
@@ -52,15 +52,6 @@ module _ {L : Type 0} (A B : System L) where
             any_to (λ x z. subst (λ (w : L × A.State). Alike n w y) (sym z) (refl, r)) (a.complete s y.0 s' h),
       ),
     )
-
-  module _ (same? : (k l : L) → Dec (k ≡ l)) (a : Listed A) (b : Listed B) where
-    unfoldable pub equal? : (n : ℕ) (s : A.State) (t : B.State) → Dec (Equal A B n s t)
-    unfolding Equal
-    equal? zero s t = iff? (a.ended? s) (b.ended? t)
-    equal? (suc n) s t =
-        as? (matched_equal a b n s t) (equal_matched a b n s t)
-        (and_then? (iff? (a.ended? s) (b.ended? t)) (λ e.
-        matched? (λ x y. and_then? (same? x.0 y.0) (λ h. equal? n x.1 y.1)) (a.successors s) (b.successors t)))
 
 -- RUNS
 

@@ -8,8 +8,6 @@ pub mod ValidNames
 pub mod Ahead
 pub mod Weight
 pub mod PrintedTerms
-pub mod PrintedLines
-pub mod Printed
 pub mod Spelled
 pub mod Taken
 pub mod Rendered

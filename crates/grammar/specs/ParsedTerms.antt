@@ -1,6 +1,6 @@
 -- What the readers of data and of processes take is printed back as the same tokens, at any bound n on how deep they call each other.
 -- Each proof follows its reader line by line.
-use Rattle.std.specs.Prelude.{◌≡◌, refl, List, [], ◌∷◌, ◌++◌, ℕ, zero, suc, ◌+◌}
+use Rattle.std.specs.Prelude.{◌≡◌, refl, List, [], ◌∷◌, ◌++◌, ℕ, zero, suc}
 use Rattle.std.proofs.Common.{append_assoc}
 use Prim.Native.String.{String}
 use Rattle.pcrl.specs.Tokens.{Token, the}

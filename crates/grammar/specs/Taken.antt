@@ -10,7 +10,7 @@ use Rattle.pcrl.specs.Bytes.{separator, letter, digit, name_byte}
 use Rattle.pcrl.specs.Tokens.{Token, name, numeral, sign, the, words, punctuation, run, front, Lexeme, name_of, value_of, numeral_of, mark_of, first_token}
 use Rattle.pcrl.specs.Render.{write, goes_on}
 use Rattle.laws.specs.Tests.{is_true, both_pass, eqb_self, where_no}
-use Rattle.grammar.specs.TokenLaws.{ValidName, ValidToken, front_every, front_cons}
+use Rattle.grammar.specs.TokenLaws.{ValidName, front_every, front_cons}
 use Rattle.grammar.specs.Spelled.{spelled}
 
 -- nothing stands next, or a byte that does not pass the test
@@ -64,15 +64,6 @@ first_numeral b s e f = rw (e, f, first_token)
 pub name_of_valid : (n : List ℕ) → ValidName n → name_of n ≡ some (name n, length n)
 unfolding ValidName name_of
 name_of_valid n v = rw (is_true (leb (length n) max_name) (le→leb (length n) max_name v.0.0.1), v.1.1, name_of)
-
--- "names"
-pub name_taken : (n : List ℕ) → ValidName n → Taken (name n)
-unfolding ValidName write begins lexeme goes_on
-name_taken [] v = absurd (omega arith)
-name_taken (b ∷ w) v = record {
-  here = no_separator letter refl refl b v.1.0;
-  whole = λ r k. first_name b (w ++ r) (is_true (letter b) v.1.0) ∙ (ap name_of (front_append name_byte (b ∷ w) r v.0.1 k) ∙ name_of_valid (b ∷ w) v);
-}
 
 -- one of the words, or one of the marks
 pub among_every : (P : List ℕ → Type 0) (ms : List (List ℕ)) → Every P ms → (w : List ℕ) → T (among w ms) → P w
@@ -160,14 +151,3 @@ unfolding write goes_on
 numeral_taken v h =
     let k = spelled v h in
     record { here = digits_begin (decimal v) k.0 k.1.0; whole = λ r e. digits_whole (decimal v) k.0 k.1.0 r e ∙ numeral_of_spelled v h }
-
-pub token_taken : (t : Token) → ValidToken t → Taken t
-unfolding ValidToken
-token_taken (name n) v = name_taken n v
-token_taken (numeral v) h = numeral_taken v h
-token_taken (sign w) v = by (among w words) refl (among w punctuation) refl v
-  where
-    by : (a : Bool) → among w words ≡ a → (b : Bool) → among w punctuation ≡ b → T (or a b) → Taken (sign w)
-    by true e b f t = among_every (λ w. Taken (sign w)) words words_taken w (rw e tt)
-    by false e true f t = among_every (λ w. Taken (sign w)) punctuation marks_taken w (rw f tt)
-    by false e false f t = absurd t

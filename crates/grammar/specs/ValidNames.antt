@@ -1,20 +1,16 @@
 -- Every name of a sort or an action that a sheet declares is valid by the token rule: the tree is printed back as the tokens, and every token is valid.
 use Rattle.std.specs.Prelude.{◌≡◌, refl, List, [], ◌∷◌, Bool, true, false, ℕ, T, get_or}
-use Rattle.std.proofs.Common.{sym, subst}
-use Rattle.std.proofs.Math.Option.{some}
 use Rattle.pcrl.specs.Text.{bytes}
 use Rattle.pcrl.specs.Tests.{and, negated, same?, among, Every}
 use Rattle.pcrl.specs.Bytes.{letter}
-use Rattle.pcrl.specs.Tokens.{Token, name, words, tokens}
+use Rattle.pcrl.specs.Tokens.{Token, name, words}
 use Rattle.pcrl.specs.Reader.{all}
 use Rattle.pcrl.specs.Tree.{SortLine, ActLine, RawSheet}
-use Rattle.pcrl.specs.Grammar.{parse}
 use Rattle.pcrl.specs.Right.{free_name, RightName, token_name, RightSortName}
 use Rattle.laws.specs.Tests.{both_pass, pass_both}
 use Rattle.laws.specs.Every.{every_left, every_right}
 use Rattle.pcrl.specs.Print.{line, print_lines, print_sort, print_func, print_act, print_sheet}
-use Rattle.grammar.specs.Parsed.{print_parse}
-use Rattle.grammar.specs.TokenLaws.{ValidName, ValidToken, tokens_valid}
+use Rattle.grammar.specs.TokenLaws.{ValidName}
 
 -- what holds of every printed token holds of every sort's name
 pub sort_names : (P : Token → Type 0) (sorts : List SortLine) → Every P (print_lines "sort" print_sort sorts) → Every (λ (l : SortLine). P (name l.name)) sorts
@@ -40,16 +36,6 @@ act_names_of_sheet P R h =
     let past_sorts = every_right P (print_lines "sort" print_sort R.sorts) _ h in
     let past_funcs = every_right P (print_lines "func" print_func R.funcs) _ past_sorts in
     act_names P R.acts (every_left P (print_lines "act" print_act R.acts) _ past_funcs)
-
--- DECLARED NAMES ARE VALID: 1 to 16 letters, digits and underscores behind a letter, and no word.
-pub names_valid : (s : List ℕ) (ts : List Token) (R : RawSheet) → tokens s ≡ some ts → parse ts ≡ some R → Every (λ (a : ActLine). ValidName a.name) R.acts
-unfolding ValidToken
-names_valid s ts R e f = act_names_of_sheet ValidToken R (subst (Every ValidToken) (sym (print_parse ts R f).0) (tokens_valid s ts e))
-
-pub sort_names_valid : (s : List ℕ) (ts : List Token) (R : RawSheet) → tokens s ≡ some ts → parse ts ≡ some R → Every (λ (l : SortLine). ValidName l.name) R.sorts
-unfolding ValidToken print_sheet
-sort_names_valid s ts R e f =
-    sort_names ValidToken R.sorts (every_left ValidToken (print_lines "sort" print_sort R.sorts) _ (subst (Every ValidToken) (sym (print_parse ts R f).0) (tokens_valid s ts e)))
 
 -- #104: "Sort names must be valid"
 pub right_sort_name : (n : List ℕ) → ValidName n → RightSortName n

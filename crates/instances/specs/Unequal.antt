@@ -1,6 +1,6 @@
 -- States that are not equal to n steps, and labels that a run does not bear: equality and runs hold no more than document 01 says.
 use Rattle.std.specs.Prelude.{◌≡◌, refl, [], ◌∷◌}
-use Rattle.std.proofs.Common.{sym, arith}
+use Rattle.std.proofs.Common.{sym, subst, arith}
 use Prim.Native.Nat.{ℕ, zero, suc}
 use Rattle.pcrl.specs.Limits.{frame_width}
 use Rattle.pcrl.specs.Label.{Label, label}
@@ -98,10 +98,16 @@ module _ (H : Sheet) (T : Table) where
       rests = Equal here here n (term (chain n (act 1))) (term (chain n (act 2)))
 
       there : rests → (l : Label) (s : State) → here.Step (term (chain (suc n) (act 1))) l s → (t : State) × here.Step (term (chain (suc n) (act 2))) l t × Equal here here n s t
-      there rest l s h = let (e, f) = before_steps (chain n (act 1)) l s h in rw (e, f) (term (chain n (act 2)), goes_over acts, rest)
+      there rest l s h = let (e, f) = before_steps (chain n (act 1)) l s h in
+          subst (λ (m : Label). (t : State) × here.Step (term (chain (suc n) (act 2))) m t × Equal here here n s t) (sym e)
+          (subst (λ (u : State). (t : State) × here.Step (term (chain (suc n) (act 2))) (bears 0) t × Equal here here n u t) (sym f)
+          (term (chain n (act 2)), goes_over acts, rest))
 
       back : rests → (l : Label) (t : State) → here.Step (term (chain (suc n) (act 2))) l t → (s : State) × here.Step (term (chain (suc n) (act 1))) l s × Equal here here n s t
-      back rest l t h = let (e, f) = before_steps (chain n (act 2)) l t h in rw (e, f) (term (chain n (act 1)), goes_over acts, rest)
+      back rest l t h = let (e, f) = before_steps (chain n (act 2)) l t h in
+          subst (λ (m : Label). (s : State) × here.Step (term (chain (suc n) (act 1))) m s × Equal here here n s t) (sym e)
+          (subst (λ (u : State). (s : State) × here.Step (term (chain (suc n) (act 1))) (bears 0) s × Equal here here n s u) (sym f)
+          (term (chain n (act 1)), goes_over acts, rest))
 
   pub then_unlike : (bears 1 ≡ bears 2 → ⊥) → (n : ℕ) → Equal here here (suc n) (term (chain n (act 1))) (term (chain n (act 2))) → ⊥
   unfolding Equal StateStep chain

@@ -2,25 +2,16 @@
 -- By induction on what is read: at each place the printer's form has no more brackets than any other.
 use Rattle.std.specs.Prelude.{◌≡◌, List, [], ◌∷◌, map, ℕ, suc, ◌+◌, ◌≤◌, ◌<◌, length}
 use Rattle.std.proofs.Math.Path.{refl}
-use Rattle.std.proofs.Common.{ap, subst, ◌∙◌}
+use Rattle.std.proofs.Common.{subst}
 use Rattle.std.proofs.Math.Option.{Option, none, some}
 use native.Mathlib.Omega.{arith}
-use Rattle.std.proofs.lemmas.List.{length-map}
-use Rattle.pcrl.specs.Limits.{max_numeral}
-use Rattle.pcrl.specs.Tree.{Name, RawData, Conjunction, Comparison, Negation, Atom, RawDatas, FuncLine}
+use Rattle.pcrl.specs.Tree.{Name, RawData, Conjunction, Comparison, Negation, Atom, RawDatas}
 use Rattle.pcrl.specs.Sheet.{Data, val, var, app, Datas, nil, cons, Sig, not_number, and_number, or_number, operation, operator}
-use Rattle.pcrl.specs.Names.{Names, names_of, number_of, sort_of, equal_at, two, resolve_data, resolve_ors, resolve_conjunction, resolve_ands, resolve_comparison, resolve_negation, resolve_atom, resolve_datas}
-use Rattle.pcrl.specs.Table.{Table}
-use Rattle.pcrl.specs.Right.{RightSig}
-use Rattle.pcrl.specs.Printer.{numbered, Shown, data_shown, conjunction_shown, comparison_shown, negation_shown, atom_shown, as_data, as_conjunction, as_comparison, as_negation, or_behind, and_behind, listed, in_brackets, applied, operand, shown_by, func_name, shown, all_shown, raw_data, func_line_of, printed}
+use Rattle.pcrl.specs.Names.{Names, number_of, sort_of, equal_at, two, resolve_data, resolve_ors, resolve_conjunction, resolve_ands, resolve_comparison, resolve_negation, resolve_atom, resolve_datas}
+use Rattle.pcrl.specs.Printer.{Shown, data_shown, conjunction_shown, comparison_shown, negation_shown, atom_shown, as_data, as_conjunction, as_comparison, as_negation, or_behind, and_behind, listed, in_brackets, applied, operand, shown_by, func_name, shown, all_shown, raw_data}
 use Rattle.laws.specs.Optional.{first_given}
 use Rattle.laws.specs.Numbers.{number_below}
 use Rattle.laws.specs.Operations.{written_number, equal_number}
-use Rattle.printing.specs.Plain.{PlainTerm, PlainTable}
-use Rattle.printing.specs.NumberedLaws.{length_numbered}
-use Rattle.printing.specs.PrintedNames.{N, variables}
-use Rattle.printing.specs.Sided.{Sided, sided_retold}
-use Rattle.printing.specs.ResolvedData.{data_becomes}
 
 -- How many brackets stand around data; those behind a function's name are not among them.
 unfoldable mutual
@@ -262,15 +253,3 @@ module _ (S : Sig) where
       pub fewest_brackets : (r : RawData) (d : Data) → resolve_data N S scope Γ r ≡ some d → data_brackets (raw_data S d) ≤ data_brackets r
       unfolding raw_data anywhere
       fewest_brackets r d e = data_fewest r d e
-
--- So in a printed table: what is read like the text of a term has no fewer brackets than that text.
-pub printed_fewest : (U : Table) (plain : PlainTable U) (Γ : List ℕ) → length Γ ≤ max_numeral → (d : Data) → PlainTerm U Γ d → Sided d → (r : RawData)
-    → resolve_data (N U plain) U.sig (variables U plain (length Γ)) Γ r ≡ resolve_data (N U plain) U.sig (variables U plain (length Γ)) Γ (raw_data U.sig d)
-    → data_brackets (raw_data U.sig d) ≤ data_brackets r
-unfolding names_of printed RightSig
-printed_fewest U plain Γ few d p sided r e =
-    let S = U.sig in
-    let many = plain.signature.1.0.0 in
-    let a = length-map (numbered (func_line_of S) 0 U.sig.funcs) (λ (l : FuncLine). l.name) in
-    let b = length_numbered (func_line_of S) 0 U.sig.funcs in
-    fewest_brackets S (N U plain) (omega arith) (variables U plain (length Γ)) Γ r d (e ∙ data_becomes U plain Γ few d p ∙ ap some (sided_retold d sided))

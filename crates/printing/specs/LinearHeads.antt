@@ -1,5 +1,5 @@
 -- The heads of a linear right side are its summands.
-use Rattle.std.specs.Prelude.{◌≡◌, true, length, replicate}
+use Rattle.std.specs.Prelude.{◌≡◌, true, false, length, replicate}
 use Rattle.std.proofs.Math.Path.{refl, ap, ap₂}
 use mathlib.Core.List.{List, [], ◌∷◌, ◌++◌, append-nil, map}
 use Prim.Native.Nat.{ℕ, zero, suc, ◌+◌, ◌<◌}
@@ -8,7 +8,7 @@ use Rattle.std.proofs.Common.{length-append}
 use Rattle.pcrl.specs.Tests.{Every}
 use Rattle.pcrl.specs.Sheet.{Data, val, var, app, Datas, nil, cons, Act, Proc, atom, call, Sig}
 use Rattle.pcrl.specs.Values.{put_data, put_datas}
-use Rattle.pcrl.specs.Parts.{as_params}
+use Rattle.pcrl.specs.Parts.{as_params, new_count}
 use Rattle.pcrl.specs.Table.{Summand, Table}
 use Rattle.pcrl.specs.Heads.{with_var, with_cond, with_calls, look, calls_of, heads_by}
 use Rattle.printing.specs.Plain.{Plain, PlainAll, PlainTerm, PlainCond, PlainCall, PlainSummand}
@@ -61,7 +61,7 @@ module _ (known : List Data → ℕ → ℕ → List Summand) where
         → calls_of (own (length Γ)) c (calls_behind (call k.0 k.1) cs) ≡ k ∷ cs
     unfolding calls_of calls_behind Every
     calls_own Γ c k [] h = ap (λ (ds : List Data). (k.0, ds) ∷ []) (own_terms _ Γ k.1 h.0.1)
-    calls_own Γ c k (l ∷ cs) h = rw (own_terms _ Γ k.1 h.0.1, calls_own Γ _ l cs h.1)
+    calls_own Γ c k (l ∷ cs) h = ap₂ (λ (ds : List Data) (later : List (ℕ × List Data)). (k.0, ds) ∷ later) (own_terms _ Γ k.1 h.0.1) (calls_own Γ (c + new_count true (call k.0 k.1)) l cs h.1)
 
     head_of_calls : (Γ : List ℕ) (a : Act) (ds : List Data) (cs : List (ℕ × List Data)) → Every (PlainTerm T Γ) ds
         → Every (PlainCall T Γ) cs
@@ -101,7 +101,7 @@ module _ (known : List Data → ℕ → ℕ → List Summand) where
         → heads_by known (own (length Δ)) (length Δ) c (alternatives (linear_summand (length Δ) h) (map (linear_summand (length Δ)) hs)) ≡ h ∷ hs
     unfolding alternatives heads_by OneHead Every
     heads_joined Δ c h [] p k = head_of_summand Δ h p c
-    heads_joined Δ c h (g ∷ hs) p k = rw (head_of_summand Δ h p c, heads_joined Δ _ g hs k.0 k.1)
+    heads_joined Δ c h (g ∷ hs) p k = ap₂ ◌++◌ (head_of_summand Δ h p c) (heads_joined Δ (c + new_count false (linear_summand (length Δ) h)) g hs k.0 k.1)
 
     -- THE HEADS OF A LINEAR RIGHT SIDE ARE ITS SUMMANDS.
     pub heads_linear : (Δ : List ℕ) (c : ℕ) (hs : List Summand) → Every (PlainSummand T Δ) hs → heads_by known (own (length Δ)) (length Δ) c (linear_right (map (linear_summand (length Δ)) hs)) ≡ hs

@@ -1,5 +1,5 @@
 -- The bytes of spelled tokens pass question 2.
-use Rattle.std.specs.Prelude.{List, [], ◌∷◌, Bool, true, false, ℕ, ◌≤◌, T, leb, eqb}
+use Rattle.std.specs.Prelude.{List, [], ◌∷◌, Bool, true, false, ℕ, ◌≤◌, T, leb}
 use Rattle.std.proofs.Common.{inl, inr, arith, leb→le, le→leb, eqb→eq}
 use Rattle.pcrl.specs.Text.{byte, decimal}
 use Rattle.pcrl.specs.Tests.{within, among, Every}

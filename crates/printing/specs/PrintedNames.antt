@@ -1,6 +1,6 @@
 -- The names that a printed sheet declares are distinct, but that a sort may have an action's name; each stands at the number that it is made from, and a
 -- variable's name is new.
-use Rattle.std.specs.Prelude.{◌≡◌, refl, Bool, get_or, drop}
+use Rattle.std.specs.Prelude.{◌≡◌, refl, get_or, drop}
 use Rattle.std.proofs.Math.Path.{ap, subst}
 use Rattle.std.proofs.Common.{ap₂, sym, ◌∙◌}
 use mathlib.Core.List.{List, [], ◌∷◌, ◌++◌}

@@ -21,9 +21,9 @@ use Rattle.pcrl.specs.Printer.{taken, printed, table_text}
 use Rattle.pcrl.specs.Answers.{sorted_read, sheet_read, table_made, stream_filed, file_made, table_checked}
 use Rattle.laws.specs.Questions.{question_passes, after_passes}
 use Rattle.grammar.specs.TokenLaws.{tokens_few}
-use Rattle.grammar.specs.Printed.{parse_print}
-use Rattle.codec.specs.FileLaws.{written_read}
-use Rattle.theory.specs.Accepted.{accepted_standing}
+use Rattle.grammar.proofs.Printed.{parse_print}
+use Rattle.codec.proofs.FileLaws.{written_read}
+use Rattle.theory.proofs.Accepted.{accepted_standing}
 use Rattle.theory.specs.Questions.{Resolved, resolved_all, all_accepted}
 use Rattle.printing.specs.SpelledTokens.{spelled_tokens}
 use Rattle.printing.specs.Plain.{PlainTable, right_plain}

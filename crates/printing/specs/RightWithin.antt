@@ -7,7 +7,7 @@ use Rattle.pcrl.specs.Table.{Summand, Equation, Table, params_of, summands_of}
 use Rattle.pcrl.specs.Right.{Small, SummandWithin, EquationWithin, Within, RightSorts, RightTerm, RightCond, RightCall, RightSummand, RightSummands, RightEquations, RightTable}
 use Rattle.laws.specs.Every.{every_weaken, every_both, every_of_all, map_every}
 use Rattle.laws.specs.Each.{each_every}
-use Rattle.codec.specs.StreamBytes.{few_equations}
+use Rattle.codec.proofs.StreamBytes.{few_equations}
 use Rattle.printing.specs.Plain.{every_of_each}
 
 terms_small : (S : Sig) (Γ Ds : List ℕ) (ds : List Data) → Each (RightTerm S Γ) Ds ds → Every Small ds

@@ -17,7 +17,7 @@ use Rattle.pcrl.specs.Blocks.{file_of, room?}
 use Rattle.pcrl.specs.Printer.{table_text}
 use Rattle.pcrl.specs.Answers.{tokens_read, tree_read, sorted_read, sheet_read, file_made, table_checked, text_printed, table_printed}
 use Rattle.laws.specs.Questions.{past_question, past_question_of, past_answer}
-use Rattle.codec.specs.Layouts.{layout_of_file}
+use Rattle.codec.proofs.Layouts.{layout_of_file}
 use Rattle.printing.specs.ReadBack.{printed_sheet, own_file, older_reads_back}
 
 -- a refusal is by a question, and questions are counted from 1

@@ -1,5 +1,5 @@
 -- The names of a right table's sorts: one for each, spelled as names, distinct, Bool first. Those that the printer gave are no action's.
-use Rattle.std.specs.Prelude.{◌≡◌, List, [], ◌∷◌, Bool, true, T, length}
+use Rattle.std.specs.Prelude.{◌≡◌, List, [], ◌∷◌, true, T, length}
 use Rattle.std.proofs.Math.Path.{refl, ap}
 use Rattle.std.proofs.Common.{ap₂, sym, subst, ◌∙◌}
 use Prim.Native.Nat.{ℕ, zero, suc, ◌+◌, ◌<◌, ◌≤◌}

@@ -10,8 +10,10 @@ use Rattle.pcrl.specs.Tokens.{Token, name, numeral, sign, words, punctuation, Le
 use Rattle.pcrl.specs.Render.{blank_byte, write, goes_on, between, render}
 use Rattle.laws.specs.Tests.{is_true, of_true}
 use Rattle.grammar.specs.TokenLaws.{ValidName, ValidToken}
-use Rattle.grammar.specs.Taken.{Stops, nothing, at, begins, front_append, first_name, no_separator, token_taken}
-use Rattle.grammar.specs.Rendered.{taken_before, blank_stops, tokens_render}
+use Rattle.grammar.specs.Taken.{Stops, nothing, at, begins, front_append, first_name, no_separator}
+use Rattle.grammar.proofs.Taken.{token_taken}
+use Rattle.grammar.specs.Rendered.{taken_before, blank_stops}
+use Rattle.grammar.proofs.Rendered.{tokens_render}
 use Rattle.printing.specs.Indexed.{SpelledName}
 
 unfoldable pub SpelledToken : Token → Type 0

@@ -2,6 +2,4 @@ pub mod Texts
 pub mod TextLaws
 pub mod Rendering
 pub mod Pieces
-pub mod DataPieces
-pub mod TermPieces
 pub mod LinePieces

@@ -1,8 +1,8 @@
 -- What tokens are rendered as, piece by piece: before a mark, and before anything.
-use Rattle.std.specs.Prelude.{◌≡◌, refl, List, [], ◌∷◌, ◌++◌, true, false, ℕ, get_or}
+use Rattle.std.specs.Prelude.{◌≡◌, refl, List, [], ◌∷◌, ◌++◌, true, false, ℕ, eqb, get_or}
 use Rattle.std.proofs.Common.{sym, ap, subst, ◌∙◌, append_assoc}
 use Rattle.std.proofs.Math.Decide.{ℕ_discrete}
-use Rattle.pcrl.specs.Text.{bytes}
+use Rattle.pcrl.specs.Text.{bytes, byte}
 use Rattle.pcrl.specs.Tests.{same?, among}
 use Rattle.pcrl.specs.Bytes.{name_byte}
 use Rattle.pcrl.specs.Tokens.{Token, name, sign, the, words}
@@ -56,7 +56,7 @@ equated {ts} {us} {t} {u} f g h = record {
   so = λ vs.
       ap render (append_assoc (ts ++ (the "=" ∷ us)) (the ";" ∷ []) vs ∙ append_assoc ts (the "=" ∷ us) (the ";" ∷ vs))
       ∙ f.so (the "=" ∷ (us ++ (the ";" ∷ vs))) refl
-      ∙ ap (λ (l : List ℕ). t ++ l) (equals_before (us ++ (the ";" ∷ vs)) (avoids_append _ us (the ";" ∷ vs) h refl) ∙ ap (λ (l : List ℕ). bytes "=" ++ l) (g.so (the ";" ∷ vs) refl ∙ ap (λ (l : List ℕ). u ++ l) (mark_before (bytes ";") refl vs)))
+      ∙ ap (λ (l : List ℕ). t ++ l) (equals_before (us ++ (the ";" ∷ vs)) (avoids_append (λ b. eqb b (byte "=")) us (the ";" ∷ vs) h refl) ∙ ap (λ (l : List ℕ). bytes "=" ++ l) (g.so (the ";" ∷ vs) refl ∙ ap (λ (l : List ℕ). u ++ l) (mark_before (bytes ";") refl vs)))
       ∙ simp append_assoc;
 }
 

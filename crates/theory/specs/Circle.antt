@@ -25,10 +25,10 @@ module _ (H : Sheet) where
   unfoldable pub Passes : ℕ → ℕ → Type 0
   Passes n k = T (get_or (passed_after H n) k false)
 
-  all_pass_each : (passed : List Bool) (ks : List ℕ) → T (all_pass passed ks) → (k : ℕ) → Member k ks → T (get_or passed k false)
+  all_pass_each : (passed : List Bool) (k : ℕ) (ks : List ℕ) → T (all_pass passed ks) → Member k ks → T (get_or passed k false)
   unfolding all_pass
-  all_pass_each passed ks h k (here {l}) = (both_pass (get_or passed k false) _ h).0
-  all_pass_each passed ks h k (later {j} {l} m) = all_pass_each passed l (both_pass (get_or passed j false) _ h).1 k m
+  all_pass_each passed k ks h (here {l}) = (both_pass (get_or passed k false) _ h).0
+  all_pass_each passed k ks h (later {j} {l} m) = all_pass_each passed k l (both_pass (get_or passed j false) _ h).1 m
 
   each_all_pass : (passed : List Bool) (ks : List ℕ) → ((k : ℕ) → Member k ks → T (get_or passed k false)) → T (all_pass passed ks)
   unfolding all_pass
@@ -65,7 +65,7 @@ module _ (H : Sheet) where
   -- A process passes one round later than all the processes at its head.
   pub passes_heads : (n k : ℕ) → Passes (suc n) k → AtHead (Passes n) (right H k)
   unfolding Passes
-  passes_heads n k h = all_pass_each _ _ (rw (passed_suc n k (passes_there (suc n) k h)) at h)
+  passes_heads n k h = λ j. all_pass_each _ j _ (rw (passed_suc n k (passes_there (suc n) k h)) at h)
 
   pub heads_pass : (n k : ℕ) → k < length H.procs → AtHead (Passes n) (right H k) → Passes (suc n) k
   unfolding Passes

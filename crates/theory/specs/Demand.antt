@@ -12,7 +12,6 @@ use Rattle.pcrl.specs.States.{State, of_stack, system, RightState, stands_for}
 use Rattle.pcrl.specs.Answers.{sheet_read, file_made, table_checked, asked_all}
 use Rattle.theory.specs.AnswersAre.{AnswersAre}
 use Rattle.theory.specs.Calls.{Calls}
-use Rattle.theory.specs.Delivered.{first_delivered, last_delivered, at_once_delivered}
 
 -- "an accepted sheet", the file written for it, and "such a sheet's table" as it is read from that file
 pub record AcceptedSheet : Type 0 where
@@ -65,16 +64,3 @@ LastSentenceAtOnce =
     (A : AcceptedSheet) (ks : List ℕ) (fs : List Frame) (d : ℕ) → RightFrames frame_width stack_limit A.table fs d
     → (answers : List Answer) × (fs' : List Frame) × (d' : ℕ) × (asked_all A.file fs d ks ≡ record { answer = accepted answers; frames = fs'; depth = d' })
     × Answered A fs d ks answers fs' d'
-
-pub first_sentence_holds : FirstSentence
-first_sentence_holds A B = first_delivered A.bytes A.file A.room A.sheet A.table A.read A.made A.checked B.bytes B.file B.room B.sheet B.table B.read B.made B.checked
-
-pub last_sentence_holds : LastSentence
-last_sentence_holds A ks fs d p answers fs' d' c =
-    let (each, (right, (u, run, equal))) = last_delivered A.bytes A.file A.room A.sheet A.table A.read A.made A.checked fs d ks answers fs' d' p c in
-    record { each = each; frames_right = right; end = u; run = run; equal = equal }
-
-pub at_once_holds : LastSentenceAtOnce
-at_once_holds A ks fs d p =
-    let (answers, fs', d', e, c) = at_once_delivered A.bytes A.file A.room A.sheet A.table A.read A.made A.checked fs d ks p in
-    (answers, fs', d', e, last_sentence_holds A ks fs d p answers fs' d' c)

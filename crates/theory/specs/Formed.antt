@@ -3,18 +3,16 @@
 use Rattle.std.specs.Prelude.{◌≡◌, List, [], ◌∷◌, ◌++◌, Bool, ℕ, suc, ◌+◌, ◌<◌, length}
 use Rattle.std.proofs.Math.Bool.{true, false}
 use Rattle.std.proofs.Common.{arith}
-use Rattle.std.proofs.Math.ListN.{get_elem?, length-append}
+use Rattle.std.proofs.Math.ListN.{length-append}
 use Rattle.pcrl.specs.Tests.{Every}
-use Rattle.pcrl.specs.Sheet.{Data, var, Proc, delta, atom, alt, cond, sum, seq, call, Sheet, params, right}
+use Rattle.pcrl.specs.Sheet.{Data, var, Proc, delta, atom, alt, cond, sum, seq, call, Sheet, params}
 use Rattle.pcrl.specs.Sorts.{Scope, binding, HasSort, Sorted}
-use Rattle.pcrl.specs.Parts.{if_after, new_parts, new_count, NewPart, part, kind}
+use Rattle.pcrl.specs.Parts.{if_after, new_parts, new_count}
 use Rattle.laws.specs.Lists.{length_snoc}
 use Rattle.laws.specs.Each.{each_length}
-use Rattle.theory.specs.Standing.{Numbered, Standing}
-use Rattle.theory.specs.AtHead.{AtHead, sorted_heads}
-use Rattle.theory.specs.StandingLaws.{process_numbered, process_sorted}
+use Rattle.theory.specs.Standing.{Numbered}
 use Rattle.theory.specs.Below.{Below, below_snoc}
-use Rattle.theory.specs.Segments.{Seg, seg_left, seg_right, next_new, part_of}
+use Rattle.theory.specs.Segments.{Seg, seg_left, seg_right, next_new}
 
 module _ (H : Sheet) where
   -- sums bind the next number, calls are of processes and have as many arguments as these have parameters
@@ -27,7 +25,7 @@ module _ (H : Sheet) where
   Formed Γ (seq p q) = Formed Γ p × Formed Γ q
   Formed Γ (call k ds) = (k < length H.procs) × (length ds ≡ length (params H k))
 
-  sorted_formed : (Γ : List ℕ) (S : Scope) (p : Proc) → Numbered (length Γ) p → Sorted H S p → Formed Γ p
+  pub sorted_formed : (Γ : List ℕ) (S : Scope) (p : Proc) → Numbered (length Γ) p → Sorted H S p → Formed Γ p
   unfolding Formed Numbered Sorted
   sorted_formed Γ S delta n s = tt
   sorted_formed Γ S (atom a ds) n s = tt
@@ -46,23 +44,6 @@ module _ (H : Sheet) where
   formed_numbered Γ (sum x D p) f = (f.0, rw (length_snoc Γ D) at (formed_numbered (Γ ++ (D ∷ [])) p f.1))
   formed_numbered Γ (seq p q) f = (formed_numbered Γ p f.0, formed_numbered Γ q f.1)
   formed_numbered Γ (call k ds) f = tt
-
-  pub right_formed : Standing H → (k : ℕ) → k < length H.procs → Formed (params H k) (right H k)
-  right_formed ok k w = sorted_formed (params H k) (get_elem? (params H k)) (right H k) (process_numbered H ok k w) (process_sorted H ok k w)
-
-  pub part_formed : Standing H → (e : ℕ) (x : NewPart) → kind H e ≡ part x
-      → Formed x.scope x.term × AtHead (λ k. k < length H.procs) x.term × Seg H (suc e) (new_parts false x.scope x.term)
-  unfolding Numbered Sorted
-  part_formed ok e x h =
-      let (g, seg) = part_of H (λ Γ p. Numbered (length Γ) p × ((S : Scope) × Sorted H S p))
-      (record {
-        of_alt = λ Γ p q f. ((f.0.0, (f.1.0, f.1.1.0)), (f.0.1, (f.1.0, f.1.1.1)));
-        of_cond = λ Γ c p q f. ((f.0.0, (f.1.0, f.1.1.1.0)), (f.0.1, (f.1.0, f.1.1.1.1)));
-        of_sum = λ Γ y D p f. (rw (length_snoc Γ D) f.0.1, (binding y D f.1.0, f.1.1.1));
-        of_seq = λ Γ p q f. ((f.0.0, (f.1.0, f.1.1.0)), (f.0.1, (f.1.0, f.1.1.1)));
-      })
-      (λ k w. (process_numbered H ok k w, (get_elem? (params H k), process_sorted H ok k w))) e x h in
-      (sorted_formed x.scope g.1.0 x.term g.0 g.1.1, sorted_heads H g.1.0 x.term g.1.1, seg)
 
   -- The term p with the sorts Γ in scope, σ put for the variables, m the next variable, c the number of its first new equation.
   -- `after`: it stands after a first part.

@@ -1,5 +1,5 @@
 -- The values of a right frame: exactly as many as a frame has, and spare ones 0.
-use Rattle.std.specs.Prelude.{◌≡◌, refl, ℕ, zero, suc, ◌-◌, ◌<◌, ◌≤◌, replicate}
+use Rattle.std.specs.Prelude.{◌≡◌, ℕ, zero, suc, ◌-◌, ◌<◌, ◌≤◌, replicate}
 use Rattle.std.proofs.Math.Path.{sym, ap}
 use Rattle.std.proofs.Common.{◌∙◌, arith}
 use mathlib.Core.List.{List, [], ◌∷◌, ◌++◌}
@@ -9,7 +9,6 @@ use Rattle.pcrl.specs.Sheet.{size}
 use Rattle.pcrl.specs.Table.{Table, equation}
 use Rattle.pcrl.specs.Stack.{Frame, InSorts, used, padded, RightFrame}
 use Rattle.laws.specs.Places.{get_or_zeros}
-use Rattle.laws.specs.Every.{every_get_or, every_replicate}
 use Rattle.laws.specs.Each.{each_length}
 
 past_values : (vs : List ℕ) (n i : ℕ) → length vs ≤ i → get_or (vs ++ replicate n 0) i 0 ≡ 0

@@ -108,7 +108,7 @@ module _ (width limit : ℕ) (file : List ℕ) where
       in_turn_is h [] = λ i. record { answers = []; frames = h.frames i; depth = h.depth i }
       in_turn_is {fs} {d} {s} h (k ∷ ks) =
           ap (λ (r : Reply Answer). followed (as_answer r.answer) (asked_in_turn r.frames r.depth ks)) (asked_is h k)
-          ∙ ap₂ followed (as_answer_alone (ask width limit T k s).answer) (in_turn_is (still_holds width limit T keeps h (answer_is width limit T k s)) ks)
+          ∙ ap₂ followed (as_answer_alone (ask width limit T k s).answer) (in_turn_is {fs = frames_of width limit (ask width limit T k s).stack} {d = length (ask width limit T k s).stack} {s = (ask width limit T k s).stack} (still_holds width limit T keeps h (answer_is width limit T k s)) ks)
 
       -- Asking a list at once is asking one by one.
       pub at_once_is_in_turn : (fs : List Frame) (d : ℕ) → RightFrames width limit T fs d → (ks : List ℕ)

@@ -33,7 +33,7 @@ module _ (S : Sig) where
   any_of_values [] h = ([], tt, any_one h)
   any_of_values {P} (D ∷ Ds) h =
       let (v, i, g) = any_of_tabulate (size S D) (λ v. v) (any_of_all (λ v. map (λ vs. v ∷ vs) (values_of S Ds)) (tabulate (size S D) (λ v. v)) h) in
-      let (vs, j, q) = any_of_values Ds (any_of_map {P = P} (λ vs. v ∷ vs) (values_of S Ds) g) in
+      let (vs, j, q) = any_of_values {P = λ us. P (v ∷ us)} Ds (any_of_map {P = P} (λ vs. v ∷ vs) (values_of S Ds) g) in
       (v ∷ vs, (i, j), q)
 
   pub any_values : {P : List ℕ → Type 0} (Ds vs : List ℕ) → InSorts S Ds vs → P vs → Any P (values_of S Ds)

@@ -12,7 +12,6 @@ use Rattle.laws.specs.Lists.{length_snoc}
 use Rattle.laws.specs.Every.{every_append}
 use Rattle.theory.specs.Standing.{Numbered, Standing}
 use Rattle.theory.specs.StandingLaws.{process_sorts, process_numbered, process_sorted}
-use Rattle.theory.specs.Segments.{Hereditary}
 
 next_at : (Γ : List ℕ) (D i : ℕ) → binding (length Γ) D (get_elem? Γ) i ≡ get_elem? (Γ ++ (D ∷ [])) i
 unfolding binding
@@ -38,24 +37,6 @@ module _ (H : Sheet) where
     sorts = every_append _ Γ (D ∷ []) h.sorts (h.sorted.0, tt);
     numbered = rw (length_snoc Γ D) h.numbered.1;
     sorted = subst (λ (Δ : Scope). Sorted H Δ p) (binding_next Γ D) (subst (λ (y : ℕ). Sorted H (binding y D (get_elem? Γ)) p) h.numbered.0 h.sorted.1);
-  }
-
-  pub sorted_in_parts : Hereditary SortedIn
-  unfolding Numbered Sorted
-  sorted_in_parts = record {
-    of_alt = λ Γ p q h. (
-      record { sorts = h.sorts; numbered = h.numbered.0; sorted = h.sorted.0 },
-      record { sorts = h.sorts; numbered = h.numbered.1; sorted = h.sorted.1 },
-    );
-    of_cond = λ Γ c p q h. (
-      record { sorts = h.sorts; numbered = h.numbered.0; sorted = h.sorted.1.0 },
-      record { sorts = h.sorts; numbered = h.numbered.1; sorted = h.sorted.1.1 },
-    );
-    of_sum = sorted_in_sum;
-    of_seq = λ Γ p q h. (
-      record { sorts = h.sorts; numbered = h.numbered.0; sorted = h.sorted.0 },
-      record { sorts = h.sorts; numbered = h.numbered.1; sorted = h.sorted.1 },
-    );
   }
 
   -- every right side is so

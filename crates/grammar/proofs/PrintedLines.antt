@@ -14,7 +14,7 @@ use Rattle.pcrl.specs.Print.{bracketed, joined, print_given, print_choice, line,
 use Rattle.grammar.specs.Formed.{FormedFunc, FormedAct}
 use Rattle.grammar.specs.PrintLaws.{joined_length}
 use Rattle.grammar.specs.Ahead.{absent, on_sign, on_absent, expect_sign}
-use Rattle.grammar.specs.Weight.{weight_given_bound, weight_choice_bound}
+use Rattle.grammar.proofs.Weight.{weight_given_bound, weight_choice_bound}
 use Rattle.grammar.specs.PrintedTerms.{given_read, choice_read}
 
 -- each line is read as far as its `;`

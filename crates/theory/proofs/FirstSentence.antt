@@ -7,7 +7,7 @@ use Rattle.pcrl.specs.Equality.{Equal}
 use Rattle.pcrl.specs.States.{State, system, RightState, stands_for}
 use Rattle.theory.specs.Standing.{Standing}
 use Rattle.theory.specs.EqualityLaws.{equal_sym, equal_trans}
-use Rattle.theory.specs.StandsFor.{equal_stands_for}
+use Rattle.theory.proofs.StandsFor.{equal_stands_for}
 
 -- "Whatever two states are taken, each a closed process term of an accepted sheet or a stack, however deep, of such a sheet's table, from one sheet or two,
 -- and whatever n from 0: they are equal to n steps exactly when the terms they stand for are."

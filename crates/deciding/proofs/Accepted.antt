@@ -7,8 +7,9 @@ use Rattle.pcrl.specs.States.{State}
 use Rattle.theory.specs.Questions.{accepted_all}
 use Rattle.theory.specs.Demand.{AcceptedSheet, states}
 use Rattle.deciding.specs.Labels.{same_label?}
-use Rattle.deciding.specs.Listed.{Listed, equal?, bears?}
-use Rattle.deciding.specs.StatesListed.{states_listed}
+use Rattle.deciding.specs.Listed.{Listed, bears?}
+use Rattle.deciding.proofs.Listed.{equal?}
+use Rattle.deciding.proofs.StatesListed.{states_listed}
 
 abbrev pub accepted_listed : (A : AcceptedSheet) → Listed (states A)
 accepted_listed A = states_listed frame_width A.sheet A.table (accepted_all A.bytes A.sheet A.read).no_circle

@@ -14,12 +14,13 @@ use Rattle.pcrl.specs.States.{State, of_stack, system, RightState, stands_for}
 use Rattle.pcrl.specs.Answers.{sheet_read, file_made, table_checked, asked_all}
 use Rattle.laws.specs.Questions.{accepted_one}
 use Rattle.theory.specs.Standing.{Standing}
-use Rattle.theory.specs.Accepted.{accepted_standing}
-use Rattle.theory.specs.Written.{WrittenFor, written_for}
-use Rattle.theory.specs.FirstSentence.{first_sentence}
+use Rattle.theory.proofs.Accepted.{accepted_standing}
+use Rattle.theory.specs.Written.{WrittenFor}
+use Rattle.theory.proofs.Written.{written_for}
+use Rattle.theory.proofs.FirstSentence.{first_sentence}
 use Rattle.theory.specs.Calls.{Calls, calls_in_turn}
 use Rattle.theory.specs.InTurn.{asked_in_turn}
-use Rattle.theory.specs.LastSentence.{last_sentence_of_calls, asked_all_on_file}
+use Rattle.theory.proofs.LastSentence.{last_sentence_of_calls, asked_all_on_file}
 use Rattle.theory.specs.AnswersAre.{AnswersAre}
 
 module _ (bytes file : List ℕ) (room : ℕ) (H : Sheet) (T : Table) (read : sheet_read bytes ≡ accepted H) (made : file_made bytes room ≡ accepted file)

@@ -18,8 +18,9 @@ use Rattle.theory.specs.Standing.{Standing}
 use Rattle.theory.specs.Segments.{written_kind, part_below, seg_right_side, part_of}
 use Rattle.theory.specs.Marks.{marks_length, marked_length, marked_every}
 use Rattle.theory.specs.SortLaws.{Inhabited, fitting_params}
-use Rattle.theory.specs.Scopes.{SortedIn, sorted_in_parts, right_sorted_in}
-use Rattle.theory.specs.TableSorts.{SortedSummand, heads_sorted}
+use Rattle.theory.specs.Scopes.{SortedIn, right_sorted_in}
+use Rattle.theory.proofs.Scopes.{sorted_in_parts}
+use Rattle.theory.proofs.TableSorts.{SortedSummand, heads_sorted}
 use Rattle.theory.specs.Equations.{equation_count, equation_at, equation_part, params_written}
 
 -- "sizes 1 to 16": a sort that is there has a value

@@ -20,7 +20,8 @@ use Rattle.laws.specs.Every.{every_weaken, every_map, every_append}
 use Rattle.laws.specs.Each.{each_length}
 use Rattle.theory.specs.Segments.{next_new, Seg, seg_left, seg_right, seg_right_side}
 use Rattle.theory.specs.SortLaws.{put_sort, put_arguments, wider_sort, wider_arguments, Fitting, fitting_look, fitting_next, fitting_marked}
-use Rattle.theory.specs.Scopes.{SortedIn, sorted_in_parts}
+use Rattle.theory.specs.Scopes.{SortedIn}
+use Rattle.theory.proofs.Scopes.{sorted_in_parts}
 
 -- In a table of which only the signature S and the parameters of each equation are known: n equations, Ps e those of equation e.
 module _ (S : Sig) (n : ℕ) (Ps : ℕ → List ℕ) where

@@ -10,7 +10,8 @@ use Rattle.pcrl.specs.Stream.{names_code, encode_numbers, encode_sorts, encode_s
 use Rattle.pcrl.specs.Right.{RightSizes, RightSig, RightTable}
 use Rattle.pcrl.specs.Blocks.{block_stream, block_body, block, blocks_for, concatenated, file_of_stream, file_of}
 use Rattle.pcrl.specs.Answers.{table_checked}
-use Rattle.codec.specs.FileLaws.{stream_begins, written_read}
+use Rattle.codec.specs.FileLaws.{stream_begins}
+use Rattle.codec.proofs.FileLaws.{written_read}
 
 -- four bytes of a block's number and count, and then the stream
 first_of_file : (b : ℕ) (s : List ℕ) → get_or (file_of_stream (b ∷ s)) 4 0 ≡ b

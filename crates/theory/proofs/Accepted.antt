@@ -26,12 +26,13 @@ use Rattle.laws.specs.Each.{each_every, each_map, each_length}
 use Rattle.grammar.specs.Formed.{FormedFunc, FormedAct, Formed}
 use Rattle.grammar.specs.Parsed.{print_parse}
 use Rattle.grammar.specs.TokenLaws.{ValidName}
-use Rattle.grammar.specs.ValidNames.{names_valid, sort_names_valid, right_name, right_sort_name}
+use Rattle.grammar.specs.ValidNames.{right_name, right_sort_name}
+use Rattle.grammar.proofs.ValidNames.{names_valid, sort_names_valid}
 use Rattle.theory.specs.Standing.{Numbered, RightProcess, Standing}
 use Rattle.theory.specs.Distinct.{Unlike, distinct_left, distinct_right, distinct_first}
 use Rattle.theory.specs.Questions.{Accepted, accepted_all}
 use Rattle.theory.specs.Resolved.{Resolved, resolved_lines, Declared, func_from, action_from}
-use Rattle.theory.specs.Numbering.{process_from}
+use Rattle.theory.proofs.Numbering.{process_from}
 use Rattle.theory.specs.Circle.{guarded_no_circle}
 
 Bool_valid : ValidName (bytes "Bool")

@@ -11,8 +11,8 @@ use Rattle.pcrl.specs.Answers.{sheet_read, table_made, stream_filed, file_made, 
 use Rattle.laws.specs.Questions.{past_question, past_answer}
 use Rattle.codec.specs.FileLaws.{read_written}
 use Rattle.theory.specs.Standing.{Standing}
-use Rattle.theory.specs.Accepted.{accepted_standing}
-use Rattle.theory.specs.TableRight.{table_right}
+use Rattle.theory.proofs.Accepted.{accepted_standing}
+use Rattle.theory.proofs.TableRight.{table_right}
 
 -- what questions 1 to 10 have found of the bytes s, of which T was made
 pub record Made (s : List ℕ) (T : Table) : Type 0 where

@@ -25,10 +25,11 @@ use Rattle.theory.specs.Circle.{Passes, none_pass, passes_heads, no_circle_passe
 use Rattle.theory.specs.Below.{Below}
 use Rattle.theory.specs.Marks.{marks_length, as_params_below, as_params_length, count_all, eval_params}
 use Rattle.theory.specs.Segments.{seg_right_side}
-use Rattle.theory.specs.Formed.{Placed, right_formed, part_formed}
+use Rattle.theory.specs.Formed.{Placed}
+use Rattle.theory.proofs.Formed.{right_formed, part_formed}
 use Rattle.theory.specs.TermSteps.{before, seq_step, step_seq, step_call}
 use Rattle.theory.specs.Like.{frame_with, part_with, Like, a_call, a_part, join, LikeRest, like_some, like_before}
-use Rattle.theory.specs.HeadsSteps.{closed_by, Stepped, head_steps, Matches, step_heads}
+use Rattle.theory.proofs.HeadsSteps.{closed_by, Stepped, head_steps, Matches, step_heads}
 use Rattle.theory.specs.Equations.{used_padded, equation_written, equation_part, params_written, params_part}
 
 module _ (width : ℕ) (H : Sheet) (ok : Standing H) where

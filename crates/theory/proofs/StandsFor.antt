@@ -9,7 +9,7 @@ use native.Mathlib.Omega.{arith}
 use Rattle.std.proofs.Math.ListN.{length}
 use Rattle.std.proofs.lemmas.List.{length-map}
 use Rattle.pcrl.specs.Tests.{Every}
-use Rattle.pcrl.specs.Sheet.{val, call, Sheet, params}
+use Rattle.pcrl.specs.Sheet.{val, call, Sheet}
 use Rattle.pcrl.specs.Label.{Label}
 use Rattle.pcrl.specs.Values.{eval}
 use Rattle.pcrl.specs.Parts.{Kind, absent, written, part, kind}
@@ -26,7 +26,7 @@ use Rattle.theory.specs.EqualityLaws.{equal_refl, equal_sym, Bisimulation, bisim
 use Rattle.theory.specs.Segments.{written_kind, kind_present}
 use Rattle.theory.specs.Equations.{equation_count, params_written, params_part}
 use Rattle.theory.specs.Like.{frame_with, Like, a_call, a_part, join, LikeRest, nothing_left, something_left, like_some}
-use Rattle.theory.specs.StackSteps.{like_forth, like_back}
+use Rattle.theory.proofs.StackSteps.{like_forth, like_back}
 
 module _ (width : ℕ) (H : Sheet) where
   -- A RIGHT STACK IS LIKE ITS TERM

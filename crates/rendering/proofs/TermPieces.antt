@@ -19,7 +19,7 @@ use Rattle.pcrl.specs.Printer.{side, wanting, choice_of, right_of, proc_name, va
 use Rattle.laws.specs.Every.{every_get_or}
 use Rattle.rendering.specs.Rendering.{Avoids, avoids_append, Unequal}
 use Rattle.rendering.specs.Pieces.{Renders, token, joins, mark}
-use Rattle.rendering.specs.DataPieces.{as_bytes, bracketed_renders, named_renders, data_renders, list_renders}
+use Rattle.rendering.proofs.DataPieces.{as_bytes, bracketed_renders, named_renders, data_renders, list_renders}
 use Rattle.rendering.specs.Texts.{joined_text, open_text, close_text, data_text, given_text, act_text, call_text, first_text, second_text, before_text, behind_text, sum_text, sums_text, summand_text, right_text}
 
 -- one closing bracket before some is one behind them
@@ -106,13 +106,13 @@ module _ (S : Sig) where
     sequence_unequal : (p : Part) → Unequal (print_part p) → (cs : List (ℕ × List Data)) → Unequal (print_sequence (raw_sequence S p cs))
     unfolding raw_sequence print_choice Avoids write
     sequence_unequal p h [] = h
-    sequence_unequal p h (c ∷ cs) = avoids_append _ (print_part p) _ h refl
+    sequence_unequal p h (c ∷ cs) = avoids_append (λ b. eqb b (byte "=")) (print_part p) _ h refl
 
     conditional_unequal : (cs : List (ℕ × Data)) (p : Sequence) → Unequal (print_sequence p) → Unequal (print_conditional (raw_conditional S cs p))
     unfolding raw_conditional wanting side print_choice bracketed Avoids write
     conditional_unequal [] p h = h
     conditional_unequal ((zero, d) ∷ cs) p h = refl
-    conditional_unequal ((suc w, d) ∷ []) p h = avoids_append _ (print_sequence p) _ h refl
+    conditional_unequal ((suc w, d) ∷ []) p h = avoids_append (λ b. eqb b (byte "=")) (print_sequence p) _ h refl
     conditional_unequal ((suc w, d) ∷ (zero, e) ∷ cs) p h = refl
     conditional_unequal ((suc w, d) ∷ (suc v, e) ∷ cs) p h = refl
 
@@ -128,4 +128,4 @@ module _ (S : Sig) where
     unfolding right_of choice_of print_choice Avoids write
     right_unequal n [] = refl
     right_unequal n (h ∷ []) = summand_unequal n h
-    right_unequal n (h ∷ g ∷ hs) = avoids_append _ (print_conditional (raw_summand S n h)) _ (summand_unequal n h) refl
+    right_unequal n (h ∷ g ∷ hs) = avoids_append (λ b. eqb b (byte "=")) (print_conditional (raw_summand S n h)) _ (summand_unequal n h) refl

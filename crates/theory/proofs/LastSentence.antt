@@ -15,9 +15,9 @@ use Rattle.pcrl.specs.Equality.{Equal, Run}
 use Rattle.pcrl.specs.States.{State, of_stack, system, stands_for}
 use Rattle.pcrl.specs.Answers.{asked_all}
 use Rattle.theory.specs.Standing.{Standing}
-use Rattle.theory.specs.TableRight.{table_right}
+use Rattle.theory.proofs.TableRight.{table_right}
 use Rattle.theory.specs.StepRight.{step_right}
-use Rattle.theory.specs.StandsFor.{run_stands_for}
+use Rattle.theory.proofs.StandsFor.{run_stands_for}
 use Rattle.theory.specs.Written.{WrittenFor}
 use Rattle.theory.specs.Lending.{passes_15, holds_right, holds_stack}
 use Rattle.theory.specs.InTurn.{asked_in_turn, at_once_is_in_turn}

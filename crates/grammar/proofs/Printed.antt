@@ -1,7 +1,7 @@
 -- Every formed tree is read back from its tokens. So the bound that `parse` sets is above any need.
-use Rattle.std.specs.Prelude.{◌≡◌, List, [], ◌∷◌, ◌++◌, ◌↔◌, ℕ, ◌+◌, ◌*◌, ◌≤◌, T, length}
-use Rattle.std.proofs.Common.{sym, ap, subst, ◌∙◌, append-nil, arith}
-use Rattle.std.proofs.Math.Option.{some, some-injective}
+-- The parser takes all of the form, its bound is above any need, and the form has one reading.
+use Rattle.std.specs.Prelude.{◌≡◌, List, [], ◌∷◌, ◌++◌, ℕ, ◌*◌, ◌≤◌, T, length, ◌↔◌, ◌+◌}
+use Rattle.std.proofs.Common.{arith, sym, ap, subst, ◌∙◌, append-nil}
 use Prim.Native.String.{String}
 use Rattle.std.proofs.Math.Decide.{ℕ_discrete, dec_lt}
 use Rattle.pcrl.specs.Tests.{same?}
@@ -15,8 +15,9 @@ use Rattle.pcrl.specs.Print.{line, print_lines, print_sort, print_func, print_ac
 use Rattle.grammar.specs.Formed.{FormedFunc, FormedAct, Formed}
 use Rattle.grammar.specs.PrintLaws.{sheet_before, sheet_length}
 use Rattle.grammar.specs.Ahead.{absent, expect_sign}
+use Rattle.grammar.proofs.PrintedLines.{sort_read, func_read, act_read, proc_read, init_read, lines_read}
+use Rattle.std.proofs.Math.Option.{some, some-injective}
 use Rattle.grammar.specs.Parsed.{print_sheet_of, print_parse}
-use Rattle.grammar.specs.PrintedLines.{sort_read, func_read, act_read, proc_read, init_read, lines_read}
 
 -- a word does not stand next where lines of another kind do, nor behind them
 pub absent_lines : {A : Type 0} (s t : String) (w : A → List Token) (ls : List A) (r : List Token) → T (absent s (the t ∷ [])) → T (absent s r) → T (absent s (print_lines t w ls ++ r))

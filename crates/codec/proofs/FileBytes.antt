@@ -8,7 +8,8 @@ use Rattle.pcrl.specs.Right.{RightTable}
 use Rattle.pcrl.specs.Stream.{encode}
 use Rattle.pcrl.specs.Blocks.{block_stream, crc, low_first, high_first, block_body, block, blocks_for, concatenated, file_of_stream, file_of}
 use Rattle.laws.specs.Every.{every_of_all, every_append, every_take, every_drop, every_replicate}
-use Rattle.codec.specs.StreamBytes.{Byte, bytes_all, stream_bytes}
+use Rattle.codec.specs.StreamBytes.{Byte}
+use Rattle.codec.proofs.StreamBytes.{bytes_all, stream_bytes}
 
 two_bytes : (n : ℕ) → Every Byte (low_first n) × Every Byte (high_first n)
 unfolding Every

@@ -1,0 +1,4 @@
+pub mod FileLaws
+pub mod Layouts
+pub mod StreamBytes
+pub mod FileBytes

@@ -1,0 +1,2 @@
+pub mod FewestBrackets
+pub mod TextFits

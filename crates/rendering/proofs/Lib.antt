@@ -1,0 +1,3 @@
+pub mod DataPieces
+pub mod TermPieces
+pub mod LinePieces

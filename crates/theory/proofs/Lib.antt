@@ -1,0 +1,16 @@
+pub mod Scopes
+pub mod Formed
+pub mod TableRight
+pub mod Written
+pub mod Demand
+pub mod Numbering
+pub mod Accepted
+pub mod TableSorts
+pub mod SortedTable
+pub mod Made
+pub mod HeadsSteps
+pub mod StackSteps
+pub mod StandsFor
+pub mod FirstSentence
+pub mod LastSentence
+pub mod Delivered
