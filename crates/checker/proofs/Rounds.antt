@@ -101,7 +101,7 @@ PassedSoFar sets n i passed = (H : Sheet) → length H.procs ≡ n → HeadsOf H
 
 pub passed_start : (sets : List ℕ) (n : ℕ) → PassedSoFar sets n 0 0
 unfolding passed_after
-passed_start sets n H e hs there i l = zero_bit i ∙ sym (ListN.get_d_map (λ (p : Process). false) H.procs i no_process)
+passed_start sets n H e hs there i l = zero_bit i ∙ sym (ListN.get_or-map (λ (p : Process). false) H.procs i no_process)
 
 pub passed_more : (sets : List ℕ) (n i passed r : ℕ) → NextRound sets n passed r → PassedSoFar sets n i passed → PassedSoFar sets n (i + 1) r
 unfolding passed_after next_round

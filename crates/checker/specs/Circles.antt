@@ -1,4 +1,4 @@
--- What the code of question 9 says: sets of processes in the bits of a u32, against `at_head`, `all_pass` and `passed-after`.
+-- What the code of question 9 says: sets of processes in the bits of a u32, against `at_head`, `all_pass` and `passed_after`.
 use Rattle.std.specs.Prelude.{◌≡◌, List, [], ◌∷◌, ◌++◌, map, Bool, false, ℕ, zero, suc, ◌<◌, eqb, length, drop, get_or}
 use Rattle.pcrl.specs.Tests.{or, Every}
 use Rattle.pcrl.specs.Sheet.{Proc, delta, atom, alt, cond, sum, seq, call, Process, Sheet, no_process}

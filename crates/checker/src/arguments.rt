@@ -12,7 +12,7 @@ use limits::BOOL;
 use nodes::{Datum, FUNC_ROW, FUNCTION, GIVES, Outline, VALUE, VARIABLE, data_at, skip_data};
 
 // Data terms that stand one behind another: where, and how many.
-#[derive(Drop)]
+#[derive(Clone, Copy)]
 pub struct Given {
     pub at: usize,
     pub count: usize,

@@ -13,14 +13,14 @@ use limits::MAX_PROCESSES;
 use nodes::{CALL, MAX_SCOPE, Outline, SEQ, node_at, skip, with_bit};
 
 // The processes at the head of a term, and the place after the term.
-#[derive(Drop)]
+#[derive(Clone, Copy)]
 pub struct Heads {
     pub set: u32,
     pub next: usize,
 }
 
 // The processes at the head of each right side.
-#[derive(Drop)]
+#[derive(Clone, Copy)]
 pub struct HeadSets {
     pub of: [u32; MAX_PROCESSES],
 }

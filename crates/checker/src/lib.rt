@@ -1,3 +1,4 @@
+#![tactic(auto)]
 // Questions 8 and 9, put to a resolved sheet that arrays hold.
 pub mod arguments;
 pub mod circles;

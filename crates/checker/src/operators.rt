@@ -8,7 +8,7 @@ use limits::BOOL;
 use nodes::{AND, Datum, EQUAL, FUNCTION, NOT, OR, data_at};
 
 // What a number stands for that is no written function's: is there an operator, how many data does it take, and of which sort?
-#[derive(Drop)]
+#[derive(Clone, Copy)]
 pub struct Operator {
     pub there: bool,
     pub count: usize,
@@ -85,7 +85,7 @@ pub fn bools(d: Datum) -> usize
 }
 
 // Where a run of operators ends, and how many data terms behind it they take.
-#[derive(Drop)]
+#[derive(Clone, Copy)]
 pub struct OperatorRun {
     pub count: usize,
     pub next: usize,

@@ -10,7 +10,7 @@ use limits::BOOL;
 use nodes::{ACT_ROW, ATOM, CALL, COND, MAX_SCOPE, Node, Outline, PROC_ROW, SUM, node_at};
 
 // The sorts of the variables in scope, by their numbers.
-#[derive(Drop)]
+#[derive(Clone, Copy)]
 pub struct Variables {
     pub sorts: [u16; MAX_SCOPE],
 }

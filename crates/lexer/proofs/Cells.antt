@@ -1,4 +1,4 @@
--- What a cell's token is, by the range that the cell lies in; and that the token of a word or a mark has one cell only (`sign-once`).
+-- What a cell's token is, by the range that the cell lies in; and that the token of a word or a mark has one cell only (`sign_once`).
 use mathlib.Core.Path.{◌≡◌, refl, sym, ap, ◌∙◌, subst⁻¹}
 use mathlib.Core.Bool.{Bool, true, false}
 use mathlib.Core.List.{List, [], ◌∷◌}

@@ -8,16 +8,12 @@ use lib.Dec.{T, ltb}
 use lib.ListN.{length, get_or}
 use borrow.Author.Count.{below_more}
 use borrow.Author.Tests.{ltb-true, ltb-false}
-use Rattle.pcrl.specs.Tests.{and, negated}
+use Rattle.pcrl.specs.Tests.{and}
 use Rattle.pcrl.specs.Bytes.{printable, Printable}
 use Rattle.laws.specs.Booleans.{false_not_true}
 use Rattle.laws.specs.Every.{every_at, at_every}
 use Rattle.laws.specs.Says.{Says}
 use Rattle.laws.specs.Tests.{is_true}
-
-pub is_false : (t : Bool) → T (negated t) → false ≡ t
-is_false true h = absurd h
-is_false false h = refl
 
 abbrev Passes : (ℕ → Bool) → List ℕ → ℕ → Type 0
 Passes test s k = test (get_or s k 0) ≡ true

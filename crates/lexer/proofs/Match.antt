@@ -1,6 +1,5 @@
--- What a `match` on a number knows in an arm, turned into an equation with a function of that number by a test that antt computes:
--- `keyed` where the number is one of an arm's keys, `ranged` where it lies in a range and is none of the keys. For a test in place of an equation:
--- `keyed-test`, `ranged-test`, and `from_all` where a range has no key.
+-- What a `match` on a number knows in an arm, turned into a test of that number that antt computes: `keyed_test` where the number is one of an arm's keys,
+-- `ranged_test` where it lies in a range and is none of the keys, and `from_all` where a range has no key.
 use mathlib.Core.Path.{◌≡◌, subst, subst⁻¹}
 use mathlib.Core.Bool.{Bool, true, false}
 use mathlib.Core.List.{List, [], ◌∷◌}
@@ -8,7 +7,7 @@ use mathlib.Core.Logic.{inl, inr, ⊎_elim}
 use Prim.Native.Nat.{ℕ, zero, suc, ◌+◌, ◌<◌, ◌≤◌}
 use native.Mathlib.Omega.{arith}
 use native.Mathlib.Nat.{eq-or-lt_of_le}
-use lib.Dec.{T, eqb, eqb→eq}
+use lib.Dec.{T}
 use mir.Val.{has_key}
 use types.Run.{OneOf, hit}
 use Rattle.pcrl.specs.Tests.{and, or}
@@ -40,9 +39,6 @@ module _ (p : ℕ → Bool) where
   keyed_test (k ∷ k' ∷ ks) t b (inl e) = at_key k b (and_left (p k) (all_of (k' ∷ ks)) t) e
   keyed_test (k ∷ k' ∷ ks) t b (inr o) = keyed_test (k' ∷ ks) (and_right (p k) (all_of (k' ∷ ks)) t) b o
 
-pub keyed : (f : ℕ → ℕ) (v : ℕ) (ks : List ℕ) → T (all_of (λ b. eqb v (f b)) ks) → (b : ℕ) → OneOf ks b → v ≡ f b
-keyed f v ks t b o = eqb→eq v (f b) (keyed_test (λ b. eqb v (f b)) ks t b o)
-
 -- b is none of the keys of the arms with keys, the last arm first
 abbrev pub Rest : List (List ℕ) → ℕ → Type 0
 Rest [] b = Unit {0}
@@ -73,7 +69,3 @@ module _ (p : ℕ → Bool) where
 pub ranged_test : (p : ℕ → Bool) (kss : List (List ℕ)) (lo n : ℕ) → T (all_from (λ b. or (is_key kss b) (p b)) lo n)
     → (b : ℕ) → lo ≤ b → b < lo + n → Rest kss b → T (p b)
 ranged_test p kss lo n t b l h r = or_no (is_key kss b) (p b) (no_key kss b r) (from_all (λ b. or (is_key kss b) (p b)) lo n t b l h)
-
-pub ranged : (f : ℕ → ℕ) (v : ℕ) (kss : List (List ℕ)) (lo n : ℕ) → T (all_from (λ b. or (is_key kss b) (eqb v (f b))) lo n)
-    → (b : ℕ) → lo ≤ b → b < lo + n → Rest kss b → v ≡ f b
-ranged f v kss lo n t b l h r = eqb→eq v (f b) (ranged_test (λ b. eqb v (f b)) kss lo n t b l h r)

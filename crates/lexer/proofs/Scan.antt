@@ -1,4 +1,4 @@
--- Laws of `tokens-behind` at a place of the sheet, and of the cells written so far.
+-- Laws of `tokens_behind` at a place of the sheet, and of the cells written so far.
 use mathlib.Core.Path.{◌≡◌, refl, sym, ap, ap₂, ◌∙◌, subst, subst⁻¹}
 use mathlib.Core.Bool.{Bool, true, false}
 use mathlib.Core.List.{List, [], ◌∷◌, ◌++◌, append-nil, map}
@@ -8,7 +8,7 @@ use native.Mathlib.Numerals.{add-one}
 use native.Mathlib.Omega.{arith}
 use lib.ListN.{length, take, drop, get_or, set, drop_of_length-le, length-drop, length-map}
 use lib.Seq.{drop-cons, drop-drop, get_or-drop, take-suc-set, append_snoc, length-take-le}
-use Rattle.pcrl.specs.Result.{refused, accepted, question_of}
+use Rattle.pcrl.specs.Result.{accepted, question_of}
 use Rattle.pcrl.specs.Bytes.{separator}
 use Rattle.pcrl.specs.Tokens.{Token, run, Lexeme, first_token, before, followed, tokens_behind, tokens}
 use Rattle.lexer.specs.Cells.{cell_token, Reads, Lexes}

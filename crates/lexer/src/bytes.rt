@@ -22,6 +22,7 @@ pub const MARK: u8 = 5;
 pub const LEAD: u8 = 6;
 
 // The class of a byte, 0 for any other; LEAD is the first byte of a mark of two, of which `=` is a mark by itself too.
+#[tactic(auto, unfolding(crate::specs::Classes::class_of))]
 pub fn class(b: u8) -> u8
     ensures { result ≡ class_of b }
 {
@@ -122,7 +123,7 @@ fn past_rows(s: &[u8], at: usize) -> usize
 }
 
 // A place in the sheet.
-#[derive(Drop)]
+#[derive(Clone, Copy)]
 pub struct Cursor {
     pub at: usize,
 }

@@ -1,7 +1,8 @@
+#![tactic(auto)]
 // Questions 1 to 4: the bytes of a sheet to its tokens, one u16 a token (specs/Cells.antt).
 ghost use Rattle.std.specs.Prelude.{◌≤◌, min, length};
 ghost use Rattle.pcrl.specs.Limits.{max_bytes};
-ghost use Rattle.pcrl.specs.Answers.{tokens-read};
+ghost use Rattle.pcrl.specs.Answers.{tokens_read};
 ghost use Rattle.lexer.specs.Cells.{Lexes};
 
 pub mod bytes; // bytes and their classes
@@ -73,14 +74,14 @@ pub const FIRST_NUMERAL: u16 = 256;
 pub const FIRST_NAME: u16 = 1024;
 
 // The question that refused the sheet, or 0, and how many cells were written.
-#[derive(Drop)]
+#[derive(Clone, Copy)]
 pub struct Lexed {
     pub refused: u8,
     pub count: usize,
 }
 
 // The cell of a token and how many bytes it takes; cell 0 where there is no token.
-#[derive(Drop)]
+#[derive(Clone, Copy)]
 pub struct Taken {
     pub cell: u16,
     pub len: usize,
@@ -89,7 +90,7 @@ pub struct Taken {
 // Questions 1 to 4, each put to the whole sheet before the next; the cells of an accepted sheet are left in out.
 pub fn lex(sheet: &[u8], out: &mut [u16]) -> Lexed
     requires { min (length sheet.now) max_bytes ≤ length out.old }
-    ensures { Lexes (tokens-read sheet.now) sheet.now result out.new }
+    ensures { Lexes (tokens_read sheet.now) sheet.now result out.new }
 {
     if MAX_BYTES < sheet.len() {
         return Lexed {

@@ -5,7 +5,7 @@ use Prim.Native.Nat.{ℕ, suc, ◌+◌, ◌≤◌, ◌<◌}
 use native.Mathlib.Numerals.{add-one}
 use native.Mathlib.Omega.{arith}
 use lib.ListN.{length, take, drop, get_or, set, length-map, length-set, drop_of_length-le}
-use lib.Seq.{drop-cons, get_or-take, length-take-le, take-suc, take-suc-set, take-take, take_at}
+use lib.Seq.{get_or-take, length-take-le, take-suc, take-suc-set, take-take, take_at}
 use Rattle.pcrl.specs.Tests.{Every}
 use Rattle.laws.specs.Places.{drop_next}
 use Rattle.names.specs.Rows.{Kept}

@@ -1,7 +1,7 @@
 -- The arrays of `Lines` have as many elements as their types say.
-use mathlib.Core.Path.{◌≡◌, sym, ◌∙◌}
+use mathlib.Core.Path.{◌≡◌}
 use mathlib.Core.List.{List}
-use lib.ListN.{length, length-map}
+use lib.ListN.{length}
 use mir.Val.{Val}
 use denote.Laws.{Is}
 use denote.Struct.Laws as LL
@@ -19,8 +19,8 @@ pub rooms : (L : Lines) (vs : List Val) → Is Ls.the_row L vs → Rooms L
 rooms L vs g =
     let o = LL.owed Ls.the_type Ls'.the_laws L vs g in
     record {
-      sorts = sym (length-map L.sorts _) ∙ o.0.1.0.1;
-      funcs = sym (length-map L.funcs _) ∙ o.1.0.1.0.1;
-      acts = sym (length-map L.acts _) ∙ o.1.1.0.1.0.1;
-      procs = sym (length-map L.procs _) ∙ o.1.1.1.0.1.0.1;
+      sorts = o.0.1.0.1;
+      funcs = o.1.0.1.0.1;
+      acts = o.1.1.0.1.0.1;
+      procs = o.1.1.1.0.1.0.1;
     }

@@ -186,6 +186,15 @@ spells_bool s a p e e₀ e₁ e₂ e₃ e₄ =
     let r₄ : run_at s (p + 4) ≡ [] = run_ends s (p + 4) e₄ in
     rw (← e) (cc)
 
-pub other_byte : (s : List ℕ) (a p k q : ℕ) (w : List ℕ) → p ≡ a - first_name → k ≤ length w → q ≡ p + k → (shown (get_or s q 0) ≡ get_or w k 0 → ⊥) → name_at s a ≡ w → ⊥
+-- what the bytes of the name Bool show
+pub bool_shows : (s : List ℕ) (a : ℕ) → name_at s a ≡ bytes "Bool" → (shown (get_or s (a - first_name) 0) ≡ 66) × (shown (get_or s (a - first_name + 1) 0) ≡ 111)
+    × (shown (get_or s (a - first_name + 2) 0) ≡ 111) × (shown (get_or s (a - first_name + 3) 0) ≡ 108) × (shown (get_or s (a - first_name + 4) 0) ≡ 0)
 unfolding name_at
-other_byte s a p k q w e l h n f = n (shown_in_run s p k q w (rw e f) l h)
+bool_shows s a h =
+    let p = a - first_name in (
+      shown_in_run s p 0 p (bytes "Bool") h (omega arith) (omega arith),
+      shown_in_run s p 1 (p + 1) (bytes "Bool") h (omega arith) refl,
+      shown_in_run s p 2 (p + 2) (bytes "Bool") h (omega arith) refl,
+      shown_in_run s p 3 (p + 3) (bytes "Bool") h (omega arith) refl,
+      shown_in_run s p 4 (p + 4) (bytes "Bool") h (omega arith) refl,
+    )

@@ -72,6 +72,7 @@ pub fn same_name(s: &[u8], a: u16, b: u16) -> bool
 }
 
 // "Bool is taken."
+#[tactic(auto, using(crate::proofs::Runs::bool_shows))]
 pub fn is_bool(s: &[u8], a: u16) -> bool
     ensures { Says result (name_at s.now a ≡ bytes "Bool") }
 {

@@ -1,3 +1,4 @@
+#![tactic(auto)]
 // Questions 6 and 7 on declarations: counts and sizes, names found by their bytes, the signature's rows.
 pub mod find; // names compared, and looked up among the declared ones
 pub mod keys; // names looked up by their keys
@@ -29,14 +30,14 @@ pub const KEYS: usize = 256;
 pub const DECLARED_CELLS: usize = FIRST_PLACE + KEYS;
 
 // The key of a name, and how many bytes it has.
-#[derive(Drop)]
+#[derive(Clone, Copy)]
 pub struct Digest {
     pub key: u8,
     pub length: usize,
 }
 
 // How many names of each kind are declared, in this order.
-#[derive(Drop)]
+#[derive(Clone, Copy)]
 pub struct Kinds {
     pub sorts: usize,
     pub funcs: usize,
@@ -45,14 +46,14 @@ pub struct Kinds {
 }
 
 // Whether every name is known, and the place behind what was read.
-#[derive(Drop)]
+#[derive(Clone, Copy)]
 pub struct Row {
     pub ok: bool,
     pub at: usize,
 }
 
 // Whether every name of a process's parameters is as it must be, how many they are, and the place behind them.
-#[derive(Drop)]
+#[derive(Clone, Copy)]
 pub struct Params {
     pub ok: bool,
     pub count: usize,

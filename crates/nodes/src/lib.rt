@@ -1,3 +1,4 @@
+#![tactic(auto)]
 // The reader of nodes: what stands at a place of the cells that hold a resolved sheet, and where the next thing stands.
 ghost use Rattle.std.specs.Prelude.{◌≡◌, ℕ, ◌+◌, ◌≤◌, ◌<◌, eqb, length, get_or};
 ghost use Rattle.pcrl.specs.Tests.{or};
@@ -15,7 +16,7 @@ pub const VARIABLE: usize = 1;
 pub const FUNCTION: usize = 2;
 
 // The numbers of operators among those of functions, as in Sheet; `==` at the sort D is EQUAL + D.
-// UNSORTED, `unsorted-number`, is no function: `equal-at` of Names gives it to `==` over two numerals.
+// UNSORTED, `unsorted_number`, is no function: `equal_at` of Names gives it to `==` over two numerals.
 pub const NOT: usize = 32;
 
 pub const UNSORTED: usize = 33;
@@ -62,7 +63,7 @@ pub const GIVES: usize = 3;
 pub const MAX_SCOPE: usize = 32;
 
 // How many sorts, functions, actions and processes a held sheet has, and where init stands in its cells.
-#[derive(Drop)]
+#[derive(Clone, Copy)]
 pub struct Outline {
     pub sorts: usize,
     pub funcs: usize,
@@ -72,7 +73,7 @@ pub struct Outline {
 }
 
 // The first node of a data term: value, variable or function, its number, how many arguments it has, and where they stand.
-#[derive(Drop)]
+#[derive(Clone, Copy)]
 pub struct Datum {
     pub tag: usize,
     pub number: usize,
@@ -82,7 +83,7 @@ pub struct Datum {
 
 // The first node of a process term: its kind, 1 if it gets a new equation, its number, where its data terms stand and how many,
 // how many subterms it has, and where they stand.
-#[derive(Drop)]
+#[derive(Clone, Copy)]
 pub struct Node {
     pub kind: usize,
     pub own: usize,
@@ -94,7 +95,7 @@ pub struct Node {
 }
 
 // A term passed: the place after it, and how many new equations it has.
-#[derive(Drop)]
+#[derive(Clone, Copy)]
 pub struct Skipped {
     pub next: usize,
     pub own: usize,

@@ -6,7 +6,7 @@ use Prim.Native.String.{String}
 use native.Mathlib.Decide.{dec_lt}
 use native.Mathlib.Numerals.{add-one}
 use native.Mathlib.Omega.{arith}
-use lib.ListN.{length, drop, get_or, drop_of_length-le, get_or-eq_default}
+use lib.ListN.{length, drop, get_or, drop_of_length-le}
 use lib.Seq.{drop-cons}
 use Rattle.pcrl.specs.Tokens.{Token, the, is?}
 use Rattle.pcrl.specs.Reader.{Got, missing, found, bind}
@@ -71,7 +71,7 @@ bind_assoc (found a ts) k l = refl
 
 -- any claim on what is read: one reader, and then another
 module _ (s toks : List ℕ) {B : Type 0} (G : Got Token B → Type 0) where
-  pub then_reads : {A : Type 0} {encA : A → List Symbol} {P : Got Token A} (k : A → List Token → Got Token B) {w : ℕ} {o : List ℕ} {at w₁ : ℕ} {o₁ : List ℕ}
+  pub then_reads : {A : Type 0} {encA : A → List Symbol} {at : ℕ} {P : Got Token A} (k : A → List Token → Got Token B) {w : ℕ} {o : List ℕ} {w₁ : ℕ} {o₁ : List ℕ}
       → Reads s toks encA w o at w₁ o₁ P → (length toks < at → G missing) → ((a : A) → at ≤ length toks → Writes s toks (encA a) w o w₁ o₁ → G (k a (rest s toks at))) → G (bind P k)
   unfolding bind
   then_reads k (lost l) f g = f l

@@ -14,7 +14,7 @@ use Rattle.pcrl.specs.Grammar.{a_name, a_numeral, on_numeral}
 use Rattle.laws.specs.Places.{get_or_positive}
 use Rattle.lexer.specs.Cells.{spelling, cell_token}
 use Rattle.parser.specs.Cells.{Symbol, token, ors, ands, first_ors, first_ands, symbol_of, enc_name, enc_numeral}
-use Rattle.parser.specs.Reading.{rest, Put, Few, Writes, Reads, lost, took}
+use Rattle.parser.specs.Reading.{rest, Put, Writes, Reads, lost, took}
 use Rattle.lexer.proofs.Cells.{cell_sign, numeral_cell, name_cell}
 use Rattle.parser.proofs.Writing.{writes_cell, writes_known}
 use Rattle.parser.proofs.Reading.{rest_next, rest_past}

@@ -1,3 +1,4 @@
+#![tactic(auto)]
 // Question 5: the tokens of a sheet to the cells of its tree, in prefix order (specs/Cells.antt).
 ghost use Rattle.std.specs.Prelude.{List, map, ℕ, ◌*◌, ◌≤◌, ◌<◌, length};
 ghost use Rattle.pcrl.specs.Grammar.{parse};
@@ -17,14 +18,14 @@ use limits::{MAX_ACTIONS, MAX_FUNCTIONS, MAX_PROCESSES, MAX_SORTS};
 use sheet::{init_line, lines_of, some_lines};
 
 // A place among the tokens and the next free cell. A wrong form is a place past the end, which every later reader keeps.
-#[derive(Drop)]
+#[derive(Clone, Copy)]
 pub struct Step {
     pub at: usize,
     pub w: usize,
 }
 
 // A place among the tokens, the next free cell, and how many lines were counted.
-#[derive(Drop)]
+#[derive(Clone, Copy)]
 pub struct Run {
     pub at: usize,
     pub w: usize,
@@ -32,7 +33,7 @@ pub struct Run {
 }
 
 // How many lines of each kind there are, and where in the cells each stands, of as many as there may be.
-#[derive(Drop)]
+#[derive(Clone, Copy)]
 pub struct Lines {
     pub sorts: [u16; MAX_SORTS],
     pub funcs: [u16; MAX_FUNCTIONS],
@@ -46,7 +47,7 @@ pub struct Lines {
 }
 
 // Whether the form is right, how many cells the tree takes, and where its lines stand.
-#[derive(Drop)]
+#[derive(Clone, Copy)]
 pub struct Parsed {
     pub ok: bool,
     pub used: usize,

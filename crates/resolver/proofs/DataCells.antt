@@ -9,7 +9,7 @@ use lib.ListN.{length}
 use Rattle.pcrl.specs.Maybe.{◌>>=◌}
 use Rattle.pcrl.specs.Tree.{Name, RawData, Conjunction, Comparison, Negation, Atom, RawDatas}
 use Rattle.pcrl.specs.Sheet.{Data, Datas, list_of, Sig, or_number, and_number}
-use Rattle.pcrl.specs.Names.{Names, number_of, resolve_data, resolve_ors, resolve_conjunction, resolve_ands, resolve_comparison, resolve_negation, resolve_atom, resolve_datas, resolve_given}
+use Rattle.pcrl.specs.Names.{Names, number_of, resolve_data, resolve_ors, resolve_conjunction, resolve_ands, resolve_comparison, resolve_negation, resolve_datas, resolve_given}
 use Rattle.parser.specs.Cells.{more_ors, more_ands}
 use Rattle.nodes.specs.Layout.{enc_data, enc_arguments, enc_datas, enc_node}
 use Rattle.resolver.specs.Raw.{disjuncts, conjuncts}

@@ -6,7 +6,7 @@ use Prim.Native.Nat.{ℕ, suc, ◌+◌, ◌-◌, ◌*◌, ◌≤◌, ◌<◌}
 use native.Mathlib.Omega.{arith}
 use lib.ListN.{length, drop, get_or}
 use Rattle.pcrl.specs.Tokens.{name, numeral}
-use Rattle.pcrl.specs.Tree.{Name, RawData, Atom, RawDatas}
+use Rattle.pcrl.specs.Tree.{Name, Atom, RawDatas}
 use Rattle.pcrl.specs.Names.{Names, number_of, resolve_data}
 use Rattle.pcrl.specs.Sheet.{Sig}
 use Rattle.laws.specs.Places.{get_or_positive}

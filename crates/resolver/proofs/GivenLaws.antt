@@ -21,7 +21,7 @@ use Rattle.parser.specs.declared.Step.{Step}
 use Rattle.resolver.specs.declared.DataRun.{DataRun}
 use Rattle.resolver.specs.Sorting.{scope_sorts, KnownSorts}
 use Rattle.resolver.specs.Writing.{Writes}
-use Rattle.resolver.specs.Resolving.{Outcome, lost, took, data_cells, datas_cells, given_cells, condition_cells, count_of, ResolvesData, ResolvesDatas, ResolvesGiven, ResolvesCondition}
+use Rattle.resolver.specs.Resolving.{Outcome, lost, took, data_cells, datas_cells, given_cells, count_of, ResolvesData, ResolvesDatas, ResolvesGiven, ResolvesCondition}
 use Rattle.resolver.proofs.Writing.{writes_then, writes_cell, writes_instead, writes_sized}
 use Rattle.resolver.proofs.Symbols.{pair, first_tag}
 use Rattle.resolver.proofs.DataCells.{sized, none_sized, some_sized, given_some, condition_one, node_cells, node_given}

@@ -1,3 +1,4 @@
+pub mod Keys
 pub mod Writing
 pub mod Symbols
 pub mod Lookup

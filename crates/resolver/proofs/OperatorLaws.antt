@@ -6,16 +6,13 @@ use Prim.Native.Nat.{ℕ, suc, ◌+◌, ◌-◌, ◌*◌, ◌≤◌, ◌<◌, mi
 use native.Mathlib.Omega.{arith}
 use lib.ListN.{length, drop, get_or, length-append, get_or-append}
 use lib.Seq.{get_or-append-add}
-use Rattle.pcrl.specs.Limits.{max_functions}
 use Rattle.pcrl.specs.Maybe.{◌>>=◌}
 use Rattle.pcrl.specs.Reader.{all}
-use Rattle.pcrl.specs.Tree.{Name, RawData, Conjunction, Comparison, Negation, Atom}
+use Rattle.pcrl.specs.Tree.{Name, Comparison, Negation, Atom}
 use Rattle.pcrl.specs.Sheet.{Data, Datas, Sig, list_of}
 use Rattle.pcrl.specs.Names.{Names, sort_of, equal_at, resolve_negation, resolve_data}
 use Rattle.parser.specs.Cells.{Symbol, tag, ors, ands, first_ors, first_ands, more_ors, more_ands, enc_ors, enc_ands, enc_conjunction, enc_comparison, enc_negation, enc_atom}
-use Rattle.parser.specs.Cells.{enc_data as raw_data}
 use Rattle.parser.specs.Reading.{Put}
-use Rattle.nodes.specs.Scoped.{max_scope}
 use Rattle.nodes.specs.Layout.{cell_limit, function_tag, enc_data}
 use Rattle.names.specs.NameCells.{scope_at}
 use Rattle.names.specs.NameKinds.{funcs_in}
@@ -24,15 +21,15 @@ use Rattle.names.specs.Standing.{symbols}
 use Rattle.names.proofs.KeyLaws.{scope_most}
 use Rattle.parser.specs.declared.Step.{Step}
 use Rattle.resolver.specs.Raw.{disjuncts, conjuncts}
-use Rattle.resolver.specs.Writing.{Written, Writes}
-use Rattle.resolver.specs.Sorting.{scope_cells, scope_sorts, KnownSorts, cell_sort}
-use Rattle.resolver.specs.Resolving.{Outcome, lost, took, Ahead, FewKinds, Few, data_cells, conjunction_cells, comparison_cells, negation_cells, atom_cells, joins, ◌⊕◌, Resolves, ResolvesData, ResolvesConjunction, ResolvesComparison, ResolvesNegation, ResolvesAtom, EqualCell}
+use Rattle.resolver.specs.Writing.{Writes}
+use Rattle.resolver.specs.Sorting.{scope_sorts, KnownSorts, cell_sort}
+use Rattle.resolver.specs.Resolving.{Outcome, lost, took, Ahead, Few, conjunction_cells, comparison_cells, negation_cells, atom_cells, joins, ◌⊕◌, Resolves, ResolvesData, ResolvesConjunction, ResolvesComparison, ResolvesNegation, ResolvesAtom, EqualCell}
 use Rattle.resolver.proofs.Writing.{writes_nothing, writes_then, writes_cell, written_cell, writes_found}
 use Rattle.resolver.proofs.Symbols.{next, first_tag, ors_is, ands_is}
 use Rattle.resolver.proofs.Lookup.{funcs_most}
 use Rattle.resolver.proofs.DataCells.{then_nothing, then_assoc, each_cells, positive_cells, not_cells, alone_cells, conjunction_joined, data_joined}
 use Rattle.resolver.proofs.Operands.{disjuncts_are, disjuncts_many, conjuncts_are, conjuncts_many, Joining, joining_start, joining_step, joining_end, written_before}
-use Rattle.resolver.proofs.OwnSort.{Top, resolved_top, first_of, some_cell, own_sort, own_small, equal_fits}
+use Rattle.resolver.proofs.OwnSort.{Top, resolved_top, some_cell, own_sort, own_small, equal_fits}
 use Rattle.resolver.proofs.DataLaws.{became}
 
 -- ---- `!`: some were written, and a negation is left

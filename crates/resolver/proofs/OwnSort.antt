@@ -1,19 +1,19 @@
 -- The sort that data has by itself is that of its first cell, for all data that is resolved; so the cell of `==` is found.
 use mathlib.Core.Path.{◌≡◌, refl, sym, ap, ◌∙◌, subst}
 use mathlib.Core.Bool.{Bool, true, false}
-use mathlib.Core.List.{List, [], ◌∷◌, ◌++◌}
+use mathlib.Core.List.{List}
 use mathlib.Core.Option.{Option, none, some}
 use Prim.Native.Nat.{ℕ, suc, ◌+◌, ◌-◌, ◌*◌, ◌/◌, ◌%◌, ◌≤◌, ◌<◌}
 use native.Mathlib.Decide.{dec_lt}
 use native.Mathlib.Omega.{arith}
 use borrow.Author.Tests.{ltb-true, ltb-false, lt-ltb, le-ltb, ne_eqb}
 use lib.Dec.{eqb, ltb}
-use lib.ListN.{length, take, drop, get_or, get_elem?, length-drop}
+use lib.ListN.{length, drop, get_or, length-drop}
 use lib.Seq.{length-take-le, get_or-take, get_or-drop}
 use Rattle.pcrl.specs.Limits.{max_functions}
 use Rattle.pcrl.specs.Tree.{Name, Negation}
 use Rattle.pcrl.specs.Sheet.{Data, Datas, Func, Sig, Operation, not_number, first_equal, operation, function, function_at, func}
-use Rattle.pcrl.specs.Names.{Names, number_of, sort_of, equal_at, resolve_negation}
+use Rattle.pcrl.specs.Names.{Names, sort_of, equal_at, resolve_negation}
 use Rattle.laws.specs.Every.{every_at}
 use Rattle.laws.specs.Lists.{get_elem?_below}
 use Rattle.laws.specs.Numbers.{number_below}

@@ -8,7 +8,7 @@ use native.Mathlib.Numerals.{add-one}
 use native.Mathlib.Omega.{arith}
 use borrow.Author.Tests.{ltb-true, ltb-false}
 use lib.Dec.{ltb}
-use lib.ListN.{length, drop, get_or, drop_of_length-le, length-map, get_or-eq_default}
+use lib.ListN.{length, drop, get_or, drop_of_length-le, length-map}
 use lib.Seq.{drop-cons}
 use Rattle.pcrl.specs.Tokens.{Token, name, numeral, sign}
 use Rattle.laws.specs.Lists.{map_drop}

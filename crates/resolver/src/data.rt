@@ -39,7 +39,7 @@ pub fn data_term(
 ) -> Step
     requires { Few raw.now (kinds_in declared.now) scope.now n × KeyedNames s.now declared.now }
     ensures ahead { Ahead (length raw.now) at result.at }
-    ensures data { ResolvesData s.now raw.now (names_in declared.now) (kinds_in declared.now) scope.now n at w out.old result out.new }
+    ensures resolves { ResolvesData s.now raw.now (names_in declared.now) (kinds_in declared.now) scope.now n at w out.old result out.new }
 {
     let k = peek_cell(raw, at);
     if k < FIRST_ORS {
@@ -75,7 +75,7 @@ fn conjunction(
 ) -> Step
     requires { Few raw.now (kinds_in declared.now) scope.now n × KeyedNames s.now declared.now }
     ensures ahead { Ahead (length raw.now) at result.at }
-    ensures data { ResolvesConjunction s.now raw.now (names_in declared.now) (kinds_in declared.now) scope.now n at w out.old result out.new }
+    ensures resolves { ResolvesConjunction s.now raw.now (names_in declared.now) (kinds_in declared.now) scope.now n at w out.old result out.new }
 {
     let k = peek_cell(raw, at);
     if k < FIRST_ANDS {
@@ -108,7 +108,7 @@ fn comparison(
 ) -> Step
     requires { Few raw.now (kinds_in declared.now) scope.now n × KeyedNames s.now declared.now }
     ensures ahead { Ahead (length raw.now) at result.at }
-    ensures data { ResolvesComparison s.now raw.now (names_in declared.now) (kinds_in declared.now) scope.now n at w out.old result out.new }
+    ensures resolves { ResolvesComparison s.now raw.now (names_in declared.now) (kinds_in declared.now) scope.now n at w out.old result out.new }
 {
     let k = peek_cell(raw, at);
     if k == ALONE_TAG {
@@ -141,7 +141,7 @@ fn negation(
 ) -> Step
     requires { Few raw.now (kinds_in declared.now) scope.now n × KeyedNames s.now declared.now }
     ensures ahead { Ahead (length raw.now) at result.at }
-    ensures data { ResolvesNegation s.now raw.now (names_in declared.now) (kinds_in declared.now) scope.now n at w out.old result out.new }
+    ensures resolves { ResolvesNegation s.now raw.now (names_in declared.now) (kinds_in declared.now) scope.now n at w out.old result out.new }
 {
     let mut p = at;
     let mut v = w;
@@ -167,7 +167,7 @@ fn atom(
 ) -> Step
     requires { Few raw.now (kinds_in declared.now) scope.now n × KeyedNames s.now declared.now }
     ensures ahead { Ahead (length raw.now) at result.at }
-    ensures data { ResolvesAtom s.now raw.now (names_in declared.now) (kinds_in declared.now) scope.now n at w out.old result out.new }
+    ensures resolves { ResolvesAtom s.now raw.now (names_in declared.now) (kinds_in declared.now) scope.now n at w out.old result out.new }
 {
     let k = peek_cell(raw, at);
     if k == NEST_TAG {
@@ -224,7 +224,7 @@ pub fn data_list(
 ) -> DataRun
     requires { Few raw.now (kinds_in declared.now) scope.now n × KeyedNames s.now declared.now }
     ensures ahead { Ahead (length raw.now) at result.at }
-    ensures data { ResolvesDatas s.now raw.now (names_in declared.now) (kinds_in declared.now) scope.now n at w out.old result out.new }
+    ensures resolves { ResolvesDatas s.now raw.now (names_in declared.now) (kinds_in declared.now) scope.now n at w out.old result out.new }
 {
     let mut p = at;
     let mut v = w;
@@ -264,7 +264,7 @@ pub fn given(
 ) -> Step
     requires { Few raw.now (kinds_in declared.now) scope.now n × KeyedNames s.now declared.now }
     ensures ahead { Ahead (length raw.now) at result.at }
-    ensures data { ResolvesGiven s.now raw.now (names_in declared.now) (kinds_in declared.now) scope.now n at w out.old result out.new }
+    ensures resolves { ResolvesGiven s.now raw.now (names_in declared.now) (kinds_in declared.now) scope.now n at w out.old result out.new }
 {
     let k = peek_cell(raw, at);
     let c = put(out, w, 0);

@@ -1,3 +1,4 @@
+#![tactic(auto)]
 // Question 7 on right sides and init: names become numbers, and the resolved term is written in cells (crate nodes, Layout).
 pub mod cells; // cells read and written
 pub mod operators; // which `==` it is
@@ -17,7 +18,7 @@ pub const SCOPE_CELLS: usize = FIRST_RESULT + MAX_FUNCTIONS;
 
 // A place among the cells of the raw tree, the next free cell, and how many data terms there were. A place past the end, as in a Step:
 // some name is not as it must be.
-#[derive(Drop)]
+#[derive(Clone, Copy)]
 pub struct DataRun {
     pub at: usize,
     pub w: usize,
@@ -25,14 +26,14 @@ pub struct DataRun {
 }
 
 // The first cell of a node for a name, if the name is known.
-#[derive(Drop)]
+#[derive(Clone, Copy)]
 pub struct Known {
     pub known: bool,
     pub first: u16,
 }
 
 // A node of two subterms: how far its head was read, the next free cell, and whether the first subterm stands after a first part.
-#[derive(Drop)]
+#[derive(Clone, Copy)]
 pub struct Fork {
     pub at: usize,
     pub w: usize,
@@ -40,7 +41,7 @@ pub struct Fork {
 }
 
 // Whether all names were as they must be, the place behind the term, and the next free cell.
-#[derive(Drop)]
+#[derive(Clone, Copy)]
 pub struct RightSide {
     pub ok: bool,
     pub next: usize,

@@ -1,12 +1,12 @@
 -- Questions 1 to 7: what the lexer, the parser, the counts and the resolver answer, of the whole.
 use mathlib.Core.Path.{◌≡◌, refl, sym, ap, subst, subst⁻¹, ◌∙◌}
 use mathlib.Core.Logic.{◌≢◌}
-use mathlib.Core.Bool.{Bool, true, false}
+use mathlib.Core.Bool.{true, false}
 use mathlib.Core.List.{List, map}
 use mathlib.Core.Option.{Option, none, some}
-use Prim.Native.Nat.{ℕ, ◌+◌, ◌*◌, ◌≤◌, ◌<◌, min}
+use Prim.Native.Nat.{ℕ, ◌≤◌, ◌<◌}
 use native.Mathlib.Omega.{arith}
-use lib.ListN.{length, take, drop, length-append, length-drop}
+use lib.ListN.{length, take, length-append, length-drop}
 use Rattle.pcrl.specs.Result.{Result, refused, accepted, question, question_of, after, refusal}
 use Rattle.pcrl.specs.Tokens.{Token}
 use Rattle.pcrl.specs.Tree.{RawSheet}
@@ -22,7 +22,7 @@ use Rattle.laws.specs.Questions.{question_passes, question_fails, question_of_pa
 use Rattle.lexer.specs.Cells.{cell_token, Lexes}
 use Rattle.lexer.specs.declared.Lexed.{Lexed}
 use Rattle.lexer.proofs.Accepted.{accepted_cells}
-use Rattle.parser.specs.Parses.{Stands, Tree, Parses}
+use Rattle.parser.specs.Parses.{Parses}
 use Rattle.parser.specs.Cells.{enc_init, enc_sheet}
 use Rattle.parser.specs.declared.Lines.{Lines}
 use Rattle.parser.specs.declared.Parsed.{Parsed}

@@ -18,7 +18,7 @@ use Rattle.laws.specs.Lists.{get_d_map}
 use Rattle.laws.specs.Each.{each_length, each_map}
 use Rattle.laws.specs.Optional.{first_given, each_given}
 use Rattle.pcrl.specs.Print.{print_lines, print_proc, print_init}
-use Rattle.parser.specs.Cells.{Symbol, enc_proc, enc_init}
+use Rattle.parser.specs.Cells.{Symbol, enc_proc}
 use Rattle.nodes.specs.declared.Outline.{Outline}
 use Rattle.nodes.specs.Layout.{cell_limit, enc}
 use Rattle.nodes.specs.Scoped.{Scoped}

@@ -17,7 +17,8 @@ use Rattle.pcrl.specs.Print.{print_lines, print_proc, print_init, print_sheet}
 use Rattle.grammar.specs.Formed.{FormedFunc, FormedAct}
 use Rattle.grammar.specs.PrintLaws.{sheet_length}
 use Rattle.grammar.specs.Parsed.{print_parse}
-use Rattle.grammar.specs.TokenLaws.{ValidToken, tokens_valid}
+use Rattle.grammar.specs.TokenLaws.{ValidToken}
+use Rattle.grammar.proofs.TokenLaws.{tokens_valid}
 use Rattle.names.specs.Rows.{SmallValues}
 use Rattle.resolver.specs.Raw.{sum_depth}
 use Rattle.sheets.specs.Depth.{sums_below}

@@ -1,3 +1,4 @@
+#![tactic(auto)]
 // Questions 1 to 9: from a sheet's bytes to the resolved sheet in arrays, or the number of the first question that fails.
 pub mod signature; // question 7 on the declarations
 pub mod scopes; // what the resolver is told of sorts
@@ -19,7 +20,7 @@ const PROC_ROWS: usize = PROC_ROW * MAX_PROCESSES;
 const PLACES: usize = MAX_FUNCTIONS + 1;
 
 // The rows of sorts, functions and actions (crate nodes, Held), if every name in them is known.
-#[derive(Drop)]
+#[derive(Clone, Copy)]
 pub struct SigRows {
     pub ok: bool,
     pub sizes: [u8; MAX_SORTS],
@@ -29,7 +30,7 @@ pub struct SigRows {
 }
 
 // The rows of the processes, where their right sides begin, and the next free cell.
-#[derive(Drop)]
+#[derive(Clone, Copy)]
 pub struct ProcRows {
     pub ok: bool,
     pub procs: [u8; PROC_ROWS],
@@ -38,7 +39,7 @@ pub struct ProcRows {
 }
 
 // What holds a resolved sheet beside the cells of its terms and the values of its functions.
-#[derive(Drop)]
+#[derive(Clone, Copy)]
 pub struct SheetRows {
     pub sizes: [u8; MAX_SORTS],
     pub funcs: [u8; FUNC_ROWS],
@@ -52,14 +53,14 @@ pub struct SheetRows {
 }
 
 // The rows of a resolved sheet, if every name is as it must be.
-#[derive(Drop)]
+#[derive(Clone, Copy)]
 pub struct ResolvedRows {
     pub ok: bool,
     pub rows: SheetRows,
 }
 
 // The number of the first question that fails, or 0.
-#[derive(Drop)]
+#[derive(Clone, Copy)]
 pub struct Answer {
     pub refused: u8,
     pub rows: SheetRows,

@@ -1,0 +1,12 @@
+use Prim.Native.Nat.{◌+◌, ◌-◌, ◌≤◌}
+use lib.ListN.{length}
+use Rattle.pcrl.specs.Limits.{frame_width}
+use Rattle.names.specs.Items.{item_count}
+use Rattle.names.proofs.Lists.{Checked}
+use Rattle.names.proofs.counts.params_few.Given as goal
+
+abbrev pub invariant-loop-i : goal.invariant-loop-i
+invariant-loop-i l = Checked (λ p. item_count l.cells 3 (p + 2) (frame_width + 1) ≤ frame_width) l.procs l.i
+
+abbrev pub decreases-loop-i : goal.decreases-loop-i
+decreases-loop-i l = length l.procs - l.i

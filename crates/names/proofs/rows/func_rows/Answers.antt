@@ -1,0 +1,85 @@
+-- Each function gets its row and its values, behind those before it; a name that is no sort ends it.
+use borrow.Author.Tests.{not-true, not-false}
+use mathlib.Core.Path.{◌≡◌, ◌∙◌, refl, subst}
+use Prim.Native.Nat.{ℕ, ◌+◌, ◌*◌, ◌<◌}
+use native.Mathlib.Omega.{arith}
+use lib.ListN.{length, set, length-set}
+use lib.Seq.{get_or-set_same}
+use Rattle.names.specs.Rows.{FuncRead}
+use Rattle.names.proofs.FuncLines.{funcs_start, funcs_stop, funcs_go, funcs_end}
+use Rattle.names.proofs.rows.func_rows.Goals as goal
+
+pub bounds-places-0 : goal.bounds-places-0
+bounds-places-0 c = omega (arith, c.requires)
+
+pub loop-i-init : goal.loop-i-init
+loop-i-init c = (record { row_same = refl; value_same = refl; place_same = refl; within = omega arith; here = get_or-set_same c.args.places.now 0 0 0 (omega (arith, c.requires)) }, funcs_start c.args.s.now c.args.cells.now c.args.sorts.now c.args.lines.now c.args.rows.now c.args.values.now (set c.args.places.now 0 0))
+
+pub overflow_mul-i : goal.overflow_mul-i
+overflow_mul-i c = omega (arith, c.requires)
+
+pub func_row-f-requires : goal.func_row-f-requires
+func_row-f-requires c = (omega (arith, c.requires), omega (arith, c.wide_cell.ensures), omega (arith, c.requires, c.loop-i.invariant.0.row_same))
+
+pub shape_of-rows-then-not-f : goal.shape_of-rows-then-not-f
+shape_of-rows-then-not-f c = c.func_row-f.auto.rows ∙ c.loop-i.invariant.0.row_same
+
+pub shape_of-values-then-not-f : goal.shape_of-values-then-not-f
+shape_of-values-then-not-f c = c.loop-i.invariant.0.value_same
+
+pub shape_of-places-then-not-f : goal.shape_of-places-then-not-f
+shape_of-places-then-not-f c = c.loop-i.invariant.0.place_same ∙ length-set c.args.places.now 0 0
+
+pub returns-then-not-f : goal.returns-then-not-f
+returns-then-not-f c = funcs_stop c.args.s.now c.args.cells.now c.args.sorts.now c.args.lines.now c.loop-i.rows c.loop-i.values c.loop-i.places c.func_row-f.new.rows c.loop-i.values c.loop-i.places c.loop-i.w c.loop-i.i c.func_row-f.result c.loop-i-test.true refl c.loop-i.invariant.1 (subst (λ (q : ℕ). FuncRead c.args.s.now c.args.cells.now c.args.sorts.now q c.func_row-f.new.rows (4 * c.loop-i.i) c.func_row-f.result) c.wide_cell.ensures.0 c.func_row-f.ensures.row) (not-true _ c.if-not-f.true)
+
+pub overflow_sub-values : goal.overflow_sub-values
+overflow_sub-values c = omega (arith, c.loop-i.invariant.0.within)
+
+pub items-n-requires : goal.items-n-requires
+items-n-requires c = (omega arith, omega (arith, c.func_row-f.ensures.near), omega (arith, c.requires, c.loop-i.invariant.0.value_same))
+
+pub copy_values-requires : goal.copy_values-requires
+copy_values-requires c = (omega (arith, c.func_row-f.ensures.near), omega (arith, c.items-n.ensures.most, c.loop-i.invariant.0.within), omega (arith, c.requires, c.loop-i.invariant.0.value_same))
+
+pub overflow_add-w : goal.overflow_add-w
+overflow_add-w c = omega (arith, c.requires, c.loop-i.invariant.0.value_same, c.items-n.ensures.most, c.loop-i.invariant.0.within)
+
+pub overflow_add-places : goal.overflow_add-places
+overflow_add-places c = omega (arith, c.loop-i-test.true)
+
+pub offset_bounds-places-i : goal.offset_bounds-places-i
+offset_bounds-places-i c = omega (arith, c.loop-i-test.true)
+
+pub bounds-places-i : goal.bounds-places-i
+bounds-places-i c = omega (arith, c.requires, c.loop-i.invariant.0.place_same, length-set c.args.places.now 0 0)
+
+pub overflow_add-i : goal.overflow_add-i
+overflow_add-i c = omega (arith, c.loop-i-test.true)
+
+pub loop-i-preserved : goal.loop-i-preserved
+loop-i-preserved c =
+    let z : c.short.result ≡ c.loop-i.w + c.items-n.result = c.short.ensures (omega (arith, c.requires, c.loop-i.invariant.0.value_same, c.items-n.ensures.most, c.loop-i.invariant.0.within)) in
+    let f : c.loop-i.i + 1 < length c.loop-i.places = omega (arith, c.requires, c.loop-i.invariant.0.place_same, length-set c.args.places.now 0 0) in (
+      record {
+        row_same = c.func_row-f.auto.rows ∙ c.loop-i.invariant.0.row_same;
+        value_same = c.copy_values.auto.values ∙ c.loop-i.invariant.0.value_same;
+        place_same = length-set c.loop-i.places (c.loop-i.i + 1) c.short.result ∙ c.loop-i.invariant.0.place_same;
+        within = omega (arith, c.copy_values.auto.values, c.items-n.ensures.most, c.loop-i.invariant.0.within);
+        here = get_or-set_same c.loop-i.places (c.loop-i.i + 1) c.short.result 0 f ∙ z;
+      },
+      funcs_go c.args.s.now c.args.cells.now c.args.sorts.now c.args.lines.now c.loop-i.rows c.loop-i.values c.loop-i.places c.func_row-f.new.rows c.copy_values.new.values c.loop-i.w c.loop-i.i c.items-n.result c.short.result c.func_row-f.result c.loop-i-test.true c.loop-i.invariant.0.within c.loop-i.invariant.0.here f
+          c.loop-i.invariant.1 c.func_row-f.ensures.kept (subst (λ (q : ℕ). FuncRead c.args.s.now c.args.cells.now c.args.sorts.now q c.func_row-f.new.rows (4 * c.loop-i.i) c.func_row-f.result) c.wide_cell.ensures.0 c.func_row-f.ensures.row) (not-false _ c.if-not-f.false) c.items-n.ensures.count c.copy_values.ensures.kept c.copy_values.ensures.values z,
+    )
+
+pub shape_of-rows : goal.shape_of-rows
+shape_of-rows c = c.loop-i.invariant.0.row_same
+
+pub shape_of-values : goal.shape_of-values
+shape_of-values c = c.loop-i.invariant.0.value_same
+
+pub shape_of-places : goal.shape_of-places
+shape_of-places c = c.loop-i.invariant.0.place_same ∙ length-set c.args.places.now 0 0
+
+pub returns : goal.returns
+returns c = funcs_end c.args.s.now c.args.cells.now c.args.sorts.now c.args.lines.now c.loop-i.rows c.loop-i.values c.loop-i.places c.loop-i.w c.loop-i.i c.loop-i-test.false c.loop-i.invariant.1

@@ -1,0 +1,19 @@
+-- `sheet::bare` meets its contract.
+use native.Mathlib.Omega.{arith}
+use Rattle.laws.specs.Places.{get_or_positive}
+use Rattle.parser.proofs.InitLaws.{called_low, called_told}
+use Rattle.parser.proofs.sheet.bare.Goals as goal
+
+pub returns-then-peek_cell-lt-FIRST_NAME : goal.returns-then-peek_cell-lt-FIRST_NAME
+returns-then-peek_cell-lt-FIRST_NAME c =
+    λ s. called_low s c.args.toks.now c.args.at (omega arith)
+
+pub overflow_add-at : goal.overflow_add-at
+overflow_add-at c =
+    let l = get_or_positive c.args.toks.now c.args.at (omega arith) in
+    omega arith
+
+pub returns : goal.returns
+returns c =
+    let at-peek2 = c.peek_cell-2 in
+    λ s. called_told s c.args.toks.now c.args.at (omega arith) at-peek2.result at-peek2.ensures
