@@ -1,3 +1,4 @@
+#![tactic(auto)]
 // The names of a table's sorts and actions: valid by the token rule, no word, distinct; an action's is not Bool.
 ghost use Rattle.std.specs.Prelude.{◌≡◌, map, ◌∷◌, true, ◌+◌, ◌≤◌, ◌<◌, length, drop};
 ghost use Rattle.pcrl.specs.Limits.{max_name};

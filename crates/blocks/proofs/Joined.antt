@@ -1,13 +1,13 @@
 -- Parts of one length, written one after another over the front of a list.
 use mathlib.Core.Path.{◌≡◌, refl, sym, ap, ◌∙◌}
-use mathlib.Core.List.{List, ◌++◌, append_assoc, append-nil}
-use Prim.Native.Nat.{ℕ, zero, suc, ◌+◌, ◌-◌, ◌*◌, ◌≤◌, ◌<◌}
+use mathlib.Core.List.{List, ◌++◌}
+use Prim.Native.Nat.{ℕ, ◌+◌, ◌-◌, ◌*◌, ◌≤◌, ◌<◌}
 use native.Mathlib.Nat.{le_trans, mul-le-mul_right}
 use native.Mathlib.Numerals.{add-one}
 use native.Mathlib.Omega.{arith}
 use lib.ListN.{length, take, drop}
 use Rattle.pcrl.specs.Blocks.{concatenated}
-use Rattle.codec.specs.Cut.{concatenated_zero, concatenated_suc, length_joined, concatenated_last}
+use Rattle.codec.specs.Cut.{concatenated_zero, length_joined, concatenated_last}
 use Rattle.blocks.proofs.Fronts.{Front, front_more, front_length}
 
 -- The first i of n parts stand over the front of xs, and make it ys.

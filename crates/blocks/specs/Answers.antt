@@ -7,9 +7,9 @@ use Rattle.blocks.specs.declared.Filed.TheVariants.{Refused, Bytes}
 use Rattle.blocks.specs.declared.Opened.{Opened}
 
 -- "A refusal returns its number alone"; else the number of bytes that were written
-unfoldable pub filed-answer : Result (List ℕ) → Filed
-filed-answer (refused n) = Refused n
-filed-answer (accepted file) = Bytes (length file)
+unfoldable pub filed_answer : Result (List ℕ) → Filed
+filed_answer (refused n) = Refused n
+filed_answer (accepted file) = Bytes (length file)
 
 -- the number of the question that failed; or 0, and the stream at the front of the lent bytes
 unfoldable pub Opens : Result (List ℕ) → Opened → List ℕ → Type 0

@@ -1,3 +1,4 @@
+#![tactic(auto)]
 // A stream written to blocks of 512 bytes, and a file's blocks checked and its stream handed on: questions 11 to 13.
 pub mod crc;
 mod shifts;
@@ -5,10 +6,10 @@ mod shifts;
 ghost use Rattle.std.specs.Prelude.{◌≡◌, ◌++◌, ◌+◌, ◌*◌, ◌/◌, ◌%◌, ◌≤◌, ◌<◌, min, length, take, drop, replicate};
 ghost use Rattle.pcrl.specs.Limits.{max_stream};
 ghost use Rattle.pcrl.specs.Tests.{Between};
-ghost use Rattle.pcrl.specs.Blocks.{block_bytes, block_stream, low_first, high_first, block as Block-of, blocks_for, file_of_stream, max_file, RightLength};
-ghost use Rattle.pcrl.specs.Answers.{stream-filed, output-after, stream-read};
+ghost use Rattle.pcrl.specs.Blocks.{block_bytes, block_stream, low_first, high_first, block as block_of, blocks_for, file_of_stream, max_file, RightLength};
+ghost use Rattle.pcrl.specs.Answers.{stream_filed, output_after, stream_read};
 ghost use Rattle.laws.specs.Says.{Says};
-ghost use Rattle.blocks.specs.Answers.{filed-answer, Hands, Opens};
+ghost use Rattle.blocks.specs.Answers.{filed_answer, Hands, Opens};
 
 use elements::smaller;
 use limits::{NO_FILE, NO_ROOM, WRONG_BLOCK};
@@ -38,14 +39,14 @@ pub const SHORT_FILE: usize = 4096;
 pub const SHORT_STREAM: usize = 4048;
 
 // The answer of a writer: the number of the question that failed, or how many bytes were written.
-#[derive(Drop)]
+#[derive(Clone, Copy)]
 pub enum Filed {
     Refused(u8),
     Bytes(usize),
 }
 
 // The answer of a reader: the number of the question that failed, or 0 and how many bytes the stream has.
-#[derive(Drop)]
+#[derive(Clone, Copy)]
 pub struct Opened {
     pub refused: u8,
     pub count: usize,
@@ -97,7 +98,7 @@ fn tail(t: &mut [u8], x: u16)
 // One block: the rest of it is filled with zeros from the end of its stream bytes on.
 fn write_block(block: &mut [u8], number: usize, count: usize, stream: &[u8])
     requires { (length block.old ≡ block_bytes) × (length stream.now ≤ block_stream) }
-    ensures { block.new ≡ Block-of number count stream.now }
+    ensures { block.new ≡ block_of number count stream.now }
 {
     head(&mut block[0..STREAM_START], number, count);
     let at = STREAM_START + stream.len();
@@ -127,8 +128,8 @@ fn write_blocks(stream: &[u8], out: &mut [u8], count: usize)
 // A refusal alters nothing, and beyond the blocks nothing is touched.
 pub fn write_file(stream: &[u8], out: &mut [u8]) -> Filed
     requires { length stream.now ≤ max_stream }
-    ensures answer { result ≡ filed-answer (stream-filed stream.now (length out.old)) }
-    ensures written { out.new ≡ output-after (stream-filed stream.now (length out.old)) out.old }
+    ensures answer { result ≡ filed_answer (stream_filed stream.now (length out.old)) }
+    ensures written { out.new ≡ output_after (stream_filed stream.now (length out.old)) out.old }
 {
     let count = (stream.len() + (BLOCK_STREAM - 1)) / BLOCK_STREAM;
     let size = count * BLOCK;
@@ -150,7 +151,7 @@ fn pair(low: u8, high: u8) -> u16
 // Is it the block that is written with its own stream bytes?
 fn right_block(block: &[u8], number: usize, count: usize) -> bool
     requires { (length block.now ≡ block_bytes) × (number < 65536) × (count < 65536) }
-    ensures { Says result (block.now ≡ Block-of number count (take block_stream (drop 4 block.now))) }
+    ensures { Says result (block.now ≡ block_of number count (take block_stream (drop 4 block.now))) }
 {
     if pair(block[0], block[1]) as usize != number {
         return false;
@@ -200,7 +201,7 @@ fn right_length(n: usize) -> bool
 // Questions 12 and 13, put to any bytes; of a file that is too long none is read.
 pub fn read_file(file: &[u8], out: &mut [u8]) -> Opened
     requires { min (length file.now / block_bytes * block_stream) max_stream ≤ length out.old }
-    ensures { Opens (stream-read file.now) result out.new }
+    ensures { Opens (stream_read file.now) result out.new }
 {
     if !right_length(file.len()) {
         return Opened {

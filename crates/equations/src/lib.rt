@@ -1,3 +1,4 @@
+#![tactic(auto)]
 // The equations of a table's stream: parameters of all, summands of all, and the start; where each stands is kept.
 ghost use Rattle.std.specs.Prelude.{◌≡◌, List, true, ℕ, ◌≤◌, ◌<◌, length, get_or, take, drop};
 ghost use Rattle.pcrl.specs.Limits.{max_equations, frame_width};
@@ -19,7 +20,7 @@ use terms::Next;
 const PARAMETERS: u8 = limits::FRAME_WIDTH as u8;
 
 // Where the summands end, if they are right, and how many they are.
-#[derive(Drop)]
+#[derive(Clone, Copy)]
 pub struct SummandRows {
     pub ok: bool,
     pub at: usize,

@@ -1,9 +1,10 @@
+#![tactic(auto)]
 // Questions 12 to 14 of any bytes whatever.
 ghost use Rattle.std.specs.Prelude.{◌≡◌, ◌*◌, ◌/◌, ◌≤◌, min, length};
 ghost use Rattle.pcrl.specs.Limits.{max_stream};
 ghost use Rattle.pcrl.specs.Result.{refusal};
 ghost use Rattle.pcrl.specs.Blocks.{block_bytes, block_stream};
-ghost use Rattle.pcrl.specs.Answers.{table-checked};
+ghost use Rattle.pcrl.specs.Answers.{table_checked};
 
 use blocks::BLOCK_STREAM;
 use limits::{NO_TABLE, WRONG_STACK};
@@ -12,7 +13,7 @@ use stepping::ONE_FILE;
 // Where there is room for the file's stream.
 fn check_table(file: &[u8], stream: &mut [u8]) -> u8
     requires { (min (length file.now / block_bytes * block_stream) max_stream ≤ length stream.old) × (length stream.old ≤ max_stream) }
-    ensures { result ≡ refusal (table-checked file.now) }
+    ensures { result ≡ refusal (table_checked file.now) }
 {
     let opened = blocks::read_file(file, stream);
     if opened.refused != 0 {
@@ -25,7 +26,7 @@ fn check_table(file: &[u8], stream: &mut [u8]) -> u8
 
 fn check_one(file: &[u8]) -> u8
     requires { length file.now ≤ 512 }
-    ensures { result ≡ refusal (table-checked file.now) }
+    ensures { result ≡ refusal (table_checked file.now) }
 {
     let mut stream = [0u8; BLOCK_STREAM];
     check_table(file, &mut stream)
@@ -34,7 +35,7 @@ fn check_one(file: &[u8]) -> u8
 // The number of the first question that fails, or 0. A file of several blocks is right where a start lacks nothing but frames: so both
 // share the long arrays.
 pub fn check_file(file: &[u8]) -> u8
-    ensures { result ≡ refusal (table-checked file.now) }
+    ensures { result ≡ refusal (table_checked file.now) }
 {
     if file.len() <= ONE_FILE {
         return check_one(file);

@@ -1,10 +1,9 @@
 -- The sizes of the sorts, a function and an action, each from its parts.
 use mathlib.Core.Path.{◌≡◌, refl, sym, ap, ◌∙◌}
 use mathlib.Core.List.{List, [], ◌∷◌}
-use Prim.Native.Nat.{ℕ, suc, ◌*◌, ◌<◌, ◌≤◌}
+use Prim.Native.Nat.{ℕ, suc, ◌*◌}
 use native.Mathlib.Omega.{arith}
 use native.Mathlib.Decide.{ℕ_discrete}
-use native.Mathlib.Nat.{mul-le-mul}
 use lib.ListN.{length, get_or, drop}
 use Rattle.pcrl.specs.Limits.{max_sorts, max_size, max_arity}
 use Rattle.pcrl.specs.Tests.{Between, between?, below?}

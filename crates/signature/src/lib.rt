@@ -1,3 +1,4 @@
+#![tactic(auto)]
 // The signature of a table's stream: sorts, functions, actions, and where each of them stands.
 ghost use Rattle.std.specs.Prelude.{◌≡◌, List, map, true, false, ℕ, ◌≤◌, ◌<◌, length, get_or, take, drop};
 ghost use Rattle.std.proofs.Math.Option.{Option};
@@ -26,7 +27,7 @@ const SIZE: u8 = limits::MAX_SIZE as u8;
 const ARITY: u8 = limits::MAX_ARITY as u8;
 
 // Where functions and actions end, if they are right, and how many there are.
-#[derive(Drop)]
+#[derive(Clone, Copy)]
 pub struct Signed {
     pub ok: bool,
     pub at: usize,
@@ -133,7 +134,7 @@ fn bool_at(s: &[u8], at: usize) -> bool
 }
 
 // Where the sorts end, if they are right, and how many there are.
-#[derive(Drop)]
+#[derive(Clone, Copy)]
 struct Sorted {
     ok: bool,
     at: usize,
@@ -199,7 +200,7 @@ fn read_without_names(s: &[u8], sizes: &mut [u8]) -> Sorted
 }
 
 // Where the sorts end, if they are right, how many there are, and whether their names stand there.
-#[derive(Drop)]
+#[derive(Clone, Copy)]
 pub struct SortList {
     pub ok: bool,
     pub at: usize,
@@ -384,7 +385,7 @@ fn read_declared(s: &[u8], sizes: &[u8], at: usize, funcs: &mut [u16], acts: &mu
 }
 
 // Where the signature ends, if it is right; how many sorts there are and whether their names stand there, how many functions and actions.
-#[derive(Drop)]
+#[derive(Clone, Copy)]
 pub struct Whole {
     pub ok: bool,
     pub at: usize,

@@ -1,3 +1,4 @@
+#![tactic(auto)]
 // The summands of a table's stream: each function says where its piece ends.
 ghost use Rattle.std.specs.Prelude.{◌≡◌, List, ◌++◌, true, ℕ, ◌+◌, ◌≤◌, ◌<◌, length, take, drop};
 ghost use Rattle.pcrl.specs.Limits.{max_variables, max_conditions, max_calls, frame_width};
@@ -150,7 +151,7 @@ fn read_body(
 }
 
 // Sorts of the variables in scope.
-#[derive(Drop)]
+#[derive(Clone, Copy)]
 pub struct Scope {
     pub sorts: [u8; VARIABLES],
     pub n: usize,

@@ -1,3 +1,4 @@
+#![tactic(auto)]
 // Question 14: a stream is read as the one table that it holds, with an index of where the parts stand.
 ghost use Rattle.std.specs.Prelude.{◌≡◌, ◌++◌, false, ◌+◌, ◌*◌, ◌≤◌, length, take, drop};
 ghost use Rattle.pcrl.specs.Limits.{max_sorts, max_functions, max_actions, max_equations, max_stream};
@@ -16,7 +17,7 @@ pub const FUNCS: usize = MAX_FUNCTIONS + MAX_SORTS;
 
 // Where sorts, functions, actions, parameters and summands of the equations, and the start stand in the stream; the sizes of the sorts
 // stand behind the places of the functions. Are the sorts named in the stream?
-#[derive(Drop)]
+#[derive(Clone, Copy)]
 pub struct Index {
     pub sorts: [u16; MAX_SORTS],
     pub funcs: [u16; FUNCS],
@@ -32,14 +33,14 @@ pub struct Index {
 }
 
 // Where the parts of a table stand in its stream, if the stream is a right table's.
-#[derive(Drop)]
+#[derive(Clone, Copy)]
 pub struct Tabled {
     pub ok: bool,
     pub index: Index,
 }
 
 // What was read into lent places: how many sorts, functions, actions and equations there are, where the start stands and the table ends.
-#[derive(Drop)]
+#[derive(Clone, Copy)]
 pub struct Read {
     pub ok: bool,
     pub sort_count: usize,

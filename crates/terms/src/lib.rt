@@ -1,3 +1,4 @@
+#![tactic(auto)]
 // Data terms of a table's stream, and counted lists of numbers: each function says where its piece ends.
 ghost use Rattle.std.specs.Prelude.{◌≡◌, List, ◌∷◌, ◌++◌, true, ℕ, ◌+◌, ◌-◌, ◌≤◌, ◌<◌, length, get_or, drop};
 ghost use Rattle.pcrl.specs.Sheet.{Sig};
@@ -31,7 +32,7 @@ const BOOL_SORT: u8 = limits::BOOL as u8;
 const WANTED: usize = limits::MAX_NODES + 1;
 
 // Where a piece ends, if it is right.
-#[derive(Drop)]
+#[derive(Clone, Copy)]
 pub struct Next {
     pub ok: bool,
     pub at: usize,
