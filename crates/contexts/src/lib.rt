@@ -1,3 +1,4 @@
+#![tactic(auto)]
 // A term whose heads are written, in its context; steps down into it, and the summand of an action in its context.
 ghost use Rattle.std.specs.Prelude.{◌≡◌, List, ◌∷◌, true, ℕ, ◌+◌, ◌*◌, ◌≤◌, ◌<◌, length, take, drop};
 ghost use Rattle.pcrl.specs.Limits.{max_variables, max_calls};
@@ -24,7 +25,7 @@ pub const MINE: usize = (FRAME_WIDTH + MAX_VARIABLES) * SLOT;
 // Where the walk stands: at which node, how many calls may be followed; how many slots there are, the numbers of the next variable
 // and of the first new equation; how many sum variables, conditions and calls stand around it, where the conditions end and the
 // calls begin. Not ok: its heads have not the limits.
-#[derive(Drop)]
+#[derive(Clone, Copy)]
 pub struct Spot {
     pub ok: bool,
     pub at: usize,
@@ -40,7 +41,7 @@ pub struct Spot {
 }
 
 // One side of a choice or a conditional, and the number of its first new equation.
-#[derive(Drop)]
+#[derive(Clone, Copy)]
 pub struct Side {
     pub second: bool,
     pub at: usize,
@@ -173,7 +174,7 @@ fn down_seq(
     calls: &mut [u8],
 ) -> Spot
     requires { (e.c < byte_limit) × (s.n ≤ max_scope) × (slot_width * s.n ≤ length slots.now) × (s.nk ≤ max_calls) × (calls_room ≤ length after.old) × (s.top ≤ length calls.old) × (calls_room ≤ s.top + call_bytes * s.nk) }
-    ensures by_index { (ls : ℕ) → Bound (length calls.old) ls s → Bound (length calls.old) ls result }
+    ensures bound { (ls : ℕ) → Bound (length calls.old) ls s → Bound (length calls.old) ls result }
     ensures fuel_value { result.ok ≡ true → (result.fuel ≡ s.fuel) × (result.at ≡ d.next) }
     ensures seq_down { SeqDown cells.now d s e slots.now calls.old result calls.new }
 {
@@ -256,11 +257,11 @@ pub fn step(
     after: &mut [u8],
     calls: &mut [u8],
 ) -> Spot
-    requires at_in_bounds { (s.at < length cells.now) × On s.at d × Views cells.now s.at d × Bound (length calls.old) (length slots.old) s }
-    requires max_variables_in_bounds { (max_variables ≤ length vars.old) × (calls_room ≤ length after.old) × (e.c < byte_limit) × (d.kind ≡ seq_kind → RestAt cells.now d.next s e) }
+    requires place { (s.at < length cells.now) × On s.at d × Views cells.now s.at d × Bound (length calls.old) (length slots.old) s }
+    requires rooms { (max_variables ≤ length vars.old) × (calls_room ≤ length after.old) × (e.c < byte_limit) × (d.kind ≡ seq_kind → RestAt cells.now d.next s e) }
     ensures bound { Bound (length calls.old) (length slots.old) result }
     ensures fuel_value { result.ok ≡ true → (result.fuel ≡ s.fuel) × (s.at < result.at) }
-    ensures by_index { (conds : List ℕ) → StepDown cells.now d s (arrays slots.old vars.old conds calls.old) result (arrays slots.new vars.new conds calls.new) }
+    ensures step_down { (conds : List ℕ) → StepDown cells.now d s (arrays slots.old vars.old conds calls.old) result (arrays slots.new vars.new conds calls.new) }
 {
     if d.kind == nodes::SUM {
         return down_sum(d, s, &mut *slots, &mut *vars);
@@ -306,7 +307,7 @@ pub fn emit(
     w: usize,
 ) -> Done
     requires bound { Bound (length calls.now) (length slots.now) s × (d.kind ≡ atom_kind) × Views cells.now s.at d }
-    requires max_variables_in_bounds { (max_variables ≤ length vars.now) × (conds_room ≤ length conds.now) × (terms_room ≤ length terms.old) × (length calls.now ≤ calls_room) × (w ≤ length out.old) }
+    requires rooms { (max_variables ≤ length vars.now) × (conds_room ≤ length conds.now) × (terms_room ≤ length terms.old) × (length calls.now ≤ calls_room) × (w ≤ length out.old) }
     ensures w_le_w { (w ≤ result.w) × (result.w ≤ length out.old) }
     ensures emits { Emits cells.now s (arrays slots.now vars.now conds.now calls.now) w out.old result out.new }
 {

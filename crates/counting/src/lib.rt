@@ -1,3 +1,4 @@
+#![tactic(auto)]
 // Heads counted, without writing any.
 ghost use Rattle.std.specs.Prelude.{◌≡◌, true, ℕ, ◌+◌, ◌*◌, ◌≤◌, ◌<◌, length, get_or, replicate};
 ghost use Rattle.pcrl.specs.Sheet.{Sheet};
@@ -20,7 +21,7 @@ pub const ROW: usize = MAX_PROCESSES;
 pub const ROOM: usize = (MAX_PROCESSES + 2) * ROW;
 
 // How many heads and new equations a term has, and the place after it.
-#[derive(Drop)]
+#[derive(Clone, Copy)]
 pub struct Counted {
     pub next: usize,
     pub heads: usize,

@@ -1,14 +1,14 @@
 -- Laws of `Puts`: nothing, one byte, one list behind another.
 use mathlib.Core.Path.{◌≡◌, refl, sym, ap, ap₂, subst, ◌∙◌}
 use mathlib.Core.List.{List, [], ◌∷◌, ◌++◌, append_assoc, append-nil}
-use Prim.Native.Nat.{ℕ, zero, suc, ◌+◌, ◌%◌, ◌≤◌, ◌<◌}
+use Prim.Native.Nat.{ℕ, ◌+◌, ◌%◌, ◌≤◌, ◌<◌}
 use native.Mathlib.Decide.{dec_le}
 use native.Mathlib.Numerals.{add-one}
 use native.Mathlib.Omega.{arith}
 use lib.ListN.{length, take, set, length-append, length-set}
 use lib.Seq.{take-suc-set}
 use Rattle.pcrl.specs.Blocks.{concatenated}
-use Rattle.codec.specs.Cut.{concatenated_zero, concatenated_suc, concatenated_last}
+use Rattle.codec.specs.Cut.{concatenated_zero, concatenated_last}
 use Rattle.nodes.specs.Layout.{byte_limit}
 use Rattle.emit.specs.Putting.{Puts}
 

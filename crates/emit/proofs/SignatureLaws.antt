@@ -1,13 +1,12 @@
 -- What is put for rows, sorts, functions, names and actions, part by part.
-use mathlib.Core.Path.{◌≡◌, refl, sym, ap, ap₂, subst, ◌∙◌}
+use mathlib.Core.Path.{◌≡◌, sym, ap, ap₂, subst, ◌∙◌}
 use mathlib.Core.List.{List, [], ◌∷◌, ◌++◌}
-use Prim.Native.Nat.{ℕ, zero, suc, ◌+◌, ◌-◌, ◌*◌, ◌%◌, ◌≤◌, ◌<◌}
+use Prim.Native.Nat.{ℕ, zero, suc, ◌+◌, ◌-◌, ◌*◌, ◌%◌, ◌<◌}
 use native.Mathlib.Omega.{arith}
 use lib.ListN.{length, take, drop, get_or}
 use Rattle.pcrl.specs.Text.{bytes}
 use Rattle.pcrl.specs.Bytes.{name_byte}
 use Rattle.pcrl.specs.Tokens.{run, front}
-use Rattle.pcrl.specs.Tree.{Name}
 use Rattle.pcrl.specs.Lists.{tabulate}
 use Rattle.lexer.specs.Cells.{first_name}
 use Rattle.lexer.specs.Classes.{in_classes}

@@ -1,16 +1,15 @@
 -- The bytes that the arrays show are those of the signature that they hold.
 use mathlib.Core.Path.{◌≡◌, refl, sym, ap, ap₂, ◌∙◌}
 use mathlib.Core.List.{List, [], ◌∷◌, ◌++◌}
-use Prim.Native.Nat.{ℕ, zero, suc, ◌+◌, ◌-◌, ◌*◌, ◌%◌, ◌≤◌, ◌<◌}
+use Prim.Native.Nat.{ℕ, zero, suc, ◌+◌, ◌-◌, ◌*◌, ◌≤◌, ◌<◌}
 use native.Mathlib.Nat.{mod-eq_of_lt}
 use native.Mathlib.Omega.{arith}
-use lib.ListN.{length, take, drop, get_or, length-append, length-map, get_or-append}
+use lib.ListN.{length, get_or, length-map, get_or-append}
 use lib.Seq.{get_or-drop}
 use Rattle.pcrl.specs.Limits.{max_name}
-use Rattle.pcrl.specs.Tests.{Every}
 use Rattle.pcrl.specs.Reader.{all}
 use Rattle.pcrl.specs.Tree.{Name}
-use Rattle.pcrl.specs.Lists.{tabulate, together}
+use Rattle.pcrl.specs.Lists.{together}
 use Rattle.pcrl.specs.Blocks.{concatenated}
 use Rattle.pcrl.specs.Sheet.{Func, Action, Sig, no_func, no_action, func}
 use Rattle.pcrl.specs.Table.{with_names}
@@ -21,10 +20,10 @@ use Rattle.codec.specs.Cut.{concatenated_zero, concatenated_suc, concatenated_al
 use Rattle.codec.specs.Together.{firsts_together}
 use Rattle.nodes.specs.declared.Outline.{Outline}
 use Rattle.nodes.specs.Layout.{byte_limit}
-use Rattle.nodes.specs.Held.{func_width, act_width, SortsAt, FuncAt, ActAt, HeldSig}
+use Rattle.nodes.specs.Held.{func_width, act_width, SortsAt, FuncAt, ActAt}
 use Rattle.names.specs.NameCells.{name_at}
 use Rattle.emit.specs.Putting.{Puts}
-use Rattle.emit.specs.Bytes.{part, row_bytes, sort_name_at, sort_bytes, sorts_bytes, func_bytes, name_bytes, action_bytes, counted_bytes, NamesAt, ShortNames, SortNamesAt, PutsSig}
+use Rattle.emit.specs.Bytes.{part, row_bytes, sort_name_at, sort_bytes, sorts_bytes, func_bytes, name_bytes, action_bytes, counted_bytes, SortNamesAt, PutsSig}
 use Rattle.emit.proofs.Putting.{puts_then, puts_as}
 use Rattle.emit.proofs.Copied.{part_is}
 

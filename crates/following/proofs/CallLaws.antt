@@ -1,10 +1,10 @@
 -- One part's call.
-use mathlib.Core.Path.{◌≡◌, refl, sym, ap, ap₂, ◌∙◌, subst}
-use mathlib.Core.List.{List, [], ◌∷◌, ◌++◌, map, append_assoc, append-nil}
+use mathlib.Core.Path.{◌≡◌, refl, sym, ap, ◌∙◌, subst}
+use mathlib.Core.List.{List, [], ◌∷◌, ◌++◌, map, append-nil}
 use mathlib.Core.Bool.{Bool, true, false}
-use Prim.Native.Nat.{ℕ, suc, ◌+◌, ◌*◌, ◌%◌, ◌<◌, ◌≤◌}
+use Prim.Native.Nat.{ℕ, suc, ◌+◌, ◌%◌, ◌<◌, ◌≤◌}
 use native.Mathlib.Omega.{arith}
-use lib.ListN.{length, drop, take, set, length-map}
+use lib.ListN.{length, take, set, length-map}
 use Rattle.pcrl.specs.Limits.{frame_width}
 use Rattle.pcrl.specs.Tests.{Every}
 use Rattle.pcrl.specs.Reader.{all}
@@ -12,20 +12,18 @@ use Rattle.pcrl.specs.Sheet.{Data, Proc, delta, atom, alt, cond, sum, seq, call,
 use Rattle.pcrl.specs.Values.{put_data}
 use Rattle.pcrl.specs.Parts.{marked, marks}
 use Rattle.pcrl.specs.Stream.{encode_data, encode_call}
-use Rattle.pcrl.specs.Right.{Small}
 use Rattle.pcrl.specs.Heads.{look, new_call, calls_of}
-use Rattle.laws.specs.Booleans.{false_not_true}
 use Rattle.nodes.specs.declared.Node.{Node}
-use Rattle.nodes.specs.Layout.{byte_limit, seq_kind, call_kind, enc, enc_datas}
+use Rattle.nodes.specs.Layout.{byte_limit, seq_kind, call_kind}
 use Rattle.nodes.specs.Nodes.{kind_of, node_number, node_datas}
 use Rattle.nodes.specs.Views.{Opened, Views}
 use Rattle.nodes.proofs.Nodes.{one_item}
 use Rattle.putting.specs.declared.Done.{Done}
-use Rattle.putting.specs.Slots.{Slots, Writable, Adds}
+use Rattle.putting.specs.Slots.{Adds}
 use Rattle.putting.specs.Puts.{PutsAll}
 use Rattle.putting.proofs.Bytes.{cell_more, adds_then}
 use Rattle.marking.specs.Marks.{bits, Above, Marked}
-use Rattle.following.specs.Fine.{Fine, Few}
+use Rattle.following.specs.Fine.{Fine}
 use Rattle.following.specs.Follows.{TermsSmall, CallSmall, MarkedPut, CallPut}
 
 -- sums bind from n on

@@ -1,7 +1,7 @@
 -- The terms in the marked slots, one after another: the next one is found by the zeros below the lowest mark.
 use mathlib.Core.Path.{◌≡◌, refl, sym, ap, ap₂, ◌∙◌, subst}
 use mathlib.Core.List.{List, [], ◌∷◌, ◌++◌, append_assoc, append-nil}
-use mathlib.Core.Bool.{Bool, true, false}
+use mathlib.Core.Bool.{true, false}
 use Prim.Native.Nat.{ℕ, zero, suc, ◌+◌, ◌-◌, ◌*◌, ◌/◌, ◌%◌, ◌^◌, ◌<◌, ◌≤◌}
 use native.Mathlib.Nat.{pow-suc, pow-succ', div-div-eq-div-mul, div-le_self, div-one}
 use native.Mathlib.Omega.{arith}
@@ -13,7 +13,6 @@ use Rattle.pcrl.specs.Tests.{Every}
 use Rattle.pcrl.specs.Reader.{all}
 use Rattle.pcrl.specs.Sheet.{Data, val}
 use Rattle.pcrl.specs.Parts.{marked}
-use Rattle.pcrl.specs.Table.{nodes}
 use Rattle.pcrl.specs.Stream.{encode_data}
 use Rattle.pcrl.specs.Right.{Small}
 use Rattle.pcrl.specs.Heads.{look}
@@ -21,10 +20,9 @@ use Rattle.laws.specs.Booleans.{false_not_true}
 use Rattle.nodes.specs.Bits.{odd}
 use Rattle.putting.specs.declared.Done.{Done}
 use Rattle.laws.specs.TermLength.{max_term}
-use Rattle.putting.specs.Slots.{slot_width, Slot, Slots, Adds}
-use Rattle.putting.proofs.PutLaws.{short}
+use Rattle.putting.specs.Slots.{slot_width, Slots}
 use Rattle.marking.specs.Marks.{bits}
-use Rattle.following.specs.Follows.{OnePut, TermsSmall, MarkedPut}
+use Rattle.following.specs.Follows.{OnePut, MarkedPut}
 
 -- THE TERM OF A SLOT
 

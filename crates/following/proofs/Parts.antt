@@ -1,11 +1,11 @@
 -- The calls of all parts of a term that stands after a first part: a loop over the parts that are left.
 use mathlib.Core.Path.{◌≡◌, refl, sym, ap, ap₂, ◌∙◌, subst}
 use mathlib.Core.List.{List, [], ◌∷◌, ◌++◌, append_assoc, append-nil}
-use mathlib.Core.Bool.{Bool, true, false}
-use Prim.Native.Nat.{ℕ, zero, suc, ◌+◌, ◌-◌, ◌*◌, ◌<◌, ◌≤◌}
+use mathlib.Core.Bool.{true, false}
+use Prim.Native.Nat.{ℕ, ◌+◌, ◌-◌, ◌<◌, ◌≤◌}
 use native.Mathlib.Omega.{arith}
 use lib.ListN.{length, drop, take, length-append}
-use lib.Seq.{length-take-le, paste, drop-paste, drop_at, take_at, length_paste_head}
+use lib.Seq.{length-take-le, paste, drop_at}
 use Rattle.pcrl.specs.Limits.{max_calls}
 use Rattle.pcrl.specs.Tests.{Every}
 use Rattle.pcrl.specs.Reader.{all}
@@ -17,7 +17,7 @@ use Rattle.laws.specs.Booleans.{false_not_true}
 use Rattle.laws.specs.Every.{every_append, every_left, every_right}
 use Rattle.nodes.specs.declared.Node.{Node}
 use Rattle.nodes.specs.declared.Skipped.{Skipped}
-use Rattle.nodes.specs.Layout.{byte_limit, seq_kind, Item, enc, encs}
+use Rattle.nodes.specs.Layout.{byte_limit, seq_kind, enc, encs}
 use Rattle.nodes.specs.Nodes.{kind_of, node_kids, node_own}
 use Rattle.nodes.specs.Views.{Opened, Views, Skips}
 use Rattle.nodes.proofs.Nodes.{one_item, items_end}
@@ -25,7 +25,6 @@ use Rattle.nodes.proofs.NewParts.{new_all, new_open}
 use Rattle.putting.specs.declared.Done.{Done}
 use Rattle.putting.specs.Slots.{Slots, Adds}
 use Rattle.following.specs.declared.Calls.{Calls}
-use Rattle.following.specs.declared.Pushed.{Pushed}
 use Rattle.following.specs.Fine.{Fine, Few}
 use Rattle.following.specs.Follows.{CallSmall, CallPut, CallsPut, Pushes}
 

@@ -1,3 +1,4 @@
+#![tactic(auto)]
 // The calls of what stands after a first part, written as stream bytes.
 ghost use Rattle.std.specs.Prelude.{◌≡◌, true, ◌+◌, ◌*◌, ◌≤◌, ◌<◌, length, take, drop};
 ghost use Rattle.pcrl.specs.Limits.{max_calls, frame_width};
@@ -17,7 +18,7 @@ const CALL: usize = 1 + FRAME_WIDTH * MAX_TERM;
 pub const CALLS: usize = MAX_CALLS * CALL;
 
 // Calls written one behind another: the place behind them, and how many they are. Not ok: one is too long, or they are too many.
-#[derive(Drop)]
+#[derive(Clone, Copy)]
 pub struct Calls {
     pub ok: bool,
     pub w: usize,
@@ -25,7 +26,7 @@ pub struct Calls {
 }
 
 // Where the calls of a summand begin, and how many they are.
-#[derive(Drop)]
+#[derive(Clone, Copy)]
 pub struct Pushed {
     pub ok: bool,
     pub top: usize,

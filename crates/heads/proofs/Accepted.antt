@@ -1,27 +1,26 @@
 -- An accepted sheet can be written: what the questions and the arrays say of it gives `Fine` and `Ready`.
-use mathlib.Core.Path.{◌≡◌, refl, sym, ap, ◌∙◌, subst}
+use mathlib.Core.Path.{◌≡◌, refl, ap, ◌∙◌, subst}
 use mathlib.Core.List.{List, [], ◌∷◌, ◌++◌}
-use mathlib.Core.Option.{Option}
 use mathlib.Core.Bool.{Bool, true, false}
-use Prim.Native.Nat.{ℕ, zero, suc, ◌+◌, ◌-◌, ◌*◌, ◌<◌, ◌≤◌}
+use Prim.Native.Nat.{ℕ, zero, suc, ◌+◌, ◌-◌, ◌<◌, ◌≤◌}
 use native.Mathlib.Omega.{arith}
 use lib.ListN.{length, get_or, get_elem?, length-append}
-use Rattle.pcrl.specs.Limits.{max_arity, max_actions, max_sorts, max_processes, frame_width}
+use Rattle.pcrl.specs.Limits.{max_arity, max_actions}
 use Rattle.pcrl.specs.Tests.{Every, Each}
-use Rattle.pcrl.specs.Sheet.{Data, val, var, app, Datas, nil, cons, Act, tau, action, Action, Proc, delta, atom, alt, cond, sum, seq, call, Process, Sig, Sheet, no_action, no_process, list_of, Operation, first_equal, operation, size, function, function_at, takes_of, params, right}
+use Rattle.pcrl.specs.Sheet.{Data, val, var, app, Datas, nil, cons, Act, tau, action, Proc, delta, atom, alt, cond, sum, seq, call, Process, Sig, Sheet, no_action, no_process, Operation, first_equal, operation, size, function, function_at, takes_of, params, right}
 use Rattle.pcrl.specs.Sorts.{Scope, binding, IsOperation, IsFunc, HasSort, HaveSorts, IsAct, Sorted}
-use Rattle.pcrl.specs.Parts.{NewPart, new_count, if_after, new_parts, all_new_parts, first_new}
+use Rattle.pcrl.specs.Parts.{new_count, if_after, new_parts, all_new_parts, first_new}
 use Rattle.laws.specs.Every.{every_at}
 use Rattle.laws.specs.Each.{each_length}
 use Rattle.laws.specs.Operations.{Seen, seen, equal_number}
 use Rattle.laws.specs.DataSorts.{have_sorts_many}
 use Rattle.nodes.specs.declared.Outline.{Outline}
 use Rattle.nodes.specs.Layout.{byte_limit, cell_limit, act_number}
-use Rattle.nodes.specs.Scoped.{max_scope, ScopedData, ScopedArguments, Scoped}
+use Rattle.nodes.specs.Scoped.{ScopedData, ScopedArguments, Scoped}
 use Rattle.nodes.specs.Held.{HeldProcs, ProcAt}
-use Rattle.counting.specs.Counting.{Placed, Tallied, FirstNew}
+use Rattle.counting.specs.Counting.{Tallied, FirstNew}
 use Rattle.putting.specs.Slots.{Writable, WritableArguments}
-use Rattle.following.specs.Fine.{Fine, Few}
+use Rattle.following.specs.Fine.{Fine}
 use Rattle.contexts.specs.Spots.{Ready}
 
 -- sizes of sorts, sorts and actions are few

@@ -2,29 +2,19 @@
 use mathlib.Core.Path.{◌≡◌, refl, sym, ap, ◌∙◌, subst}
 use mathlib.Core.List.{List, [], ◌∷◌, ◌++◌}
 use mathlib.Core.Bool.{Bool, true, false}
-use Prim.Native.Nat.{ℕ, zero, suc, ◌+◌, ◌-◌, ◌*◌, ◌/◌, ◌%◌, ◌^◌, ◌<◌, ◌≤◌, min}
+use Prim.Native.Nat.{ℕ, zero, suc, ◌+◌, ◌*◌, ◌/◌, ◌%◌, ◌^◌, ◌<◌, ◌≤◌}
 use native.Mathlib.Numerals.{add-one}
 use native.Mathlib.Nat.{pow-suc, pow-succ', div-div-eq-div-mul, div-one}
 use native.Mathlib.Omega.{arith}
 use native.Mathlib.Decide.{ℕ_discrete}
-use lib.ListN.{length, drop, take, get_or, set, length-append, length-set, get_or-append}
-use lib.Seq.{get_or-set_same, get_or-set_other, take-set-le, drop-set-lt, drop-cons, get_or-append_seam, get_or_at, take-take, paste, take-paste}
-use Rattle.pcrl.specs.Limits.{max_nodes}
-use Rattle.pcrl.specs.Sheet.{Data, val, var, Proc, Sheet}
+use lib.ListN.{length, drop, take, get_or, set, length-set, get_or-append}
+use lib.Seq.{get_or-set_same, get_or-set_other, take-set-le, drop-cons, get_or_at}
+use Rattle.pcrl.specs.Sheet.{Data, val, var}
 use Rattle.pcrl.specs.Parts.{count, as_params}
 use Rattle.pcrl.specs.Table.{nodes}
-use Rattle.pcrl.specs.Stream.{variable_code, encode_data}
-use Rattle.pcrl.specs.Heads.{look, heads}
-use Rattle.laws.specs.Booleans.{false_not_true}
+use Rattle.pcrl.specs.Stream.{encode_data}
+use Rattle.pcrl.specs.Heads.{look}
 use Rattle.laws.specs.Lists.{length_snoc}
-use Rattle.nodes.specs.declared.Skipped.{Skipped}
-use Rattle.nodes.specs.Layout.{byte_limit, enc}
-use Rattle.nodes.specs.Views.{Skips}
-use Rattle.counting.specs.declared.Counted.{Counted}
-use Rattle.counting.specs.Limits.{most_heads, row_width, cut, row}
-use Rattle.counting.specs.Counting.{Counts, Tallied}
-use Rattle.counting.specs.Heads.{called, count_of, count_heads}
-use Rattle.counting.proofs.Rows.{row_counts}
 use Rattle.putting.specs.Slots.{slot_width, Slot, Slots}
 use Rattle.putting.proofs.Several.{slot_kept}
 use Rattle.heads.specs.Writing.{BytePut, param_of}

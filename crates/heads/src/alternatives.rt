@@ -13,7 +13,7 @@ use elements::BYTE_LIMIT;
 use nodes::Node;
 
 // Where the walk stands, the node there, and the count of its first part if it is a choice or a sequence.
-#[derive(Drop)]
+#[derive(Clone, Copy)]
 pub struct Ahead {
     pub s: Spot,
     pub d: Node,

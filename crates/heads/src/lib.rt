@@ -1,3 +1,4 @@
+#![tactic(auto)]
 // The heads of a term written as summands, one after another.
 ghost use Rattle.std.specs.Prelude.{◌+◌, ◌*◌, ◌≤◌, ◌<◌, length};
 ghost use Rattle.pcrl.specs.Limits.{max_variables};

@@ -7,7 +7,7 @@ use elements::cell;
 use limits::MAX_PROCESSES;
 
 // The numbers of the first new equations of all processes.
-#[derive(Drop)]
+#[derive(Clone, Copy)]
 pub struct Firsts {
     pub at: [u8; MAX_PROCESSES],
 }

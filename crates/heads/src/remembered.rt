@@ -6,7 +6,7 @@ use counting::Counted;
 use elements::{CELL_LIMIT, cell, short};
 
 // Where the walk comes to, the new equations passed, and the count of the first part there, that stands at `next`; the cells looked at.
-#[derive(Drop)]
+#[derive(Clone, Copy)]
 pub struct Arrival {
     pub at: usize,
     pub own: usize,

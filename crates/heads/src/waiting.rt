@@ -10,7 +10,7 @@ use elements::{CELL_LIMIT, cell};
 pub const LATER: usize = 7;
 
 // The second side of the choice at s, and how many heads it has.
-#[derive(Drop)]
+#[derive(Clone, Copy)]
 pub struct Later {
     pub s: Spot,
     pub e: Side,

@@ -14,7 +14,7 @@ use putting::Done;
 
 // The walk goes on in the side e of the choice d at t: how many heads it has, how many are left with those of the second sides that
 // wait, how many sides wait, with those of the walks around; how far is written. Or it is over.
-#[derive(Drop)]
+#[derive(Clone, Copy)]
 struct Turn {
     over: bool,
     t: Spot,
@@ -243,7 +243,7 @@ fn next_turn(
     requires steady { Steady (length calls.old) (length slots.now) g.s.fuel q0 g.s q later.old × Rooms (length vars.old) (length conds.old) (length after.old) (length calls.old) × (w ≤ length out.old) }
     requires looked { Looked cells.now counts.now g × (Leaf g.d.kind ⊎ Parting g.d.kind) × Remembers cells.now counts.now remembered.old }
     ensures w_le_w { (w ≤ result.done.w) × (result.done.w ≤ length out.old) × (take (later_cells * q0) later.new ≡ take (later_cells * q0) later.old) }
-    ensures steady_2 { result.over ≡ false → Steady (length calls.old) (length slots.now) g.s.fuel q0 result.t result.q later.new × Nearer g.s left result }
+    ensures stays_steady { result.over ≡ false → Steady (length calls.old) (length slots.now) g.s.fuel q0 result.t result.q later.new × Nearer g.s left result }
     ensures turned { Turned cells.now starts.now counts.now firsts.now q0 g.s heads left q w (arrays slots.now vars.old conds.old calls.old) later.old out.old result (arrays slots.now vars.new conds.new calls.new) later.new out.new }
     ensures remembers { Remembers cells.now counts.now remembered.new }
 {

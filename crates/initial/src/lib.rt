@@ -1,3 +1,4 @@
+#![tactic(auto)]
 // "start equation, its data evaluated": the last part of a table's stream.
 // The data are read from the right, and their values stand in the cells that were read.
 ghost use Rattle.std.specs.Prelude.{◌≡◌, ◌+◌, ◌*◌, ◌<◌, ◌≤◌, length, set};
@@ -10,7 +11,7 @@ use emit::bytes::put;
 use nodes::{AND, EQUAL, FUNC_ROW, NOT, VALUE, node_at};
 
 // Where the cells that are left to read end, and where the values begin.
-#[derive(Drop)]
+#[derive(Clone, Copy)]
 pub struct Reached {
     pub end: usize,
     pub top: usize,

@@ -21,7 +21,7 @@ use Rattle.pcrl.specs.Right.{SummandWithin, EquationWithin, Within, RightName, R
 use Rattle.laws.specs.Every.{every_weaken, every_both, every_at, at_every, map_every, every_map, every_append, every_left, every_right}
 use Rattle.theory.specs.Standing.{Standing, RightProcess}
 use Rattle.theory.specs.Equations.{equation_count}
-use Rattle.theory.specs.SortedTable.{SortedEquation, equation_sorted}
+use Rattle.theory.proofs.SortedTable.{SortedEquation, equation_sorted}
 use Rattle.laws.specs.Each.{each_length}
 use Rattle.contexts.specs.Spots.{SummandFits}
 use Rattle.nodes.specs.declared.Outline.{Outline}

@@ -1,3 +1,4 @@
+#![tactic(auto)]
 // The stream of a sheet's table: question 10.
 ghost use Rattle.std.specs.Prelude.{◌≡◌, ◌+◌, ◌*◌, ◌≤◌, ◌<◌, false, length};
 ghost use Rattle.pcrl.specs.Limits.{max_stream};
@@ -18,7 +19,7 @@ use parts::sheet_parts::{count_equations, put_param_lists};
 use sheets::SheetRows;
 
 // The length of the stream. Not ok: not within the limits, or no room; if `length` is below the room, not within the limits.
-#[derive(Drop)]
+#[derive(Clone, Copy)]
 pub struct Written {
     pub ok: bool,
     pub length: usize,

@@ -1,3 +1,4 @@
+#![tactic(auto)]
 // The summands of all equations: the written processes, and behind them the new equations, whose rows are given.
 ghost use Rattle.std.specs.Prelude.{◌≡◌, ◌+◌, ◌≤◌, ◌<◌, length};
 ghost use Rattle.pcrl.specs.Limits.{max_processes, max_equations, max_stream};
@@ -19,7 +20,7 @@ const ALL_MARKS: u32 = 4294967295;
 
 // Where the right side of an equation stands; how many variables are in scope there, and as bits those that are parameters;
 // the number of the next variable, and that of the first new equation in it.
-#[derive(Drop)]
+#[derive(Clone, Copy)]
 pub struct Source {
     pub at: usize,
     pub scope: usize,

@@ -13,7 +13,7 @@ use Rattle.pcrl.specs.Stream.{encode}
 use Rattle.pcrl.specs.Right.{Within, within?}
 use Rattle.pcrl.specs.Answers.{sheet_read, table_made, stream_filed, file_made, output_after}
 use Rattle.laws.specs.Questions.{question_passes, question_fails}
-use Rattle.theory.specs.Accepted.{accepted_standing}
+use Rattle.theory.proofs.Accepted.{accepted_standing}
 use Rattle.nodes.specs.Layout.{cell_limit}
 use Rattle.nodes.specs.Held.{Held}
 use Rattle.sheets.specs.declared.Answer.{Answer}

@@ -1,7 +1,8 @@
+#![tactic(auto)]
 // Make a table and check a sheet, from any bytes: questions 1 to 11.
 ghost use Rattle.std.specs.Prelude.{◌≡◌, ◌≤◌, ◌<◌, length};
 ghost use Rattle.pcrl.specs.Limits.{max_stream};
-ghost use Rattle.pcrl.specs.Answers.{sheet_read, table-made, file-made, output-after};
+ghost use Rattle.pcrl.specs.Answers.{sheet_read, table_made, file_made, output_after};
 ghost use Rattle.laws.specs.Says.{Says};
 ghost use Rattle.nodes.specs.Layout.{cell_limit};
 ghost use Rattle.sheets.specs.Reading.{Room, Reads};
@@ -27,7 +28,7 @@ const CELLS: usize = 3 * MAX_BYTES;
 const VALUES: usize = MAX_BYTES / 2;
 
 // The number of the first question that fails, or 0 and how many bytes were written.
-#[derive(Drop)]
+#[derive(Clone, Copy)]
 pub struct Made {
     pub refused: u8,
     pub length: usize,
@@ -35,7 +36,7 @@ pub struct Made {
 
 // The number of the first question that fails, or 0 and how many bytes were written, if that was found; else the stream's array was
 // too short.
-#[derive(Drop)]
+#[derive(Clone, Copy)]
 pub struct Tried {
     pub done: bool,
     pub refused: u8,
@@ -66,7 +67,7 @@ fn write(
 ) -> Tried
     requires reads { Reads (sheet_read sheet.now) sheet.now a values.now cells.old }
     requires refused_value { (a.refused ≡ 0) × (length cells.old < cell_limit) × (length stream.old ≤ max_stream) }
-    ensures { Tries (file-made sheet.now (length out.old)) (length stream.old) out.old result out.new }
+    ensures { Tries (file_made sheet.now (length out.old)) (length stream.old) out.old result out.new }
 {
     let rows = a.rows;
     let w = write_table(sheet, rows, values, cells, stream);
@@ -110,7 +111,7 @@ fn make(
     out: &mut [u8],
 ) -> Tried
     requires { Room sheet.now raw.old values.old cells.old × (length stream.old ≤ max_stream) }
-    ensures { Tries (file-made sheet.now (length out.old)) (length stream.old) out.old result out.new }
+    ensures { Tries (file_made sheet.now (length out.old)) (length stream.old) out.old result out.new }
 {
     let a = read_sheet(sheet, raw, values, cells);
     if a.refused != 0 {
@@ -126,7 +127,7 @@ fn make(
 // Questions 1 to 11 over arrays for a sheet of at most 64 bytes.
 fn make_short(sheet: &[u8], out: &mut [u8]) -> Tried
     requires { length sheet.now ≤ 64 }
-    ensures { Tries (file-made sheet.now (length out.old)) 1024 out.old result out.new }
+    ensures { Tries (file_made sheet.now (length out.old)) 1024 out.old result out.new }
 {
     let mut raw = [0u16; 192];
     let mut values = [0u8; 32];
@@ -138,7 +139,7 @@ fn make_short(sheet: &[u8], out: &mut [u8]) -> Tried
 // Questions 1 to 11 over arrays for a sheet of at most 512 bytes.
 fn make_middle(sheet: &[u8], out: &mut [u8]) -> Tried
     requires { length sheet.now ≤ 512 }
-    ensures { Tries (file-made sheet.now (length out.old)) 8192 out.old result out.new }
+    ensures { Tries (file_made sheet.now (length out.old)) 8192 out.old result out.new }
 {
     let mut raw = [0u16; 1536];
     let mut values = [0u8; 256];
@@ -164,8 +165,8 @@ fn write_long(
     out: &mut [u8],
 ) -> Made
     requires { Reads (sheet_read sheet.now) sheet.now a values.now cells.old × (a.refused ≡ 0) }
-    ensures answer { result ≡ made_answer (file-made sheet.now (length out.old)) }
-    ensures written { out.new ≡ output-after (file-made sheet.now (length out.old)) out.old }
+    ensures answer { result ≡ made_answer (file_made sheet.now (length out.old)) }
+    ensures written { out.new ≡ output_after (file_made sheet.now (length out.old)) out.old }
 {
     let mut stream = [0u8; MAX_STREAM];
     let t = write(sheet, a, values, cells, &mut stream, out);
@@ -177,8 +178,8 @@ fn write_long(
 
 // Questions 1 to 11 over arrays for the longest sheet.
 fn make_long(sheet: &[u8], out: &mut [u8]) -> Made
-    ensures answer { result ≡ made_answer (file-made sheet.now (length out.old)) }
-    ensures written { out.new ≡ output-after (file-made sheet.now (length out.old)) out.old }
+    ensures answer { result ≡ made_answer (file_made sheet.now (length out.old)) }
+    ensures written { out.new ≡ output_after (file_made sheet.now (length out.old)) out.old }
 {
     let mut values = [0u8; VALUES];
     let mut cells = [0u16; CELLS];
@@ -196,8 +197,8 @@ fn make_long(sheet: &[u8], out: &mut [u8]) -> Made
 // them over the long ones, by a call of itself: so the compiler does not lay the arrays of all sizes into one frame.
 fn make_by(sheet: &[u8], out: &mut [u8], short: usize, middle: usize) -> Made
     requires { (short ≤ 65) × (middle ≤ 513) }
-    ensures answer { result ≡ made_answer (file-made sheet.now (length out.old)) }
-    ensures written { out.new ≡ output-after (file-made sheet.now (length out.old)) out.old }
+    ensures answer { result ≡ made_answer (file_made sheet.now (length out.old)) }
+    ensures written { out.new ≡ output_after (file_made sheet.now (length out.old)) out.old }
 {
     let n = sheet.len();
     if n < short {
@@ -225,8 +226,8 @@ fn make_by(sheet: &[u8], out: &mut [u8], short: usize, middle: usize) -> Made
 
 // Make a table: the file of a sheet's bytes over the front of the lent output.
 pub fn make_table(sheet: &[u8], out: &mut [u8]) -> Made
-    ensures answer { result ≡ made_answer (file-made sheet.now (length out.old)) }
-    ensures written { out.new ≡ output-after (file-made sheet.now (length out.old)) out.old }
+    ensures answer { result ≡ made_answer (file_made sheet.now (length out.old)) }
+    ensures written { out.new ≡ output_after (file_made sheet.now (length out.old)) out.old }
 {
     make_by(sheet, out, SHORT, MIDDLE)
 }
@@ -234,7 +235,7 @@ pub fn make_table(sheet: &[u8], out: &mut [u8]) -> Made
 // Check a sheet: the number of the first of questions 1 to 10 that fails, or 0. Where there is no room for a file,
 // question 11 is the first to fail exactly if 1 to 10 pass.
 pub fn check_sheet(sheet: &[u8]) -> u8
-    ensures { result ≡ refusal (table-made sheet.now) }
+    ensures { result ≡ refusal (table_made sheet.now) }
 {
     let mut none = [0u8; 1];
     let m = make_table(sheet, &mut none);

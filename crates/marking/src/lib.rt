@@ -1,3 +1,4 @@
+#![tactic(auto)]
 // The variables that stand free in a part, as bits of a u32.
 ghost use Rattle.std.specs.Prelude.{◌≡◌, ◌≤◌, ◌<◌};
 ghost use Rattle.pcrl.specs.Parts.{count as count_of};

@@ -1,16 +1,15 @@
 -- What is left of a walk: the terms at its level and those below, up to the first level that has any.
-use mathlib.Core.Path.{◌≡◌, refl, sym, ap, ap₂, subst, ◌∙◌}
+use mathlib.Core.Path.{◌≡◌, refl, sym, ap, subst, ◌∙◌}
 use mathlib.Core.List.{List, [], ◌∷◌, ◌++◌, append_assoc, append-nil}
-use mathlib.Core.Bool.{Bool, true, false}
-use Prim.Native.Nat.{ℕ, zero, suc, ◌+◌, ◌-◌, ◌*◌, ◌%◌, ◌≤◌, ◌<◌}
+use mathlib.Core.Bool.{Bool, false}
+use Prim.Native.Nat.{ℕ, ◌+◌, ◌-◌, ◌≤◌, ◌<◌}
 use native.Mathlib.Omega.{arith}
-use lib.ListN.{length, take, drop, get_or, set, length-append, length-drop}
+use lib.ListN.{length, take, drop, get_or, length-append, length-drop}
 use Rattle.pcrl.specs.Tests.{Every}
 use Rattle.pcrl.specs.Reader.{all}
 use Rattle.pcrl.specs.Sheet.{Proc, delta, atom, alt, cond, sum, seq, call, Sheet}
-use Rattle.pcrl.specs.Parts.{NewPart, if_after, new_parts}
-use Rattle.nodes.specs.Layout.{after_mark, Item, enc, encs}
-use Rattle.nodes.specs.Nodes.{kind_of, node_own, node_kids, open_node}
+use Rattle.pcrl.specs.Parts.{NewPart, new_parts}
+use Rattle.nodes.specs.Layout.{Item, enc, encs}
 use Rattle.nodes.proofs.Nodes.{one_item, items_end}
 use Rattle.parts.specs.declared.PartWalk.{PartWalk}
 use Rattle.parts.specs.Walking.{Fit, parts_of, Below, FitBelow, parts_below, Ahead, Rises}

@@ -1,23 +1,22 @@
 -- A part noted: its row, and its parameters, which are the marked ones of all 32 bits since the bits behind its scope are 0.
-use mathlib.Core.Path.{◌≡◌, refl, sym, ap, ap₂, subst, ◌∙◌}
-use mathlib.Core.List.{List, [], ◌∷◌, ◌++◌}
+use mathlib.Core.Path.{◌≡◌, refl, sym, ap, ap₂, ◌∙◌}
+use mathlib.Core.List.{List, [], ◌∷◌}
 use mathlib.Core.Bool.{Bool, true, false}
-use Prim.Native.Nat.{ℕ, zero, suc, ◌+◌, ◌-◌, ◌*◌, ◌/◌, ◌%◌, ◌≤◌, ◌<◌}
+use Prim.Native.Nat.{ℕ, zero, suc, ◌/◌, ◌%◌, ◌≤◌}
 use native.Mathlib.Omega.{arith}
-use lib.ListN.{length, take, drop, get_or}
+use lib.ListN.{length, take, drop}
 use lib.Seq.{length-take-le}
 use Rattle.pcrl.specs.Sheet.{Proc, delta, atom, alt, cond, sum, seq, call}
-use Rattle.pcrl.specs.Parts.{NewPart, marks, count, marked}
+use Rattle.pcrl.specs.Parts.{marks, count, marked}
 use Rattle.pcrl.specs.Stream.{encode_numbers}
 use Rattle.nodes.specs.Bits.{odd, bit}
-use Rattle.nodes.specs.Layout.{cell_limit, enc}
 use Rattle.nodes.specs.Scoped.{max_scope, Scoped}
 use Rattle.nodes.proofs.Bits.{zero_bit}
 use Rattle.marking.specs.Marks.{bits, HighBits, Above, Marked}
 use Rattle.emit.specs.Putting.{Puts}
 use Rattle.emit.proofs.Putting.{puts_as}
-use Rattle.parts.specs.Rows.{row_width, RowOf, RowPut, part_params, params_bytes}
-use Rattle.parts.specs.Walking.{part_at, Notes}
+use Rattle.parts.specs.Rows.{RowPut, part_params, params_bytes}
+use Rattle.parts.specs.Walking.{Notes}
 
 -- sums bind variables behind those in scope
 pub scoped_above : (m n k : ℕ) (p : Proc) → n ≤ k → Scoped m k p → Above n p

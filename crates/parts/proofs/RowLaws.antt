@@ -1,12 +1,12 @@
 -- A row written, and rows that stay.
-use mathlib.Core.Path.{◌≡◌, refl, sym, ap, ◌∙◌}
+use mathlib.Core.Path.{◌≡◌, refl, ◌∙◌}
 use mathlib.Core.List.{List}
 use Prim.Native.Nat.{ℕ, ◌+◌, ◌*◌, ◌/◌, ◌≤◌, ◌<◌}
 use native.Mathlib.Omega.{arith}
-use lib.ListN.{length, get_or, set, length-set}
+use lib.ListN.{length, set, length-set}
 use lib.Seq.{get_or-set_same, get_or-set_other}
 use Rattle.nodes.specs.Layout.{cell_limit}
-use Rattle.parts.specs.Rows.{row_width, RowsKept, RowPut}
+use Rattle.parts.specs.Rows.{RowsKept, RowPut}
 
 pub kept_none : (rows : List ℕ) (k : ℕ) → RowsKept rows k rows
 kept_none rows k = record { same = refl; below = λ j h. refl }

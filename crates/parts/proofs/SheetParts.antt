@@ -1,15 +1,13 @@
 -- The parts of all right sides, one right side after another.
-use mathlib.Core.Path.{◌≡◌, refl, sym, ap, ap₂, subst, ◌∙◌}
-use mathlib.Core.List.{List, [], ◌∷◌, ◌++◌, append_assoc, append-nil, map}
+use mathlib.Core.Path.{◌≡◌, refl, sym, ap, subst, ◌∙◌}
+use mathlib.Core.List.{List, [], ◌∷◌, ◌++◌, append_assoc, append-nil}
 use mathlib.Core.Bool.{Bool, true, false}
-use Prim.Native.Nat.{ℕ, zero, suc, ◌+◌, ◌-◌, ◌*◌, ◌≤◌, ◌<◌, min}
+use Prim.Native.Nat.{ℕ, zero, suc, ◌+◌, ◌*◌, ◌≤◌, ◌<◌, min}
 use native.Mathlib.Numerals.{add-one}
 use native.Mathlib.Decide.{ℕ_discrete, dec_lt}
 use native.Mathlib.Omega.{arith}
-use lib.ListN.{length, take, drop, get_or, set, length-append, length-take, length-set}
+use lib.ListN.{length, take, drop, get_or, set, length-append}
 use lib.Seq.{take-suc, take_all, get_or-set_same, get_or-set_other, ext_get_or, get_or-take, length-take-le}
-use Rattle.pcrl.specs.Limits.{frame_width}
-use Rattle.pcrl.specs.Tests.{Every}
 use Rattle.pcrl.specs.Reader.{all}
 use Rattle.pcrl.specs.Sheet.{Proc, delta, atom, alt, cond, sum, seq, call, Process, Sheet, no_process}
 use Rattle.pcrl.specs.Parts.{NewPart, if_after, new_parts, new_count, all_new_parts}
@@ -18,16 +16,14 @@ use Rattle.laws.specs.Every.{every_at}
 use Rattle.theory.specs.Standing.{RightProcess}
 use Rattle.nodes.specs.declared.Outline.{Outline}
 use Rattle.nodes.specs.declared.Skipped.{Skipped}
-use Rattle.nodes.specs.Layout.{cell_limit, enc}
-use Rattle.nodes.specs.Held.{proc_width, SortsAt, ProcAt, HeldProcs}
+use Rattle.nodes.specs.Layout.{cell_limit}
+use Rattle.nodes.specs.Held.{proc_width}
 use Rattle.nodes.specs.Scoped.{max_scope, Scoped}
 use Rattle.nodes.specs.Views.{Skips}
-use Rattle.emit.specs.Putting.{Puts}
 use Rattle.emit.proofs.Putting.{puts_none, puts_then, puts_as}
 use Rattle.parts.specs.declared.PartWalk.{PartWalk}
-use Rattle.parts.specs.declared.Noted.{Noted}
-use Rattle.parts.specs.Rows.{row_width, params_bytes, RowsKept, RowsOf}
-use Rattle.parts.specs.Walking.{Fit, Few, PartsPut, PutsParts}
+use Rattle.parts.specs.Rows.{row_width, params_bytes, RowsKept}
+use Rattle.parts.specs.Walking.{Fit, PartsPut, PutsParts}
 use Rattle.parts.specs.Sheets.{count_cut, Loads, Placed, CountsParts, AllPut, PutsAll}
 use Rattle.parts.proofs.WalkLaws.{rows_append}
 

@@ -10,7 +10,7 @@ use lib.ListN.{length, take, drop, get_or, set, length-append}
 use lib.Seq.{take-suc-set, take-set-le, get_or-set_same, get_or-set_other}
 use Rattle.pcrl.specs.Tests.{Every}
 use Rattle.pcrl.specs.Reader.{all}
-use Rattle.pcrl.specs.Sheet.{Data, Proc, delta, atom, alt, cond, sum, seq, call, Sheet}
+use Rattle.pcrl.specs.Sheet.{Proc, delta, atom, alt, cond, sum, seq, call, Sheet}
 use Rattle.pcrl.specs.Sorts.{Sorted, binding}
 use Rattle.pcrl.specs.Parts.{NewPart, if_after, new_parts}
 use Rattle.laws.specs.Every.{every_append}
@@ -20,11 +20,11 @@ use Rattle.nodes.specs.Nodes.{kind_of, node_own, node_number, node_kids, own_sma
 use Rattle.nodes.specs.Scoped.{max_scope, Scoped}
 use Rattle.nodes.specs.Views.{Opened, Views}
 use Rattle.emit.specs.Putting.{Puts}
-use Rattle.emit.proofs.Putting.{puts_none, puts_then, puts_as}
+use Rattle.emit.proofs.Putting.{puts_as}
 use Rattle.parts.specs.declared.PartWalk.{PartWalk}
 use Rattle.parts.specs.declared.Noted.{Noted}
-use Rattle.parts.specs.Rows.{row_width, no_part, params_bytes, RowOf, RowsKept, RowsOf}
-use Rattle.parts.specs.Walking.{Fit, parts_of, Below, FitBelow, parts_below, Ahead, Few, Onward, Steps, part_at, Notes, Noting, Enters}
+use Rattle.parts.specs.Rows.{row_width, no_part, params_bytes, RowOf, RowsOf}
+use Rattle.parts.specs.Walking.{Fit, parts_of, Below, FitBelow, parts_below, Onward, Steps, part_at, Noting, Enters}
 
 -- a part, or none
 unfoldable own_list : ℕ → NewPart → List NewPart

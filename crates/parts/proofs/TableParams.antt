@@ -1,15 +1,14 @@
 -- The equations of a sheet's table: the written processes, and behind them the parts; and the lists of their parameters.
-use mathlib.Core.Path.{◌≡◌, refl, sym, ap, ap₂, subst, ◌∙◌}
-use mathlib.Core.List.{List, [], ◌∷◌, ◌++◌, map, append_assoc}
-use Prim.Native.Nat.{ℕ, zero, suc, ◌+◌, ◌*◌, ◌%◌, ◌≤◌, ◌<◌}
+use mathlib.Core.Path.{◌≡◌, refl, sym, ap, ap₂, ◌∙◌}
+use mathlib.Core.List.{List, [], ◌∷◌, ◌++◌, map}
+use Prim.Native.Nat.{ℕ, zero, suc, ◌+◌, ◌*◌, ◌%◌, ◌<◌}
 use native.Mathlib.Nat.{mod-eq_of_lt}
 use native.Mathlib.Omega.{arith}
 use lib.ListN.{length, get_or, length-map, length-append}
-use Rattle.pcrl.specs.Limits.{max_equations}
 use Rattle.pcrl.specs.Reader.{all}
 use Rattle.pcrl.specs.Sheet.{Process, Sheet, no_process, params}
 use Rattle.pcrl.specs.Lists.{tabulate}
-use Rattle.pcrl.specs.Parts.{NewPart, all_new_parts, Kind, absent, written, part, kind_new, kind_in, kind}
+use Rattle.pcrl.specs.Parts.{NewPart, all_new_parts, Kind, written, part, kind_new, kind_in, kind}
 use Rattle.pcrl.specs.Table.{Equation, params_of}
 use Rattle.pcrl.specs.Blocks.{concatenated}
 use Rattle.pcrl.specs.Stream.{encode_numbers, encode_list}
@@ -25,8 +24,8 @@ use Rattle.emit.specs.Bytes.{row_bytes}
 use Rattle.emit.proofs.Putting.{puts_then, puts_as}
 use Rattle.emit.proofs.Signed.{concatenated_all, row_is}
 use Rattle.parts.specs.declared.Noted.{Noted}
-use Rattle.parts.specs.Rows.{row_width, no_part, part_params, params_bytes}
-use Rattle.parts.specs.Sheets.{Placed, AllPut, PutsAll, all_params, PutsParams}
+use Rattle.parts.specs.Rows.{no_part, part_params, params_bytes}
+use Rattle.parts.specs.Sheets.{PutsAll, all_params, PutsParams}
 
 -- ---- lists by their places
 module _ {A : Type 0} where

@@ -1,11 +1,11 @@
 -- Bytes written one behind another.
-use mathlib.Core.Path.{◌≡◌, refl, sym, ap, ◌∙◌}
+use mathlib.Core.Path.{◌≡◌, sym, ap, ◌∙◌}
 use mathlib.Core.List.{List, [], ◌∷◌, ◌++◌, append_assoc}
-use Prim.Native.Nat.{ℕ, suc, ◌+◌, ◌<◌, ◌≤◌}
+use Prim.Native.Nat.{ℕ, ◌+◌, ◌<◌, ◌≤◌}
 use native.Mathlib.Numerals.{add-one}
 use native.Mathlib.Omega.{arith}
 use lib.ListN.{length, drop, take, get_or, set, length-drop}
-use lib.Seq.{take-suc-set, take-take, take-append-le, length-take-le, paste, paste-suc, take-paste, take_at, get_or-drop, append_snoc}
+use lib.Seq.{take-suc-set, take-take, take-append-le, length-take-le, paste, paste-suc, get_or-drop}
 use Rattle.putting.specs.Slots.{Adds}
 
 pub copy_more : (s d : List ℕ) (from w j : ℕ) → from + j < length s → w + j < length d

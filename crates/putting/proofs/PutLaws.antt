@@ -1,19 +1,18 @@
 -- A node's share, a node written, and a term written node by node.
 use mathlib.Core.Path.{◌≡◌, refl, sym, ap, ap₂, ◌∙◌, subst}
 use mathlib.Core.List.{List, [], ◌∷◌, ◌++◌, append_assoc, append-nil}
-use mathlib.Core.Bool.{Bool, true, false}
+use mathlib.Core.Bool.{true, false}
 use Prim.Native.Nat.{ℕ, ◌+◌, ◌-◌, ◌*◌, ◌%◌, ◌<◌, ◌≤◌}
 use native.Mathlib.Omega.{arith}
 use native.Mathlib.Decide.{dec_le}
-use lib.Dec.{T}
-use lib.ListN.{length, drop, take, get_or, set, length-append, length-drop, length-take, length-set}
+use lib.ListN.{length, drop, take, get_or, set, length-append, length-drop, length-set}
 use lib.Seq.{length-take-le, drop-cons, paste, take-paste}
 use Rattle.pcrl.specs.Limits.{max_nodes}
 use Rattle.pcrl.specs.Tests.{Every}
-use Rattle.pcrl.specs.Sheet.{Data, val, var, app, first_equal, operation}
+use Rattle.pcrl.specs.Sheet.{Data, val, var, app, first_equal}
 use Rattle.pcrl.specs.Values.{put_data}
 use Rattle.pcrl.specs.Table.{nodes}
-use Rattle.pcrl.specs.Stream.{function_code, codes, encode_data}
+use Rattle.pcrl.specs.Stream.{function_code, encode_data}
 use Rattle.pcrl.specs.Heads.{look}
 use Rattle.laws.specs.Booleans.{false_not_true}
 use Rattle.laws.specs.TermLength.{narrow_length, max_term}

@@ -1,9 +1,8 @@
 -- Several terms: one behind another, and in slots.
 use mathlib.Core.Path.{◌≡◌, refl, sym, ap, ap₂, ◌∙◌, subst}
 use mathlib.Core.List.{List, [], ◌∷◌, ◌++◌, map, append_assoc, append-nil}
-use mathlib.Core.Bool.{Bool, true, false}
+use mathlib.Core.Bool.{true, false}
 use Prim.Native.Nat.{ℕ, zero, suc, ◌+◌, ◌-◌, ◌*◌, ◌<◌, ◌≤◌}
-use native.Mathlib.Numerals.{add-one}
 use native.Mathlib.Omega.{arith}
 use native.Mathlib.Decide.{ℕ_discrete}
 use lib.ListN.{length, drop, take, get_or, set, length-append, length-map, length-set}
@@ -22,7 +21,6 @@ use Rattle.laws.specs.Lists.{get_d_map}
 use Rattle.nodes.specs.Layout.{enc_data, enc_datas}
 use Rattle.nodes.specs.Views.{SkipsData}
 use Rattle.putting.specs.declared.TermPut.{TermPut}
-use Rattle.putting.specs.declared.Done.{Done}
 use Rattle.laws.specs.TermLength.{max_term}
 use Rattle.putting.specs.Slots.{slot_width, Slot, Slots, Writable, Adds}
 use Rattle.putting.specs.Puts.{Puts, PutsAll, SlotPut, Fills}
@@ -103,7 +101,7 @@ module _ (cells : List ℕ) (at count : ℕ) (slots : List ℕ) (n w : ℕ) (o :
 
 take_of_drop : (k b : ℕ) (l : List ℕ) → take k (drop b l) ≡ drop b (take (b + k) l)
 take_of_drop k zero l = let z : 0 + k ≡ k = omega arith in ap (λ (i : ℕ). take i l) (sym z)
-take_of_drop k (suc b) [] = lib.Seq.take_nil k ∙ sym (ap (drop (suc b)) (lib.Seq.take_nil (suc b + k)))
+take_of_drop k (suc b) [] = lib.Seq.take-nil k ∙ sym (ap (drop (suc b)) (lib.Seq.take-nil (suc b + k)))
 take_of_drop k (suc b) (x ∷ l) = take_of_drop k b l ∙ (let z : suc b + k ≡ suc (b + k) = omega arith in ap (λ (i : ℕ). drop (suc b) (take i (x ∷ l))) (sym z))
 
 -- where the front is as it was

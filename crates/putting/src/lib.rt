@@ -1,3 +1,4 @@
+#![tactic(auto)]
 // Data terms of the cells written as stream bytes, with the terms in slots put for their variables.
 ghost use Rattle.std.specs.Prelude.{◌≡◌, true, ◌+◌, ◌*◌, ◌≤◌, ◌<◌, length, drop, take};
 ghost use Rattle.std.proofs.Math.Seq.{paste};
@@ -20,14 +21,14 @@ const LONG: u8 = 255;
 const EQUAL_CODE: u8 = limits::EQUAL_CODE as u8;
 
 // How many nodes and bytes a node comes to.
-#[derive(Drop)]
+#[derive(Clone, Copy)]
 pub struct Share {
     pub nodes: usize,
     pub bytes: usize,
 }
 
 // A term written: its nodes, the place behind its bytes, and the one behind its cells.
-#[derive(Drop)]
+#[derive(Clone, Copy)]
 pub struct TermPut {
     pub ok: bool,
     pub nodes: usize,
@@ -36,7 +37,7 @@ pub struct TermPut {
 }
 
 // The place behind what was written. Not ok: a limit is passed, or there is no room.
-#[derive(Drop)]
+#[derive(Clone, Copy)]
 pub struct Done {
     pub ok: bool,
     pub w: usize,

@@ -1,0 +1,18 @@
+-- The size, and behind it the name: Bool's, or that of the cell.
+use native.Mathlib.Omega.{arith}
+use Rattle.emit.proofs.SignatureLaws.{bool_put, other_put}
+use Rattle.emit.proofs.signature.put_sort.Goals as goal
+
+pub returns-then-d-eq-BOOL : goal.returns-then-d-eq-BOOL
+returns-then-d-eq-BOOL c =
+    let a = c.args in
+    let size = c.put-v in
+    let name = c.put_row in
+    bool_put a.w a.out.now name.result name.new.out size.result size.new.out a.s.now a.sizes.now a.names.now a.d c.peek.result (omega arith) c.peek.ensures size.ensures name.ensures
+
+pub returns : goal.returns
+returns c =
+    let a = c.args in
+    let size = c.put-v in
+    let name = c.put_name in
+    other_put a.w a.out.now name.result name.new.out size.result size.new.out a.s.now a.sizes.now a.names.now a.d c.peek.result c.peek_cell.result (omega arith) c.peek.ensures c.peek_cell.ensures size.ensures name.ensures
