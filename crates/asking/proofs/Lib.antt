@@ -1,5 +1,4 @@
 pub mod Stepping
-pub mod Values
 pub mod EncodingLaws
 pub mod SortLaws
 pub mod InTurn

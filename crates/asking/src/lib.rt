@@ -1,3 +1,4 @@
+#![tactic(auto)]
 // Step questions put to the frames of a table that is known: one, and a list of them in turn.
 ghost use Rattle.std.specs.Prelude.{◌≡◌, [], ◌∷◌, ◌++◌, map, ◌*◌, ◌%◌, ◌<◌, ◌≤◌, min, length, get_or};
 ghost use Rattle.pcrl.specs.Limits.{frame_width, stack_limit, max_stream, max_name, max_sort_name};
@@ -40,7 +41,7 @@ const NONE: u8 = 1;
 const STEPPED: u8 = 2;
 
 // An answer: the number of the question that refused, or 0 and what was answered; and the depth after it.
-#[derive(Drop)]
+#[derive(Clone, Copy)]
 pub struct Told {
     pub refused: u8,
     pub kind: u8,
@@ -51,7 +52,7 @@ pub struct Told {
 }
 
 // An answer in bytes.
-#[derive(Drop)]
+#[derive(Clone, Copy)]
 pub struct Encoded {
     pub bytes: [u8; ANSWER],
 }

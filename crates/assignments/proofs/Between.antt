@@ -3,14 +3,14 @@ use mathlib.Core.Path.{◌≡◌, refl, sym, ◌∙◌, ap, ap₂, subst}
 use mathlib.Core.List.{List, ◌++◌, map}
 use mathlib.Core.Bool.{Bool, true, false}
 use mathlib.Core.Option.{some}
-use Prim.Native.Nat.{ℕ, zero, suc, ◌+◌, ◌-◌, ◌*◌, ◌/◌, ◌%◌, ◌≤◌, ◌<◌}
+use Prim.Native.Nat.{ℕ, suc, ◌+◌, ◌-◌, ◌*◌, ◌/◌, ◌%◌, ◌≤◌, ◌<◌}
 use native.Mathlib.Nat.{add-mod_left, mod-eq_of_lt, mod-lt, mod-le, div-add-mod', mul_comm, mul-add-div_right, div-eq_of_lt, div-lt_iff_lt-mul, le-div_iff_mul-le, div-mul-le_self, le_of_lt, lt_of_mul-lt-mul_right, mul-le-mul_right}
 use native.Mathlib.Omega.{arith}
 use lib.Dec.{eqb, ltb}
 use lib.ListN.{length, get_or, get_elem?, drop, length-append, length-map}
 use borrow.Author.Tests.{ltb-true, ltb-false}
 use Rattle.laws.specs.Lists.{some_append}
-use Rattle.evaluation.specs.Run.{top, foot}
+use Rattle.evaluation.specs.Run.{top}
 use Rattle.evaluation.proofs.Bytes.{run_past}
 use Rattle.assignments.specs.Places.{product, digits_of, places}
 use Rattle.assignments.specs.Conditions.{env, code, Finds}

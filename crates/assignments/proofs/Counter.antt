@@ -1,10 +1,10 @@
 -- The counter of assignments: values by division, blocks by multiplication, values put behind the parameters.
 use mathlib.Core.Path.{◌≡◌, refl, sym, ◌∙◌, ap}
 use mathlib.Core.List.{List, [], ◌∷◌, ◌++◌}
-use Prim.Native.Nat.{ℕ, zero, suc, ◌+◌, ◌-◌, ◌*◌, ◌/◌, ◌%◌, ◌≤◌, ◌<◌}
+use Prim.Native.Nat.{ℕ, zero, suc, ◌+◌, ◌*◌, ◌/◌, ◌%◌, ◌≤◌, ◌<◌}
 use native.Mathlib.Nat.{div-div-eq-div-mul, div-one, mul-one, mul_comm, mod-lt, mul-le-mul}
 use native.Mathlib.Omega.{arith}
-use lib.ListN.{length, get_or, drop, take, length-map, set, drop_of_length-le}
+use lib.ListN.{length, get_or, drop, take, set, drop_of_length-le}
 use mir.Val.{Val}
 use denote.Laws.{Is}
 use denote.Struct.Laws as LL
@@ -19,10 +19,10 @@ use Rattle.assignments.specs.contracts.PerVariable as E
 use Rattle.assignments.proofs.PerVariable.TheLaws as E'
 
 pub per_sum_length : (s : PerSum) (vs : List Val) → Is F.the_row s vs → length s.at ≡ max_variables
-per_sum_length s vs g = sym (length-map s.at _) ∙ (LL.owed F.the_type F'.the_laws s vs g).0.1.0.1
+per_sum_length s vs g = (LL.owed F.the_type F'.the_laws s vs g).0.1.0.1
 
 pub per_variable_length : (s : PerVariable) (vs : List Val) → Is E.the_row s vs → length s.at ≡ frame_width + max_variables
-per_variable_length s vs g = sym (length-map s.at _) ∙ (LL.owed E.the_type E'.the_laws s vs g).0.1.0.1
+per_variable_length s vs g = (LL.owed E.the_type E'.the_laws s vs g).0.1.0.1
 
 -- four sizes: each value by the divisions of the code
 pub four_values : (s : List ℕ) (j : ℕ) → length s ≡ max_variables

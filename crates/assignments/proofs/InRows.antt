@@ -4,7 +4,7 @@ use mathlib.Core.List.{List, [], ◌∷◌}
 use mathlib.Core.Bool.{Bool, true, false}
 use mathlib.Core.Option.{some}
 use Prim.Native.Nat.{ℕ, zero, suc, ◌+◌, ◌-◌, ◌*◌, ◌/◌, ◌%◌, ◌≤◌, ◌<◌}
-use native.Mathlib.Nat.{div-eq_of_lt-le, div-mul-le_self, div-add-mod', mul-add-div_right, mul-add-mod_self_right, mul_assoc, mul_comm, mul-le-mul, mul-div_left, mod-eq_of_lt}
+use native.Mathlib.Nat.{div-eq_of_lt-le, div-mul-le_self, div-add-mod', mul-add-mod_self_right, mul_assoc, mul-le-mul, mul-div_left, mod-eq_of_lt}
 use native.Mathlib.Numerals.{add-one}
 use native.Mathlib.Omega.{arith}
 use lib.Dec.{eqb, ltb}
@@ -12,16 +12,15 @@ use lib.ListN.{length, get_or, get_elem?, drop, set, length-set, replicate, leng
 use lib.Seq.{set-set, get_or-set_same, get_or-set_other, drop-cons}
 use borrow.Author.Tests.{ltb-true, ltb-false, lt-ltb, le-ltb, eqb-true, eqb-false}
 use Rattle.pcrl.specs.Tests.{and}
-use Rattle.evaluation.specs.Run.{pick, top, peak}
+use Rattle.evaluation.specs.Run.{pick, peak}
 use Rattle.evaluation.specs.Known.{Alike}
-use Rattle.evaluation.proofs.Bytes.{run_same}
 use Rattle.assignments.specs.Places.{product, digits_of, places, Sizes}
-use Rattle.assignments.specs.Conditions.{env, code, holds, all_below, Tested, Finds}
+use Rattle.assignments.specs.Conditions.{env, code, all_below, Tested, Finds}
 use Rattle.assignments.specs.Parting.{asked, part_met, Part}
 use Rattle.evaluation.specs.Rows.{lane_env}
 use Rattle.assignments.specs.Lanes.{inner, Sifted, RowMet, Strip, Lent, Rowed, Came}
 use Rattle.assignments.specs.declared.Found.{Found}
-use Rattle.assignments.proofs.Blocks.{product_pos, coarser, finer, in_block, env_same, split_at, all_same, asked_same, asked_some, asked_none, same_on, in_grain, asked_or}
+use Rattle.assignments.proofs.Blocks.{product_pos, coarser, finer, in_block, env_same, split_at, all_same, asked_same, same_on, in_grain}
 use Rattle.assignments.proofs.Periods.{around}
 use Rattle.assignments.proofs.Passing.{Going, going_start, going_skip, going_on, going_found, none_left}
 use Rattle.assignments.proofs.Between.{going_by, going_in}

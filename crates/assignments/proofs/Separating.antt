@@ -12,7 +12,7 @@ use borrow.Author.Tests.{ltb-true, ltb-false}
 use Rattle.pcrl.specs.Tests.{and}
 use Rattle.laws.specs.Booleans.{and_true}
 use Rattle.evaluation.specs.Run.{peak, foot}
-use Rattle.assignments.specs.Places.{product, digits_of, Sizes}
+use Rattle.assignments.specs.Places.{product, digits_of}
 use Rattle.assignments.specs.Conditions.{env, code, holds, all_below, met, Ready}
 use Rattle.assignments.specs.Parting.{Standing, asked, part_met, Part, Above, Apart}
 use Rattle.assignments.specs.declared.Parts.{Parts}

@@ -4,11 +4,9 @@ use mathlib.Core.List.{List, [], ◌∷◌, ◌++◌, map}
 use mathlib.Core.Bool.{Bool, true, false}
 use mathlib.Core.Option.{some}
 use Prim.Native.Nat.{ℕ, zero, suc, ◌+◌, ◌-◌, ◌*◌, ◌/◌, ◌%◌, ◌≤◌, ◌<◌, min}
-use native.Mathlib.Nat.{sub-zero, div-add-mod', mul-le-mul_right, mul-div_left, mul_comm, mul-zero, mod-lt, min-le_left, div-mul-le_self, div-le_of_le-mul, min-eq_left, min-eq_right}
+use native.Mathlib.Nat.{sub-zero, div-add-mod', mul-le-mul_right, mul-div_left, mul_comm, mul-zero, mod-lt, div-mul-le_self, div-le_of_le-mul}
 use native.Mathlib.Omega.{arith}
-use lib.Dec.{ltb}
 use lib.ListN.{length, get_elem?, length-append, length-map}
-use borrow.Author.Tests.{ltb-true, ltb-false}
 use Rattle.pcrl.specs.Tests.{and}
 use Rattle.laws.specs.Lists.{some_append}
 use Rattle.evaluation.specs.Run.{pick}

@@ -1,3 +1,4 @@
+#![tactic(auto)]
 // The k-th assignment of a summand's sum variables that meets its conditions: a counter that goes over blocks of assignments.
 ghost use Rattle.std.specs.Prelude.{◌≡◌, Bool, true, ℕ, ◌-◌, ◌*◌, ◌/◌, ◌%◌, ◌≤◌, ◌<◌, get_or, drop};
 ghost use Rattle.pcrl.specs.Limits.{max_size, frame_width, max_variables, max_conditions};
@@ -17,20 +18,20 @@ use rounds::find_rounds;
 use two_parts::{find_parted, split};
 
 // One for each sum variable: sizes of their sorts, 1 where there is no variable; or their values.
-#[derive(Drop)]
+#[derive(Clone, Copy)]
 pub struct PerSum {
     pub at: [u8; MAX_VARIABLES],
 }
 
 // A value for each variable: parameters, then sum variables.
-#[derive(Drop)]
+#[derive(Clone, Copy)]
 pub struct PerVariable {
     pub at: [u8; VARIABLES],
 }
 
 // The conditions of a summand: where each begins and ends, the block of assignments that it fails on as a whole;
 // how many there are, one more than the highest variable that they name, the lowest sum variable that they name, and where they all end.
-#[derive(Drop)]
+#[derive(Clone, Copy)]
 pub struct Conditions {
     pub froms: [usize; MAX_CONDITIONS],
     pub ends: [usize; MAX_CONDITIONS],
@@ -42,7 +43,7 @@ pub struct Conditions {
 }
 
 // The conditions in two parts, if they come apart.
-#[derive(Drop)]
+#[derive(Clone, Copy)]
 pub struct Parts {
     pub apart: bool,
     pub early: [u32; MAX_CONDITIONS],
@@ -52,14 +53,14 @@ pub struct Parts {
 }
 
 // Blocks of the sum variables behind the first ones, before a gap if there is one, and of those behind it.
-#[derive(Drop)]
+#[derive(Clone, Copy)]
 pub struct Gap {
     pub some: bool,
     pub before: usize,
     pub behind: usize,
 }
 
-#[derive(Drop)]
+#[derive(Clone, Copy)]
 pub struct Found {
     pub found: bool,
     pub at: usize,

@@ -1,3 +1,4 @@
+#![tactic(auto)]
 // Data terms that stand in a table's stream: where they end, what they are worth, the variables that they name.
 ghost use Rattle.std.specs.Prelude.{◌≡◌, ◌+◌, ◌-◌, ◌*◌, ◌≤◌, ◌<◌, max, min, length, get_or, take, drop};
 ghost use Rattle.pcrl.specs.Limits.{max_stream};
@@ -147,7 +148,7 @@ fn lower(p: usize, n: usize, m: usize) -> usize
 }
 
 // What bytes name: one more than the highest variable, and the lowest from some number on, VARIABLES if none.
-#[derive(Drop)]
+#[derive(Clone, Copy)]
 pub struct Span {
     pub high: usize,
     pub low: usize,

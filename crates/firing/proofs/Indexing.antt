@@ -1,13 +1,13 @@
 -- What the index of a right table makes known, and what that says of an equation's summands.
 use mathlib.Core.Path.{◌≡◌, ap, sym, subst, ◌∙◌}
-use mathlib.Core.List.{List, [], ◌++◌}
+use mathlib.Core.List.{List, []}
 use Prim.Native.Nat.{ℕ, ◌+◌, ◌<◌, ◌≤◌}
 use native.Mathlib.Omega.{arith}
 use lib.ListN.{length, get_or, take, drop, length-map, get_or-map}
 use lib.Seq.{get_or-take, get_or-drop, length-take-le, ext_get_or}
 use Rattle.pcrl.specs.Limits.{frame_width, max_arity, max_functions}
 use Rattle.pcrl.specs.Tests.{Between, Every}
-use Rattle.pcrl.specs.Sheet.{no_func, Sig, Action, no_action, size, func}
+use Rattle.pcrl.specs.Sheet.{no_func, Action, no_action, size, func}
 use Rattle.pcrl.specs.Table.{Summand, Equation, Table, no_equation, equation, params_of, summands_of}
 use Rattle.pcrl.specs.Stack.{InSorts}
 use Rattle.pcrl.specs.Stream.{encode_numbers, encode_list, encode_func, encode_action, encode_summand}

@@ -1,3 +1,4 @@
+#![tactic(auto)]
 // Step k of an equation, found in the stream: its label, and the frames of its calls.
 ghost use Rattle.std.specs.Prelude.{◌≡◌, List, [], ◌++◌, map, ℕ, ◌+◌, ◌-◌, ◌*◌, ◌≤◌, ◌<◌, max, false, length, get_or, take, drop};
 ghost use Rattle.std.proofs.Math.ListN.{get_elem?};
@@ -31,7 +32,7 @@ const ARITY: u8 = limits::MAX_ARITY as u8;
 const WIDTH: u8 = limits::FRAME_WIDTH as u8;
 
 // A step: the action's number and its values; how many calls there are. Or none: how many steps there are.
-#[derive(Drop)]
+#[derive(Clone, Copy)]
 pub struct Fired {
     pub found: bool,
     pub action: u8,
@@ -203,7 +204,7 @@ fn none(passed: u64) -> Fired
 }
 
 // An assignment by its number, or how much of k is left; and where the conditions end.
-#[derive(Drop)]
+#[derive(Clone, Copy)]
 struct Sought {
     found: bool,
     at: usize,

@@ -1,12 +1,9 @@
 -- LentFrame structs as frames of document 01: one frame in bytes of its own, and a frame put among others.
-use mathlib.Core.Path.{◌≡◌, refl, sym, ◌∙◌, ap}
-use mathlib.Core.List.{List, [], ◌∷◌, map}
+use mathlib.Core.Path.{◌≡◌, refl, ap}
+use mathlib.Core.List.{List, [], ◌∷◌}
 use Prim.Native.Nat.{ℕ, zero, suc, ◌<◌}
 use native.Mathlib.Omega.{arith}
-use lib.ListN.{length, get_or, set, length-map}
-use mir.Val.{Val}
-use denote.Laws.{Is}
-use denote.Struct.Laws as LL
+use lib.ListN.{length, get_or, set}
 use Rattle.pcrl.specs.Limits.{frame_width}
 use Rattle.pcrl.specs.Lists.{tabulate}
 use Rattle.pcrl.specs.Stack as pcrl
@@ -14,8 +11,6 @@ use Rattle.laws.specs.Lists.{get_d_map}
 use Rattle.stacks.specs.Lent.{frame_at}
 use Rattle.frames.specs.declared.LentFrame.{LentFrame}
 use Rattle.frames.specs.Lists.{blank, frame_of, lent_frames}
-use Rattle.frames.specs.contracts.LentFrame as T
-use Rattle.frames.proofs.LentFrame.TheLaws as T'
 
 four : (l : List ℕ) → length l ≡ 4 → get_or l 0 0 ∷ get_or l 1 0 ∷ get_or l 2 0 ∷ get_or l 3 0 ∷ [] ≡ l
 four [] h = absurd (omega arith)
@@ -25,14 +20,11 @@ four (a ∷ b ∷ c ∷ []) h = absurd (omega arith)
 four (a ∷ b ∷ c ∷ d ∷ []) h = refl
 four (a ∷ b ∷ c ∷ d ∷ e ∷ l) h = absurd (omega arith)
 
-values_four : (f : LentFrame) (vs : List Val) → Is T.the_row f vs → length f.values ≡ 4
-values_four f vs g = sym (length-map f.values _) ∙ (LL.owed T.the_type T'.the_laws f vs g).1.0.1.0.1
-
 -- a frame in its own five bytes
-pub own_bytes : (f : LentFrame) (vs : List Val) → Is T.the_row f vs
+pub own_bytes : (f : LentFrame) → length f.values ≡ 4
     → frame_at frame_width (f.equation ∷ get_or f.values 0 0 ∷ get_or f.values 1 0 ∷ get_or f.values 2 0 ∷ get_or f.values 3 0 ∷ []) 0 ≡ frame_of f
 unfolding frame_at tabulate frame_of
-own_bytes f vs g = let e = four f.values (values_four f vs g) in λ i. record { number = f.equation; values = e i }
+own_bytes f h = let e = four f.values h in λ i. record { number = f.equation; values = e i }
 
 pub frames_set : (l : List LentFrame) (i : ℕ) (f : LentFrame) → lent_frames (set l i f) ≡ set (lent_frames l) i (frame_of f)
 unfolding lent_frames

@@ -1,4 +1,2 @@
-pub mod Again
-pub mod Exchanges
 pub mod Over
 pub mod FrameLists

@@ -7,8 +7,8 @@ use borrow.Author.Tests.{eqb-true}
 use Prim.Native.Nat.{ℕ, suc, ◌+◌, ◌≤◌, ◌<◌}
 use native.Mathlib.Numerals.{add-one}
 use native.Mathlib.Omega.{arith}
-use lib.ListN.{length, take, drop, get_or, set, length-append, length-take, length-drop, length-set, length-map, drop_of_length-le}
-use lib.Seq.{drop-cons, take-suc, set_at, get_or_at, length-take-le, length_front, append_snoc, take_at, drop_at, take_all}
+use lib.ListN.{length, take, drop, get_or, set, length-append, length-drop, length-map, drop_of_length-le}
+use lib.Seq.{drop-cons, take-suc, set_at, get_or_at, length-take-le, drop_at, take_all}
 use Rattle.frames.specs.declared.LentFrame.{LentFrame}
 use Rattle.pcrl.specs.Limits.{stack_limit}
 use Rattle.pcrl.specs.Stack as pcrl

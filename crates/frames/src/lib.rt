@@ -1,3 +1,4 @@
+#![tactic(auto)]
 // The lent stack as a mutable slice of frame structs: taken out by value, in bytes, and put back.
 ghost use Rattle.std.specs.Prelude.{◌≡◌, ◌+◌, ◌*◌, ◌≤◌, length, set};
 ghost use Rattle.pcrl.specs.Limits.{frame_width};
@@ -9,20 +10,20 @@ use stacks::FRAME;
 
 // "A frame is an equation number and four values, spare ones 0."
 #[repr(C)]
-#[derive(Drop)]
+#[derive(Clone, Copy)]
 pub struct LentFrame {
     pub equation: u8,
     pub values: [u8; FRAME_WIDTH],
 }
 
 // 64 frames by value.
-#[derive(Drop)]
+#[derive(Clone, Copy)]
 pub struct Stack {
     pub frames: [LentFrame; STACK_LIMIT],
 }
 
 // How many frames change places, with which, and the number of the question that failed, or 0.
-#[derive(Drop)]
+#[derive(Clone, Copy)]
 pub struct Ready {
     pub count: usize,
     pub stack: Stack,

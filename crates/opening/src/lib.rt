@@ -1,3 +1,4 @@
+#![tactic(auto)]
 // A summand in the stream is opened: the sizes of its variables' sorts, and its conditions.
 ghost use Rattle.std.specs.Prelude.{◌≡◌, List, ◌++◌, ℕ, ◌+◌, ◌≤◌, ◌<◌, length, get_or, drop};
 ghost use Rattle.pcrl.specs.Limits.{max_size, max_stream, max_variables, max_conditions};

@@ -1,14 +1,13 @@
 -- The frames of a new stack while the calls are put in, from the top down.
-use mathlib.Core.Path.{◌≡◌, refl, sym, ◌∙◌, ap, ap₂}
+use mathlib.Core.Path.{◌≡◌, refl, sym, ◌∙◌, ap}
 use mathlib.Core.List.{List, [], ◌∷◌, ◌++◌, append_assoc, reverse, reverse-append, reverse-reverse}
 use Prim.Native.Nat.{ℕ, zero, suc, ◌+◌, ◌-◌, ◌*◌, ◌/◌, ◌≤◌, ◌<◌}
 use native.Mathlib.Omega.{arith}
 use native.Mathlib.Numerals.{add-one}
 use native.Mathlib.Nat.{sub-zero}
 use lib.ListN.{length, get_or, drop, take, set, replicate, length-append, length-reverse, length-replicate, replicate-append-replicate}
-use lib.Seq.{take-suc, set_at, set_split, length-take-le, take-length, take-set-le}
-use Rattle.pcrl.specs.Stack.{Frame, Stack, zero_frame, frames_of, stack_of}
-use Rattle.pcrl.specs.Lists.{tabulate}
+use lib.Seq.{take-suc, set_at, set_split, length-take-le, take-length}
+use Rattle.pcrl.specs.Stack.{Frame, zero_frame, frames_of, stack_of}
 use Rattle.laws.specs.Lists.{length_tabulate, get_d_tabulate}
 use Rattle.stacks.specs.Lent.{frame_bytes, frame_at, frames_at, frames_in}
 use Rattle.stacks.proofs.Views.{no_frame, length_frames_in}

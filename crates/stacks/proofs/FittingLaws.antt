@@ -1,7 +1,7 @@
 -- Values fit a frame place by place exactly where question 15 passes them.
-use mathlib.Core.Path.{◌≡◌, refl, sym, ap, ◌∙◌}
+use mathlib.Core.Path.{◌≡◌, sym, ap, ◌∙◌}
 use mathlib.Core.List.{List, [], ◌∷◌, ◌++◌}
-use Prim.Native.Nat.{ℕ, zero, suc, ◌+◌, ◌-◌, ◌<◌, ◌≤◌}
+use Prim.Native.Nat.{ℕ, suc, ◌+◌, ◌-◌, ◌<◌}
 use native.Mathlib.Omega.{arith}
 use lib.ListN.{length, get_or, take, drop, replicate, length-take, length-drop, length-replicate, get_or-replicate, take-append-drop}
 use lib.Seq.{length-take-le, get_or-take, get_or-drop, get_or-append-add, ext_get_or}
@@ -9,7 +9,7 @@ use Rattle.pcrl.specs.Tests.{Each}
 use Rattle.pcrl.specs.Sheet.{Sig, size}
 use Rattle.pcrl.specs.Stack.{InSorts, padded}
 use Rattle.laws.specs.Each.{each_length, each_at}
-use Rattle.stacks.specs.Fitting.{FitsAt, Fitting}
+use Rattle.stacks.specs.Fitting.{Fitting}
 
 each_of : {A B : Type 0} (R : A → B → Type 0) (a : A) (b : B) (l : List A) (m : List B) → length l ≡ length m → ((i : ℕ) → i < length l → R (get_or l i a) (get_or m i b)) → Each R l m
 unfolding Each

@@ -1,23 +1,22 @@
 -- Question 15 from its parts: one frame from its values, all frames from each.
 use mathlib.Core.Path.{◌≡◌, refl, sym, ap, ap₂, subst, ◌∙◌}
-use mathlib.Core.List.{List, map}
+use mathlib.Core.List.{List}
 use mathlib.Core.Bool.{Bool, true, false}
 use Prim.Native.Nat.{ℕ, suc, ◌+◌, ◌-◌, ◌*◌, ◌/◌, ◌<◌, ◌≤◌, min}
 use native.Mathlib.Omega.{arith}
 use native.Mathlib.Decide.{dec_lt, ℕ_discrete}
 use lib.Dec.{eqb}
-use lib.ListN.{length, get_or, take, drop, replicate, length-take, length-drop, length-map, length-replicate, get_or-replicate}
-use lib.Seq.{get_or-take, get_or-drop, take_all, ext_get_or}
+use lib.ListN.{length, get_or, take, drop, replicate, length-take, length-drop, length-map, get_or-replicate}
+use lib.Seq.{get_or-take, get_or-drop, ext_get_or}
 use Rattle.pcrl.specs.Lists.{tabulate}
-use Rattle.pcrl.specs.Tests.{Every, and}
-use Rattle.pcrl.specs.Sheet.{Sig}
+use Rattle.pcrl.specs.Tests.{and}
 use Rattle.pcrl.specs.Table.{Table, Equation, equation, no_equation, params_of}
 use Rattle.pcrl.specs.Stack.{Frame, InSorts, used, padded, RightFrame, IsZero, RightFrames}
 use Rattle.pcrl.specs.Stream.{encode_numbers}
-use Rattle.laws.specs.Says.{Says, says_as, says_eq, said_yes, said_no}
+use Rattle.laws.specs.Says.{Says, says_as, says_eq}
 use Rattle.laws.specs.Every.{at_every, every_at}
 use Rattle.laws.specs.Lists.{length_tabulate, get_d_tabulate, get_d_map}
-use Rattle.terms.specs.Stands.{Stands, KnownParams, list_at}
+use Rattle.terms.specs.Stands.{KnownParams, list_at}
 use Rattle.terms.proofs.Places.{stands_there, as_many, list_is}
 use Rattle.tables.specs.declared.Index.{Index}
 use Rattle.tables.specs.Indexed.{sizes_behind, Indexed}

@@ -1,6 +1,6 @@
 -- The frames of bytes in which only one frame stands, with zeros behind it.
-use mathlib.Core.Path.{◌≡◌, refl, sym, ◌∙◌, ap, ap₂, subst}
-use mathlib.Core.List.{List, [], ◌∷◌, ◌++◌, reverse}
+use mathlib.Core.Path.{◌≡◌, sym, ◌∙◌, ap}
+use mathlib.Core.List.{List, [], ◌∷◌, ◌++◌}
 use Prim.Native.Nat.{ℕ, zero, suc, ◌+◌, ◌-◌, ◌*◌, ◌/◌, ◌≤◌, ◌<◌}
 use native.Mathlib.Omega.{arith}
 use native.Mathlib.Decide.{dec_lt}
@@ -10,13 +10,13 @@ use Rattle.pcrl.specs.Limits.{frame_width, stack_limit}
 use Rattle.pcrl.specs.Lists.{tabulate}
 use Rattle.pcrl.specs.Table.{Table, Equation, equation, params_of, no_equation}
 use Rattle.pcrl.specs.Right.{RightTable, RightStart, RightEquations, RightSorts}
-use Rattle.pcrl.specs.Stack.{Frame, Stack, padded, zero_frame, frames_of}
+use Rattle.pcrl.specs.Stack.{Frame, padded, zero_frame, frames_of}
 use Rattle.pcrl.specs.Stream.{encode_start}
 use Rattle.pcrl.specs.Answers.{start_stack}
 use Rattle.laws.specs.Each.{each_length}
 use Rattle.laws.specs.Every.{every_at}
 use Rattle.laws.specs.Lists.{length_tabulate, get_d_tabulate, get_d_map}
-use Rattle.terms.specs.Stands.{Stands, list_at}
+use Rattle.terms.specs.Stands.{list_at}
 use Rattle.terms.proofs.Places.{number_at}
 use Rattle.tables.specs.declared.Index.{Index}
 use Rattle.tables.specs.Indexed.{Indexed}

@@ -1,11 +1,11 @@
 -- Frames read from bytes, place by place, and bytes that are put over others.
 use mathlib.Core.Path.{◌≡◌, refl, sym, ap, ap₂, ◌∙◌}
-use mathlib.Core.List.{List, [], ◌∷◌, ◌++◌, append_assoc}
+use mathlib.Core.List.{List, [], ◌∷◌, ◌++◌}
 use Prim.Native.Nat.{ℕ, zero, suc, ◌+◌, ◌-◌, ◌*◌, ◌/◌, ◌<◌, ◌≤◌}
 use native.Mathlib.Omega.{arith}
 use native.Mathlib.Decide.{ℕ_discrete, dec_lt}
 use native.Mathlib.Nat.{mul-le-mul_right, add-mul, one-mul}
-use lib.ListN.{length, get_or, take, drop, set, length-append, length-drop, length-set, get_or-append}
+use lib.ListN.{length, get_or, take, drop, set, length-drop, length-set, get_or-append}
 use lib.Seq.{paste, length-paste, length_paste_head, length-take-le, get_or-take, get_or-drop, get_or-append-add, get_or-set_same, get_or-set_other, ext_get_or}
 use Rattle.pcrl.specs.Lists.{tabulate}
 use Rattle.pcrl.specs.Stack.{Frame}

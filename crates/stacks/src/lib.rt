@@ -1,10 +1,11 @@
+#![tactic(auto)]
 // Stacks in lent bytes, a frame behind another: question 15, and the top frame replaced by the calls of a step.
 ghost use Rattle.std.specs.Prelude.{◌≡◌, ◌++◌, ℕ, ◌+◌, ◌-◌, ◌*◌, ◌/◌, ◌<◌, ◌≤◌, length, get_or, take, drop, set, replicate};
 ghost use Rattle.pcrl.specs.Limits.{frame_width, stack_limit};
 ghost use Rattle.pcrl.specs.Table.{Table};
 ghost use Rattle.pcrl.specs.Right.{RightTable};
 ghost use Rattle.pcrl.specs.Stack.{zero_frame, RightFrame, RightFrames, frames_of, stack_of};
-ghost use Rattle.pcrl.specs.Answers.{start-stack};
+ghost use Rattle.pcrl.specs.Answers.{start_stack};
 ghost use Rattle.laws.specs.Says.{Says};
 ghost use Rattle.tables.specs.Indexed.{Indexed};
 ghost use Rattle.stacks.specs.Lent.{frame_bytes, frame_at, frames_at, frames_in, stack_bytes};
@@ -174,7 +175,7 @@ fn spread(bytes: &[u8], out: &mut [u8])
 // The stack with which the table starts.
 pub fn start(s: &[u8], index: tables::Index, frames: &mut [u8])
     requires { length frames.old ≡ stack_bytes }
-    ensures { (T : Table) → RightTable T → Indexed T s.now index → frames_in frame_width frames.new ≡ frames_of frame_width stack_limit (start-stack frame_width T) }
+    ensures { (T : Table) → RightTable T → Indexed T s.now index → frames_in frame_width frames.new ≡ frames_of frame_width stack_limit (start_stack frame_width T) }
 {
     let at = index.start;
     let places = index.params;

@@ -1,9 +1,10 @@
+#![tactic(auto)]
 // Stepping from a table file, on lent bytes that hold frames: start a stack, ask for a step, ask a list. Any bytes whatever are taken.
 ghost use Rattle.std.specs.Prelude.{◌≡◌, List, [], ◌∷◌, ℕ, ◌*◌, ◌/◌, ◌≤◌, min, length, replicate};
 ghost use Rattle.pcrl.specs.Limits.{frame_width, max_stream};
 ghost use Rattle.pcrl.specs.Blocks.{block_bytes, block_stream};
 ghost use Rattle.pcrl.specs.Stack.{Frame};
-ghost use Rattle.pcrl.specs.Answers.{table-checked, started, asked, asked-all};
+ghost use Rattle.pcrl.specs.Answers.{table_checked, started, asked, asked_all};
 ghost use Rattle.stacks.specs.Lent.{frames_in};
 ghost use Rattle.asking.specs.Encoding.{answer_bytes, answer_after, answers_after};
 ghost use Rattle.stepping.specs.Promises.{Loads, Replied, put_questions};
@@ -28,7 +29,7 @@ const FILE_64: usize = 64 * ONE_FILE;
 const STREAM_64: usize = 64 * BLOCK_STREAM;
 
 // The number of the question that failed; or 0, how long the stream is, and where its parts stand.
-#[derive(Drop)]
+#[derive(Clone, Copy)]
 pub struct Loaded {
     pub refused: u8,
     pub count: usize,
@@ -36,7 +37,7 @@ pub struct Loaded {
 }
 
 // The number of the question that refused, or 0; and the depth that is left.
-#[derive(Drop)]
+#[derive(Clone, Copy)]
 pub struct Answered {
     pub refused: u8,
     pub depth: usize,
@@ -68,7 +69,7 @@ fn none(refused: u8) -> Loaded
 // Questions 12 to 14, where there is room for the file's stream.
 pub fn load(file: &[u8], stream: &mut [u8]) -> Loaded
     requires { (min (length file.now / block_bytes * block_stream) max_stream ≤ length stream.old) × (length stream.old ≤ max_stream) }
-    ensures { Loads (table-checked file.now) stream.new result }
+    ensures { Loads (table_checked file.now) stream.new result }
 {
     let opened = blocks::read_file(file, stream);
     if opened.refused != 0 {
@@ -190,7 +191,7 @@ fn ask_all_in(
     out: &mut [u8],
 ) -> Answered
     requires { (min (length file.now / block_bytes * block_stream) max_stream ≤ length stream.old) × (length stream.old ≤ max_stream) }
-    ensures { (Replied (asked-all file.now (frames_in frame_width frames.old) depth (put_questions ks.now out.old)) result.refused (frames_in frame_width frames.new) result.depth) × (out.new ≡ answers_after (asked-all file.now (frames_in frame_width frames.old) depth (put_questions ks.now out.old)).answer out.old) }
+    ensures { (Replied (asked_all file.now (frames_in frame_width frames.old) depth (put_questions ks.now out.old)) result.refused (frames_in frame_width frames.new) result.depth) × (out.new ≡ answers_after (asked_all file.now (frames_in frame_width frames.old) depth (put_questions ks.now out.old)).answer out.old) }
 {
     let f = load(file, stream);
     if f.refused != 0 {
@@ -218,7 +219,7 @@ fn ask_all_in(
 
 fn ask_all_one(file: &[u8], frames: &mut [u8], depth: usize, ks: &[u64], out: &mut [u8]) -> Answered
     requires { length file.now ≤ 512 }
-    ensures { (Replied (asked-all file.now (frames_in frame_width frames.old) depth (put_questions ks.now out.old)) result.refused (frames_in frame_width frames.new) result.depth) × (out.new ≡ answers_after (asked-all file.now (frames_in frame_width frames.old) depth (put_questions ks.now out.old)).answer out.old) }
+    ensures { (Replied (asked_all file.now (frames_in frame_width frames.old) depth (put_questions ks.now out.old)) result.refused (frames_in frame_width frames.new) result.depth) × (out.new ≡ answers_after (asked_all file.now (frames_in frame_width frames.old) depth (put_questions ks.now out.old)).answer out.old) }
 {
     let mut stream = [0u8; BLOCK_STREAM];
     ask_all_in(file, &mut stream, frames, depth, ks, out)
@@ -226,7 +227,7 @@ fn ask_all_one(file: &[u8], frames: &mut [u8], depth: usize, ks: &[u64], out: &m
 
 fn ask_all_8(file: &[u8], frames: &mut [u8], depth: usize, ks: &[u64], out: &mut [u8]) -> Answered
     requires { length file.now ≤ 4096 }
-    ensures { (Replied (asked-all file.now (frames_in frame_width frames.old) depth (put_questions ks.now out.old)) result.refused (frames_in frame_width frames.new) result.depth) × (out.new ≡ answers_after (asked-all file.now (frames_in frame_width frames.old) depth (put_questions ks.now out.old)).answer out.old) }
+    ensures { (Replied (asked_all file.now (frames_in frame_width frames.old) depth (put_questions ks.now out.old)) result.refused (frames_in frame_width frames.new) result.depth) × (out.new ≡ answers_after (asked_all file.now (frames_in frame_width frames.old) depth (put_questions ks.now out.old)).answer out.old) }
 {
     let mut stream = [0u8; SHORT_STREAM];
     ask_all_in(file, &mut stream, frames, depth, ks, out)
@@ -234,7 +235,7 @@ fn ask_all_8(file: &[u8], frames: &mut [u8], depth: usize, ks: &[u64], out: &mut
 
 fn ask_all_32(file: &[u8], frames: &mut [u8], depth: usize, ks: &[u64], out: &mut [u8]) -> Answered
     requires { length file.now ≤ 16384 }
-    ensures { (Replied (asked-all file.now (frames_in frame_width frames.old) depth (put_questions ks.now out.old)) result.refused (frames_in frame_width frames.new) result.depth) × (out.new ≡ answers_after (asked-all file.now (frames_in frame_width frames.old) depth (put_questions ks.now out.old)).answer out.old) }
+    ensures { (Replied (asked_all file.now (frames_in frame_width frames.old) depth (put_questions ks.now out.old)) result.refused (frames_in frame_width frames.new) result.depth) × (out.new ≡ answers_after (asked_all file.now (frames_in frame_width frames.old) depth (put_questions ks.now out.old)).answer out.old) }
 {
     let mut stream = [0u8; STREAM_32];
     ask_all_in(file, &mut stream, frames, depth, ks, out)
@@ -242,14 +243,14 @@ fn ask_all_32(file: &[u8], frames: &mut [u8], depth: usize, ks: &[u64], out: &mu
 
 fn ask_all_64(file: &[u8], frames: &mut [u8], depth: usize, ks: &[u64], out: &mut [u8]) -> Answered
     requires { length file.now ≤ 32768 }
-    ensures { (Replied (asked-all file.now (frames_in frame_width frames.old) depth (put_questions ks.now out.old)) result.refused (frames_in frame_width frames.new) result.depth) × (out.new ≡ answers_after (asked-all file.now (frames_in frame_width frames.old) depth (put_questions ks.now out.old)).answer out.old) }
+    ensures { (Replied (asked_all file.now (frames_in frame_width frames.old) depth (put_questions ks.now out.old)) result.refused (frames_in frame_width frames.new) result.depth) × (out.new ≡ answers_after (asked_all file.now (frames_in frame_width frames.old) depth (put_questions ks.now out.old)).answer out.old) }
 {
     let mut stream = [0u8; STREAM_64];
     ask_all_in(file, &mut stream, frames, depth, ks, out)
 }
 
 fn ask_all_128(file: &[u8], frames: &mut [u8], depth: usize, ks: &[u64], out: &mut [u8]) -> Answered
-    ensures { (Replied (asked-all file.now (frames_in frame_width frames.old) depth (put_questions ks.now out.old)) result.refused (frames_in frame_width frames.new) result.depth) × (out.new ≡ answers_after (asked-all file.now (frames_in frame_width frames.old) depth (put_questions ks.now out.old)).answer out.old) }
+    ensures { (Replied (asked_all file.now (frames_in frame_width frames.old) depth (put_questions ks.now out.old)) result.refused (frames_in frame_width frames.new) result.depth) × (out.new ≡ answers_after (asked_all file.now (frames_in frame_width frames.old) depth (put_questions ks.now out.old)).answer out.old) }
 {
     let mut stream = [0u8; MAX_STREAM];
     ask_all_in(file, &mut stream, frames, depth, ks, out)
@@ -263,7 +264,7 @@ fn ask_all_many(
     ks: &[u64],
     out: &mut [u8],
 ) -> Answered
-    ensures { (Replied (asked-all file.now (frames_in frame_width frames.old) depth (put_questions ks.now out.old)) result.refused (frames_in frame_width frames.new) result.depth) × (out.new ≡ answers_after (asked-all file.now (frames_in frame_width frames.old) depth (put_questions ks.now out.old)).answer out.old) }
+    ensures { (Replied (asked_all file.now (frames_in frame_width frames.old) depth (put_questions ks.now out.old)) result.refused (frames_in frame_width frames.new) result.depth) × (out.new ≡ answers_after (asked_all file.now (frames_in frame_width frames.old) depth (put_questions ks.now out.old)).answer out.old) }
 {
     if file.len() <= SHORT_FILE {
         return ask_all_8(file, frames, depth, ks, out);
@@ -279,7 +280,7 @@ fn ask_all_many(
 
 // Ask a list: questions 12 to 15 once, then each question in turn, as many as there is room for answers.
 pub fn ask_all(file: &[u8], frames: &mut [u8], depth: usize, ks: &[u64], out: &mut [u8]) -> Answered
-    ensures { (Replied (asked-all file.now (frames_in frame_width frames.old) depth (put_questions ks.now out.old)) result.refused (frames_in frame_width frames.new) result.depth) × (out.new ≡ answers_after (asked-all file.now (frames_in frame_width frames.old) depth (put_questions ks.now out.old)).answer out.old) }
+    ensures { (Replied (asked_all file.now (frames_in frame_width frames.old) depth (put_questions ks.now out.old)) result.refused (frames_in frame_width frames.new) result.depth) × (out.new ≡ answers_after (asked_all file.now (frames_in frame_width frames.old) depth (put_questions ks.now out.old)).answer out.old) }
 {
     if file.len() <= ONE_FILE {
         return ask_all_one(file, frames, depth, ks, out);
@@ -289,7 +290,7 @@ pub fn ask_all(file: &[u8], frames: &mut [u8], depth: usize, ks: &[u64], out: &m
 
 // The answer to a list of one question as that question's: a refusal by 16 is returned alone.
 fn told(a: Answered, bytes: [u8; 72], out: &mut [u8; 72]) -> Answered
-    ensures { (file : List ℕ) (fs new : List Frame) (d k : ℕ) → Replied (asked-all file fs d (k ∷ [])) a.refused new a.depth → bytes ≡ answers_after (asked-all file fs d (k ∷ [])).answer (replicate answer_bytes 0) → (Replied (asked file fs d k) result.refused new result.depth) × (out.new ≡ answer_after (asked file fs d k).answer out.old) }
+    ensures { (file : List ℕ) (fs new : List Frame) (d k : ℕ) → Replied (asked_all file fs d (k ∷ [])) a.refused new a.depth → bytes ≡ answers_after (asked_all file fs d (k ∷ [])).answer (replicate answer_bytes 0) → (Replied (asked file fs d k) result.refused new result.depth) × (out.new ≡ answer_after (asked file fs d k).answer out.old) }
 {
     if a.refused != 0 {
         return a;

@@ -1,0 +1,28 @@
+-- Lane by lane, what the function is worth for what stood there: its values are all in the stream.
+use native.Mathlib.Omega.{arith}
+use Prim.Native.Nat.{ℕ, ◌+◌, ◌*◌}
+use mathlib.Core.Path.{refl, ap, ◌∙◌}
+use lib.ListN.{length-set, get_or}
+use Rattle.evaluation.specs.Rows.{lane}
+use Rattle.evaluation.proofs.LaneLaws.{put_none, put_more, put_read, put_all}
+use Rattle.evaluation.proofs.lanes.one_inside.Goals as goal
+
+pub loop-i-init : goal.loop-i-init
+loop-i-init c = (omega arith, ((omega arith, omega arith), (refl, put_none _ _ _ _ _ (omega arith))))
+
+pub overflow_add-rows : goal.overflow_add-rows
+overflow_add-rows c = omega (arith, c.wide.ensures.1)
+
+pub bounds-s-q : goal.bounds-s-q
+bounds-s-q c = let a = c.args in let l = c.loop-i in let p = l.invariant.1.1.1 in let u = c.wide.ensures.0 ∙ put_read a.rows.now a.d _ 0 l.i l.rows p a.t l.i (a.t * 128 + l.i) refl (omega arith) (omega arith) in let h = c.requires.0 l.i (omega arith) in omega (arith, u, h)
+
+pub loop-i-preserved : goal.loop-i-preserved
+loop-i-preserved c = let a = c.args in let l = c.loop-i in let p = l.invariant.1.1.1 in let f : ℕ → ℕ = λ n. get_or a.s.now (a.q + lane a.rows.now a.t n) 0 in
+    let w = ap (λ (y : ℕ). get_or a.s.now (a.q + y) 0) (c.wide.ensures.0 ∙ put_read a.rows.now a.d f 0 l.i l.rows p a.t l.i (a.t * 128 + l.i) refl (omega arith) (omega arith)) in
+    (omega arith, (l.invariant.1.0, (simp length-set l.invariant.1.1.0, put_more a.rows.now a.d f 0 l.i l.rows (a.d * 128 + l.i) (get_or a.s.now (a.q + c.wide.result) 0) refl (omega arith) (omega arith) w p)))
+
+pub shape_of-rows : goal.shape_of-rows
+shape_of-rows c = c.loop-i.invariant.1.1.0
+
+pub returns : goal.returns
+returns c = let a = c.args in let l = c.loop-i in put_all _ a.rows.now a.d _ l.i l.rows (omega arith) (omega arith) l.invariant.1.1.1

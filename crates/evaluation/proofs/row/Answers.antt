@@ -1,0 +1,15 @@
+-- Bytes multiplied and added stay below 65,536.
+use Rattle.laws.specs.Places.{small_product}
+use native.Mathlib.Omega.{arith}
+use Prim.Native.Nat.{ℕ, ◌+◌, ◌*◌}
+use mathlib.Core.Path.{ap₂}
+use Rattle.evaluation.proofs.row.Goals as goal
+
+pub overflow_mul-result : goal.overflow_mul-result
+overflow_mul-result c = omega (arith, small_product c.wide.result c.wide-2.result c.wide.ensures.1 c.wide-2.ensures.1)
+
+pub overflow_add-result : goal.overflow_add-result
+overflow_add-result c = omega (arith, small_product c.wide.result c.wide-2.result c.wide.ensures.1 c.wide-2.ensures.1)
+
+pub returns : goal.returns
+returns c = (ap₂ (λ (x y : ℕ). x + y) (ap₂ (λ (x y : ℕ). x * y) c.wide.ensures.0 c.wide-2.ensures.0) c.wide-3.ensures.0, omega (arith, small_product c.wide.result c.wide-2.result c.wide.ensures.1 c.wide-2.ensures.1))
