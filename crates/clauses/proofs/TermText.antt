@@ -10,7 +10,7 @@ use lib.ListN.{length, get_or, get_elem?, drop, replicate}
 use borrow.Author.Tests.{lt-ltb, le-ltb, eq-eqb, ne_eqb}
 use Rattle.pcrl.specs.Text.{bytes, byte, decimal}
 use Rattle.pcrl.specs.Tests.{Between}
-use Rattle.pcrl.specs.Sheet.{Data, val, var, app, Datas, nil, cons, list_of, Sig, Operation, operation, size, func, function, function_at}
+use Rattle.pcrl.specs.Sheet.{Data, val, var, app, nil, cons, list_of, Sig, Operation, operation, size, func, function, function_at}
 use Rattle.pcrl.specs.Sorts.{HasSort, HaveSorts, IsOperation, IsFunc}
 use Rattle.pcrl.specs.Table.{nodes}
 use Rattle.pcrl.specs.Stream.{variable_code, function_code, codes, encode_data}

@@ -22,7 +22,7 @@ use limits::{EQUAL_CODE, FUNCTION_CODE, NOT_CODE, VARIABLE_CODE};
 use texts::{put_byte, put_decimal};
 
 // Where the stream was read to, and where the text ends.
-#[derive(Drop)]
+#[derive(Clone, Copy)]
 pub struct TextPut {
     pub from: usize,
     pub at: usize,

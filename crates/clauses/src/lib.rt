@@ -1,3 +1,4 @@
+#![tactic(auto)]
 // Summands and right sides as text, read from the stream.
 ghost use Rattle.std.specs.Prelude.{◌≡◌, List, ◌++◌, ℕ, ◌+◌, ◌*◌, ◌≤◌, ◌<◌, length, drop, replicate};
 ghost use Rattle.pcrl.specs.Limits.{max_stream, max_conditions, frame_width};

@@ -28,7 +28,7 @@ pub const NONE: u64 = 4;
 // Where the text ends behind a node; what is to be written behind the next operand, and its place. What is to be written stands in the bits
 // of a number, the innermost item lowest, behind a first 1: a closing bracket is 0; a mark is 1, its number in two bits, and then 1 if a
 // bracket closes behind its second operand and 0 if not.
-#[derive(Drop)]
+#[derive(Clone, Copy)]
 pub struct After {
     pub at: usize,
     pub opens: u64,

@@ -1,3 +1,4 @@
+#![tactic(auto)]
 // The lines of sorts, functions and actions as text, read from the stream.
 ghost use Rattle.std.specs.Prelude.{◌≡◌, List, map, ℕ, ◌+◌, ◌*◌, ◌≤◌, ◌<◌, length, get_or, drop};
 ghost use Rattle.pcrl.specs.Limits.{max_stream};

@@ -13,13 +13,14 @@ use Rattle.pcrl.specs.Ask.{Answer, ask}
 use Rattle.pcrl.specs.Equality.{Equal}
 use Rattle.pcrl.specs.States.{State, RightState, stands_for}
 use Rattle.pcrl.specs.Answers.{file_made, table_checked, Reply, reply, start_stack, started_in, started, stack_read, one_answer, asked_in, asked, asked_all}
-use Rattle.codec.specs.FileLaws.{written_read}
+use Rattle.codec.proofs.FileLaws.{written_read}
 use Rattle.theory.specs.Lending.{frames_right}
 use Rattle.theory.specs.StepRight.{start_stack_right}
-use Rattle.theory.specs.Written.{written_for}
+use Rattle.theory.proofs.Written.{written_for}
 use Rattle.theory.specs.InTurn.{as_answer, alone}
 use Rattle.theory.specs.Calls.{CallIs, Calls, no_call, call_then, call_of_asked}
-use Rattle.theory.specs.Demand.{AcceptedSheet, states, Answered, first_sentence_holds, last_sentence_holds, at_once_holds}
+use Rattle.theory.specs.Demand.{AcceptedSheet, states, Answered}
+use Rattle.theory.proofs.Demand.{first_sentence_holds, last_sentence_holds, at_once_holds}
 use Rattle.asking.specs.Encoding.{answer_after, answers_after}
 use Rattle.stepping.specs.Promises.{put_questions}
 use Rattle.frames.specs.declared.LentFrame.{LentFrame}

@@ -1,3 +1,4 @@
+#![tactic(auto)]
 // The names that sorts, functions, processes and variables get: those of sorts are the table's own, the others a letter, repeated, and an index.
 ghost use Rattle.std.specs.Prelude.{◌≡◌, false, ◌+◌, ◌*◌, ◌≤◌, ◌<◌, min, max, eqb, length, get_or, replicate};
 ghost use Rattle.pcrl.specs.Limits.{max_sorts, max_stream};
@@ -33,13 +34,13 @@ pub const VARS: usize = NAMES + 2;
 const LETTERS: usize = NAMES + 3;
 
 // The names of a table's sorts, each in its cell.
-#[derive(Drop)]
+#[derive(Clone, Copy)]
 pub struct SortNames {
     pub at: [u8; NAMES],
 }
 
 // The names of a table's sorts, each in its cell, and behind them how many times each letter is repeated.
-#[derive(Drop)]
+#[derive(Clone, Copy)]
 pub struct Lettering {
     pub at: [u8; LETTERS],
 }

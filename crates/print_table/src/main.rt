@@ -1,25 +1,26 @@
+#![tactic(auto)]
 // Reads a table file from standard input and writes the text of a sheet that has it to standard output; or, where a question fails, nothing
 // there, and `refused` and the number of the first of questions 12 to 14 and 17 that fails to standard error.
-use libc::{STDERR_FILENO, STDIN_FILENO, STDOUT_FILENO};
+use std::io;
 
 // The first n bytes.
-fn write_front(text: &[u8], n: usize) {
+fn write_front(rt: &HostRuntime, text: &[u8], n: usize) -> io::Result<()> {
     if n <= text.len() {
-        io::write_all(STDOUT_FILENO, &text[..n]);
+        rt.write_all(&text[..n])?;
     }
+    Ok(())
 }
 
-fn main() {
+fn main(rt: HostRuntime) -> io::Result<()> {
     // one byte more than the longest file: a longer one is cut there and refused by 12 all the same
     let mut file = [0u8; 65537];
-    let n = io::read_full(STDIN_FILENO, &mut file);
+    let n = streams::read_front(&mut rt.reader(), &mut file)?;
     let mut text = [0u8; 4096];
     let m = printer::delivery::print_table(&file[..n], &mut text);
     if m.refused == 0 {
-        write_front(&text, m.length);
+        write_front(&rt, &text, m.length)
     } else {
-        io::write_all(STDERR_FILENO, b"refused ");
-        io::print_decimal(STDERR_FILENO, m.refused as u64);
-        io::write_all(STDERR_FILENO, b"\n");
+        let r = m.refused;
+        eprintln!(rt; "refused {r}")
     }
 }

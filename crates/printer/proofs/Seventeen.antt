@@ -19,7 +19,8 @@ use Rattle.pcrl.specs.Answers.{sorted_read, output_after, text_printed, table_ch
 use Rattle.laws.specs.Questions.{question_passes, question_fails, question_of_passes}
 use Rattle.texts.specs.Wrote.{Wrote}
 use Rattle.printing.specs.Linear.{linear_sheet}
-use Rattle.printing.specs.TextFits.{Fits, fits_passes, tokens_fit, fits_tokens, seventeen_exactly}
+use Rattle.printing.specs.TextFits.{Fits}
+use Rattle.printing.proofs.TextFits.{fits_passes, tokens_fit, fits_tokens, seventeen_exactly}
 use Rattle.printer.specs.declared.delivery.Printed.{Printed}
 use Rattle.printer.specs.Printing.{text_room, TokensApart, printed_answer}
 

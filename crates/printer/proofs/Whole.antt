@@ -22,7 +22,8 @@ use Rattle.printing.specs.Indexed.{SpelledName}
 use Rattle.printing.specs.Lookups.{distinct_append, distinct_across}
 use Rattle.printing.specs.SortNames.{PlainNames, right_names}
 use Rattle.rendering.specs.Texts.{concat, sort_line_text, func_line_text, act_line_text, proc_line_text, init_line_text, sheet_text}
-use Rattle.rendering.specs.LinePieces.{Spellable, text_is}
+use Rattle.rendering.specs.LinePieces.{Spellable}
+use Rattle.rendering.proofs.LinePieces.{text_is}
 use Rattle.terms.specs.Stands.{Stands}
 use Rattle.lettering.specs.Named.{names_at, cells, Lettered}
 use Rattle.lettering.proofs.Given.{names_are, names_right, acts_are}

@@ -6,7 +6,7 @@ ghost use Rattle.pcrl.specs.Table.{Table};
 ghost use Rattle.pcrl.specs.Right.{RightTable};
 ghost use Rattle.pcrl.specs.Blocks.{block_bytes, block_stream};
 ghost use Rattle.pcrl.specs.Printer.{taken, table_text};
-ghost use Rattle.pcrl.specs.Answers.{output-after, text-printed, table-printed};
+ghost use Rattle.pcrl.specs.Answers.{output_after, text_printed, table_printed};
 ghost use Rattle.laws.specs.Says.{Says};
 ghost use Rattle.printer.specs.Printing.{text_room, TokensApart, printed_answer};
 
@@ -19,7 +19,7 @@ use limits::{MAX_BYTES, MAX_PROCESSES, MAX_STREAM, NO_ROOM, NO_TEXT};
 const TEXT: usize = MAX_BYTES + 1;
 
 // The number of the first question that fails, or 0 and how many bytes were written.
-#[derive(Drop)]
+#[derive(Clone, Copy)]
 pub struct Printed {
     pub refused: u8,
     pub length: usize,
@@ -52,7 +52,7 @@ fn tokens_apart(text: &[u8]) -> bool
 // sheet has. (Of questions 1 to 8 only 1, 3, 4, 6 for the count of processes, 7 for a sort with an action's name and 8 for `==` over two
 // values can fail on such a text: printing, TextFits.)
 fn deliver(text: &[u8], n: usize, free: bool, out: &mut [u8]) -> Printed
-    ensures { (U : Table) → RightTable U → text.now ≡ take text_room (table_text U) → n ≡ length U.equations → Says free (T (distinct (taken U.sig))) → (result ≡ printed_answer (text-printed U (length out.old))) × (out.new ≡ output-after (text-printed U (length out.old)) out.old) }
+    ensures { (U : Table) → RightTable U → text.now ≡ take text_room (table_text U) → n ≡ length U.equations → Says free (T (distinct (taken U.sig))) → (result ≡ printed_answer (text_printed U (length out.old))) × (out.new ≡ output_after (text_printed U (length out.old)) out.old) }
 {
     let m = text.len();
     if MAX_BYTES < m {
@@ -80,7 +80,7 @@ fn deliver(text: &[u8], n: usize, free: bool, out: &mut [u8]) -> Printed
 // Questions 12 to 14, 17 and 11, over an array lent for the stream.
 fn print_in(file: &[u8], stream: &mut [u8], out: &mut [u8]) -> Printed
     requires { (min (length file.now / block_bytes * block_stream) max_stream ≤ length stream.old) × (length stream.old ≤ max_stream) }
-    ensures { (result ≡ printed_answer (table-printed file.now (length out.old))) × (out.new ≡ output-after (table-printed file.now (length out.old)) out.old) }
+    ensures { (result ≡ printed_answer (table_printed file.now (length out.old))) × (out.new ≡ output_after (table_printed file.now (length out.old)) out.old) }
 {
     let f = stepping::load(file, stream);
     if f.refused != 0 {
@@ -96,14 +96,14 @@ fn print_in(file: &[u8], stream: &mut [u8], out: &mut [u8]) -> Printed
 
 fn print_short(file: &[u8], out: &mut [u8]) -> Printed
     requires { length file.now ≤ 4096 }
-    ensures { (result ≡ printed_answer (table-printed file.now (length out.old))) × (out.new ≡ output-after (table-printed file.now (length out.old)) out.old) }
+    ensures { (result ≡ printed_answer (table_printed file.now (length out.old))) × (out.new ≡ output_after (table_printed file.now (length out.old)) out.old) }
 {
     let mut stream = [0u8; SHORT_STREAM];
     print_in(file, &mut stream, out)
 }
 
 fn print_long(file: &[u8], out: &mut [u8]) -> Printed
-    ensures { (result ≡ printed_answer (table-printed file.now (length out.old))) × (out.new ≡ output-after (table-printed file.now (length out.old)) out.old) }
+    ensures { (result ≡ printed_answer (table_printed file.now (length out.old))) × (out.new ≡ output_after (table_printed file.now (length out.old)) out.old) }
 {
     let mut stream = [0u8; MAX_STREAM];
     print_in(file, &mut stream, out)
@@ -111,7 +111,7 @@ fn print_long(file: &[u8], out: &mut [u8]) -> Printed
 
 // Print a table: the text of a sheet that has it over the front of the lent output.
 pub fn print_table(file: &[u8], out: &mut [u8]) -> Printed
-    ensures { (result ≡ printed_answer (table-printed file.now (length out.old))) × (out.new ≡ output-after (table-printed file.now (length out.old)) out.old) }
+    ensures { (result ≡ printed_answer (table_printed file.now (length out.old))) × (out.new ≡ output_after (table_printed file.now (length out.old)) out.old) }
 {
     if file.len() <= SHORT_FILE {
         return print_short(file, out);

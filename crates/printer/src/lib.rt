@@ -1,3 +1,4 @@
+#![tactic(auto)]
 // A table as the text of a sheet: its stream is gone through once, and each part is written as it is met.
 ghost use Rattle.std.specs.Prelude.{◌≡◌, ◌≤◌, T, length};
 ghost use Rattle.pcrl.specs.Limits.{max_stream};
@@ -22,7 +23,7 @@ use lettering::CELLS;
 use tables::Index;
 
 // How many sorts, functions, actions and equations there are, and where the start stands.
-#[derive(Drop)]
+#[derive(Clone, Copy)]
 pub struct Counts {
     pub sorts: usize,
     pub functions: usize,
@@ -32,7 +33,7 @@ pub struct Counts {
 }
 
 // Where the text ends, and whether no sort has the name of an action.
-#[derive(Drop)]
+#[derive(Clone, Copy)]
 pub struct Put {
     pub at: usize,
     pub free: bool,

@@ -1,3 +1,4 @@
+#![tactic(auto)]
 // Pieces of the walk's text, written into lent bytes one behind another, as far as there is room.
 ghost use Rattle.std.specs.Prelude.{◌≡◌, [], ◌∷◌, ◌+◌, ◌%◌, ◌<◌, ◌≤◌, length, get_or, take};
 ghost use Rattle.pcrl.specs.Sheet.{Sig, no_action};

@@ -1,18 +1,20 @@
+#![tactic(auto)]
 // Reads a sheet from standard input and writes its walk: the first step up to 8 times, or `refused` and the number.
-use libc::{STDIN_FILENO, STDOUT_FILENO};
+use std::io;
 
 // The first n bytes.
-fn write_front(text: &[u8], n: usize) {
+fn write_front(rt: &HostRuntime, text: &[u8], n: usize) -> io::Result<()> {
     if n <= text.len() {
-        io::write_all(STDOUT_FILENO, &text[..n]);
+        rt.write_all(&text[..n])?;
     }
+    Ok(())
 }
 
-fn main() {
+fn main(rt: HostRuntime) -> io::Result<()> {
     // more than the longest sheet: of a longer input the front is enough
-    let mut sheet = io::large_buffer();
-    let n = io::read_full(STDIN_FILENO, &mut sheet);
+    let mut sheet = [0u8; 65536];
+    let n = streams::read_front(&mut rt.reader(), &mut sheet)?;
     let t = walker::walk_text(&sheet[..n]);
     let text = t.bytes;
-    write_front(&text, t.length);
+    write_front(&rt, &text, t.length)
 }

@@ -13,7 +13,7 @@ use Rattle.pcrl.specs.Answers.{table_made, stream_filed, file_made, output_after
 use Rattle.pcrl.specs.Walk.{text_line, walk_made, walk_text}
 use Rattle.laws.specs.Questions.{past_question, past_answer, question_passes, question_fails}
 use Rattle.codec.specs.FileLaws.{read_written}
-use Rattle.theory.specs.Made.{made_all}
+use Rattle.theory.proofs.Made.{made_all}
 use Rattle.making.specs.declared.Made.{Made}
 use Rattle.making.specs.Making.{made_answer}
 use Rattle.making.proofs.Numbers.{table_number}

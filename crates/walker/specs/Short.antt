@@ -29,7 +29,7 @@ use Rattle.laws.specs.Any.{every_any}
 use Rattle.theory.specs.ValueSorts.{values_in}
 use Rattle.theory.specs.Listing.{listed_steps}
 use Rattle.theory.specs.StepRight.{in_sorts_append, summands_right, step_right, start_stack_right}
-use Rattle.theory.specs.Made.{made_all}
+use Rattle.theory.proofs.Made.{made_all}
 use Rattle.theory.specs.Asked.{AnswerIs, at_end, too_large, too_deep, goes_to, answer_is}
 use Rattle.making.proofs.Numbers.{table_number}
 use Rattle.texts.specs.Wrote.{Wrote}

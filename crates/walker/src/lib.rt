@@ -1,10 +1,11 @@
+#![tactic(auto)]
 // The walk: step 0 up to 8 times, and its text, from a table file and from a sheet.
 ghost use Rattle.std.specs.Prelude.{◌≡◌, ◌++◌, true, false, ◌+◌, ◌*◌, ◌/◌, ◌%◌, ◌<◌, ◌≤◌, min, length, take};
 ghost use Rattle.pcrl.specs.Limits.{frame_width, stack_limit, max_stream};
 ghost use Rattle.pcrl.specs.Table.{Table};
 ghost use Rattle.pcrl.specs.Right.{RightTable};
 ghost use Rattle.pcrl.specs.Stack.{RightFrames, frames_of};
-ghost use Rattle.pcrl.specs.Answers.{table-checked, start-stack};
+ghost use Rattle.pcrl.specs.Answers.{table_checked, start_stack};
 ghost use Rattle.pcrl.specs.Text.{decimal, bytes};
 ghost use Rattle.pcrl.specs.Walk.{walk_steps, text_line, walk_lines, walk_made, walk_text, step_line};
 ghost use Rattle.pcrl.specs.Blocks.{block_bytes, block_stream, max_file};
@@ -32,7 +33,7 @@ const ONE_SHEET: usize = 64;
 const SHORT_SHEET: usize = 512;
 
 // "A walk holds its depth, its steps taken and its last answer."
-#[derive(Drop)]
+#[derive(Clone, Copy)]
 pub struct Walk {
     pub depth: usize,
     pub taken: usize,
@@ -40,14 +41,14 @@ pub struct Walk {
 }
 
 // The text of a walk, at the front.
-#[derive(Drop)]
+#[derive(Clone, Copy)]
 pub struct Text {
     pub bytes: [u8; TEXT_LIMIT],
     pub length: usize,
 }
 
 // Whether the table had room in the file that was lent, and then how long the text is.
-#[derive(Drop)]
+#[derive(Clone, Copy)]
 pub struct Walked {
     pub done: bool,
     pub length: usize,
@@ -141,7 +142,7 @@ fn ask_first(s: &[u8], index: tables::Index, frames: &mut [u8], depth: usize) ->
 // The lines of a walk from frames that hold the start, and how long they are.
 fn put_walk(s: &[u8], index: tables::Index, frames: &mut [u8], out: &mut [u8]) -> usize
     requires { (length s.now ≤ max_stream) × (length frames.old ≡ stack_bytes) }
-    ensures { (T : Table) → RightTable T → Indexed T s.now index → frames_in frame_width frames.old ≡ frames_of frame_width stack_limit (start-stack frame_width T) → Wrote out.old 0 (walk_lines T walk_steps 1 (start-stack frame_width T)) out.new result }
+    ensures { (T : Table) → RightTable T → Indexed T s.now index → frames_in frame_width frames.old ≡ frames_of frame_width stack_limit (start_stack frame_width T) → Wrote out.old 0 (walk_lines T walk_steps 1 (start_stack frame_width T)) out.new result }
 {
     let first = asking::plain(0, 0, 1);
     let mut w = Walk {
@@ -181,7 +182,7 @@ fn put_refused(out: &mut [u8], n: u8) -> usize
 
 fn walk_in(file: &[u8], stream: &mut [u8], out: &mut [u8]) -> usize
     requires { (min (length file.now / block_bytes * block_stream) max_stream ≤ length stream.old) × (length stream.old ≤ max_stream) }
-    ensures { Wrote out.old 0 (walk_made (table-checked file.now)) out.new result }
+    ensures { Wrote out.old 0 (walk_made (table_checked file.now)) out.new result }
 {
     let f = stepping::load(file, stream);
     if f.refused != 0 {
@@ -196,7 +197,7 @@ fn walk_in(file: &[u8], stream: &mut [u8], out: &mut [u8]) -> usize
 
 fn walk_one(file: &[u8], out: &mut [u8]) -> usize
     requires { length file.now ≤ 512 }
-    ensures { Wrote out.old 0 (walk_made (table-checked file.now)) out.new result }
+    ensures { Wrote out.old 0 (walk_made (table_checked file.now)) out.new result }
 {
     let mut stream = [0u8; BLOCK_STREAM];
     walk_in(file, &mut stream, out)
@@ -204,14 +205,14 @@ fn walk_one(file: &[u8], out: &mut [u8]) -> usize
 
 fn walk_short(file: &[u8], out: &mut [u8]) -> usize
     requires { length file.now ≤ 4096 }
-    ensures { Wrote out.old 0 (walk_made (table-checked file.now)) out.new result }
+    ensures { Wrote out.old 0 (walk_made (table_checked file.now)) out.new result }
 {
     let mut stream = [0u8; SHORT_STREAM];
     walk_in(file, &mut stream, out)
 }
 
 fn walk_long(file: &[u8], out: &mut [u8]) -> usize
-    ensures { Wrote out.old 0 (walk_made (table-checked file.now)) out.new result }
+    ensures { Wrote out.old 0 (walk_made (table_checked file.now)) out.new result }
 {
     let mut stream = [0u8; MAX_STREAM];
     walk_in(file, &mut stream, out)
@@ -219,7 +220,7 @@ fn walk_long(file: &[u8], out: &mut [u8]) -> usize
 
 // The text of the walk by a table file, as far as there is room for it, and how long that is.
 pub fn walk_table(file: &[u8], out: &mut [u8]) -> usize
-    ensures { Wrote out.old 0 (walk_made (table-checked file.now)) out.new result }
+    ensures { Wrote out.old 0 (walk_made (table_checked file.now)) out.new result }
 {
     if file.len() <= ONE_FILE {
         return walk_one(file, out);

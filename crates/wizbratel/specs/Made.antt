@@ -13,8 +13,9 @@ use Rattle.pcrl.specs.Blocks.{max_file, blocks_for, file_of_stream, Room, room?}
 use Rattle.pcrl.specs.Answers.{table_made, stream_filed, file_made, table_checked}
 use Rattle.laws.specs.Questions.{question_passes}
 use Rattle.codec.specs.FileOfStream.{length_file}
-use Rattle.theory.specs.Made.{made_all}
-use Rattle.theory.specs.Written.{WrittenFor, written_for}
+use Rattle.theory.proofs.Made.{made_all}
+use Rattle.theory.specs.Written.{WrittenFor}
+use Rattle.theory.proofs.Written.{written_for}
 use Rattle.making.proofs.Numbers.{file_number}
 use Rattle.wizbratel.specs.Tables.{MakePromise}
 use Rattle.wizbratel.specs.Written.{what_was_written, refusal_leaves}

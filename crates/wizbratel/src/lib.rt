@@ -1,6 +1,7 @@
-// The public operations, exported for C and Rust. Each takes any bytes whatever and asks nothing of its caller.
+#![tactic(auto)]
+// The public operations. Each takes any bytes whatever and asks nothing of its caller. `wizbratel_c` exports them to C.
 ghost use Rattle.std.specs.Prelude.{◌≡◌, List, length};
-ghost use Rattle.pcrl.specs.Answers.{started, asked, asked-all};
+ghost use Rattle.pcrl.specs.Answers.{started, asked, asked_all};
 ghost use Rattle.asking.specs.Encoding.{answer_after, answers_after};
 ghost use Rattle.stepping.specs.Promises.{Replied, put_questions};
 ghost use Rattle.frames.specs.declared.LentFrame.{LentFrame};
@@ -12,8 +13,7 @@ use asking::ANSWER;
 use stacks::{BYTES, LIMIT};
 
 // Check a sheet, questions 1 to 10: the number of the first that fails, or 0. So it is accepted exactly if its table can be made.
-#[unsafe(no_mangle)]
-pub extern "C" fn wizbratel_check_sheet(sheet: &[u8]) -> u8
+pub fn wizbratel_check_sheet(sheet: &[u8]) -> u8
     ensures { CheckPromise sheet.now result }
 {
     making::check_sheet(sheet)
@@ -21,8 +21,7 @@ pub extern "C" fn wizbratel_check_sheet(sheet: &[u8]) -> u8
 
 // Make a table, questions 1 to 11: the number of the first that fails, or 0. The file's blocks stand over the front of the lent
 // output, and `written` is their length; after a refusal both are as they were.
-#[unsafe(no_mangle)]
-pub extern "C" fn wizbratel_make_table(sheet: &[u8], out: &mut [u8], written: &mut usize) -> u8
+pub fn wizbratel_make_table(sheet: &[u8], out: &mut [u8], written: &mut usize) -> u8
     ensures { MakePromise sheet.now out.old written.old result out.new written.new }
 {
     let a = making::make_table(sheet, out);
@@ -34,8 +33,7 @@ pub extern "C" fn wizbratel_make_table(sheet: &[u8], out: &mut [u8], written: &m
 
 // Print a table, questions 12 to 14, 17 and 11: the number of the first that fails, or 0. The text of a sheet that has the table stands over
 // the front of the lent output, and `written` is its length; after a refusal both are as they were.
-#[unsafe(no_mangle)]
-pub extern "C" fn wizbratel_print_table(file: &[u8], out: &mut [u8], written: &mut usize) -> u8
+pub fn wizbratel_print_table(file: &[u8], out: &mut [u8], written: &mut usize) -> u8
     ensures { PrintPromise file.now out.old written.old result out.new written.new }
 {
     let p = printer::delivery::print_table(file, out);
@@ -46,8 +44,7 @@ pub extern "C" fn wizbratel_print_table(file: &[u8], out: &mut [u8], written: &m
 }
 
 // Check a table, questions 12 to 14: the number of the first that fails, or 0.
-#[unsafe(no_mangle)]
-pub extern "C" fn wizbratel_check_table(file: &[u8]) -> u8
+pub fn wizbratel_check_table(file: &[u8]) -> u8
     ensures { CheckTablePromise file.now result }
 {
     files::check_file(file)
@@ -55,12 +52,7 @@ pub extern "C" fn wizbratel_check_table(file: &[u8]) -> u8
 
 // Start a stack, questions 12 to 14, and of 15 that 64 frames are lent: the number of the first that fails, or 0. The table's start
 // stands in the first frame, and the depth is 1; after a refusal both are as they were.
-#[unsafe(no_mangle)]
-pub extern "C" fn wizbratel_start(
-    file: &[u8],
-    frames: &mut [frames::LentFrame],
-    depth: &mut usize,
-) -> u8
+pub fn wizbratel_start(file: &[u8], frames: &mut [frames::LentFrame], depth: &mut usize) -> u8
     ensures { StartPromise file.now frames.old depth.old result frames.new depth.new }
 {
     let n = frames.len();
@@ -73,8 +65,7 @@ pub extern "C" fn wizbratel_start(
 
 // Ask for step k, questions 12 to 16: the number of the first that fails, or 0. The answer stands in the lent bytes, and the frames and
 // the depth are those of the stack after it; after a refusal all are as they were.
-#[unsafe(no_mangle)]
-pub extern "C" fn wizbratel_ask(
+pub fn wizbratel_ask(
     file: &[u8],
     frames: &mut [frames::LentFrame],
     depth: &mut usize,
@@ -93,8 +84,7 @@ pub extern "C" fn wizbratel_ask(
 
 // Ask a list, questions 12 to 15 once, and then each question in turn, as many as there is room for answers of 72 bytes: the number of the
 // first that fails, or 0. After a refusal all is as it was.
-#[unsafe(no_mangle)]
-pub extern "C" fn wizbratel_ask_all(
+pub fn wizbratel_ask_all(
     file: &[u8],
     frames: &mut [frames::LentFrame],
     depth: &mut usize,
@@ -113,8 +103,7 @@ pub extern "C" fn wizbratel_ask_all(
 
 // The walk of a sheet: its text over the front of the lent output, as far as there is room, and how many bytes that are; what is behind
 // them is as it was. No text is longer than 238 bytes (walker, Short).
-#[unsafe(no_mangle)]
-pub extern "C" fn wizbratel_walk(sheet: &[u8], out: &mut [u8]) -> usize
+pub fn wizbratel_walk(sheet: &[u8], out: &mut [u8]) -> usize
     ensures { WalkPromise sheet.now out.old result out.new }
 {
     walker::walk_sheet(sheet, out)
@@ -188,7 +177,7 @@ fn ask_all_stack(
     ks: &[u64],
     s: frames::Stack,
 ) -> frames::Ready
-    ensures { (result.count ≡ taken n) × ((xs : List LentFrame) → length xs ≡ n → over (taken n) xs s.frames ≡ s.frames → (Replied (asked-all file.now (lent_frames xs) depth.old (put_questions ks.now out.old)) result.refused (lent_frames (over (taken n) result.stack.frames xs)) depth.new) × (out.new ≡ answers_after (asked-all file.now (lent_frames xs) depth.old (put_questions ks.now out.old)).answer out.old)) }
+    ensures { (result.count ≡ taken n) × ((xs : List LentFrame) → length xs ≡ n → over (taken n) xs s.frames ≡ s.frames → (Replied (asked_all file.now (lent_frames xs) depth.old (put_questions ks.now out.old)) result.refused (lent_frames (over (taken n) result.stack.frames xs)) depth.new) × (out.new ≡ answers_after (asked_all file.now (lent_frames xs) depth.old (put_questions ks.now out.old)).answer out.old)) }
 {
     if n != LIMIT {
         let mut none = [0u8; 1];
