@@ -11,8 +11,8 @@
  *             NULL. `written`, `depth` and `answer` are never NULL. What a function writes overlaps
  *             nothing else that it is lent, and no other thread writes what is lent during the call.
  * Threads     There is no state: any number of threads may call at once.
- * Times       On one core of a server, the least of many calls. They are measured, not proved, and so is the stack of
- *             sheets; that of tables is added up from the machine code.
+ * Times       On one core of a server, the least of many calls, as the older kit compiled it. They are measured, not
+ *             proved, and so is the stack of sheets; that of tables is added up from the machine code.
  * Linking     libwizbratel.a, for x86-64 Linux; it needs memcpy and memset and nothing else. wizbratel_words.h has the
  *             questions in words. */
 #ifndef WIZBRATEL_H

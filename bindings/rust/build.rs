@@ -21,7 +21,7 @@ fn main() {
             .map(|folder| folder.display().to_string())
             .collect();
         eprintln!("no {ARCHIVE} in {}", folders.join(" or "));
-        eprintln!("`rt staticlib wizbratel` writes it to the repository's target/staticlib; or {VARIABLE} names its folder, by a whole path");
+        eprintln!("`tools/archives` writes it to the repository's target/staticlib; or {VARIABLE} names its folder, by a whole path");
         std::process::exit(1);
     };
     println!("cargo:rerun-if-changed={}", folder.join(ARCHIVE).display());

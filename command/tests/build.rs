@@ -6,9 +6,10 @@ use std::path::{Path, PathBuf};
 use std::process::{Command, Output};
 
 /// What the script needs beside the kit and cargo.
-const TOOLS: [&str; 9] = [
+const TOOLS: [&str; 10] = [
     "bash",
     "cmp",
+    "cp",
     "dirname",
     "find",
     "mkdir",
@@ -18,11 +19,22 @@ const TOOLS: [&str; 9] = [
     "xargs",
 ];
 
+/// What is built, in this order.
+const CRATES: [&str; 6] = [
+    "wizbratel_c",
+    "measures_c",
+    "walk",
+    "make_table",
+    "check_sheet",
+    "print_table",
+];
+
 const RT: &str = "#!/usr/bin/env bash
-echo \"rt $*\" >>log
-mkdir -p target/staticlib target/bin
-[ \"$1\" != staticlib ] || echo library >target/staticlib/libwizbratel.a
-[ \"$1\" != check ] || for program in \"${@:2}\"; do echo program >\"target/bin/$program\"; done
+echo \"rt $* ${PWD##*/}\" >>../../log
+name=${PWD##*/}
+mkdir -p out
+[ \"$1\" != lib ] || echo library >\"out/lib$name.a\"
+[ \"$1\" != run ] || echo program >\"out/$name\"
 ";
 
 const CARGO: &str = "#!/usr/bin/env bash
@@ -40,8 +52,14 @@ impl Repository {
         for folder in ["tools", "bin", "crates/walk/src"] {
             fs::create_dir_all(repository.path(folder)).unwrap();
         }
+        for name in CRATES {
+            fs::create_dir_all(repository.path("crates").join(name)).unwrap();
+        }
         let root = Path::new(env!("CARGO_MANIFEST_DIR")).join("..");
-        fs::copy(root.join("tools/build"), repository.path("tools/build")).unwrap();
+        for tool in ["build", "archives", "programs"] {
+            let tool = Path::new("tools").join(tool);
+            fs::copy(root.join(&tool), repository.0.join(&tool)).unwrap();
+        }
         fs::write(repository.path("crates.txt"), "walk:\n").unwrap();
         fs::write(repository.path("crates/walk/src/lib.rt"), "").unwrap();
         for tool in TOOLS {
@@ -97,13 +115,17 @@ fn nothing_is_built_twice() {
     );
 
     // a proof that fails half-way counts for nothing
-    repository.program("rt", &RT.replace("check ]", "check ] || exit 1"));
+    repository.program("rt", &RT.replace("run ]", "run ] || exit 1"));
     assert_eq!(said(&repository.build().0).0, Some(1));
 
     repository.program("rt", RT);
     let all = [
-        "rt staticlib wizbratel",
-        "rt check walk make_table check_sheet print_table",
+        "rt lib wizbratel_c",
+        "rt lib measures_c",
+        "rt run walk",
+        "rt run make_table",
+        "rt run check_sheet",
+        "rt run print_table",
         BUILD,
     ];
     let (output, asked) = repository.build();
@@ -139,7 +161,7 @@ fn nothing_is_built_twice() {
             None => fs::remove_file(repository.path(name)).unwrap(),
         }
         let (output, asked) = repository.build();
-        assert_eq!((said(&output).0, asked.len()), (Some(0), 3), "{name}");
+        assert_eq!((said(&output).0, asked.len()), (Some(0), all.len()), "{name}");
         assert_eq!(said(&repository.build().0), nothing, "{name}");
     }
 }

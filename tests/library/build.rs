@@ -1,4 +1,4 @@
-//! Links the static libraries that `rt staticlib wizbratel` and `rt staticlib measures` write.
+//! Links the static libraries that tools/archives writes.
 
 fn main() {
     let root = std::path::Path::new(env!("CARGO_MANIFEST_DIR")).join("../..");

@@ -1,4 +1,4 @@
-"""The call graph of the sources of all crates."""
+"""The call graph of the sources of the crates that the library stands on."""
 import glob
 import os
 import re
@@ -14,19 +14,15 @@ ROOTS = (
     "wizbratel_ask_all",
 )
 READS_A_SHEET = ("wizbratel_check_sheet", "wizbratel_make_table", "wizbratel_walk")
-LIBRARY = "wizbratel"
+# The crate whose exports these are, and the name of its archive.
+LIBRARY = "wizbratel_c"
+ARCHIVE = "wizbratel"
 
-# What the sources call that they do not define: of the language, and of the kit's libraries, which programs use.
+# What the sources call that they do not define: of the language.
 METHODS = {"len"}
-KIT = {
-    "u32::count_ones",
-    "u32::trailing_zeros",
-    "io::large_buffer",
-    "io::read_full",
-    "io::write_all",
-    "io::print_decimal",
-}
-KIT_CRATES = {"bytes", "check", "io", "libc", "os"}
+KIT = {"u32::count_ones", "u32::trailing_zeros"}
+# Attributes by which nothing is called.
+ATTRIBUTE = re.compile(r"unsafe\(no_mangle\)|repr\(C\)|derive\(Clone,Copy\)|(tactic|cycle)\(.*\)")
 NUMBERS = {"u8", "u16", "u32", "u64", "usize"}
 
 # Words that are no name; and those that a body may not have, since they begin an item or a form that could hide a call.
@@ -135,6 +131,8 @@ class Items:
     def read(self):
         while self.at < len(self.tokens):
             exported = self.attributes()
+            if self.at == len(self.tokens):
+                break
             public = self.peek() == "pub" and self.next()
             word = self.next()
             if word == "extern" and public and self.next('"C"'):
@@ -152,10 +150,12 @@ class Items:
         exported = False
         while self.peek() == "#":
             self.next()
+            if self.peek() == "!":
+                self.next()
             text = "".join(self.group("[", "]"))
-            if text not in ("no_mangle", "repr(C)"):
+            if not ATTRIBUTE.fullmatch(text):
                 self.fault("the attribute `%s` is not known" % text)
-            exported = exported or text == "no_mangle"
+            exported = exported or text == "unsafe(no_mangle)"
         return exported
 
     def read_ghost(self):
@@ -164,10 +164,24 @@ class Items:
         self.next(";")
 
     def read_use(self):
+        """A path, or one that ends with several names in brackets, each of which may be a path."""
         path = self.until(";")
-        if not re.fullmatch(r"\w+( :: \w+)*", " ".join(path)):
+        if not re.fullmatch(r"\w+( :: \w+)*( :: \{( \w+( :: \w+)* ,)* \w+( :: \w+)*( ,)? \})?", " ".join(path)):
             self.fault("a `use` line that is no path is not read")
-        self.module.add(path[-1], "use", path[::2])
+        above, ends = path, [[]]
+        if "{" in path:
+            above, ends = path[: path.index("{")], [[]]
+            for token in path[path.index("{") + 1 : -1]:
+                if token == ",":
+                    ends.append([])
+                else:
+                    ends[-1].append(token)
+            ends = [end for end in ends if end]
+        for end in ends:
+            whole = (above + end)[::2]
+            if end == ["self"]:
+                whole = above[::2]
+            self.module.add(whole[-1], "use", whole)
         self.next(";")
 
     def read_mod(self):
@@ -249,11 +263,18 @@ class World:
     def __init__(self, root):
         self.root, self.needs, self.modules, self.functions, self.members = root, {}, {}, {}, {}
         with open(root + "/crates.txt", encoding="utf-8") as lines:
+            listed = {}
             for line in lines:
                 name, colon, needs = line.partition("#")[0].partition(":")
                 if colon:
-                    self.needs[name.strip()] = needs.split()
-        for crate in self.needs:
+                    listed[name.split()[0]] = needs.split()
+        todo = [LIBRARY]
+        while todo:
+            crate = todo.pop()
+            if crate in listed and crate not in self.needs:
+                self.needs[crate] = listed[crate]
+                todo += listed[crate]
+        for crate in sorted(self.needs):
             self.crate(crate)
 
     def crate(self, crate):
@@ -298,7 +319,7 @@ class World:
             return [("mod", self.modules[module.crate, ""])]
         own, found = self.items(module, name, busy), []
         if name in self.needs[module.crate]:
-            found = [("kit", str(name))] if name in KIT_CRATES else [("mod", self.modules[name, ""])]
+            found = [("mod", self.modules[name, ""])]
         if found and any(kind in ("mod", "type") and (kind, what) not in found for kind, what in own):
             raise Fault("%s: `%s` is a crate and an item too" % (name.place, name))
         return own + found + ([("kit", str(name))] if name in NUMBERS else [])

@@ -1,4 +1,4 @@
-//! The programs that `rt ci` proves and builds, run with some bytes on their standard input.
+//! The programs that `rt ci` proves and tools/programs builds, run with some bytes on their standard input.
 
 use std::io::Write;
 use std::path::Path;
@@ -11,7 +11,7 @@ pub fn written(name: &str, input: &[u8]) -> String {
         .stdin(Stdio::piped())
         .stdout(Stdio::piped())
         .spawn()
-        .expect("the program, which `rt check` builds");
+        .expect("the program, which tools/programs builds");
     let mut stdin = child.stdin.take().expect("its input");
     // a program that has read enough may close its input
     let _ = stdin.write_all(input);
