@@ -22,7 +22,7 @@ ARCHIVE = "wizbratel"
 METHODS = {"len"}
 KIT = {"u32::count_ones", "u32::trailing_zeros"}
 # Attributes by which nothing is called.
-ATTRIBUTE = re.compile(r"unsafe\(no_mangle\)|repr\(C\)|derive\(Clone,Copy\)|(tactic|cycle)\(.*\)")
+ATTRIBUTE = re.compile(r"unsafe\(no_mangle\)|repr\(C\)|derive\(Clone,Copy\)|inline\(never\)|(tactic|cycle)\(.*\)")
 NUMBERS = {"u8", "u16", "u32", "u64", "usize"}
 
 # Words that are no name; and those that a body may not have, since they begin an item or a form that could hide a call.

@@ -125,6 +125,7 @@ fn make(
 }
 
 // Questions 1 to 11 over arrays for a sheet of at most 64 bytes.
+#[inline(never)]
 fn make_short(sheet: &[u8], out: &mut [u8]) -> Tried
     requires { length sheet.now ≤ 64 }
     ensures { Tries (file_made sheet.now (length out.old)) 1024 out.old result out.new }
@@ -137,6 +138,7 @@ fn make_short(sheet: &[u8], out: &mut [u8]) -> Tried
 }
 
 // Questions 1 to 11 over arrays for a sheet of at most 512 bytes.
+#[inline(never)]
 fn make_middle(sheet: &[u8], out: &mut [u8]) -> Tried
     requires { length sheet.now ≤ 512 }
     ensures { Tries (file_made sheet.now (length out.old)) 8192 out.old result out.new }
@@ -149,6 +151,7 @@ fn make_middle(sheet: &[u8], out: &mut [u8]) -> Tried
 }
 
 // A long sheet read: the raw tree's array is left before that of the stream is needed.
+#[inline(never)]
 fn read_long(sheet: &[u8], values: &mut [u8; VALUES], cells: &mut [u16; CELLS]) -> Answer
     ensures { Reads (sheet_read sheet.now) sheet.now result values.new cells.new }
 {
@@ -157,6 +160,7 @@ fn read_long(sheet: &[u8], values: &mut [u8; VALUES], cells: &mut [u16; CELLS]) 
 }
 
 // Questions 10 and 11 of a sheet that was read, over an array for the longest stream.
+#[inline(never)]
 fn write_long(
     sheet: &[u8],
     a: Answer,
@@ -177,6 +181,7 @@ fn write_long(
 }
 
 // Questions 1 to 11 over arrays for the longest sheet.
+#[inline(never)]
 fn make_long(sheet: &[u8], out: &mut [u8]) -> Made
     ensures answer { result ≡ made_answer (file_made sheet.now (length out.old)) }
     ensures written { out.new ≡ output_after (file_made sheet.now (length out.old)) out.old }
@@ -194,7 +199,8 @@ fn make_long(sheet: &[u8], out: &mut [u8]) -> Made
 }
 
 // Over short arrays for a sheet below `short` bytes, over middle ones below `middle`; and where the stream is too long for
-// them over the long ones, by a call of itself: so the compiler does not lay the arrays of all sizes into one frame.
+// them over the long ones, by a call of itself. Each size's arrays stand in a function that is not inlined, so that a short
+// sheet does not take the stack of a long one.
 fn make_by(sheet: &[u8], out: &mut [u8], short: usize, middle: usize) -> Made
     requires { (short ≤ 65) × (middle ≤ 513) }
     ensures answer { result ≡ made_answer (file_made sheet.now (length out.old)) }
