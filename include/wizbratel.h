@@ -152,7 +152,7 @@ size_t wizbratel_walk(const uint8_t *sheet, size_t length, uint8_t *out, size_t 
  * Answers  0 if it is exactly a file that could have been made of a right table, else 12 to 14. No bytes: 12.
  * Leaves   Nothing is written.
  * Time     0.2 to 0.5 us for 512 bytes; 0.2 ms for 65,536 made of a sheet, 0.5 ms for as many of random terms.
- * Stack    3 KB for a file of 512 bytes; at most 70 KB. */
+ * Stack    3 KB for a file of 512 bytes; at most 69 KB. */
 uint8_t wizbratel_check_table(const uint8_t *file, size_t length);
 
 /* Print a table file as a sheet: sorts and actions keep their names, functions, processes and variables are named by
