@@ -118,13 +118,11 @@ fn among(s: &[u8], name: &[u8], places: &[u16], skip: usize, from: usize) -> boo
     requires { skip ≤ 1 }
     ensures { result ≡ tests.among name.now (map (λ p. list_at s.now (p + skip)) (drop from places.now)) }
 {
-    let mut k = from;
-    while k < places.len() {
+    for k in from..places.len() {
         let other = terms::list_at(s, cell(places, k) + skip);
         if same(name, other) {
             return true;
         }
-        k += 1;
     }
     false
 }
@@ -134,13 +132,11 @@ pub fn distinct(s: &[u8], places: &[u16], skip: usize) -> bool
     requires { skip ≤ 1 }
     ensures { result ≡ tests.distinct (map (λ p. list_at s.now (p + skip)) places.now) }
 {
-    let mut k = 0usize;
-    while k < places.len() {
+    for k in 0..places.len() {
         let name = terms::list_at(s, cell(places, k) + skip);
         if among(s, name, places, skip, k + 1) {
             return false;
         }
-        k += 1;
     }
     true
 }

@@ -236,8 +236,7 @@ pub fn ask_each(
     let named = lettering::names_of(s, index);
     let names = named.at;
     let mut d = depth;
-    let mut i = 0;
-    while i < ks.len() {
+    for i in 0..ks.len() {
         let r = ask(s, &funcs, &acts, &params, &rows, frames, d, ks[i]);
         let e = encode(s, &acts, actions, &names, r);
         let bytes = e.bytes;
@@ -245,7 +244,6 @@ pub fn ask_each(
         let end = at + ANSWER;
         texts::put_bytes(&mut out[at..end], 0, &bytes);
         d = r.depth;
-        i += 1;
     }
     d
 }

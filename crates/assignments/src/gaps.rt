@@ -37,10 +37,8 @@ fn lowest(
     ensures { ((i : ℕ) → i < n → Standing s.now froms.now ends.now i) → (i : ℕ) → i < n → result ≤ foot p (code s.now (get_or froms.now i 0) (get_or ends.now i 0)) }
 {
     let mut low: usize = VARIABLES;
-    let mut i: usize = 0;
-    while i < n {
+    for i in 0..n {
         low = smaller(low, term_low(s, froms[i], ends[i], p));
-        i += 1;
     }
     low
 }

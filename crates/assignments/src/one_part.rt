@@ -51,10 +51,8 @@ pub fn test(
     ensures { ((i : ℕ) → i < n → Standing s.now froms.now ends.now i) → Tested (asked s.now funcs.now froms.now ends.now blocks.now e.now) blocks.now least n result }
 {
     let mut out = least;
-    let mut i: usize = 0;
-    while i < n {
+    for i in 0..n {
         out = tried(s, funcs, e, froms[i], ends[i], blocks[i], out);
-        i += 1;
     }
     out
 }

@@ -94,13 +94,11 @@ fn row_test(
     ensures { ((i : ℕ) → i < n → Standing s.now froms.now ends.now i) → u < length e.now → v < length e.now → Marked rows.old marks.old → Zeros rows.old → Marked rows.new marks.new × (Zeros rows.new × (((i : ℕ) → i < lanes → get_or met.old i 0 ≡ 1) → (result ≡ 255 → ⊥) → RowMet lanes (λ i. inner s.now funcs.now froms.now ends.now blocks.now w (lane_env e.now u v slow.now fast.now i)) n met.new result)) }
 {
     let mut some: u8 = 1;
-    let mut i: usize = 0;
-    while i < n {
+    for i in 0..n {
         some = row_tried(
             s, funcs, e, u, v, slow, fast, lanes, froms[i], ends[i], blocks[i], w, some, rows,
             marks, met,
         );
-        i += 1;
     }
     some
 }

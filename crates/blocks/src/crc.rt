@@ -69,10 +69,8 @@ fn zeros_at(s: &[u8], at: usize) -> bool
     ensures { result ≡ true → (k : ℕ) → at ≤ k → k < at + 32 → get_or s.now k 0 ≡ 0 }
 {
     let mut good = true;
-    let mut i = 0;
-    while i < FEW {
+    for i in 0..FEW {
         good = both(good, s[at + i] == 0);
-        i += 1;
     }
     good
 }

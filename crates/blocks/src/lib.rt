@@ -56,10 +56,8 @@ pub struct Opened {
 pub fn fill(s: &mut [u8])
     ensures { s.new ≡ replicate (length s.old) 0 }
 {
-    let mut i = 0;
-    while i < s.len() {
+    for i in 0..s.len() {
         s[i] = 0;
-        i += 1;
     }
 }
 
@@ -68,10 +66,8 @@ fn copy(s: &mut [u8], t: &[u8])
     requires { length t.now ≤ length s.old }
     ensures { s.new ≡ t.now ++ drop (length t.now) s.old }
 {
-    let mut i = 0;
-    while i < t.len() {
+    for i in 0..t.len() {
         s[i] = t[i];
-        i += 1;
     }
 }
 
@@ -113,14 +109,12 @@ fn write_blocks(stream: &[u8], out: &mut [u8], count: usize)
     requires { (length stream.now ≤ max_stream) × (count ≡ blocks_for (length stream.now)) × (count * block_bytes ≤ length out.old) }
     ensures { out.new ≡ file_of_stream stream.now ++ drop (length (file_of_stream stream.now)) out.old }
 {
-    let mut i = 0;
-    while i < count {
+    for i in 0..count {
         let from = i * BLOCK_STREAM;
         let to = smaller(from + BLOCK_STREAM, stream.len());
         let at = i * BLOCK;
         let end = at + BLOCK;
         write_block(&mut out[at..end], i, count, &stream[from..to]);
-        i += 1;
     }
 }
 
@@ -169,8 +163,7 @@ fn read_blocks(file: &[u8], out: &mut [u8]) -> bool
     ensures { Hands result file.now out.old out.new }
 {
     let count = file.len() / BLOCK;
-    let mut i = 0;
-    while i < count {
+    for i in 0..count {
         let at = i * BLOCK;
         let end = at + BLOCK;
         let block = &file[at..end];
@@ -180,7 +173,6 @@ fn read_blocks(file: &[u8], out: &mut [u8]) -> bool
         let to = i * BLOCK_STREAM;
         let till = to + BLOCK_STREAM;
         copy(&mut out[to..till], &block[STREAM_START..STREAM_END]);
-        i += 1;
     }
     true
 }

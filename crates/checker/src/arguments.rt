@@ -7,7 +7,7 @@ ghost use Rattle.checker.specs.Known.{KnownSizes};
 ghost use Rattle.checker.specs.Sorts.{start_limit, FitsAt, EachFitsAt, EveryFitsAt, ArgumentsFitAt, AllFitAt, ArgumentsAt};
 
 use crate::operators::{bools, operator_of, run_of};
-use elements::{byte, cell};
+use elements::cell;
 use limits::BOOL;
 use nodes::{Datum, FUNC_ROW, FUNCTION, GIVES, Outline, VALUE, VARIABLE, data_at, skip_data};
 
@@ -23,7 +23,7 @@ pub fn size_of(sizes: &[u8], sorts: usize, sort: usize) -> usize
     ensures upper_bound { result < byte_limit }
     ensures value { (S : Sig) → KnownSizes S sizes.now sorts → result ≡ size S sort }
 {
-    if sort < sorts { byte(sizes, sort) } else { 0 }
+    if sort < sorts { cell(sizes, sort) } else { 0 }
 }
 
 // Has the first node of a data term this sort, whatever its arguments are?
@@ -49,7 +49,7 @@ pub fn fits(
         return cell(scope, d.number) == sort;
     }
     if d.number < n.funcs {
-        return byte(funcs, FUNC_ROW * d.number + GIVES) == sort;
+        return cell(funcs, FUNC_ROW * d.number + GIVES) == sort;
     }
     let o = operator_of(d.number, n.sorts);
     if !o.there {
@@ -73,13 +73,13 @@ pub fn each_fits(
     ensures { EachFitsAt cells.now scope.now sizes.now funcs.now n given.at given.count row.now start result }
 {
     let count = given.count;
-    if byte(row, start) != count {
+    if cell(row, start) != count {
         return false;
     }
     let mut p = given.at;
     let mut i: usize = 0;
     while i < count {
-        let sort = byte(row, start + 1 + i);
+        let sort = cell(row, start + 1 + i);
         if !fits(cells, p, sort, scope, sizes, funcs, n) {
             return false;
         }

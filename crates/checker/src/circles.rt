@@ -78,12 +78,10 @@ fn head_sets(cells: &[u16], starts: &[u16], n: Outline) -> HeadSets
     ensures heads_of { (H : Sheet) (procs : List ℕ) → HeldProcs H procs cells.now starts.now n → HeadsOf H n.procs result.of }
 {
     let mut of = [0u32; MAX_PROCESSES];
-    let mut k: usize = 0;
-    while k < n.procs {
+    for k in 0..n.procs {
         let at = cell(starts, k);
         let r = heads_of(cells, at);
         of[k] = r.set;
-        k += 1;
     }
     HeadSets { of: of }
 }
@@ -112,11 +110,9 @@ fn next_round(sets: HeadSets, procs: usize, passed: u32) -> u32
 {
     let of = sets.of;
     let mut r: u32 = 0;
-    let mut k: usize = 0;
-    while k < procs {
+    for k in 0..procs {
         let passes = all_passed(of[k], passed);
         r = with_if(r, k, passes);
-        k += 1;
     }
     r
 }
@@ -127,10 +123,8 @@ fn passed_after(sets: HeadSets, procs: usize) -> u32
     ensures { PassedAfter sets.of procs result }
 {
     let mut passed: u32 = 0;
-    let mut i: usize = 0;
-    while i < procs {
+    for i in 0..procs {
         passed = next_round(sets, procs, passed);
-        i += 1;
     }
     passed
 }
@@ -140,10 +134,8 @@ fn all_processes(procs: usize) -> u32
     ensures { SetOf result (numbers_below procs) }
 {
     let mut r: u32 = 0;
-    let mut k: usize = 0;
-    while k < procs {
+    for k in 0..procs {
         r = with_bit(r, k);
-        k += 1;
     }
     r
 }

@@ -6,7 +6,7 @@ ghost use Rattle.nodes.specs.Held.{func_width};
 ghost use Rattle.checker.specs.Sorts.{VolumeIs, AllBelow, CompleteSays, FunctionsSay};
 
 use crate::arguments::size_of;
-use elements::{byte, cell};
+use elements::cell;
 use nodes::{FUNC_ROW, GIVES, Outline};
 
 // How many values a function has, of one or two sorts.
@@ -16,23 +16,21 @@ pub fn volume(funcs: &[u8], f: usize, sizes: &[u8], sorts: usize) -> usize
     ensures volume_is { VolumeIs funcs.now (func_width * f) sizes.now sorts result }
 {
     let start = FUNC_ROW * f;
-    let first = size_of(sizes, sorts, byte(funcs, start + 1));
-    if byte(funcs, start) < 2 {
+    let first = size_of(sizes, sorts, cell(funcs, start + 1));
+    if cell(funcs, start) < 2 {
         return first;
     }
-    first * size_of(sizes, sorts, byte(funcs, start + 2))
+    first * size_of(sizes, sorts, cell(funcs, start + 2))
 }
 
 // Are all values from one place up to another below a size?
 pub fn all_below(values: &[u8], from: usize, to: usize, size: usize) -> bool
     ensures { AllBelow values.now from to size result }
 {
-    let mut i = from;
-    while i < to {
-        if byte(values, i) >= size {
+    for i in from..to {
+        if cell(values, i) >= size {
             return false;
         }
-        i += 1;
     }
     true
 }
@@ -54,7 +52,7 @@ pub fn complete(
     if from + volume(funcs, f, sizes, sorts) != to {
         return false;
     }
-    let gives = byte(funcs, FUNC_ROW * f + GIVES);
+    let gives = cell(funcs, FUNC_ROW * f + GIVES);
     all_below(values, from, to, size_of(sizes, sorts, gives))
 }
 
@@ -69,12 +67,10 @@ pub fn functions_complete(
     requires { n.funcs ≤ max_functions }
     ensures { FunctionsSay funcs.now values.now places.now sizes.now n result }
 {
-    let mut f: usize = 0;
-    while f < n.funcs {
+    for f in 0..n.funcs {
         if !complete(funcs, f, values, places, sizes, n.sorts) {
             return false;
         }
-        f += 1;
     }
     true
 }

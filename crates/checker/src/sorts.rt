@@ -8,7 +8,7 @@ ghost use Rattle.checker.specs.Sorts.{ParamsInScope, ProcessesSay, SheetSays};
 
 use crate::functions::functions_complete;
 use crate::terms::{Variables, term_right};
-use elements::{byte, cell};
+use elements::cell;
 use limits::{FRAME_WIDTH, MAX_FUNCTIONS, MAX_PROCESSES};
 use nodes::{MAX_SCOPE, Outline, PROC_ROW};
 
@@ -20,10 +20,8 @@ fn params_of(procs: &[u8], k: usize) -> Variables
 {
     let mut sorts = [0u16; MAX_SCOPE];
     let start = PROC_ROW * k;
-    let mut i: usize = 0;
-    while i < FRAME_WIDTH {
-        sorts[i] = byte(procs, start + 1 + i) as u16;
-        i += 1;
+    for i in 0..FRAME_WIDTH {
+        sorts[i] = cell(procs, start + 1 + i) as u16;
     }
     Variables { sorts: sorts }
 }
@@ -41,14 +39,12 @@ fn processes_right(
     requires { n.procs ≤ max_processes }
     ensures { ProcessesSay cells.now starts.now sizes.now funcs.now acts.now procs.now n result }
 {
-    let mut k: usize = 0;
-    while k < n.procs {
+    for k in 0..n.procs {
         let at = cell(starts, k);
         let scope = params_of(procs, k);
         if !term_right(cells, at, scope, sizes, funcs, acts, procs, n) {
             return false;
         }
-        k += 1;
     }
     true
 }

@@ -179,11 +179,9 @@ pub fn put_terms(
         return TextPut { from: from, at: at };
     }
     let mut r = TextPut { from: from, at: at };
-    let mut i: usize = 0;
-    while i < n {
+    for i in 0..n {
         let a = put_byte(out, r.at, led(i));
         r = put_term(s, funcs, l, r.from, out, a);
-        i += 1;
     }
     TextPut {
         from: r.from,

@@ -45,10 +45,8 @@ fn put_sums(s: &[u8], l: &[u8], from: usize, n: usize, out: &mut [u8], at: usize
 {
     let m = wide(peek(s, from));
     let mut p = at;
-    let mut i: usize = 0;
-    while i < m {
+    for i in 0..m {
         p = put_sum(out, p, l, n + i, peek(s, from + 1 + i));
-        i += 1;
     }
     p
 }
@@ -59,10 +57,8 @@ fn put_closing(out: &mut [u8], at: usize, n: usize) -> usize
     ensures { Wrote out.old at (replicate n (byte ")")) out.new result }
 {
     let mut p = at;
-    let mut i: usize = 0;
-    while i < n {
+    for i in 0..n {
         p = put_byte(out, p, b')');
-        i += 1;
     }
     p
 }
@@ -220,10 +216,8 @@ fn put_calls(
         from: from + 1,
         at: at,
     };
-    let mut i: usize = 0;
-    while i < n {
+    for i in 0..n {
         r = put_call(s, funcs, params, l, r.from, out, r.at);
-        i += 1;
     }
     r
 }

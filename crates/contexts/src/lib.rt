@@ -10,7 +10,7 @@ ghost use Rattle.following.specs.Follows.{call_bytes, calls_room};
 ghost use Rattle.contexts.specs.Spots.{cond_bytes, conds_room, variable_limit, arrays, Bound, wanted_of};
 ghost use Rattle.contexts.specs.Steps.{VariablePut, call_room, terms_room, act_code, failed, SumDown, RestAt, SeqDown, StepDown, SideDown, CallDown, Stays, Emits};
 
-use elements::{BYTE_LIMIT, byte, cell};
+use elements::{BYTE_LIMIT, cell};
 use limits::{FRAME_WIDTH, MAX_ARITY, MAX_CONDITIONS, MAX_TERM, MAX_VARIABLES, TAU, VARIABLE_CODE};
 use nodes::Node;
 use putting::{Done, SLOT};
@@ -230,7 +230,7 @@ pub fn down_call(
     }
     putting::put_slots(cells, d.terms, count, slots, s.n, &mut *mine);
     let at = cell(starts, d.number);
-    let c = byte(firsts, d.number);
+    let c = cell(firsts, d.number);
     Spot {
         ok: true,
         at: at,

@@ -111,11 +111,9 @@ fn head_sets(cells: &[u16], starts: &[u16], n: usize) -> HeadSets
     ensures heads_of { (H : Sheet) → length H.procs ≡ n → Placed H cells.now starts.now → HeadsOf H n result.of }
 {
     let mut of = [0u32; ROW];
-    let mut k: usize = 0;
-    while k < n {
+    for k in 0..n {
         let r = heads_of(cells, cell(starts, k));
         of[k] = r.set;
-        k += 1;
     }
     HeadSets { of: of }
 }
@@ -157,12 +155,10 @@ fn round(
     ensures { (H : Sheet) → length H.procs ≡ n → Placed H cells.now starts.now → HeadsOf H n sets.of → Unchanged t.old f same → Tallied H f t.old → Tallied H (f + 1) t.new }
 {
     let of = sets.of;
-    let mut k: usize = 0;
-    while k < n {
+    for k in 0..n {
         let p = cell(starts, k);
         let c = next_count(cells, p, &*t, f, k, of[k], same);
         t[ROW * (f + 1) + k] = c as u16;
-        k += 1;
     }
 }
 
@@ -172,12 +168,10 @@ fn unchanged(t: &[u16], n: usize, f: usize) -> u32
     ensures { SameIn t.now f result }
 {
     let mut same: u32 = 0;
-    let mut k: usize = 0;
-    while k < n {
+    for k in 0..n {
         if cell(t, ROW * (f + 1) + k) == cell(t, ROW * f + k) {
             same = with_bit(same, k);
         }
-        k += 1;
     }
     same
 }
@@ -189,10 +183,8 @@ pub fn rounds(cells: &[u16], starts: &[u16], n: usize, times: usize, t: &mut [u1
 {
     let sets = head_sets(cells, starts, n);
     let mut same: u32 = 0;
-    let mut f: usize = 0;
-    while f < times {
+    for f in 0..times {
         round(cells, starts, n, f, sets, same, &mut *t);
         same = unchanged(&*t, n, f);
-        f += 1;
     }
 }

@@ -58,11 +58,9 @@ fn put_takes(sorts: &[u8], l: &[u8], out: &mut [u8], at: usize) -> usize
         return at;
     }
     let mut p = put_sort(out, at, l, sorts[0]);
-    let mut i: usize = 1;
-    while i < sorts.len() {
+    for i in 1..sorts.len() {
         let q = put_byte(out, p, b'#');
         p = put_sort(out, q, l, sorts[i]);
-        i += 1;
     }
     p
 }
@@ -76,11 +74,9 @@ pub fn put_values(vs: &[u8], out: &mut [u8], at: usize) -> usize
         return at;
     }
     let mut p = put_value(out, at, vs[0]);
-    let mut i: usize = 1;
-    while i < vs.len() {
+    for i in 1..vs.len() {
         let q = put_byte(out, p, b',');
         p = put_value(out, q, vs[i]);
-        i += 1;
     }
     p
 }
@@ -171,10 +167,8 @@ pub fn put_funcs(s: &[u8], funcs: &[u16], n: usize, l: &[u8], out: &mut [u8], at
     ensures wrote { (S : Sig) → KnownTerms S s.now funcs.now → length S.funcs ≤ 256 → Lettered S l.now → n ≡ length S.funcs → Wrote out.old at (concat (numbered (func_line_text S) 0 S.funcs)) out.new result }
 {
     let mut p = at;
-    let mut f: usize = 0;
-    while f < n {
+    for f in 0..n {
         p = put_func(s, funcs, cell(funcs, f), f, l, out, p);
-        f += 1;
     }
     p
 }
@@ -212,10 +206,8 @@ pub fn put_acts(s: &[u8], acts: &[u16], n: usize, l: &[u8], out: &mut [u8], at: 
     ensures wrote { (S : Sig) (Ps : List (List ℕ)) (params : List ℕ) → KnownParts S Ps s.now acts.now params → Every (RightAction S.sorts) S.acts → Lettered S l.now → n ≡ length S.acts → Wrote out.old at (all (act_line_text S) S.acts) out.new result }
 {
     let mut p = at;
-    let mut i: usize = 0;
-    while i < n {
+    for i in 0..n {
         p = put_act(s, cell(acts, i), l, out, p);
-        i += 1;
     }
     p
 }

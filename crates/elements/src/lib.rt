@@ -1,6 +1,6 @@
 #![tactic(auto)]
 // Elements of slices, 0 past the end; numbers made wider and narrower; the smaller and the larger of two.
-ghost use Rattle.std.specs.Prelude.{◌≡◌, ◌+◌, ◌%◌, ◌≤◌, ◌<◌, min, max, get_or};
+ghost use Rattle.std.specs.Prelude.{◌≡◌, ℕ, ◌+◌, ◌%◌, ◌≤◌, ◌<◌, min, max, get_or};
 ghost use Rattle.pcrl.specs.Tests as tests;
 
 // Numbers that a byte, and a cell of 16 bits, can hold.
@@ -8,60 +8,91 @@ pub const BYTE_LIMIT: usize = 256;
 
 pub const CELL_LIMIT: usize = 65536;
 
-// A byte of a slice, 0 past its end.
-pub fn peek(s: &[u8], i: usize) -> u8
-    ensures { result ≡ get_or s.now i 0 }
-{
-    if i < s.len() { s[i] } else { 0 }
+// A number as slices hold it, of 8, 16 or 32 bits.
+pub trait Number: Copy {
+    // What it counts, and a bound that is no number of these.
+    ghost value: { Self → ℕ };
+
+    ghost bound: { ℕ };
+
+    ghost none: { Self };
+
+    // The number 0.
+    fn zero() -> Self
+        ensures { result ≡ none };
+
+    // Made wider, to count with or as a place.
+    fn wide(self) -> usize
+        ensures { (result ≡ value self) × (result < bound) };
 }
 
-// A cell of a slice, 0 past its end.
-pub fn peek_cell(s: &[u16], i: usize) -> u16
-    ensures { result ≡ get_or s.now i 0 }
-{
-    if i < s.len() { s[i] } else { 0 }
+impl Number for u8 {
+    ghost value = { λ x. x };
+
+    ghost bound = { 256 };
+
+    ghost none = { 0 };
+
+    fn zero() -> u8 {
+        0
+    }
+
+    fn wide(self) -> usize {
+        usize::from(self)
+    }
 }
 
-// An element of 32 bits, 0 past the end of its slice.
-pub fn peek_word(s: &[u32], i: usize) -> u32
-    ensures { result ≡ get_or s.now i 0 }
-{
-    if i < s.len() { s[i] } else { 0 }
+impl Number for u16 {
+    ghost value = { λ x. x };
+
+    ghost bound = { 65536 };
+
+    ghost none = { 0 };
+
+    fn zero() -> u16 {
+        0
+    }
+
+    fn wide(self) -> usize {
+        usize::from(self)
+    }
 }
 
-// A byte as a number to count with.
-pub fn byte(s: &[u8], i: usize) -> usize
-    ensures { (result ≡ get_or s.now i 0) × (result < 256) }
-{
-    if i < s.len() { s[i] as usize } else { 0 }
+impl Number for u32 {
+    ghost value = { λ x. x };
+
+    ghost bound = { 4294967296 };
+
+    ghost none = { 0 };
+
+    fn zero() -> u32 {
+        0
+    }
+
+    fn wide(self) -> usize {
+        self as usize
+    }
 }
 
-// A cell as a number to count with, or as a place.
-pub fn cell(s: &[u16], i: usize) -> usize
-    ensures { (result ≡ get_or s.now i 0) × (result < 65536) }
+// An element of a slice, 0 past its end.
+pub fn peek<T: Number>(s: &[T], i: usize) -> T
+    ensures { result ≡ get_or s.now i T.none }
 {
-    if i < s.len() { s[i] as usize } else { 0 }
+    if i < s.len() { s[i] } else { T::zero() }
 }
 
-// A byte made wider, to count with or as a place.
-pub fn wide(x: u8) -> usize
-    ensures { (result ≡ x) × (result < 256) }
+// An element as a number to count with, or as a place.
+pub fn cell<T: Number>(s: &[T], i: usize) -> usize
+    ensures { (result ≡ T.value (get_or s.now i T.none)) × (result < T.bound) }
 {
-    x as usize
+    peek(s, i).wide()
 }
 
-// A cell made wider, to count with or as a place.
-pub fn wide_cell(x: u16) -> usize
-    ensures { (result ≡ x) × (result < 65536) }
+// A number made wider, to count with or as a place.
+pub fn wide<T: Number>(x: T) -> usize
+    ensures { (result ≡ T.value x) × (result < T.bound) }
 {
-    x as usize
-}
-
-// A number of 32 bits made wider, to count with or as a place.
-pub fn wide_word(x: u32) -> usize
-    ensures { (result ≡ x) × (result < 4294967296) }
-{
-    x as usize
+    x.wide()
 }
 
 // A byte as a cell.

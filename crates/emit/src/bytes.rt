@@ -3,7 +3,7 @@ ghost use Rattle.std.specs.Prelude.{◌≡◌, [], ◌∷◌, ◌+◌, ◌-◌, 
 ghost use Rattle.emit.specs.Putting.{Puts};
 ghost use Rattle.emit.specs.Bytes.{part, row_bytes};
 
-use elements::byte;
+use elements::cell;
 
 // One byte; the next free place.
 pub fn put(out: &mut [u8], w: usize, b: u8) -> usize
@@ -41,10 +41,8 @@ pub fn copy(s: &[u8], a: usize, n: usize, out: &mut [u8], w: usize) -> usize
     ensures { Puts (part s.now a n) w out.old result out.new }
 {
     let mut v = w;
-    let mut i: usize = 0;
-    while i < n {
+    for i in 0..n {
         v = put(out, v, element(s, a, i));
-        i += 1;
     }
     v
 }
@@ -53,5 +51,5 @@ pub fn copy(s: &[u8], a: usize, n: usize, out: &mut [u8], w: usize) -> usize
 pub fn put_row(row: &[u8], p: usize, out: &mut [u8], w: usize) -> usize
     ensures { Puts (row_bytes row.now p) w out.old result out.new }
 {
-    copy(row, p, byte(row, p) + 1, out, w)
+    copy(row, p, cell(row, p) + 1, out, w)
 }

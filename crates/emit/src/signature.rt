@@ -6,7 +6,7 @@ ghost use Rattle.emit.specs.Putting.{Puts};
 ghost use Rattle.emit.specs.Bytes.{sort_bytes, sorts_bytes, func_bytes, name_bytes, action_bytes, counted_bytes, PutsSig};
 
 use crate::bytes::{copy, minus, put, put_row};
-use elements::{cell, low, peek, peek_cell};
+use elements::{cell, low, peek};
 use lexer::bytes::{DIGIT, UNDERSCORE, run};
 use limits::{BOOL, NAMES_CODE};
 use names::find::first_byte;
@@ -30,7 +30,7 @@ fn put_sort(s: &[u8], sizes: &[u8], names: &[u16], d: usize, out: &mut [u8], w: 
     if d == BOOL {
         return put_row(b"\x04Bool", 0, out, v);
     }
-    put_name(s, peek_cell(names, d - 1), out, v)
+    put_name(s, peek(names, d - 1), out, v)
 }
 
 // Hex F2, the count of sorts, each sort.
@@ -39,10 +39,8 @@ fn put_sorts(s: &[u8], sizes: &[u8], names: &[u16], n: usize, out: &mut [u8], w:
 {
     let a = put(out, w, NAMES_CODE);
     let mut v = put(out, a, low(n));
-    let mut d: usize = 0;
-    while d < n {
+    for d in 0..n {
         v = put_sort(s, sizes, names, d, out, v);
-        d += 1;
     }
     v
 }
@@ -79,10 +77,8 @@ fn put_funcs(
     ensures { Puts (counted_bytes n (func_bytes funcs.now values.now places.now)) w out.old result out.new }
 {
     let mut v = put(out, w, low(n));
-    let mut i: usize = 0;
-    while i < n {
+    for i in 0..n {
         v = put_func(funcs, values, places, i, out, v);
-        i += 1;
     }
     v
 }
@@ -100,7 +96,7 @@ fn put_action(
     requires { (b < cell_limit) × (i < cell_limit) }
     ensures { Puts (action_bytes s.now acts.now names.now b i) w out.old result out.new }
 {
-    let v = put_name(s, peek_cell(names, b + i), out, w);
+    let v = put_name(s, peek(names, b + i), out, w);
     put_row(acts, ACT_ROW * i, out, v)
 }
 
@@ -118,10 +114,8 @@ fn put_actions(
     ensures { Puts (counted_bytes n (action_bytes s.now acts.now names.now b)) w out.old result out.new }
 {
     let mut v = put(out, w, low(n));
-    let mut i: usize = 0;
-    while i < n {
+    for i in 0..n {
         v = put_action(s, acts, names, b, i, out, v);
-        i += 1;
     }
     v
 }

@@ -43,15 +43,13 @@ fn read_params(s: &[u8], sizes: &[u8], at: usize, params: &mut [u16]) -> Next
         return Next { ok: false, at: 0 };
     }
     let mut i = at + 1;
-    let mut k = 0usize;
-    while k < n {
+    for k in 0..n {
         let t = terms::read_list(s, i, 0, PARAMETERS, 0, sizes.len());
         if !t.ok {
             return Next { ok: false, at: 0 };
         }
         params[k] = i as u16;
         i = t.at;
-        k += 1;
     }
     Next { ok: true, at: i }
 }
@@ -70,9 +68,8 @@ fn read_rows(
     ensures { ((S : Sig) (Ps : List (List ℕ)) → KnownSig S s.now sizes.now funcs.now acts.now → KnownRows S Ps s.now params.now → Laid result.ok (each (read_summands S Ps) Ps (drop at s.now)) (encode_list encode_summand) s.now result.at (take (length params.now) rows.new)) × (result.ok ≡ true → result.total ≡ total_at s.now (take (length params.now) rows.new)) }
 {
     let mut i = at;
-    let mut k = 0usize;
     let mut total = 0usize;
-    while k < params.len() {
+    for k in 0..params.len() {
         let own = terms::list_at(s, cell(params, k));
         let t = summands::read_summands(s, sizes, funcs, acts, params, own, i);
         if !t.ok {
@@ -85,7 +82,6 @@ fn read_rows(
         rows[k] = i as u16;
         total += wide(peek(s, i));
         i = t.at;
-        k += 1;
     }
     SummandRows {
         ok: true,
@@ -124,8 +120,7 @@ fn read_data(s: &[u8], sizes: &[u8], sorts: &[u8], at: usize) -> Next
     ensures { (rests (each (λ D. one (below? (get_or sizes.now D 0))) sorts.now (drop at s.now)) ≡ ended s.now result) × (at ≤ length s.now → result.at ≤ length s.now) }
 {
     let mut i = at;
-    let mut k = 0usize;
-    while k < sorts.len() {
+    for k in 0..sorts.len() {
         if s.len() <= i {
             return Next { ok: false, at: 0 };
         }
@@ -133,7 +128,6 @@ fn read_data(s: &[u8], sizes: &[u8], sorts: &[u8], at: usize) -> Next
             return Next { ok: false, at: 0 };
         }
         i += 1;
-        k += 1;
     }
     Next { ok: true, at: i }
 }

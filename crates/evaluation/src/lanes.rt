@@ -26,10 +26,8 @@ pub fn fill(rows: &mut [u8], d: usize, b: u8)
     ensures { RowPut lane_count rows.old d (λ i. b) rows.new }
 {
     let r = d * LANES;
-    let mut i: usize = 0;
-    while i < LANES {
+    for i in 0..LANES {
         rows[r + i] = b;
-        i += 1;
     }
 }
 
@@ -39,10 +37,8 @@ pub fn copy(from: &[u8], rows: &mut [u8], d: usize)
     ensures { RowPut lane_count rows.old d (λ i. get_or from.now i 0) rows.new }
 {
     let r = d * LANES;
-    let mut i: usize = 0;
-    while i < LANES {
+    for i in 0..LANES {
         rows[r + i] = from[i];
-        i += 1;
     }
 }
 
@@ -59,10 +55,8 @@ fn highest(rows: &[u8], t: usize) -> u8
 {
     let x = t * LANES;
     let mut m: u8 = 0;
-    let mut i: usize = 0;
-    while i < LANES {
+    for i in 0..LANES {
         m = higher(m, rows[x + i]);
-        i += 1;
     }
     m
 }
@@ -74,10 +68,8 @@ fn one(s: &[u8], q: usize, rows: &mut [u8], t: usize, d: usize, n: usize)
 {
     let x = t * LANES;
     let r = d * LANES;
-    let mut i: usize = 0;
-    while i < n {
+    for i in 0..n {
         rows[r + i] = peek(s, q + wide(rows[x + i]));
-        i += 1;
     }
 }
 
@@ -88,10 +80,8 @@ fn one_inside(s: &[u8], q: usize, rows: &mut [u8], t: usize, d: usize, n: usize)
 {
     let x = t * LANES;
     let r = d * LANES;
-    let mut i: usize = 0;
-    while i < n {
+    for i in 0..n {
         rows[r + i] = s[q + wide(rows[x + i])];
-        i += 1;
     }
 }
 
@@ -103,10 +93,8 @@ fn two(s: &[u8], q: usize, width: u8, rows: &mut [u8], t: usize, d: usize, n: us
     let x = t * LANES;
     let y = x + LANES;
     let r = d * LANES;
-    let mut i: usize = 0;
-    while i < n {
+    for i in 0..n {
         rows[r + i] = peek(s, q + row(rows[x + i], width, rows[y + i]));
-        i += 1;
     }
 }
 
@@ -119,15 +107,11 @@ fn two_part(s: &[u8], q: usize, width: u8, rows: &mut [u8], t: usize, d: usize, 
     let y = x + LANES;
     let r = d * LANES + k;
     let mut at = [0u16; 16];
-    let mut i: usize = 0;
-    while i < PART {
+    for i in 0..PART {
         at[i] = row(rows[x + i], width, rows[y + i]) as u16;
-        i += 1;
     }
-    let mut j: usize = 0;
-    while j < PART {
+    for j in 0..PART {
         rows[r + j] = s[q + (at[j] as usize)];
-        j += 1;
     }
 }
 
@@ -152,10 +136,8 @@ pub fn operator(c: usize, rows: &mut [u8], t: usize, d: usize)
     let y = x + LANES;
     let z = y + LANES;
     let r = d * LANES;
-    let mut i: usize = 0;
-    while i < LANES {
+    for i in 0..LANES {
         rows[r + i] = operator_worth(c, rows[x + i], rows[y + i], rows[z + i]);
-        i += 1;
     }
 }
 

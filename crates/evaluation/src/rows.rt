@@ -126,12 +126,10 @@ fn keep(rows: &[u8], t: usize, wanted: u8, met: &mut [u8], n: usize) -> u8
 {
     let mut some: u8 = 0;
     let r = t * LANES;
-    let mut i: usize = 0;
-    while i < n {
+    for i in 0..n {
         let m = same(rows[r + i], wanted, met[i]);
         met[i] = m;
         some = higher(some, m);
-        i += 1;
     }
     some
 }

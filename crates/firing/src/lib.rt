@@ -48,12 +48,10 @@ fn terms_at(s: &[u8], funcs: &[u16], e: &[u8], at: usize, n: usize, out: &mut [u
     ensures { (result ≤ max at (length s.now)) × ((length out.new ≡ length out.old) × ((S : Sig) (Γ vs Ds : List ℕ) (ds : List Data) (rest : List ℕ) → Valued S s.now funcs.now e.now Γ vs → Each (RightTerm S Γ) Ds ds → length ds ≡ n → drop at s.now ≡ all encode_data ds ++ rest → (out.new ≡ map (eval S vs) ds ++ drop n out.old) × (drop result s.now ≡ rest))) }
 {
     let mut a = at;
-    let mut i: usize = 0;
-    while i < n {
+    for i in 0..n {
         let end = evaluation::skip(s, funcs, a, 1);
         out[i] = evaluation::value(s, funcs, e, a, end);
         a = end;
-        i += 1;
     }
     a
 }
@@ -110,12 +108,10 @@ fn frames_at(
     ensures { (length made.new ≡ length made.old) × ((S : Sig) (Ps : List (List ℕ)) (acts Γ vs : List ℕ) (cs : List (ℕ × List Data)) (rest : List ℕ) → Valued S s.now funcs.now e.now Γ vs → KnownParts S Ps s.now acts params.now → Every (RightCall S Ps Γ) cs → length cs ≡ n → drop at s.now ≡ all encode_call cs ++ rest → made.new ≡ all frame_bytes (map (call_frame frame_width S vs) cs) ++ drop (length (all frame_bytes (map (call_frame frame_width S vs) cs))) made.old) }
 {
     let mut a = at;
-    let mut i: usize = 0;
-    while i < n {
+    for i in 0..n {
         let b = i * FRAME;
         let t = b + FRAME;
         a = frame_at(s, funcs, params, e, a, &mut made[b..t]);
-        i += 1;
     }
 }
 
@@ -127,11 +123,9 @@ fn past(s: &[u8], funcs: &[u16], acts: &[u16], params: &[u16], at: usize) -> usi
     let m = evaluation::skip(s, funcs, at + 1, action_arity(s, acts, peek(s, at)));
     let n = smaller(wide(peek(s, m)), MAX_CALLS);
     let mut a = m + 1;
-    let mut i: usize = 0;
-    while i < n {
+    for i in 0..n {
         let k = parameters(s, params, wide(peek(s, a)));
         a = evaluation::skip(s, funcs, a + 1, k);
-        i += 1;
     }
     smaller(a, s.len())
 }
@@ -142,10 +136,8 @@ fn first_values(params: &[u8], p: usize) -> PerVariable
     ensures { (length result.at ≡ 8) × (((i : ℕ) → i < p → get_or result.at i 0 ≡ get_or params.now i 0) × ((i : ℕ) → p ≤ i → get_or result.at i 0 ≡ 0)) }
 {
     let mut a = [0u8; 8];
-    let mut i: usize = 0;
-    while i < p {
+    for i in 0..p {
         a[i] = peek(params, i);
-        i += 1;
     }
     PerVariable { at: a }
 }
@@ -264,8 +256,7 @@ fn fire_rows(
     let n = wide(peek(s, row));
     let mut at = smaller(row + 1, s.len());
     let mut left = k;
-    let mut i: usize = 0;
-    while i < n {
+    for i in 0..n {
         let z = opening::sizes(s, funcs, at);
         let f = seek(s, funcs, first, p, at + 1 + wide(peek(s, at)), z, left);
         if f.found {
@@ -275,7 +266,6 @@ fn fire_rows(
         }
         left = f.left;
         at = past(s, funcs, acts, params, f.end);
-        i += 1;
     }
     none(less(k, left))
 }

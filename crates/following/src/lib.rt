@@ -8,7 +8,7 @@ ghost use Rattle.laws.specs.TermLength.{max_term};
 ghost use Rattle.putting.specs.Slots.{slot_width};
 ghost use Rattle.following.specs.Follows.{call_bytes, calls_room, no_calls, OnePut, MarkedPut, CallPut, CallsPut, Pushes};
 
-use elements::{BYTE_LIMIT, byte};
+use elements::{BYTE_LIMIT, cell};
 use limits::{FRAME_WIDTH, MAX_CALLS, MAX_NODES, MAX_TERM};
 use putting::Done;
 
@@ -59,11 +59,11 @@ fn put_one(slots: &[u8], i: usize, out: &mut [u8], w: usize) -> Done
     ensures out_unchanged { take w out.new ≡ take w out.old }
     ensures one_put { OnePut slots.now i w out.old result out.new }
 {
-    let k = byte(slots, putting::SLOT * i);
+    let k = cell(slots, putting::SLOT * i);
     if k > MAX_NODES {
         return Done { ok: false, w: w };
     }
-    let l = byte(slots, putting::SLOT * i + 1);
+    let l = cell(slots, putting::SLOT * i + 1);
     if l > MAX_TERM {
         return Done { ok: false, w: w };
     }

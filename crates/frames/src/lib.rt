@@ -47,12 +47,10 @@ pub fn exchange(fs: &mut [LentFrame], n: usize, s: Stack) -> Stack
     ensures { (result.frames ≡ over n fs.old s.frames) × (fs.new ≡ over n s.frames fs.old) }
 {
     let mut t = s.frames;
-    let mut i = 0;
-    while i < n {
+    for i in 0..n {
         let f = fs[i];
         fs[i] = t[i];
         t[i] = f;
-        i += 1;
     }
     Stack { frames: t }
 }
@@ -103,11 +101,9 @@ pub fn to_bytes(s: Stack, bytes: &mut [u8])
     requires { length bytes.old ≡ stack_bytes }
     ensures { frames_in frame_width bytes.new ≡ lent_frames s.frames }
 {
-    let mut i = 0;
-    while i < STACK_LIMIT {
+    for i in 0..STACK_LIMIT {
         let f = s.frames[i];
         put(bytes, i, f);
-        i += 1;
     }
 }
 
@@ -116,11 +112,9 @@ pub fn from_bytes(bytes: &[u8]) -> Stack
     ensures { lent_frames result.frames ≡ frames_in frame_width bytes.now }
 {
     let mut t = empty();
-    let mut i = 0;
-    while i < STACK_LIMIT {
+    for i in 0..STACK_LIMIT {
         let f = at(bytes, i);
         t.frames[i] = f;
-        i += 1;
     }
     t
 }

@@ -17,14 +17,12 @@ pub fn first_numbers(cells: &[u16], starts: &[u16], n: usize) -> Firsts
     ensures { NumbersFirst cells.now starts.now n result.at }
 {
     let mut t = [0u8; MAX_PROCESSES];
-    let mut k: usize = 0;
     let mut c = n;
-    while k < n {
+    for k in 0..n {
         let p = cell(starts, k);
         let s = nodes::skip(cells, p);
         t[k] = c as u8;
         c = following::later(c, s.own);
-        k += 1;
     }
     Firsts { at: t }
 }

@@ -43,12 +43,10 @@ pub fn put_params(slots: &mut [u8], m: u32, n: usize)
 {
     let mut rest = m;
     let mut k: usize = 0;
-    let mut i: usize = 0;
-    while i < n {
+    for i in 0..n {
         let b = rest % 2;
         put_byte(&mut *slots, i, param_code(b, k));
         k += b as usize;
         rest = rest / 2;
-        i += 1;
     }
 }

@@ -71,12 +71,10 @@ pub fn found_at(l: &[u16], i: usize) -> Arrival
 fn free(l: &[u16], p: usize) -> usize
     ensures { result < entries }
 {
-    let mut i: usize = 0;
-    while i < ENTRIES {
+    for i in 0..ENTRIES {
         if cell(l, ENTRY * i + 2) == 0 {
             return i;
         }
-        i += 1;
     }
     p / 3 % ENTRIES
 }
@@ -86,10 +84,8 @@ fn put_entry(l: &mut [u16], i: usize, e: &[u16])
     ensures { EntryPut l.old i e.now l.new }
 {
     let k = ENTRY * i;
-    let mut j: usize = 0;
-    while j < ENTRY {
+    for j in 0..ENTRY {
         l[k + j] = e[j];
-        j += 1;
     }
 }
 

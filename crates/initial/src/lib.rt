@@ -6,7 +6,7 @@ ghost use Rattle.nodes.specs.Layout.{cell_limit, byte_limit};
 ghost use Rattle.initial.specs.Symbols.{looked_at, second_size, operated, one_value, two_value};
 ghost use Rattle.initial.specs.Evaluating.{far, Further, Steps, Evaluates, PutsValues, PutsStart};
 
-use elements::{byte, cell, low, smaller};
+use elements::{cell, low, smaller};
 use emit::bytes::put;
 use nodes::{AND, EQUAL, FUNC_ROW, NOT, VALUE, node_at};
 
@@ -32,7 +32,7 @@ fn looked(values: &[u8], places: &[u16], f: usize, x: usize) -> usize
     requires { x < far }
     ensures { (result ≡ looked_at values.now places.now f x) × (result < byte_limit) }
 {
-    byte(values, cell(places, f) + x)
+    cell(values, cell(places, f) + x)
 }
 
 // The size of the second sort that function f takes.
@@ -40,7 +40,7 @@ fn second(sizes: &[u8], funcs: &[u8], f: usize) -> usize
     requires { f < cell_limit }
     ensures { (result ≡ second_size sizes.now funcs.now f) × (result < byte_limit) }
 {
-    byte(sizes, byte(funcs, FUNC_ROW * f + 2))
+    cell(sizes, cell(funcs, FUNC_ROW * f + 2))
 }
 
 // The place of y in row x, where the rows are of n elements.
@@ -163,14 +163,12 @@ fn put_values(cells: &[u16], at: usize, n: usize, out: &mut [u8], w: usize) -> u
 {
     let mut p = at;
     let mut v = w;
-    let mut i: usize = 0;
-    while i < n {
+    for i in 0..n {
         if p >= cells.len() {
             return v;
         }
         v = put(out, v, low(cell(cells, p)));
         p += 1;
-        i += 1;
     }
     v
 }

@@ -65,11 +65,9 @@ fn longest_run(s: &[u8], places: &[u16], n: usize, b: u8) -> usize
     ensures { (result ≤ max_stream) × (result ≡ longest_run b (names_at s.now places.now n)) }
 {
     let mut most: usize = 0;
-    let mut i: usize = 0;
-    while i < n {
+    for i in 0..n {
         let r = front_run(terms::list_at(s, cell(places, i)), b);
         most = larger(most, r);
-        i += 1;
     }
     most
 }
@@ -80,10 +78,8 @@ fn put_run(out: &mut [u8], at: usize, b: u8, n: usize) -> usize
     ensures { Wrote out.old at (replicate n b) out.new result }
 {
     let mut p = at;
-    let mut i: usize = 0;
-    while i < n {
+    for i in 0..n {
         p = put_byte(out, p, b);
-        i += 1;
     }
     p
 }
@@ -137,10 +133,8 @@ fn put_names(out: &mut [u8], s: &[u8], sorts: &[u16], named: bool, count: usize,
     ensures cells_in { ShortNames (λ D. name_by named s.now (get_or sorts.now D 0) n D) (min count max_sorts) → CellsIn (λ D. name_by named s.now (get_or sorts.now D 0) n D) (min count max_sorts) out.new }
 {
     let m = smaller(count, MAX_SORTS);
-    let mut d: usize = 0;
-    while d < m {
+    for d in 0..m {
         put_one(out, s, cell(sorts, d), named, n, d);
-        d += 1;
     }
 }
 

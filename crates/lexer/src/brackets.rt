@@ -6,7 +6,7 @@ ghost use Rattle.laws.specs.Says.{Says};
 ghost use Rattle.lexer.specs.Cells.{cell_token};
 
 use crate::{CLOSE, OPEN};
-use elements::wide_cell;
+use elements::wide;
 use limits::MAX_OPEN;
 
 // How many round brackets are open behind a cell.
@@ -37,10 +37,8 @@ fn opened(cells: &[u16], n: usize) -> u16
     ensures { (s : List ℕ) → T.most_open 0 (map (cell_token s) (take n cells.now)) ≤ result }
 {
     let mut count: u16 = 0;
-    let mut i = 0;
-    while i < n {
+    for i in 0..n {
         count += opens(cells[i]);
-        i += 1;
     }
     count
 }
@@ -50,17 +48,15 @@ pub fn shallow(cells: &[u16], n: usize) -> bool
     requires { (n ≤ length cells.now) × (n ≤ max_bytes) }
     ensures { (s : List ℕ) → Says result (T.Shallow (map (cell_token s) (take n cells.now))) }
 {
-    if wide_cell(opened(cells, n)) <= MAX_OPEN {
+    if wide(opened(cells, n)) <= MAX_OPEN {
         return true;
     }
     let mut count: usize = 0;
-    let mut i = 0;
-    while i < n {
+    for i in 0..n {
         count = open_behind(cells[i], count);
         if MAX_OPEN < count {
             return false;
         }
-        i += 1;
     }
     true
 }

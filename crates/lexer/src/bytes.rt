@@ -94,10 +94,8 @@ fn row_separates(s: &[u8], at: usize, n: usize) -> bool
     ensures { Says result ((k : ℕ) → k < at + n → at ≤ k → B.separator (get_or s.now k 0) ≡ true) }
 {
     let mut good = true;
-    let mut i = 0;
-    while i < n {
+    for i in 0..n {
         good = both(good, separator(s[at + i]));
-        i += 1;
     }
     good
 }
@@ -167,12 +165,10 @@ pub fn same(a: &[u8], b: &[u8]) -> bool
     if a.len() != b.len() {
         return false;
     }
-    let mut i = 0;
-    while i < a.len() {
+    for i in 0..a.len() {
         if a[i] != b[i] {
             return false;
         }
-        i += 1;
     }
     true
 }
@@ -196,10 +192,8 @@ fn block_printable(s: &[u8], at: usize, end: usize) -> bool
     ensures { Says result ((k : ℕ) → k < end → at ≤ k → B.printable (get_or s.now k 0) ≡ true) }
 {
     let mut good = true;
-    let mut i = at;
-    while i < end {
+    for i in at..end {
         good = both(good, printable(s[i]));
-        i += 1;
     }
     good
 }

@@ -83,13 +83,11 @@ fn value_of(t: &[u8]) -> u16
     ensures { result ≡ capped (T.value_of 0 t.now) }
 {
     let mut v: u16 = 0;
-    let mut i = 0;
-    while i < t.len() {
+    for i in 0..t.len() {
         v = v * 10 + digit_value(t[i]);
         if MAX_NUMERAL < v {
             return MAX_NUMERAL + 1;
         }
-        i += 1;
     }
     v
 }

@@ -6,7 +6,7 @@ ghost use Rattle.laws.specs.Says.{Says};
 ghost use Rattle.nodes.specs.Layout.{cell_limit};
 ghost use Rattle.linear.specs.Within.{FewMarks, FewIn, WritesStream, WritesTable};
 
-use elements::peek_word;
+use elements::peek;
 use emit::bytes::minus;
 use emit::signature::put_signature;
 use initial::put_start;
@@ -40,12 +40,10 @@ fn few_marks(rows: &[u32], n: usize) -> bool
     requires { n < cell_limit }
     ensures { Says result (FewMarks rows.now n) }
 {
-    let mut k: usize = 0;
-    while k < n {
-        if many(peek_word(rows, ROW * k + MARKS)) > FRAME_WIDTH {
+    for k in 0..n {
+        if many(peek(rows, ROW * k + MARKS)) > FRAME_WIDTH {
             return false;
         }
-        k += 1;
     }
     true
 }

@@ -8,7 +8,7 @@ ghost use Rattle.counting.specs.Limits.{max_fuel};
 ghost use Rattle.listing.specs.Listing.{Bounded, WrittenSource, PartSource, Sources, EquationPut, CountsAll, PutsAll};
 ghost use Rattle.listing.specs.Summands.{PutsSummands};
 
-use elements::{byte, cell, cut_sum, peek_word};
+use elements::{cell, cut_sum, peek};
 use limits::MAX_SUMMANDS;
 use marking::many;
 use nodes::{MAX_SCOPE, Outline, PROC_ROW};
@@ -42,13 +42,13 @@ fn written_source(procs: &[u8], starts: &[u16], firsts: &[u8], k: usize) -> Sour
     ensures bounded { Bounded result }
     ensures written_source { WrittenSource procs.now starts.now firsts.now k result }
 {
-    let m = in_scope(byte(procs, PROC_ROW * k));
+    let m = in_scope(cell(procs, PROC_ROW * k));
     Source {
         at: cell(starts, k),
         scope: m,
         marks: ALL_MARKS,
         next: m,
-        first: byte(firsts, k),
+        first: cell(firsts, k),
     }
 }
 
@@ -58,9 +58,9 @@ fn part_source(rows: &[u32], k: usize, j: usize) -> Source
     ensures bounded { Bounded result }
     ensures part_source { PartSource rows.now k j result }
 {
-    let at = peek_word(rows, ROW * j);
-    let n = peek_word(rows, ROW * j + SCOPE);
-    let marks = peek_word(rows, ROW * j + MARKS);
+    let at = peek(rows, ROW * j);
+    let n = peek(rows, ROW * j + SCOPE);
+    let marks = peek(rows, ROW * j + MARKS);
     Source {
         at: at as usize,
         scope: in_scope(n as usize),
@@ -105,8 +105,7 @@ fn count_all(
     ensures { CountsAll procs.now cells.now starts.now counts.now firsts.now n rows.now total fuel result }
 {
     let mut sum: usize = 0;
-    let mut k: usize = 0;
-    while k < total {
+    for k in 0..total {
         let s = source_of(procs, starts, firsts, n, rows, k);
         let at = s.at;
         sum = cut_sum(
@@ -114,7 +113,6 @@ fn count_all(
             sum,
             heads::count_heads(cells, counts, fuel, at),
         );
-        k += 1;
     }
     sum
 }
@@ -159,15 +157,13 @@ fn put_all(
     ensures { PutsAll procs.now cells.now starts.now counts.now firsts.now n rows.now total fuel w out.old result out.new }
 {
     let mut v = w;
-    let mut k: usize = 0;
-    while k < total {
+    for k in 0..total {
         let s = source_of(procs, starts, firsts, n, rows, k);
         let d = put_equation(cells, starts, counts, firsts, fuel, s, out, v);
         if !d.ok {
             return d;
         }
         v = d.w;
-        k += 1;
     }
     Done { ok: true, w: v }
 }

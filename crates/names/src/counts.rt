@@ -8,7 +8,7 @@ ghost use Rattle.laws.specs.Says.{Says};
 ghost use Rattle.names.specs.Standing.{Standing};
 ghost use Rattle.names.specs.Items.{far, param_step, numeral_at, item_count};
 
-use elements::{peek_cell, wide_cell};
+use elements::{peek, wide};
 use lexer::FIRST_NUMERAL;
 use limits::{FRAME_WIDTH, MAX_ACTIONS, MAX_FUNCTIONS, MAX_PROCESSES, MAX_SORTS};
 use parser::Lines;
@@ -33,7 +33,7 @@ pub fn items(cells: &[u16], step: usize, at: usize, most: usize) -> usize
     let mut p = at;
     let mut n: usize = 0;
     while n < most {
-        if peek_cell(cells, p) == END_TAG {
+        if peek(cells, p) == END_TAG {
             return n;
         }
         p += step;
@@ -46,16 +46,14 @@ pub fn items(cells: &[u16], step: usize, at: usize, most: usize) -> usize
 fn sizes_right(cells: &[u16], sorts: &[u16]) -> bool
     ensures { Says result (Every (λ p. Between 1 max_size (numeral_at cells.now (p + 2))) sorts.now) }
 {
-    let mut i: usize = 0;
-    while i < sorts.len() {
-        let v = peek_cell(cells, wide_cell(sorts[i]) + 2);
+    for i in 0..sorts.len() {
+        let v = peek(cells, wide(sorts[i]) + 2);
         if v <= FIRST_NUMERAL {
             return false;
         }
         if v > FIRST_NUMERAL + MAX_SIZE {
             return false;
         }
-        i += 1;
     }
     true
 }
@@ -64,12 +62,10 @@ fn sizes_right(cells: &[u16], sorts: &[u16]) -> bool
 fn params_few(cells: &[u16], procs: &[u16]) -> bool
     ensures { Says result (Every (λ p. item_count cells.now param_step (p + 2) (suc frame_width) ≤ frame_width) procs.now) }
 {
-    let mut i: usize = 0;
-    while i < procs.len() {
-        if items(cells, PARAM_STEP, wide_cell(procs[i]) + 2, FRAME_WIDTH + 1) > FRAME_WIDTH {
+    for i in 0..procs.len() {
+        if items(cells, PARAM_STEP, wide(procs[i]) + 2, FRAME_WIDTH + 1) > FRAME_WIDTH {
             return false;
         }
-        i += 1;
     }
     true
 }

@@ -7,7 +7,7 @@ ghost use Rattle.lexer.specs.Cells.{first_name};
 ghost use Rattle.nodes.specs.Layout.{cell_limit};
 ghost use Rattle.names.specs.NameCells.{name_at, names_at, scope_at, or_count, shown};
 
-use elements::{peek, peek_cell, wide_cell};
+use elements::{peek, wide};
 use lexer::FIRST_NAME;
 use lexer::bytes::name_byte;
 
@@ -18,7 +18,7 @@ pub fn first_byte(c: u16) -> usize
     if c < FIRST_NAME {
         0
     } else {
-        wide_cell(c - FIRST_NAME)
+        wide(c - FIRST_NAME)
     }
 }
 
@@ -49,8 +49,7 @@ pub fn same_name(s: &[u8], a: u16, b: u16) -> bool
 {
     let p = first_byte(a);
     let q = first_byte(b);
-    let mut i: usize = 0;
-    while i < s.len() {
+    for i in 0..s.len() {
         let x = peek(s, p + i);
         let y = peek(s, q + i);
         if x != y {
@@ -66,7 +65,6 @@ pub fn same_name(s: &[u8], a: u16, b: u16) -> bool
         if letter(x) == 0 {
             return true;
         }
-        i += 1;
     }
     true
 }
@@ -101,13 +99,11 @@ pub fn number_of(s: &[u8], cells: &[u16], places: &[u16], count: usize, c: u16) 
     ensures most { result ≤ count }
     ensures number { result ≡ or_count count (number_of (name_at s.now c) (names_at s.now cells.now places.now count)) }
 {
-    let mut i: usize = 0;
-    while i < count {
-        let p = wide_cell(places[i]);
-        if same_name(s, c, peek_cell(cells, p + 1)) {
+    for i in 0..count {
+        let p = wide(places[i]);
+        if same_name(s, c, peek(cells, p + 1)) {
             return i;
         }
-        i += 1;
     }
     count
 }
@@ -164,12 +160,10 @@ pub fn scope_number(s: &[u8], scope: &[u16], n: usize, c: u16) -> usize
     ensures number { result ≡ or_count n (number_of (name_at s.now c) (scope_at s.now scope.now n)) }
 {
     let l = name_length(s, c);
-    let mut i: usize = 0;
-    while i < n {
+    for i in 0..n {
         if same_run(s, c, l, scope[i]) {
             return i;
         }
-        i += 1;
     }
     n
 }

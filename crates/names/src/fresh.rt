@@ -8,7 +8,7 @@ ghost use Rattle.names.specs.NameList.{names_in, kinds_in, KeyedNames};
 
 use crate::find::{is_bool, scope_number};
 use crate::keys::{number_in, total};
-use elements::{peek_cell, wide_cell};
+use elements::{peek, wide};
 
 // The cells of the names that lines declare, behind n cells.
 fn gather(cells: &[u16], places: &[u16], names: &mut [u16], n: usize) -> usize
@@ -18,7 +18,7 @@ fn gather(cells: &[u16], places: &[u16], names: &mut [u16], n: usize) -> usize
 {
     let mut i: usize = 0;
     while i < places.len() {
-        names[n + i] = peek_cell(cells, wide_cell(places[i]) + 1);
+        names[n + i] = peek(cells, wide(places[i]) + 1);
         i += 1;
     }
     n + i
@@ -53,8 +53,7 @@ pub fn all_new(s: &[u8], declared: &[u16]) -> bool
     ensures { result ≡ distinct (bytes "Bool" ∷ scope_at s.now (names_in declared.now) (total_of (kinds_in declared.now))) }
 {
     let n = total(declared);
-    let mut i: usize = 0;
-    while i < n {
+    for i in 0..n {
         let c = declared[i];
         if is_bool(s, c) {
             return false;
@@ -63,7 +62,6 @@ pub fn all_new(s: &[u8], declared: &[u16]) -> bool
         if number_in(s, declared, i + 1, left, c) < left {
             return false;
         }
-        i += 1;
     }
     true
 }

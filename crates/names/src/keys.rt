@@ -11,7 +11,7 @@ use crate::find::{first_byte, is_bool, letter, same_run};
 use crate::{
     ACT_COUNT, Digest, FIRST_NEXT, FIRST_PLACE, FUNC_COUNT, KEYS, Kinds, PROC_COUNT, SORT_COUNT,
 };
-use elements::{cell, low, short, wide, wide_cell};
+use elements::{cell, low, short, wide};
 
 // The key of a name that goes on with the byte b.
 fn mixed(k: u8, b: u8) -> u8
@@ -49,10 +49,8 @@ pub fn put_names(s: &[u8], names: &[u16], kinds: Kinds, declared: &mut [u16])
 {
     let n = kinds.sorts + kinds.funcs + kinds.acts + kinds.procs;
     // where no name has a key, its first name stands behind all names
-    let mut j: usize = 0;
-    while j < KEYS {
+    for j in 0..KEYS {
         declared[FIRST_PLACE + j] = short(n);
-        j += 1;
     }
     // the last name first: the first of its key so far is the next one after it
     let mut i = n;
@@ -105,7 +103,7 @@ pub fn number_in(s: &[u8], declared: &[u16], lo: usize, count: usize, c: u16) ->
         if found_at(s, declared, lo, i, c, l) {
             return i - lo;
         }
-        i = wide_cell(declared[FIRST_NEXT + i]);
+        i = wide(declared[FIRST_NEXT + i]);
     }
     count
 }

@@ -14,7 +14,7 @@ use crate::find::sort_number;
 use crate::fresh::new_variable;
 use crate::keys::sort_in;
 use crate::{Params, Row, SORT_COUNT};
-use elements::{cell, peek_cell, short, wide_cell};
+use elements::{cell, peek, short, wide};
 use lexer::FIRST_NUMERAL;
 use limits::{FRAME_WIDTH, MAX_ARITY};
 use nodes::{ACT_ROW, FUNC_ROW, GIVES};
@@ -45,10 +45,8 @@ pub fn sizes(cells: &[u16], sorts: &[u16], out: &mut [u8])
     ensures { take (length sorts.now + 1) out.new ≡ 2 ∷ map (λ p. byte_of (numeral_at cells.now (p + 2))) sorts.now }
 {
     out[0] = BOOL_SIZE;
-    let mut i: usize = 0;
-    while i < sorts.len() {
-        out[i + 1] = value(peek_cell(cells, wide_cell(sorts[i]) + 2));
-        i += 1;
+    for i in 0..sorts.len() {
+        out[i + 1] = value(peek(cells, wide(sorts[i]) + 2));
     }
 }
 
@@ -61,20 +59,18 @@ fn sort_row(s: &[u8], cells: &[u16], sorts: &[u16], at: usize, rows: &mut [u8], 
         (numbered (sorts_at s.now cells.now sorts.now) (item_names s.now cells.now at (item_count cells.now name_step at max_arity))) result.ok }
 {
     let n = items(cells, NAME_STEP, at, MAX_ARITY);
-    let mut k: usize = 0;
-    while k < n {
+    for k in 0..n {
         let d = sort_number(
             s,
             cells,
             sorts,
             sorts.len(),
-            peek_cell(cells, at + NAME_STEP * k + 1),
+            peek(cells, at + NAME_STEP * k + 1),
         );
         if d > sorts.len() {
             return Row { ok: false, at: at };
         }
         rows[p + 1 + k] = d as u8;
-        k += 1;
     }
     rows[p] = n as u8;
     Row {
@@ -88,13 +84,11 @@ pub fn act_rows(s: &[u8], cells: &[u16], sorts: &[u16], acts: &[u16], rows: &mut
     requires { (length sorts.now < max_sorts) × (act_width * length acts.now ≤ length rows.old) }
     ensures { ActRows s.now cells.now sorts.now acts.now rows.new result }
 {
-    let mut i: usize = 0;
-    while i < acts.len() {
-        let a = sort_row(s, cells, sorts, wide_cell(acts[i]) + 2, rows, ACT_ROW * i);
+    for i in 0..acts.len() {
+        let a = sort_row(s, cells, sorts, wide(acts[i]) + 2, rows, ACT_ROW * i);
         if !a.ok {
             return false;
         }
-        i += 1;
     }
     true
 }
@@ -110,7 +104,7 @@ fn func_row(s: &[u8], cells: &[u16], sorts: &[u16], at: usize, rows: &mut [u8], 
     if !a.ok {
         return a;
     }
-    let d = sort_number(s, cells, sorts, sorts.len(), peek_cell(cells, a.at));
+    let d = sort_number(s, cells, sorts, sorts.len(), peek(cells, a.at));
     if d > sorts.len() {
         return Row { ok: false, at: at };
     }
@@ -127,10 +121,8 @@ fn copy_values(cells: &[u16], at: usize, n: usize, values: &mut [u8], w: usize)
     ensures kept { Kept w values.old values.new }
     ensures values { take (w + n) values.new ≡ take w values.old ++ map byte_of (item_values cells.now at n) }
 {
-    let mut k: usize = 0;
-    while k < n {
-        values[w + k] = value(peek_cell(cells, at + NAME_STEP * k + 1));
-        k += 1;
+    for k in 0..n {
+        values[w + k] = value(peek(cells, at + NAME_STEP * k + 1));
     }
 }
 
@@ -149,9 +141,8 @@ pub fn func_rows(
 {
     places[0] = 0;
     let mut w: usize = 0;
-    let mut i: usize = 0;
-    while i < lines.len() {
-        let f = func_row(s, cells, sorts, wide_cell(lines[i]), rows, FUNC_ROW * i);
+    for i in 0..lines.len() {
+        let f = func_row(s, cells, sorts, wide(lines[i]), rows, FUNC_ROW * i);
         if !f.ok {
             return false;
         }
@@ -159,7 +150,6 @@ pub fn func_rows(
         copy_values(cells, f.at, n, values, w);
         w += n;
         places[i + 1] = short(w);
-        i += 1;
     }
     true
 }
@@ -179,9 +169,8 @@ pub fn param_row(
 {
     let sorts = cell(declared, SORT_COUNT);
     let m = items(cells, PARAM_STEP, at, FRAME_WIDTH);
-    let mut k: usize = 0;
-    while k < m {
-        let v = peek_cell(cells, at + PARAM_STEP * k + 1);
+    for k in 0..m {
+        let v = peek(cells, at + PARAM_STEP * k + 1);
         if !new_variable(s, declared, scope, k, v) {
             return Params {
                 ok: false,
@@ -189,7 +178,7 @@ pub fn param_row(
                 at: at,
             };
         }
-        let d = sort_in(s, declared, peek_cell(cells, at + PARAM_STEP * k + 2));
+        let d = sort_in(s, declared, peek(cells, at + PARAM_STEP * k + 2));
         if d > sorts {
             return Params {
                 ok: false,
@@ -199,7 +188,6 @@ pub fn param_row(
         }
         scope[k] = v;
         row[1 + k] = d as u8;
-        k += 1;
     }
     row[0] = m as u8;
     Params {

@@ -69,8 +69,7 @@ pub fn conditions(s: &[u8], funcs: &[u16], at: usize, p: usize, z: PerSum) -> Co
     let mut reach: usize = 0;
     let mut low: usize = VARIABLES;
     let mut a = at + 1;
-    let mut i: usize = 0;
-    while i < n {
+    for i in 0..n {
         let b = a + 1;
         let end = evaluation::skip(s, funcs, b, 1);
         let v = evaluation::variables(s, b, end, p);
@@ -80,7 +79,6 @@ pub fn conditions(s: &[u8], funcs: &[u16], at: usize, p: usize, z: PerSum) -> Co
         reach = larger(reach, v.high);
         low = smaller(low, v.low);
         a = end;
-        i += 1;
     }
     Conditions {
         froms: froms,

@@ -6,7 +6,7 @@ ghost use Rattle.parser.specs.Reading.{Ahead, Put, Expected, Read};
 
 use crate::Step;
 use crate::codes::FIRST_ORS;
-use elements::peek_cell;
+use elements::peek;
 
 // Writes a cell; the next free one.
 pub fn put(out: &mut [u16], w: usize, v: u16) -> usize
@@ -36,7 +36,7 @@ pub fn expect(toks: &[u16], at: usize, sign: u16) -> usize
     ensures ahead { Ahead (length toks.now) at result }
     ensures read { Expected toks.now at sign result }
 {
-    if peek_cell(toks, at) == sign {
+    if peek(toks, at) == sign {
         at + 1
     } else {
         toks.len() + 1
@@ -48,7 +48,7 @@ pub fn name(toks: &[u16], at: usize, out: &mut [u16], w: usize) -> Step
     ensures ahead { Ahead (length toks.now) at result.at }
     ensures read { Read 0 enc_name (λ f. a_name) toks.now at w out.old result out.new }
 {
-    let t = peek_cell(toks, at);
+    let t = peek(toks, at);
     if t < lexer::FIRST_NAME {
         return lost(toks, w);
     }
@@ -63,7 +63,7 @@ pub fn numeral(toks: &[u16], at: usize, out: &mut [u16], w: usize) -> Step
     ensures ahead { Ahead (length toks.now) at result.at }
     ensures read { Read 0 enc_numeral (λ f. a_numeral) toks.now at w out.old result out.new }
 {
-    let t = peek_cell(toks, at);
+    let t = peek(toks, at);
     if t < lexer::FIRST_NUMERAL {
         return lost(toks, w);
     }

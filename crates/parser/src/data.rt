@@ -8,7 +8,7 @@ ghost use Rattle.parser.specs.Reading.{Ahead, Read, left};
 
 use crate::cells::{counted, expect, lost, name, put};
 use crate::{Step, codes};
-use elements::peek_cell;
+use elements::peek;
 
 // Conjunctions joined by `\/`. Their count stands before them: its cell is set when the last one is read.
 #[cycle(atom_comparison_conjunction_data_list_data_term_negation)]
@@ -21,7 +21,7 @@ pub fn data_term(toks: &[u16], at: usize, out: &mut [u16], w: usize) -> Step
     let mut n: usize = 0;
     loop {
         let a = conjunction(toks, from, out, v);
-        if peek_cell(toks, a.at) != lexer::OR {
+        if peek(toks, a.at) != lexer::OR {
             put(out, w, counted(codes::FIRST_ORS, n));
             return a;
         }
@@ -42,7 +42,7 @@ fn conjunction(toks: &[u16], at: usize, out: &mut [u16], w: usize) -> Step
     let mut n: usize = 0;
     loop {
         let a = comparison(toks, from, out, v);
-        if peek_cell(toks, a.at) != lexer::AND {
+        if peek(toks, a.at) != lexer::AND {
             put(out, w, counted(codes::FIRST_ANDS, n));
             return a;
         }
@@ -60,7 +60,7 @@ fn comparison(toks: &[u16], at: usize, out: &mut [u16], w: usize) -> Step
 {
     let v = put(out, w, codes::ALONE_TAG);
     let a = negation(toks, at, out, v);
-    if peek_cell(toks, a.at) != lexer::SAME {
+    if peek(toks, a.at) != lexer::SAME {
         return a;
     }
     put(out, w, codes::EQUAL_TAG);
@@ -75,7 +75,7 @@ fn negation(toks: &[u16], at: usize, out: &mut [u16], w: usize) -> Step
 {
     let mut from = at;
     let mut v = w;
-    while peek_cell(toks, from) == lexer::BANG {
+    while peek(toks, from) == lexer::BANG {
         v = put(out, v, codes::NOT_TAG);
         from += 1;
     }
@@ -88,7 +88,7 @@ fn atom(toks: &[u16], at: usize, out: &mut [u16], w: usize) -> Step
     ensures ahead { Ahead (length toks.now) at result.at }
     ensures read { Read (5 * left toks.now at) enc_atom atom toks.now at w out.old result out.new }
 {
-    let t = peek_cell(toks, at);
+    let t = peek(toks, at);
     if t == lexer::OPEN {
         let v = put(out, w, codes::NEST_TAG);
         let a = data_term(toks, at + 1, out, v);
@@ -110,7 +110,7 @@ fn atom(toks: &[u16], at: usize, out: &mut [u16], w: usize) -> Step
     let x = put(out, w, codes::VARIABLE_TAG);
     let d = put(out, x, t);
     let p = at + 1;
-    if peek_cell(toks, p) != lexer::OPEN {
+    if peek(toks, p) != lexer::OPEN {
         return Step { at: p, w: d };
     }
     put(out, w, codes::APPLY_TAG);
@@ -128,7 +128,7 @@ pub fn data_list(toks: &[u16], at: usize, out: &mut [u16], w: usize) -> Step
     loop {
         let u = put(out, v, codes::ONE_TAG);
         let a = data_term(toks, from, out, u);
-        if peek_cell(toks, a.at) != lexer::COMMA {
+        if peek(toks, a.at) != lexer::COMMA {
             return Step {
                 at: expect(toks, a.at, lexer::CLOSE),
                 w: a.w,
@@ -147,7 +147,7 @@ pub fn named(toks: &[u16], at: usize, out: &mut [u16], w: usize) -> Step
 {
     let x = put(out, w, codes::BARE_TAG);
     let a = name(toks, at, out, x);
-    if peek_cell(toks, a.at) != lexer::OPEN {
+    if peek(toks, a.at) != lexer::OPEN {
         return a;
     }
     put(out, w, codes::GIVEN_TAG);

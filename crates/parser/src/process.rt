@@ -8,7 +8,7 @@ ghost use Rattle.parser.specs.Reading.{Ahead, Read, left};
 use crate::cells::{expect, name, put};
 use crate::data::{data_term, named};
 use crate::{Step, codes};
-use elements::peek_cell;
+use elements::peek;
 
 // "A choice is conditionals joined by `+`."
 #[cycle(choice_conditional_part_sequence)]
@@ -21,7 +21,7 @@ pub fn choice(toks: &[u16], at: usize, out: &mut [u16], w: usize) -> Step
     loop {
         let u = put(out, v, codes::ONLY_TAG);
         let a = conditional(toks, from, out, u);
-        if peek_cell(toks, a.at) != lexer::PLUS {
+        if peek(toks, a.at) != lexer::PLUS {
             return a;
         }
         put(out, v, codes::PLUS_TAG);
@@ -38,7 +38,7 @@ fn conditional(toks: &[u16], at: usize, out: &mut [u16], w: usize) -> Step
 {
     let v = put(out, w, codes::PLAIN_TAG);
     let a = sequence(toks, at, out, v);
-    if peek_cell(toks, a.at) != lexer::IF {
+    if peek(toks, a.at) != lexer::IF {
         return a;
     }
     put(out, w, codes::COND_TAG);
@@ -58,7 +58,7 @@ fn sequence(toks: &[u16], at: usize, out: &mut [u16], w: usize) -> Step
     loop {
         let u = put(out, v, codes::LAST_TAG);
         let a = part(toks, from, out, u);
-        if peek_cell(toks, a.at) != lexer::DOT {
+        if peek(toks, a.at) != lexer::DOT {
             return a;
         }
         put(out, v, codes::THEN_TAG);
@@ -73,7 +73,7 @@ fn part(toks: &[u16], at: usize, out: &mut [u16], w: usize) -> Step
     ensures ahead { Ahead (length toks.now) at result.at }
     ensures read { Read (5 * left toks.now at + 1) enc_part part toks.now at w out.old result out.new }
 {
-    let t = peek_cell(toks, at);
+    let t = peek(toks, at);
     if t == lexer::DELTA {
         return Step {
             at: at + 1,

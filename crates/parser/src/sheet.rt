@@ -14,7 +14,7 @@ use crate::cells::{expect, lost, name, numeral, put};
 use crate::data::named;
 use crate::process::choice;
 use crate::{Run, Step, codes};
-use elements::{peek_cell, short};
+use elements::{peek, short};
 
 // "`sort` name size"
 fn sort_line(toks: &[u16], at: usize, out: &mut [u16], w: usize) -> Step
@@ -36,7 +36,7 @@ fn numerals(toks: &[u16], at: usize, out: &mut [u16], w: usize) -> Step
     loop {
         let u = put(out, v, codes::ITEM_TAG);
         let a = numeral(toks, from, out, u);
-        if peek_cell(toks, a.at) != lexer::COMMA {
+        if peek(toks, a.at) != lexer::COMMA {
             return Step {
                 at: a.at,
                 w: put(out, a.w, codes::END_TAG),
@@ -54,7 +54,7 @@ fn one_or_two(toks: &[u16], at: usize, out: &mut [u16], w: usize) -> Step
 {
     let v = put(out, w, codes::ITEM_TAG);
     let a = name(toks, at, out, v);
-    if peek_cell(toks, a.at) != lexer::HASH {
+    if peek(toks, a.at) != lexer::HASH {
         return Step {
             at: a.at,
             w: put(out, a.w, codes::END_TAG),
@@ -90,7 +90,7 @@ fn act_line(toks: &[u16], at: usize, out: &mut [u16], w: usize) -> Step
 {
     let v = put(out, w, codes::ACT_TAG);
     let x = name(toks, at, out, v);
-    if peek_cell(toks, x.at) != lexer::COLON {
+    if peek(toks, x.at) != lexer::COLON {
         return Step {
             at: x.at,
             w: put(out, x.w, codes::END_TAG),
@@ -111,7 +111,7 @@ fn parameters(toks: &[u16], at: usize, out: &mut [u16], w: usize) -> Step
         let x = name(toks, from, out, u);
         let c = expect(toks, x.at, lexer::COLON);
         let d = name(toks, c, out, x.w);
-        if peek_cell(toks, d.at) != lexer::COMMA {
+        if peek(toks, d.at) != lexer::COMMA {
             return Step {
                 at: expect(toks, d.at, lexer::CLOSE),
                 w: put(out, d.w, codes::END_TAG),
@@ -127,7 +127,7 @@ fn params(toks: &[u16], at: usize, out: &mut [u16], w: usize) -> Step
     ensures onward { Onward (length toks.now) at result.at }
     ensures read { at ≤ length toks.now → Read (left toks.now at) (enc_items enc_param) params toks.now at w out.old result out.new }
 {
-    if peek_cell(toks, at) != lexer::OPEN {
+    if peek(toks, at) != lexer::OPEN {
         return Step {
             at: at,
             w: put(out, w, codes::END_TAG),
@@ -152,10 +152,10 @@ fn proc_line(toks: &[u16], at: usize, out: &mut [u16], w: usize) -> Step
 fn bare(toks: &[u16], at: usize) -> bool
     ensures { (s : List ℕ) → called (cell_token s (get_or toks.now at 0)) (rest s toks.now (at + 1)) ≡ not result }
 {
-    if peek_cell(toks, at) < lexer::FIRST_NAME {
+    if peek(toks, at) < lexer::FIRST_NAME {
         return false;
     }
-    peek_cell(toks, at + 1) != lexer::OPEN
+    peek(toks, at + 1) != lexer::OPEN
 }
 
 // "no name in its data that lacks brackets", from one place to another
@@ -163,12 +163,10 @@ fn all_called(toks: &[u16], from: usize, to: usize) -> bool
     requires { (from ≤ to) × (to ≤ length toks.now) }
     ensures { (s : List ℕ) (ts : List Token) → rest s toks.now from ≡ ts ++ rest s toks.now to → result ≡ all_called ts (rest s toks.now to) }
 {
-    let mut i = from;
-    while i < to {
+    for i in from..to {
         if bare(toks, i) {
             return false;
         }
-        i += 1;
     }
     true
 }
@@ -223,7 +221,7 @@ pub fn lines_of(
     let mut from = at;
     let mut v = w;
     let mut i = n;
-    while peek_cell(toks, from) == word {
+    while peek(toks, from) == word {
         put(places, i, short(v));
         let a = line(word, toks, from + 1, out, v);
         from = expect(toks, a.at, lexer::SEMICOLON);

@@ -6,7 +6,7 @@ ghost use Rattle.nodes.specs.Scoped.{max_scope};
 ghost use Rattle.marking.specs.Marks.{bits};
 ghost use Rattle.emit.specs.Putting.{Puts};
 
-use elements::{low, peek, wide_word};
+use elements::{low, peek, wide};
 use emit::bytes::put;
 use marking::many;
 
@@ -20,9 +20,9 @@ pub fn put_params(m: u32, sorts: &[u8], out: &mut [u8], w: usize) -> usize
     let mut at: usize = 0;
     while rest != 0 {
         let t = u32::trailing_zeros(rest);
-        v = put(out, v, peek(sorts, at + wide_word(t)));
+        v = put(out, v, peek(sorts, at + wide(t)));
         rest = (rest >> t) / 2;
-        at = at + wide_word(t) + 1;
+        at = at + wide(t) + 1;
     }
     v
 }

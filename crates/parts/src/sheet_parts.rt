@@ -11,7 +11,7 @@ ghost use Rattle.parts.specs.Sheets.{Loads, CountsParts, PutsAll, PutsParams};
 
 use crate::Noted;
 use crate::right_side::put_parts;
-use elements::{CELL_LIMIT, byte, cell, cut_sum, low, peek};
+use elements::{CELL_LIMIT, cell, cut_sum, low, peek};
 use emit::bytes::{put, put_row};
 use limits::MAX_EQUATIONS;
 use nodes::{MAX_SCOPE, Outline, PROC_ROW, skip};
@@ -24,11 +24,9 @@ pub fn count_equations(procs: &[u8], cells: &[u16], starts: &[u16], n: Outline) 
     ensures { CountsParts procs.now cells.now starts.now n result }
 {
     let mut total = cut_sum(COUNT_CUT, 0, n.procs);
-    let mut k: usize = 0;
-    while k < n.procs {
+    for k in 0..n.procs {
         let s = skip(cells, cell(starts, k));
         total = cut_sum(COUNT_CUT, total, s.own);
-        k += 1;
     }
     total
 }
@@ -39,14 +37,12 @@ fn load(procs: &[u8], p: usize, sorts: &mut [u8]) -> usize
     ensures upper_bound { result ≤ max_scope }
     ensures loads { Loads procs.now p sorts.new result }
 {
-    let n = byte(procs, p);
+    let n = cell(procs, p);
     if n > MAX_SCOPE {
         return 0;
     }
-    let mut i: usize = 0;
-    while i < n {
+    for i in 0..n {
         sorts[i] = peek(procs, p + 1 + i);
-        i += 1;
     }
     n
 }
@@ -57,10 +53,8 @@ pub fn put_written(procs: &[u8], n: usize, out: &mut [u8], w: usize) -> usize
     ensures { Puts (concatenated n (λ k. row_bytes procs.now (proc_width * k))) w out.old result out.new }
 {
     let mut v = w;
-    let mut k: usize = 0;
-    while k < n {
+    for k in 0..n {
         v = put_row(procs, PROC_ROW * k, out, v);
-        k += 1;
     }
     v
 }
@@ -82,8 +76,7 @@ pub fn put_all_parts(
     let mut sorts = [0u8; MAX_SCOPE];
     let mut count: usize = 0;
     let mut v = w;
-    let mut k: usize = 0;
-    while k < n.procs {
+    for k in 0..n.procs {
         // more parts than rows
         if count >= CELL_LIMIT {
             return Noted { count: count, w: v };
@@ -102,7 +95,6 @@ pub fn put_all_parts(
         );
         count = s.count;
         v = s.w;
-        k += 1;
     }
     Noted { count: count, w: v }
 }

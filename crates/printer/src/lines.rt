@@ -98,10 +98,8 @@ pub fn put_procs(
     ensures wrote { (T : Table) → KnownTable T s.now funcs.now acts.now params.now rows.now → Lettered T.sig l.now → n ≡ length T.equations → Wrote out.old at (concat (numbered (proc_line_text T.sig) 0 T.equations)) out.new result }
 {
     let mut p = at;
-    let mut e: usize = 0;
-    while e < n {
+    for e in 0..n {
         p = put_proc(s, funcs, acts, params, rows, e, l, out, p);
-        e += 1;
     }
     p
 }

@@ -12,12 +12,10 @@ use terms::list_at;
 fn other(name: &[u8], s: &[u8], places: &[u16], n: usize) -> bool
     ensures { Says result (Every (Unlike name.now) (names_at s.now places.now n)) }
 {
-    let mut i: usize = 0;
-    while i < n {
+    for i in 0..n {
         if same(name, list_at(s, cell(places, i))) {
             return false;
         }
-        i += 1;
     }
     true
 }
@@ -26,12 +24,10 @@ fn other(name: &[u8], s: &[u8], places: &[u16], n: usize) -> bool
 pub fn none_there(s: &[u8], places: &[u16], n: usize, names: &[u8], cells: &[u16], m: usize) -> bool
     ensures { Says result (Every (λ x. Every (Unlike x) (names_at s.now places.now n)) (names_at names.now cells.now m)) }
 {
-    let mut d: usize = 0;
-    while d < m {
+    for d in 0..m {
         if !other(list_at(names, cell(cells, d)), s, places, n) {
             return false;
         }
-        d += 1;
     }
     true
 }

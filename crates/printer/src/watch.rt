@@ -70,13 +70,11 @@ pub fn apart(cells: &[u16], n: usize) -> bool
     ensures { (s : List ℕ) → result ≡ W.apart (map (cell_token s) (take n cells.now)) }
 {
     let mut state = NOTHING;
-    let mut i = 0;
-    while i < n {
+    for i in 0..n {
         state = next(state, kind(cells[i]));
         if state == MET {
             return false;
         }
-        i += 1;
     }
     true
 }

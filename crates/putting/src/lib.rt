@@ -8,7 +8,7 @@ ghost use Rattle.laws.specs.TermLength.{max_term};
 ghost use Rattle.putting.specs.Slots.{slot_width};
 ghost use Rattle.putting.specs.Puts.{Shares, NodePut, Puts, PutsAll, SlotPut, Fills};
 
-use elements::{BYTE_LIMIT, byte};
+use elements::{BYTE_LIMIT, cell};
 use limits::{FUNCTION_CODE, MAX_NODES, MAX_TERM};
 
 // A slot: how many nodes a term has, how many bytes, the bytes.
@@ -48,10 +48,8 @@ pub fn copy(s: &[u8], from: usize, l: usize, out: &mut [u8], w: usize)
     requires { (from + l ≤ length s.now) × (w + l ≤ length out.old) }
     ensures { out.new ≡ paste out.old w (drop from s.now) l }
 {
-    let mut j: usize = 0;
-    while j < l {
+    for j in 0..l {
         out[w + j] = s[from + j];
-        j += 1;
     }
 }
 
@@ -67,8 +65,8 @@ fn share_of(slots: &[u8], n: usize, tag: usize, number: usize) -> Share
         }
         return Share { nodes: 1, bytes: 1 };
     }
-    let k = byte(slots, SLOT * number);
-    let l = byte(slots, SLOT * number + 1);
+    let k = cell(slots, SLOT * number);
+    let l = cell(slots, SLOT * number + 1);
     Share { nodes: k, bytes: l }
 }
 
@@ -182,16 +180,14 @@ pub fn put_terms(
     ensures puts_all { PutsAll cells.now at count slots.now n w out.old result out.new }
 {
     let mut p = at;
-    let mut j: usize = 0;
     let mut v = w;
-    while j < count {
+    for j in 0..count {
         let r = put_term(cells, p, slots, n, &mut *out, v);
         if !r.ok {
             return Done { ok: false, w: w };
         }
         p = r.next;
         v = r.w;
-        j += 1;
     }
     Done { ok: true, w: v }
 }
@@ -219,9 +215,7 @@ pub fn put_slots(cells: &[u16], at: usize, count: usize, slots: &[u8], n: usize,
     ensures { Fills cells.now at count slots.now n out.new }
 {
     let mut p = at;
-    let mut j: usize = 0;
-    while j < count {
+    for j in 0..count {
         p = put_slot(cells, p, slots, n, &mut *out, j);
-        j += 1;
     }
 }

@@ -5,7 +5,7 @@ ghost use Rattle.resolver.specs.Raw.{kids_of, tokens_of, Skips};
 ghost use Rattle.resolver.specs.Writing.{Writes};
 ghost use Rattle.resolver.specs.Resolving.{joins};
 
-use elements::{peek_cell, short, wide, wide_cell};
+use elements::{peek, short, wide};
 use nodes::{AFTER, NUMBER};
 use parser::cells::put;
 use parser::codes::{FIRST_ANDS, FIRST_ORS};
@@ -24,11 +24,9 @@ pub fn put_joins(out: &mut [u16], w: usize, c: u16, many: usize) -> usize
     ensures { Writes (joins c many) w out.old result out.new }
 {
     let mut v = w;
-    let mut i: usize = 0;
-    while i < many {
+    for i in 0..many {
         let a = put(out, v, c);
         v = put(out, a, 2);
-        i += 1;
     }
     v
 }
@@ -93,8 +91,8 @@ pub fn skip(raw: &[u16], at: usize) -> usize
         if p >= raw.len() {
             return p;
         }
-        let k = peek_cell(raw, p);
-        need = need - 1 + wide_cell(kids(k));
+        let k = peek(raw, p);
+        need = need - 1 + wide(kids(k));
         p = p + 1 + wide(tokens(k));
     }
     p

@@ -6,7 +6,7 @@ ghost use Rattle.resolver.specs.Resolving.{Ahead, Few, ResolvesData, ResolvesCon
 use crate::DataRun;
 use crate::cells::{put_joins, span};
 use crate::operators::equal_cell;
-use elements::{cell, peek_cell, short, wide_cell};
+use elements::{cell, peek, short, wide};
 use lexer::{FIRST_NAME, FIRST_NUMERAL};
 use names::FUNC_COUNT;
 use names::find::scope_number;
@@ -41,14 +41,14 @@ pub fn data_term(
     ensures ahead { Ahead (length raw.now) at result.at }
     ensures resolves { ResolvesData s.now raw.now (names_in declared.now) (kinds_in declared.now) scope.now n at w out.old result out.new }
 {
-    let k = peek_cell(raw, at);
+    let k = peek(raw, at);
     if k < FIRST_ORS {
         return lost(raw, w);
     }
     if k >= FIRST_ANDS {
         return lost(raw, w);
     }
-    let more = wide_cell(k - FIRST_ORS);
+    let more = wide(k - FIRST_ORS);
     let mut p = at + 1;
     let mut v = put_joins(out, w, OR_CELL, more);
     let mut i: usize = 0;
@@ -77,11 +77,11 @@ fn conjunction(
     ensures ahead { Ahead (length raw.now) at result.at }
     ensures resolves { ResolvesConjunction s.now raw.now (names_in declared.now) (kinds_in declared.now) scope.now n at w out.old result out.new }
 {
-    let k = peek_cell(raw, at);
+    let k = peek(raw, at);
     if k < FIRST_ANDS {
         return lost(raw, w);
     }
-    let more = wide_cell(k - FIRST_ANDS);
+    let more = wide(k - FIRST_ANDS);
     let mut p = at + 1;
     let mut v = put_joins(out, w, AND_CELL, more);
     let mut i: usize = 0;
@@ -110,7 +110,7 @@ fn comparison(
     ensures ahead { Ahead (length raw.now) at result.at }
     ensures resolves { ResolvesComparison s.now raw.now (names_in declared.now) (kinds_in declared.now) scope.now n at w out.old result out.new }
 {
-    let k = peek_cell(raw, at);
+    let k = peek(raw, at);
     if k == ALONE_TAG {
         return negation(s, raw, declared, scope, n, at + 1, out, w);
     }
@@ -121,8 +121,8 @@ fn comparison(
     let v = put(out, c, 2);
     let a = negation(s, raw, declared, scope, n, at + 1, out, v);
     let b = negation(s, raw, declared, scope, n, a.at, out, a.w);
-    let x = peek_cell(out, v);
-    let y = peek_cell(out, a.w);
+    let x = peek(out, v);
+    let y = peek(out, a.w);
     put(out, w, equal_cell(scope, x, y));
     Step { at: b.at, w: b.w }
 }
@@ -145,7 +145,7 @@ fn negation(
 {
     let mut p = at;
     let mut v = w;
-    while peek_cell(raw, p) == NOT_TAG {
+    while peek(raw, p) == NOT_TAG {
         let a = put(out, v, NOT_CELL);
         v = put(out, a, 1);
         p += 1;
@@ -169,12 +169,12 @@ fn atom(
     ensures ahead { Ahead (length raw.now) at result.at }
     ensures resolves { ResolvesAtom s.now raw.now (names_in declared.now) (kinds_in declared.now) scope.now n at w out.old result out.new }
 {
-    let k = peek_cell(raw, at);
+    let k = peek(raw, at);
     if k == NEST_TAG {
         return data_term(s, raw, declared, scope, n, at + 1, out, w);
     }
     if k == VALUE_TAG {
-        let c = peek_cell(raw, at + 1);
+        let c = peek(raw, at + 1);
         if c < FIRST_NUMERAL {
             return lost(raw, w);
         }
@@ -187,7 +187,7 @@ fn atom(
         };
     }
     if k == VARIABLE_TAG {
-        let i = scope_number(s, scope, n, peek_cell(raw, at + 1));
+        let i = scope_number(s, scope, n, peek(raw, at + 1));
         if i >= n {
             return lost(raw, w);
         }
@@ -199,7 +199,7 @@ fn atom(
     if k != APPLY_TAG {
         return lost(raw, w);
     }
-    let f = func_in(s, declared, peek_cell(raw, at + 1));
+    let f = func_in(s, declared, peek(raw, at + 1));
     if f >= cell(declared, FUNC_COUNT) {
         return lost(raw, w);
     }
@@ -229,13 +229,13 @@ pub fn data_list(
     let mut p = at;
     let mut v = w;
     let mut count: usize = 0;
-    while peek_cell(raw, p) == MORE_TAG {
+    while peek(raw, p) == MORE_TAG {
         let a = data_term(s, raw, declared, scope, n, p + 1, out, v);
         p = a.at;
         v = a.w;
         count += 1;
     }
-    if peek_cell(raw, p) != ONE_TAG {
+    if peek(raw, p) != ONE_TAG {
         let l = lost(raw, v);
         return DataRun {
             at: l.at,
@@ -266,7 +266,7 @@ pub fn given(
     ensures ahead { Ahead (length raw.now) at result.at }
     ensures resolves { ResolvesGiven s.now raw.now (names_in declared.now) (kinds_in declared.now) scope.now n at w out.old result out.new }
 {
-    let k = peek_cell(raw, at);
+    let k = peek(raw, at);
     let c = put(out, w, 0);
     let v = put(out, c, 0);
     if k == BARE_TAG {

@@ -8,7 +8,7 @@ use crate::RightSide;
 use crate::cells::first_cell;
 use crate::data::given;
 use crate::process::term;
-use elements::{cell, peek_cell};
+use elements::{cell, peek};
 use names::PROC_COUNT;
 use names::keys::proc_in;
 use nodes::CALL;
@@ -52,7 +52,7 @@ pub fn init(
     requires { Few raw.now (kinds_in declared.now) scope.now 0 × (at < length raw.now) × KeyedNames s.now declared.now }
     ensures { ResolvesInit s.now raw.now (names_in declared.now) (kinds_in declared.now) scope.now at w out.old result out.new }
 {
-    let k = proc_in(s, declared, peek_cell(raw, at + 2));
+    let k = proc_in(s, declared, peek(raw, at + 2));
     if k >= cell(declared, PROC_COUNT) {
         return RightSide {
             ok: false,

@@ -5,7 +5,7 @@ ghost use Rattle.resolver.specs.Sorting.{cell_sort, one_more};
 ghost use Rattle.resolver.specs.Resolving.{EqualCell};
 
 use crate::{FIRST_RESULT, FIRST_SORT};
-use elements::{peek_cell, short, wide_cell};
+use elements::{peek, short, wide};
 use limits::MAX_FUNCTIONS;
 use nodes::{EQUAL, FUNCTION, UNSORTED, VALUE, VARIABLE};
 
@@ -16,16 +16,16 @@ const UNSORTED_CELL: u16 = (4 * UNSORTED + FUNCTION) as u16;
 fn own_sort(scope: &[u16], c: u16) -> usize
     ensures { (result ≡ one_more (cell_sort scope.now c)) × (result ≤ cell_limit) }
 {
-    let k = wide_cell(c % 4);
-    let i = wide_cell(c / 4);
+    let k = wide(c % 4);
+    let i = wide(c / 4);
     if k == VALUE {
         return 0;
     }
     if k == VARIABLE {
-        return wide_cell(peek_cell(scope, FIRST_SORT + i)) + 1;
+        return wide(peek(scope, FIRST_SORT + i)) + 1;
     }
     if i < MAX_FUNCTIONS {
-        return wide_cell(peek_cell(scope, FIRST_RESULT + i)) + 1;
+        return wide(peek(scope, FIRST_RESULT + i)) + 1;
     }
     1
 }

@@ -12,7 +12,7 @@ ghost use Rattle.resolver.specs.Resolving.{Ahead, Few, Naming, InScope, Binds, R
 use crate::cells::{first_cell, kids, node, skip, tokens};
 use crate::data::{condition, given};
 use crate::{FIRST_SORT, Fork, Known};
-use elements::{cell, peek_cell, short};
+use elements::{cell, peek, short};
 use names::fresh::new_variable;
 use names::keys::{part_in, sort_in};
 use names::{ACT_COUNT, PROC_COUNT, SORT_COUNT};
@@ -64,11 +64,11 @@ fn binder(
     ensures bound { InScope s.now raw.now (names_in declared.now) (kinds_in declared.now) scope.old n from.at result scope.new }
     ensures binds { Binds s.now raw.now (names_in declared.now) (kinds_in declared.now) scope.old n from.at after from.w out.old result out.new }
 {
-    let x = peek_cell(raw, from.at + 1);
+    let x = peek(raw, from.at + 1);
     if !new_variable(s, declared, scope, n, x) {
         return lost(raw, from.w);
     }
-    let d = sort_in(s, declared, peek_cell(raw, from.at + 2));
+    let d = sort_in(s, declared, peek(raw, from.at + 2));
     if d > cell(declared, SORT_COUNT) {
         return lost(raw, from.w);
     }
@@ -90,7 +90,7 @@ fn constant(raw: &[u16], at: usize, after: bool, out: &mut [u16], w: usize) -> S
     ensures ahead { Ahead (length raw.now) at result.at }
     ensures resolves { ResolvesConstant raw.now at after w out.old result out.new }
 {
-    let k = peek_cell(raw, at);
+    let k = peek(raw, at);
     if k == DELTA_TAG {
         return Step {
             at: at + 1,
@@ -120,7 +120,7 @@ fn fork(
     requires { Few raw.now (kinds_in declared.now) scope.now n × (from.at < length raw.now) × KeyedNames s.now declared.now }
     ensures { Forks s.now raw.now (names_in declared.now) (kinds_in declared.now) scope.now n from.at after from.w out.old result out.new }
 {
-    let k = peek_cell(raw, from.at);
+    let k = peek(raw, from.at);
     if k == THEN_TAG {
         return Fork {
             at: from.at,
@@ -159,7 +159,7 @@ fn named_part(
     ensures ahead { Ahead (length raw.now) from.at result.at }
     ensures resolves { ResolvesNamed s.now raw.now (names_in declared.now) (kinds_in declared.now) scope.now n from.at after from.w out.old result out.new }
 {
-    let f = named(s, declared, peek_cell(raw, from.at + 1), after);
+    let f = named(s, declared, peek(raw, from.at + 1), after);
     if !f.known {
         return lost(raw, from.w);
     }
@@ -219,7 +219,7 @@ pub fn term(
     let mut r = after;
     let mut v = from.w;
     while p < raw.len() {
-        let k = peek_cell(raw, p);
+        let k = peek(raw, p);
         if k == SUM_TAG {
             let b = binder(s, raw, declared, scope, m, Step { at: p, w: v }, r, out);
             p = b.at;

@@ -8,7 +8,7 @@ ghost use Rattle.sheets.specs.Resolving.{FewNames, ProcessRead, ProcessesRead};
 
 use crate::scopes::{put_results, put_sorts};
 use crate::{PROC_ROWS, ProcRows};
-use elements::{short, wide_cell};
+use elements::{short, wide};
 use limits::MAX_PROCESSES;
 use names::rows::param_row;
 use nodes::PROC_ROW;
@@ -59,8 +59,7 @@ pub fn processes(
     let mut starts = [0u16; MAX_PROCESSES];
     let mut ok = true;
     let mut w: usize = 0;
-    let mut k: usize = 0;
-    while k < procs.len() {
+    for k in 0..procs.len() {
         starts[k] = short(w);
         let at = PROC_ROW * k;
         let r = process(
@@ -68,7 +67,7 @@ pub fn processes(
             raw,
             declared,
             funcs,
-            wide_cell(procs[k]),
+            wide(procs[k]),
             &mut rows[at..at + PROC_ROW],
             out,
             w,
@@ -78,7 +77,6 @@ pub fn processes(
             break;
         }
         w = r.w;
-        k += 1;
     }
     ProcRows {
         ok: ok,

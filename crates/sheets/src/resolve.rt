@@ -8,7 +8,7 @@ use crate::processes::processes;
 use crate::scopes::put_results;
 use crate::signature::signature;
 use crate::{ResolvedRows, SheetRows};
-use elements::{both, wide_cell};
+use elements::{both, wide};
 use names::fresh::{all_new, declared_names};
 use names::keys::put_names;
 use names::{DECLARED_CELLS, Kinds, MAX_NAMES};
@@ -101,7 +101,7 @@ pub fn resolve(
         &funcs[0..b],
         &acts[0..c],
         &procs[0..d],
-        wide_cell(lines.init),
+        wide(lines.init),
         values,
         out,
     )

@@ -16,10 +16,8 @@ pub fn put_results(funcs: &[u8], scope: &mut [u16])
     requires { (func_width * max_functions ≤ length funcs.now) × (length scope.old ≡ scope_cells) }
     ensures { ResultsPut funcs.now scope.old scope.new }
 {
-    let mut f: usize = 0;
-    while f < MAX_FUNCTIONS {
+    for f in 0..MAX_FUNCTIONS {
         scope[FIRST_RESULT + f] = cell_of(funcs[FUNC_ROW * f + GIVES]);
-        f += 1;
     }
 }
 
@@ -28,9 +26,7 @@ pub fn put_sorts(row: &[u8], n: usize, scope: &mut [u16])
     requires { (n < length row.now) × (n ≤ max_scope) × (length scope.old ≡ scope_cells) }
     ensures { SortsPut row.now n scope.old scope.new }
 {
-    let mut i: usize = 0;
-    while i < n {
+    for i in 0..n {
         scope[FIRST_SORT + i] = cell_of(row[1 + i]);
-        i += 1;
     }
 }

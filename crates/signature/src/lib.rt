@@ -82,15 +82,13 @@ fn read_named(s: &[u8], at: usize, sorts: &mut [u16]) -> Next
         return Next { ok: false, at: 0 };
     }
     let mut i = at + 1;
-    let mut k = 0usize;
-    while k < n {
+    for k in 0..n {
         let t = read_sort(s, i);
         if !t.ok {
             return Next { ok: false, at: 0 };
         }
         sorts[k] = i as u16;
         i = t.at;
-        k += 1;
     }
     Next { ok: true, at: i }
 }
@@ -100,10 +98,8 @@ fn copy_sizes(s: &[u8], sorts: &[u16], sizes: &mut [u8])
     requires { length sorts.now ≤ length sizes.old }
     ensures { take (length sorts.now) sizes.new ≡ map (λ p. get_or s.now p 0) sorts.now }
 {
-    let mut k = 0usize;
-    while k < sorts.len() {
+    for k in 0..sorts.len() {
         sizes[k] = peek(s, cell(sorts, k));
-        k += 1;
     }
 }
 
@@ -112,10 +108,8 @@ fn copy_list(list: &[u8], sizes: &mut [u8])
     requires { length list.now ≤ length sizes.old }
     ensures { take (length list.now) sizes.new ≡ list.now }
 {
-    let mut k = 0usize;
-    while k < list.len() {
+    for k in 0..list.len() {
         sizes[k] = list[k];
-        k += 1;
     }
 }
 
@@ -294,15 +288,13 @@ fn read_funcs(s: &[u8], sizes: &[u8], at: usize, funcs: &mut [u16]) -> Next
         return Next { ok: false, at: 0 };
     }
     let mut i = at + 1;
-    let mut k = 0usize;
-    while k < n {
+    for k in 0..n {
         let t = read_func(s, sizes, i);
         if !t.ok {
             return Next { ok: false, at: 0 };
         }
         funcs[k] = i as u16;
         i = t.at;
-        k += 1;
     }
     Next { ok: true, at: i }
 }
@@ -331,15 +323,13 @@ fn read_acts(s: &[u8], sizes: &[u8], at: usize, acts: &mut [u16]) -> Next
         return Next { ok: false, at: 0 };
     }
     let mut i = at + 1;
-    let mut k = 0usize;
-    while k < n {
+    for k in 0..n {
         let t = read_action(s, sizes, i);
         if !t.ok {
             return Next { ok: false, at: 0 };
         }
         acts[k] = i as u16;
         i = t.at;
-        k += 1;
     }
     Next { ok: true, at: i }
 }

@@ -39,12 +39,10 @@ fn fitting(sizes: &[u16], sorts: &[u8], values: &[u8]) -> bool
     if values.len() < sorts.len() {
         return false;
     }
-    let mut i = 0;
-    while i < values.len() {
+    for i in 0..values.len() {
         if !fits(sizes, sorts, i, values[i]) {
             return false;
         }
-        i += 1;
     }
     true
 }
@@ -107,14 +105,12 @@ pub fn right_frames(s: &[u8], index: tables::Index, frames: &[u8], depth: usize)
     if !zeros(frames, unused, BYTES) {
         return false;
     }
-    let mut i = 0;
-    while i < depth {
+    for i in 0..depth {
         let at = i * FRAME;
         let end = at + FRAME;
         if !right_frame(s, sizes, params, &frames[at..end]) {
             return false;
         }
-        i += 1;
     }
     true
 }
@@ -126,10 +122,8 @@ pub fn put(frames: &mut [u8], i: usize, others: &[u8], j: usize)
 {
     let to = i * FRAME;
     let from = j * FRAME;
-    let mut n = 0;
-    while n < FRAME {
+    for n in 0..FRAME {
         frames[to + n] = others[from + n];
-        n += 1;
     }
 }
 
@@ -140,10 +134,8 @@ pub fn replace(frames: &mut [u8], depth: usize, others: &[u8], n: usize)
 {
     let zeros = [0u8; FRAME];
     put(frames, depth - 1, &zeros, 0);
-    let mut i = 0;
-    while i < n {
+    for i in 0..n {
         put(frames, depth - 1 + (n - 1 - i), others, i);
-        i += 1;
     }
 }
 
@@ -165,10 +157,8 @@ pub fn part(s: &[u8], at: usize, n: usize) -> &[u8]
 fn spread(bytes: &[u8], out: &mut [u8])
     ensures { (i : ℕ) → i < length out.old → get_or out.new i 0 ≡ get_or bytes.now i 0 }
 {
-    let mut i = 0;
-    while i < out.len() {
+    for i in 0..out.len() {
         out[i] = peek(bytes, i);
-        i += 1;
     }
 }
 

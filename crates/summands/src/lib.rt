@@ -164,11 +164,9 @@ fn more(c: Scope, part: &[u8]) -> Scope
 {
     let mut a = c.sorts;
     let mut n = c.n;
-    let mut k = 0usize;
-    while k < part.len() {
+    for k in 0..part.len() {
         a[n] = part[k];
         n += 1;
-        k += 1;
     }
     Scope { sorts: a, n: n }
 }

@@ -125,10 +125,8 @@ fn put_sizes(funcs: &mut [u16], sizes: &[u8])
     requires { (length funcs.old ≡ max_functions + max_sorts) × (length sizes.now ≡ max_sorts) }
     ensures { funcs.new ≡ take max_functions funcs.old ++ sizes.now }
 {
-    let mut k = 0usize;
-    while k < sizes.len() {
+    for k in 0..sizes.len() {
         funcs[MAX_FUNCTIONS + k] = cell_of(sizes[k]);
-        k += 1;
     }
 }
 

@@ -215,14 +215,12 @@ pub fn read_terms(
     ensures { (S : Sig) → KnownData S s.now sizes.now funcs.now → rests (each (read_term S scope.now) sorts.now (drop at s.now)) ≡ ended s.now result }
 {
     let mut i = at;
-    let mut k = 0usize;
-    while k < sorts.len() {
+    for k in 0..sorts.len() {
         let t = read_term(s, sizes, funcs, scope, i, sorts[k]);
         if !t.ok {
             return Next { ok: false, at: 0 };
         }
         i = t.at;
-        k += 1;
     }
     Next { ok: true, at: i }
 }

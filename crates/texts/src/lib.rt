@@ -30,10 +30,8 @@ pub fn put_bytes(out: &mut [u8], at: usize, s: &[u8]) -> usize
     ensures { Wrote out.old at s.now out.new result }
 {
     let mut p = at;
-    let mut i = 0;
-    while i < s.len() {
+    for i in 0..s.len() {
         p = put_byte(out, p, s[i]);
-        i += 1;
     }
     p
 }

@@ -9,5 +9,3 @@ use Rattle.action_names.proofs.among.Given as goal
 abbrev pub invariant-loop-k : goal.invariant-loop-k
 invariant-loop-k l = (l.skip ≤ 1) × (among l.name (map (λ p. list_at l.s (p + l.skip)) (drop l.from l.places)) ≡ among l.name (map (λ p. list_at l.s (p + l.skip)) (drop l.k l.places)))
 
-abbrev pub decreases-loop-k : goal.decreases-loop-k
-decreases-loop-k l = length l.places - l.k

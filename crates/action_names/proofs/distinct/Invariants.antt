@@ -9,5 +9,3 @@ use Rattle.action_names.proofs.distinct.Given as goal
 abbrev pub invariant-loop-k : goal.invariant-loop-k
 invariant-loop-k l = (l.skip ≤ 1) × (distinct (map (λ p. list_at l.s (p + l.skip)) l.places) ≡ distinct (map (λ p. list_at l.s (p + l.skip)) (drop l.k l.places)))
 
-abbrev pub decreases-loop-k : goal.decreases-loop-k
-decreases-loop-k l = length l.places - l.k

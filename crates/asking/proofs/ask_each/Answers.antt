@@ -24,8 +24,6 @@ loop-i-init c = ((refl, (refl, (omega (arith, c.requires), omega arith))), λ T 
 pub ask-r-requires : goal.ask-r-requires
 ask-r-requires c = omega (arith, c.loop-i.invariant.0, c.requires)
 
-pub loop-i-smaller : goal.loop-i-smaller
-loop-i-smaller c = omega (arith, c.loop-i-test)
 
 pub loop-i-preserved : goal.loop-i-preserved
 loop-i-preserved c = let a = c.args in

@@ -7,5 +7,3 @@ use Rattle.blocks.proofs.copy.Given as goal
 abbrev pub invariant-loop-i : goal.invariant-loop-i
 invariant-loop-i l = (l.i ≤ length l.t) × ((length l.s ≡ length l.initial.s) × (l.s ≡ take l.i l.t ++ drop l.i l.initial.s))
 
-abbrev pub decreases-loop-i : goal.decreases-loop-i
-decreases-loop-i l = length l.t - l.i

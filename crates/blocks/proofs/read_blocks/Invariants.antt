@@ -5,5 +5,3 @@ use Rattle.blocks.proofs.read_blocks.Given as goal
 abbrev pub invariant-loop-i : goal.invariant-loop-i
 invariant-loop-i l = Read l.file l.initial.out l.out l.i
 
-abbrev pub decreases-loop-i : goal.decreases-loop-i
-decreases-loop-i l = l.count - l.i

@@ -6,5 +6,3 @@ use Rattle.blocks.proofs.write_blocks.Given as goal
 abbrev pub invariant-loop-i : goal.invariant-loop-i
 invariant-loop-i l = Laid l.count (block_of_stream l.stream l.count) l.initial.out l.out l.i
 
-abbrev pub decreases-loop-i : goal.decreases-loop-i
-decreases-loop-i l = l.count - l.i

@@ -11,11 +11,7 @@ loop-i-init c = (omega arith, upto_start (omega arith) (closing_whole 41 c.args.
 pub put_byte-p-requires : goal.put_byte-p-requires
 put_byte-p-requires c = wrote_fits _ _ _ _ _ c.loop-i.invariant.1.wrote
 
-pub overflow_add-i : goal.overflow_add-i
-overflow_add-i c = omega (arith, c.loop-i-test)
 
-pub loop-i-smaller : goal.loop-i-smaller
-loop-i-smaller c = omega (arith, c.loop-i-test)
 
 pub loop-i-preserved : goal.loop-i-preserved
 loop-i-preserved c = let here = c.loop-i in let test = c.loop-i-test in (omega arith, upto_more here.invariant.1 (closing_first 41 c.args.n here.i (omega arith)) c.put_byte-p.ensures)

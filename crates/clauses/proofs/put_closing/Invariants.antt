@@ -6,5 +6,3 @@ use Rattle.clauses.proofs.put_closing.Given as goal
 abbrev pub invariant-loop-i : goal.invariant-loop-i
 invariant-loop-i l = (l.i ≤ l.n) × Upto l.initial.out l.at (replicate l.n 41) l.out l.p (replicate (l.n - l.i) 41)
 
-abbrev pub decreases-loop-i : goal.decreases-loop-i
-decreases-loop-i l = l.n - l.i

@@ -20,11 +20,7 @@ overflow_add-from-in-loop-i c = omega (arith, c.requires.1.0, c.wide-m.ensures.1
 pub put_sum-p-requires : goal.put_sum-p-requires
 put_sum-p-requires c = let e = c.loop-i.invariant.1.0 in omega (arith, e.fits, e.same)
 
-pub overflow_add-i : goal.overflow_add-i
-overflow_add-i c = omega (arith, c.wide-m.ensures.1, c.loop-i-test)
 
-pub loop-i-smaller : goal.loop-i-smaller
-loop-i-smaller c = omega (arith, c.loop-i-test)
 
 pub loop-i-preserved : goal.loop-i-preserved
 loop-i-preserved c = let here = c.loop-i in let test = c.loop-i-test in let w = c.put_sum-p.ensures in (omega arith, (ends_more here.invariant.1.0 (wrote_ends w), summing_more _ _ _ _ _ _ _ _ _ _ _ _ _ (omega arith) c.peek-in-loop-i.ensures w here.invariant.1.1))

@@ -6,5 +6,3 @@ use Rattle.clauses.proofs.put_sums.Given as goal
 abbrev pub invariant-loop-i : goal.invariant-loop-i
 invariant-loop-i l = (l.i ≤ l.m) × (Ends l.initial.out l.p l.out × Summing l.s l.l l.from l.n l.m l.initial.out l.at l.out l.p l.i)
 
-abbrev pub decreases-loop-i : goal.decreases-loop-i
-decreases-loop-i l = l.m - l.i

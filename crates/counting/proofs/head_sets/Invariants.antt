@@ -10,5 +10,3 @@ use Rattle.counting.proofs.head_sets.Given as goal
 abbrev pub invariant-loop-k : goal.invariant-loop-k
 invariant-loop-k l = ((l.k ≤ l.n) × (length l.of ≡ row_width)) × ((H : Sheet) → length H.procs ≡ l.n → Placed H l.cells l.starts → HeadsOf H l.k l.of)
 
-abbrev pub decreases-loop-k : goal.decreases-loop-k
-decreases-loop-k l = l.n - l.k

@@ -5,5 +5,3 @@ use Rattle.counting.proofs.unchanged.Given as goal
 abbrev pub invariant-loop-k : goal.invariant-loop-k
 invariant-loop-k l = (l.k ≤ l.n) × SameIn l.t l.f l.same
 
-abbrev pub decreases-loop-k : goal.decreases-loop-k
-decreases-loop-k l = l.n - l.k

@@ -15,5 +15,3 @@ use Rattle.declarations.proofs.put_acts.Given as goal
 abbrev pub invariant-loop-i : goal.invariant-loop-i
 invariant-loop-i l = (l.i ≤ l.n) × (((l.p ≤ length l.out) × (length l.out ≡ length l.initial.out)) × ((S : Sig) (Ps : List (List ℕ)) (params : List ℕ) → KnownParts S Ps l.s l.acts params → Every (RightAction S.sorts) S.acts → Lettered S l.l → l.n ≡ length S.acts → Wrote l.initial.out l.at (all (act_line_text S) (take l.i S.acts)) l.out l.p))
 
-abbrev pub decreases-loop-i : goal.decreases-loop-i
-decreases-loop-i l = l.n - l.i

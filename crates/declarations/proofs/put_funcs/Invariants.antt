@@ -12,5 +12,3 @@ use Rattle.declarations.proofs.put_funcs.Given as goal
 abbrev pub invariant-loop-f : goal.invariant-loop-f
 invariant-loop-f l = (l.f ≤ l.n) × (((l.p ≤ length l.out) × (length l.out ≡ length l.initial.out)) × ((S : Sig) → KnownTerms S l.s l.funcs → length S.funcs ≤ 256 → Lettered S l.l → l.n ≡ length S.funcs → Wrote l.initial.out l.at (concat (numbered (func_line_text S) 0 (take l.f S.funcs))) l.out l.p))
 
-abbrev pub decreases-loop-f : goal.decreases-loop-f
-decreases-loop-f l = l.n - l.f

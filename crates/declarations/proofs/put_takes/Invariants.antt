@@ -10,5 +10,3 @@ use Rattle.declarations.proofs.put_takes.Given as goal
 abbrev pub invariant-loop-i : goal.invariant-loop-i
 invariant-loop-i l = (1 ≤ l.i) × ((l.i ≤ length l.sorts) × Wrote l.initial.out l.initial.p (all (λ x. bytes "#" ++ (sort_by l.l) x) (drop 1 (take l.i l.sorts))) l.out l.p)
 
-abbrev pub decreases-loop-i : goal.decreases-loop-i
-decreases-loop-i l = length l.sorts - l.i

@@ -9,5 +9,3 @@ use Rattle.declarations.proofs.put_values.Given as goal
 abbrev pub invariant-loop-i : goal.invariant-loop-i
 invariant-loop-i l = (1 ≤ l.i) × ((l.i ≤ length l.vs) × Wrote l.initial.out l.initial.p (all (λ x. bytes "," ++ decimal x) (drop 1 (take l.i l.vs))) l.out l.p)
 
-abbrev pub decreases-loop-i : goal.decreases-loop-i
-decreases-loop-i l = length l.vs - l.i

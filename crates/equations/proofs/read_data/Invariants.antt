@@ -9,5 +9,3 @@ use Rattle.equations.proofs.read_data.Given as goal
 abbrev pub invariant-loop-k : goal.invariant-loop-k
 invariant-loop-k l = (l.at ≤ length l.s → l.i ≤ length l.s) × (rests (each (λ D. one (below? (get_or l.sizes D 0))) l.sorts (drop l.at l.s)) ≡ rests (each (λ D. one (below? (get_or l.sizes D 0))) (drop l.k l.sorts) (drop l.i l.s)))
 
-abbrev pub decreases-loop-k : goal.decreases-loop-k
-decreases-loop-k l = length l.sorts - l.k

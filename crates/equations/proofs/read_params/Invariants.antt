@@ -13,5 +13,3 @@ abbrev pub invariant-loop-k : goal.invariant-loop-k
 invariant-loop-k l = (l.k ≤ l.n) × (length l.params ≡ length l.initial.params) × (l.n ≤ length l.params) × (length l.s < 65536) × (l.n ≡ get_or l.s l.at 0) × (l.n ≤ max_equations)
     × Laying (counted (between? 1 max_equations) (read_sorts l.sizes frame_width) (drop l.at l.s)) (times (read_sorts l.sizes frame_width) (l.n - l.k) (drop l.i l.s)) encode_numbers l.s (take l.k l.params)
 
-abbrev pub decreases-loop-k : goal.decreases-loop-k
-decreases-loop-k l = l.n - l.k

@@ -16,5 +16,3 @@ invariant-loop-k l = (l.k ≤ length l.params) × (length l.rows ≡ length l.in
     × ((S : Sig) (Ps : List (List ℕ)) → KnownSig S l.s l.sizes l.funcs l.acts → KnownRows S Ps l.s l.params
     → Laying (each (read_summands S Ps) Ps (drop l.at l.s)) (each (read_summands S Ps) (drop l.k Ps) (drop l.i l.s)) (encode_list encode_summand) l.s (take l.k l.rows))
 
-abbrev pub decreases-loop-k : goal.decreases-loop-k
-decreases-loop-k l = length l.params - l.k

@@ -29,7 +29,7 @@ pub returns : goal.returns
 returns c =
     let e = c.copy.ensures in record {
       w_le_w = omega arith;
-      out_unchanged = ap (take c.args.w) e ∙ paste_kept c.args.w c.args.w c.args.out.now (drop (slot_width * c.args.i + 2) c.args.slots.now) c.byte-l.result (omega arith) (omega arith);
-      one_put = subst (λ (x : List ℕ). OnePut c.args.slots.now c.args.i c.args.w c.args.out.now (record { ok = true; w = c.args.w + c.byte-l.result }) x) (sym e)
-          (one_put c.args.slots.now c.args.i c.args.w c.args.out.now (omega arith) c.byte-l.result c.byte-l.ensures.0 (omega arith) (omega arith));
+      out_unchanged = ap (take c.args.w) e ∙ paste_kept c.args.w c.args.w c.args.out.now (drop (slot_width * c.args.i + 2) c.args.slots.now) c.cell-l.result (omega arith) (omega arith);
+      one_put = subst (λ (x : List ℕ). OnePut c.args.slots.now c.args.i c.args.w c.args.out.now (record { ok = true; w = c.args.w + c.cell-l.result }) x) (sym e)
+          (one_put c.args.slots.now c.args.i c.args.w c.args.out.now (omega arith) c.cell-l.result c.cell-l.ensures.0 (omega arith) (omega arith));
     }

@@ -11,5 +11,3 @@ invariant-loop-i l = record {
   array : l.t ≡ over l.i l.fn.fs l.fn.s.frames;
 }
 
-abbrev pub decreases-loop-i : goal.decreases-loop-i
-decreases-loop-i l = l.n - l.i

@@ -10,5 +10,3 @@ use Rattle.frames.proofs.from_bytes.Given as goal
 abbrev pub invariant-loop-i : goal.invariant-loop-i
 invariant-loop-i l = (l.i ≤ stack_limit) × ((length l.initial.t.frames ≡ stack_limit) × (lent_frames l.t.frames ≡ upto (frames_in frame_width l.bytes) (lent_frames l.initial.t.frames) l.i))
 
-abbrev pub decreases-loop-i : goal.decreases-loop-i
-decreases-loop-i l = stack_limit - l.i

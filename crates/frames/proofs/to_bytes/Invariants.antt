@@ -10,5 +10,3 @@ use Rattle.frames.proofs.to_bytes.Given as goal
 abbrev pub invariant-loop-i : goal.invariant-loop-i
 invariant-loop-i l = (l.i ≤ stack_limit) × ((length l.bytes ≡ length l.initial.bytes) × (frames_in frame_width l.bytes ≡ upto (lent_frames l.s.frames) (frames_in frame_width l.initial.bytes) l.i))
 
-abbrev pub decreases-loop-i : goal.decreases-loop-i
-decreases-loop-i l = stack_limit - l.i

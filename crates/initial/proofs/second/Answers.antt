@@ -7,4 +7,4 @@ use Rattle.initial.proofs.second.Goals as goal
 
 pub returns : goal.returns
 unfolding second_size
-returns c = (c.byte-2.ensures.0 ∙ ap (λ (x : ℕ). get_or c.args.sizes.now x 0) c.byte.ensures.0, c.byte-2.ensures.1)
+returns c = (c.cell-2.ensures.0 ∙ ap (λ (x : ℕ). get_or c.args.sizes.now x 0) c.cell.ensures.0, c.cell-2.ensures.1)

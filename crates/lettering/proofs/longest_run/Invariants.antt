@@ -9,5 +9,3 @@ use Rattle.lettering.proofs.longest_run.Given as goal
 abbrev pub invariant-loop-i : goal.invariant-loop-i
 invariant-loop-i l = (l.i ≤ l.n) × ((l.most ≤ max_stream) × (longest_run l.b (names_at l.s l.places l.n) ≡ max l.most (longest_run l.b (drop l.i (names_at l.s l.places l.n)))))
 
-abbrev pub decreases-loop-i : goal.decreases-loop-i
-decreases-loop-i l = l.n - l.i

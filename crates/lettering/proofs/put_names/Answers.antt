@@ -16,8 +16,6 @@ loop-d-init c = (omega arith, (refl, λ short. cells_none _ c.args.out.now))
 pub put_one-requires : goal.put_one-requires
 put_one-requires c = omega (arith, c.smaller-m.ensures, c.loop-d.invariant.1.0, c.cell.ensures.1)
 
-pub overflow_add-d : goal.overflow_add-d
-overflow_add-d c = omega (arith, c.smaller-m.ensures)
 
 pub loop-d-preserved : goal.loop-d-preserved
 loop-d-preserved c =

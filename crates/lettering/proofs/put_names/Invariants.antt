@@ -14,5 +14,3 @@ name s sorts named n D = name_by named s (get_or sorts D 0) n D
 abbrev pub invariant-loop-d : goal.invariant-loop-d
 invariant-loop-d l = (l.d ≤ l.m) × ((length l.out ≡ length l.initial.out) × (ShortNames (name l.s l.sorts l.named l.n) l.m → CellsIn (name l.s l.sorts l.named l.n) l.d l.out))
 
-abbrev pub decreases-loop-d : goal.decreases-loop-d
-decreases-loop-d l = l.m - l.d

@@ -6,5 +6,3 @@ use Rattle.lettering.proofs.put_run.Given as goal
 abbrev pub invariant-loop-i : goal.invariant-loop-i
 invariant-loop-i l = (l.i ≤ l.n) × Wrote l.initial.out l.at (replicate l.i l.b) l.out l.p
 
-abbrev pub decreases-loop-i : goal.decreases-loop-i
-decreases-loop-i l = l.n - l.i

@@ -13,14 +13,12 @@ loop-k-init c = (omega arith, λ j h. absurd (omega arith))
 pub overflow_mul-k : goal.overflow_mul-k
 overflow_mul-k c = omega (arith, c.requires)
 
-pub overflow_add-k : goal.overflow_add-k
-overflow_add-k c = omega (arith, c.requires)
 
 pub returns-then-many-gt-FRAME_WIDTH : goal.returns-then-many-gt-FRAME_WIDTH
-returns-then-many-gt-FRAME_WIDTH c = let a = c.args in let l = c.loop-k in few_not a.rows.now a.n l.k c.many.result (omega arith) (c.many.ensures ∙ ap (λ (x : ℕ). count (bits 32 x)) c.peek_word.ensures) (omega arith)
+returns-then-many-gt-FRAME_WIDTH c = let a = c.args in let l = c.loop-k in few_not a.rows.now a.n l.k c.many.result (omega arith) (c.many.ensures ∙ ap (λ (x : ℕ). count (bits 32 x)) c.peek.ensures) (omega arith)
 
 pub loop-k-preserved : goal.loop-k-preserved
-loop-k-preserved c = let a = c.args in let l = c.loop-k in (omega arith, few_more a.rows.now l.k c.many.result (c.many.ensures ∙ ap (λ (x : ℕ). count (bits 32 x)) c.peek_word.ensures) (omega arith) l.invariant.1)
+loop-k-preserved c = let a = c.args in let l = c.loop-k in (omega arith, few_more a.rows.now l.k c.many.result (c.many.ensures ∙ ap (λ (x : ℕ). count (bits 32 x)) c.peek.ensures) (omega arith) l.invariant.1)
 
 pub returns : goal.returns
 returns c = let a = c.args in let l = c.loop-k in few_all a.rows.now a.n l.k (omega arith) l.invariant.1

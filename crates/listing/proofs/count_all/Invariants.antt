@@ -6,5 +6,3 @@ use Rattle.listing.proofs.count_all.Given as goal
 abbrev pub invariant-loop-k : goal.invariant-loop-k
 invariant-loop-k l = ((l.k ≤ l.total) × (l.sum ≤ count_cut)) × Summed l.procs l.cells l.starts l.counts l.firsts l.n l.rows l.total l.fuel l.k l.sum
 
-abbrev pub decreases-loop-k : goal.decreases-loop-k
-decreases-loop-k l = l.total - l.k

@@ -7,5 +7,3 @@ use Rattle.listing.proofs.put_all.Given as goal
 abbrev pub invariant-loop-k : goal.invariant-loop-k
 invariant-loop-k l = ((l.k ≤ l.total) × (l.v ≤ length l.out) × (length l.out ≡ length l.initial.out)) × Written l.procs l.cells l.starts l.counts l.firsts l.n l.rows l.total l.fuel l.w l.initial.out l.k l.v l.out
 
-abbrev pub decreases-loop-k : goal.decreases-loop-k
-decreases-loop-k l = l.total - l.k

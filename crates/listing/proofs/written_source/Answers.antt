@@ -7,9 +7,9 @@ pub returns : goal.returns
 returns c =
     let a = c.args in
     let m = c.in_scope-m in
-    let b = c.byte in
+    let b = c.cell in
     let few = m.ensures.0 in
-    let last = c.byte-2 in record {
+    let last = c.cell-2 in record {
       bounded = record { scope_few = few; next_few = few; first_few = last.ensures.1 };
       written_source = record {
         at_is = c.cell.ensures.0;

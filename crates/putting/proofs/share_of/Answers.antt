@@ -18,5 +18,5 @@ returns-then-tag-ne-VARIABLE c = let a = c.args in record {
 pub returns : goal.returns
 returns c = let a = c.args in record {
   nodes_lt_byte_limit = omega arith;
-  shares = share_slot a.slots.now a.n a.tag a.number c.byte-k.result c.byte-l.result (omega arith) c.byte-k.ensures.0 c.byte-l.ensures.0;
+  shares = share_slot a.slots.now a.n a.tag a.number c.cell-k.result c.cell-l.result (omega arith) c.cell-k.ensures.0 c.cell-l.ensures.0;
 }

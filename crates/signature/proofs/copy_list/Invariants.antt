@@ -6,5 +6,3 @@ use Rattle.signature.proofs.copy_list.Given as goal
 abbrev pub invariant-loop-k : goal.invariant-loop-k
 invariant-loop-k l = (l.k ≤ length l.list) × (length l.sizes ≡ length l.initial.sizes) × (length l.list ≤ length l.sizes) × (take l.k l.sizes ≡ take l.k l.list)
 
-abbrev pub decreases-loop-k : goal.decreases-loop-k
-decreases-loop-k l = length l.list - l.k

@@ -13,5 +13,3 @@ abbrev pub invariant-loop-k : goal.invariant-loop-k
 invariant-loop-k l = (l.k ≤ l.n) × (length l.funcs ≡ length l.initial.funcs) × (l.n ≤ length l.funcs) × (length l.s < 65536) × (l.n ≡ get_or l.s l.at 0) × (l.n ≤ max_functions)
     × Laying (counted (at_most? max_functions) (read_func l.sizes) (drop l.at l.s)) (times (read_func l.sizes) (l.n - l.k) (drop l.i l.s)) encode_func l.s (take l.k l.funcs)
 
-abbrev pub decreases-loop-k : goal.decreases-loop-k
-decreases-loop-k l = l.n - l.k

@@ -13,5 +13,3 @@ abbrev pub invariant-loop-k : goal.invariant-loop-k
 invariant-loop-k l = (l.k ≤ l.n) × (length l.sorts ≡ length l.initial.sorts) × (l.n ≤ length l.sorts) × (length l.s < 65536) × (l.n ≡ get_or l.s l.at 0) × Between 1 max_sorts l.n
     × Laying (counted (between? 1 max_sorts) read_sort (drop l.at l.s)) (times read_sort (l.n - l.k) (drop l.i l.s)) encode_sort l.s (take l.k l.sorts)
 
-abbrev pub decreases-loop-k : goal.decreases-loop-k
-decreases-loop-k l = l.n - l.k

@@ -9,5 +9,3 @@ use Rattle.stacks.proofs.put.Given as goal
 abbrev pub invariant-loop-n : goal.invariant-loop-n
 invariant-loop-n l = (l.n ≤ frame_bytes frame_width) × ((length l.frames ≡ length l.initial.frames) × (l.frames ≡ paste l.initial.frames (l.i * frame_bytes frame_width) (drop (l.j * frame_bytes frame_width) l.others) l.n))
 
-abbrev pub decreases-loop-n : goal.decreases-loop-n
-decreases-loop-n l = frame_bytes frame_width - l.n

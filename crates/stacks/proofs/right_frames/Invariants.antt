@@ -9,5 +9,3 @@ use Rattle.stacks.proofs.right_frames.Given as goal
 abbrev pub invariant-loop-i : goal.invariant-loop-i
 invariant-loop-i l = (l.i ≤ l.depth) × ((T : Table) → Known T l.s l.sizes l.params → (j : ℕ) → j < l.i → RightFrame frame_width T (frame_at frame_width l.frames (j * frame_bytes frame_width)))
 
-abbrev pub decreases-loop-i : goal.decreases-loop-i
-decreases-loop-i l = l.depth - l.i

@@ -7,5 +7,3 @@ use Rattle.tables.proofs.put_sizes.Given as goal
 abbrev pub invariant-loop-k : goal.invariant-loop-k
 invariant-loop-k l = (l.k ≤ length l.sizes) × (length l.sizes ≡ 8) × (length l.funcs ≡ length l.initial.funcs) × (length l.funcs ≡ 24) × (take max_functions l.funcs ≡ take max_functions l.initial.funcs) × (take l.k (drop max_functions l.funcs) ≡ take l.k l.sizes)
 
-abbrev pub decreases-loop-k : goal.decreases-loop-k
-decreases-loop-k l = length l.sizes - l.k

@@ -11,5 +11,3 @@ use Rattle.terms.proofs.read_terms.Given as goal
 abbrev pub invariant-loop-k : goal.invariant-loop-k
 invariant-loop-k l = (S : Sig) → KnownData S l.s l.sizes l.funcs → rests (each (read_term S l.scope) l.sorts (drop l.at l.s)) ≡ rests (each (read_term S l.scope) (drop l.k l.sorts) (drop l.i l.s))
 
-abbrev pub decreases-loop-k : goal.decreases-loop-k
-decreases-loop-k l = length l.sorts - l.k

@@ -6,5 +6,3 @@ use Rattle.texts.proofs.put_bytes.Given as goal
 abbrev pub invariant-loop-i : goal.invariant-loop-i
 invariant-loop-i l = (l.i ≤ length l.s) × Wrote l.initial.out l.at (take l.i l.s) l.out l.p
 
-abbrev pub decreases-loop-i : goal.decreases-loop-i
-decreases-loop-i l = length l.s - l.i

@@ -7,5 +7,3 @@ use Rattle.blocks.proofs.crc.zeros_at.Given as goal
 abbrev pub invariant-loop-i : goal.invariant-loop-i
 invariant-loop-i l = (l.i ≤ 32) × (l.good ≡ true → Zeros l.s l.at (l.at + l.i))
 
-abbrev pub decreases-loop-i : goal.decreases-loop-i
-decreases-loop-i l = 32 - l.i

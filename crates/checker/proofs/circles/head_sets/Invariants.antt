@@ -7,5 +7,3 @@ use Rattle.checker.proofs.circles.head_sets.Given as goal
 abbrev pub invariant-loop-k : goal.invariant-loop-k
 invariant-loop-k l = ((l.k ≤ l.n.procs) × (length l.of ≡ 16)) × HeadsSoFar l.cells l.starts l.n l.k l.of
 
-abbrev pub decreases-loop-k : goal.decreases-loop-k
-decreases-loop-k l = l.n.procs - l.k

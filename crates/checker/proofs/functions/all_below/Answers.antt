@@ -6,11 +6,11 @@ use Rattle.checker.proofs.functions.all_below.Goals as goal
 pub loop-i-init : goal.loop-i-init
 loop-i-init c = below_start c.args.values.now c.args.from c.args.to c.args.size
 
-pub returns-then-byte-size : goal.returns-then-byte-size
-returns-then-byte-size c = below_failed c.args.values.now c.args.from c.args.to c.args.size c.loop-i.i c.loop-i.invariant (omega arith) (omega (arith, c.byte.ensures.0))
+pub returns-then-cell-size : goal.returns-then-cell-size
+returns-then-cell-size c = below_failed c.args.values.now c.args.from c.args.to c.args.size c.loop-i.i c.loop-i.invariant (omega arith) (omega (arith, c.cell.ensures.0))
 
 pub loop-i-preserved : goal.loop-i-preserved
-loop-i-preserved c = below_step c.args.values.now c.args.from c.args.to c.args.size c.loop-i.i c.loop-i.invariant (omega arith) (omega (arith, c.byte.ensures.0))
+loop-i-preserved c = below_step c.args.values.now c.args.from c.args.to c.args.size c.loop-i.i c.loop-i.invariant (omega arith) (omega (arith, c.cell.ensures.0))
 
 pub returns : goal.returns
 returns c = below_done c.args.values.now c.args.from c.args.to c.args.size c.loop-i.i c.loop-i.invariant (omega arith)

@@ -40,11 +40,7 @@ put_byte-a-requires c = c.loop-i.invariant.1.0
 pub put_term-r-requires : goal.put_term-r-requires
 put_term-r-requires c = (wrote_fits _ _ _ _ _ c.put_byte-a.ensures, c.requires.1)
 
-pub overflow_add-i : goal.overflow_add-i
-overflow_add-i c = omega (arith, c.loop-i-test)
 
-pub loop-i-smaller : goal.loop-i-smaller
-loop-i-smaller c = omega (arith, c.loop-i-test)
 
 pub loop-i-preserved : goal.loop-i-preserved
 loop-i-preserved c =

@@ -21,5 +21,3 @@ invariant-loop-i l = (l.i ≤ l.n)
     × ((S : Sig) (Γ Ds : List ℕ) (ds : List Data) (rest : List ℕ) → KnownTerms S l.s l.funcs → length Γ ≤ variable_code → Each (RightTerm S Γ) Ds ds → length ds ≡ l.n → Lettered S l.l → drop l.from l.s ≡ all encode_data ds ++ rest
     → Listing S Γ rest l.s l.initial.out l.at (given_text S ds) l.n l.i l.r.from l.out l.r.at))))
 
-abbrev pub decreases-loop-i : goal.decreases-loop-i
-decreases-loop-i l = l.n - l.i

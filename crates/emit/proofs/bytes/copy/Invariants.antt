@@ -6,5 +6,3 @@ use Rattle.emit.proofs.bytes.copy.Given as goal
 abbrev pub invariant-loop-i : goal.invariant-loop-i
 invariant-loop-i l = (l.i ≤ l.n) × Puts (part l.s l.a l.i) l.w l.initial.out l.v l.out
 
-abbrev pub decreases-loop-i : goal.decreases-loop-i
-decreases-loop-i l = l.n - l.i

@@ -3,4 +3,4 @@ use Rattle.emit.proofs.SignatureLaws.{row_put}
 use Rattle.emit.proofs.bytes.put_row.Goals as goal
 
 pub returns : goal.returns
-returns c = row_put c.args.w c.args.out.now c.copy.result c.copy.new.out c.args.row.now c.args.p c.byte.result c.byte.ensures.0 c.copy.ensures
+returns c = row_put c.args.w c.args.out.now c.copy.result c.copy.new.out c.args.row.now c.args.p c.cell.result c.cell.ensures.0 c.copy.ensures

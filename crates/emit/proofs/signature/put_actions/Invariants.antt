@@ -7,5 +7,3 @@ use Rattle.emit.proofs.signature.put_actions.Given as goal
 abbrev pub invariant-loop-i : goal.invariant-loop-i
 invariant-loop-i l = (l.i ≤ l.n) × Puts (concatenated l.i (action_bytes l.s l.acts l.names l.b)) l.initial.v l.initial.out l.v l.out
 
-abbrev pub decreases-loop-i : goal.decreases-loop-i
-decreases-loop-i l = l.n - l.i

@@ -7,5 +7,3 @@ use Rattle.emit.proofs.signature.put_funcs.Given as goal
 abbrev pub invariant-loop-i : goal.invariant-loop-i
 invariant-loop-i l = (l.i ≤ l.n) × Puts (concatenated l.i (func_bytes l.funcs l.values l.places)) l.initial.v l.initial.out l.v l.out
 
-abbrev pub decreases-loop-i : goal.decreases-loop-i
-decreases-loop-i l = l.n - l.i

@@ -7,5 +7,3 @@ use Rattle.emit.proofs.signature.put_sorts.Given as goal
 abbrev pub invariant-loop-d : goal.invariant-loop-d
 invariant-loop-d l = (l.d ≤ l.n) × Puts (concatenated l.d (sort_bytes l.s l.sizes l.names)) l.initial.v l.initial.out l.v l.out
 
-abbrev pub decreases-loop-d : goal.decreases-loop-d
-decreases-loop-d l = l.n - l.d

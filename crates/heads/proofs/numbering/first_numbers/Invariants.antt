@@ -8,5 +8,3 @@ use Rattle.heads.proofs.numbering.first_numbers.Given as goal
 abbrev pub invariant-loop-k : goal.invariant-loop-k
 invariant-loop-k l = ((l.k ≤ l.n) × (l.c < byte_limit) × (length l.t ≡ 16)) × Numbering l.cells l.starts l.n l.k l.c l.t
 
-abbrev pub decreases-loop-k : goal.decreases-loop-k
-decreases-loop-k l = l.n - l.k

@@ -7,5 +7,3 @@ use Rattle.heads.proofs.params.put_params.Given as goal
 abbrev pub invariant-loop-i : goal.invariant-loop-i
 invariant-loop-i l = ((l.i ≤ l.n) × (l.k ≤ l.i) × (length l.slots ≡ length l.initial.slots)) × Params l.m l.i l.k l.rest l.slots
 
-abbrev pub decreases-loop-i : goal.decreases-loop-i
-decreases-loop-i l = l.n - l.i

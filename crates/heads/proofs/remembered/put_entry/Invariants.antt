@@ -8,5 +8,3 @@ use Rattle.heads.proofs.remembered.put_entry.Given as goal
 abbrev pub invariant-loop-j : goal.invariant-loop-j
 invariant-loop-j l = (length l.l ≡ length l.initial.l) × (l.k ≡ entry_cells * l.i) × Putting l.initial.l l.l l.e l.i l.j
 
-abbrev pub decreases-loop-j : goal.decreases-loop-j
-decreases-loop-j l = entry_cells - l.j

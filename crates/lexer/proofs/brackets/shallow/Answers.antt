@@ -8,8 +8,8 @@ use Rattle.lexer.specs.Cells.{cell_token}
 use Rattle.lexer.proofs.Depth.{few_open, open_step, too_deep, never_deep}
 use Rattle.lexer.proofs.brackets.shallow.Goals as goal
 
-pub returns-then-wide_cell-le-MAX_OPEN : goal.returns-then-wide_cell-le-MAX_OPEN
-returns-then-wide_cell-le-MAX_OPEN c = λ s. few_open (map (cell_token s) (take c.args.n c.args.cells.now)) c.opened.result (c.opened.ensures s) (omega arith)
+pub returns-then-wide-le-MAX_OPEN : goal.returns-then-wide-le-MAX_OPEN
+returns-then-wide-le-MAX_OPEN c = λ s. few_open (map (cell_token s) (take c.args.n c.args.cells.now)) c.opened.result (c.opened.ensures s) (omega arith)
 
 pub loop-i-init : goal.loop-i-init
 loop-i-init c = (omega arith, omega arith, λ s. refl)

@@ -10,5 +10,3 @@ use Rattle.lexer.proofs.brackets.shallow.Given as goal
 abbrev pub invariant-loop-i : goal.invariant-loop-i
 invariant-loop-i l = (l.i ≤ l.n) × (l.count ≤ max_open) × ((s : List ℕ) → max max_open (most_open l.count (map (cell_token s) (drop l.i (take l.n l.cells)))) ≡ max max_open (most_open 0 (map (cell_token s) (take l.n l.cells))))
 
-abbrev pub decreases-loop-i : goal.decreases-loop-i
-decreases-loop-i l = l.n - l.i

@@ -7,5 +7,3 @@ use Rattle.lexer.proofs.bytes.block_printable.Given as goal
 abbrev pub invariant-loop-i : goal.invariant-loop-i
 invariant-loop-i l = (l.at ≤ l.i) × (l.i ≤ l.end) × Says l.good (Between printable l.s l.at l.i)
 
-abbrev pub decreases-loop-i : goal.decreases-loop-i
-decreases-loop-i l = l.end - l.i

@@ -7,5 +7,3 @@ use Rattle.lexer.proofs.bytes.row_separates.Given as goal
 abbrev pub invariant-loop-i : goal.invariant-loop-i
 invariant-loop-i l = (l.i ≤ l.n) × Says l.good (Between separator l.s l.at (l.at + l.i))
 
-abbrev pub decreases-loop-i : goal.decreases-loop-i
-decreases-loop-i l = l.n - l.i

@@ -8,5 +8,3 @@ use Rattle.lexer.proofs.token.value_of.Given as goal
 abbrev pub invariant-loop-i : goal.invariant-loop-i
 invariant-loop-i l = (l.i ≤ length l.t) × (l.v ≤ max_numeral) × (value_of l.v (drop l.i l.t) ≡ value_of 0 l.t)
 
-abbrev pub decreases-loop-i : goal.decreases-loop-i
-decreases-loop-i l = length l.t - l.i

@@ -10,20 +10,20 @@ use Rattle.names.proofs.counts.params_few.Goals as goal
 pub loop-i-init : goal.loop-i-init
 loop-i-init c = checked_none (λ p. item_count c.args.cells.now 3 (p + 2) (frame_width + 1) ≤ frame_width) c.args.procs.now
 
-pub overflow_add-wide_cell : goal.overflow_add-wide_cell
-overflow_add-wide_cell c = omega (arith, c.wide_cell.ensures)
+pub overflow_add-wide : goal.overflow_add-wide
+overflow_add-wide c = omega (arith, c.wide.ensures)
 
 pub overflow_add-items : goal.overflow_add-items
-overflow_add-items c = omega (arith, c.wide_cell.ensures)
+overflow_add-items c = omega (arith, c.wide.ensures)
 
 pub items-requires : goal.items-requires
-items-requires c = (omega arith, omega (arith, c.wide_cell.ensures), omega arith)
+items-requires c = (omega arith, omega (arith, c.wide.ensures), omega arith)
 
 pub returns-then-items-gt-FRAME_WIDTH : goal.returns-then-items-gt-FRAME_WIDTH
-returns-then-items-gt-FRAME_WIDTH c = let v = c.items.ensures.count ∙ ap (λ (p : ℕ). item_count c.args.cells.now 3 (p + 2) (frame_width + 1)) c.wide_cell.ensures.0 in checked_not (λ p. item_count c.args.cells.now 3 (p + 2) (frame_width + 1) ≤ frame_width) c.args.procs.now c.loop-i.i c.loop-i-test.true c.loop-i.invariant (λ b. omega arith)
+returns-then-items-gt-FRAME_WIDTH c = let v = c.items.ensures.count ∙ ap (λ (p : ℕ). item_count c.args.cells.now 3 (p + 2) (frame_width + 1)) c.wide.ensures.0 in checked_not (λ p. item_count c.args.cells.now 3 (p + 2) (frame_width + 1) ≤ frame_width) c.args.procs.now c.loop-i.i c.loop-i-test.true c.loop-i.invariant (λ b. omega arith)
 
 pub loop-i-preserved : goal.loop-i-preserved
-loop-i-preserved c = let v = c.items.ensures.count ∙ ap (λ (p : ℕ). item_count c.args.cells.now 3 (p + 2) (frame_width + 1)) c.wide_cell.ensures.0 in checked_on (λ p. item_count c.args.cells.now 3 (p + 2) (frame_width + 1) ≤ frame_width) c.args.procs.now c.loop-i.i c.loop-i-test.true c.loop-i.invariant (omega arith)
+loop-i-preserved c = let v = c.items.ensures.count ∙ ap (λ (p : ℕ). item_count c.args.cells.now 3 (p + 2) (frame_width + 1)) c.wide.ensures.0 in checked_on (λ p. item_count c.args.cells.now 3 (p + 2) (frame_width + 1) ≤ frame_width) c.args.procs.now c.loop-i.i c.loop-i-test.true c.loop-i.invariant (omega arith)
 
 pub returns : goal.returns
 returns c = checked_all (λ p. item_count c.args.cells.now 3 (p + 2) (frame_width + 1) ≤ frame_width) c.args.procs.now c.loop-i.i c.loop-i-test.false c.loop-i.invariant

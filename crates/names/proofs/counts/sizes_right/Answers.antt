@@ -12,17 +12,17 @@ use Rattle.names.proofs.counts.sizes_right.Goals as goal
 pub loop-i-init : goal.loop-i-init
 loop-i-init c = checked_none (λ p. Between 1 max_size (numeral_at c.args.cells.now (p + 2))) c.args.sorts.now
 
-pub overflow_add-wide_cell : goal.overflow_add-wide_cell
-overflow_add-wide_cell c = omega (arith, c.wide_cell.ensures)
+pub overflow_add-wide : goal.overflow_add-wide
+overflow_add-wide c = omega (arith, c.wide.ensures)
 
 pub returns-then-v-le-FIRST_NUMERAL : goal.returns-then-v-le-FIRST_NUMERAL
-returns-then-v-le-FIRST_NUMERAL c = let v = c.peek_cell-v.ensures ∙ ap (λ p. get_or c.args.cells.now (p + 2) 0) c.wide_cell.ensures.0 in checked_not (λ p. Between 1 max_size (numeral_at c.args.cells.now (p + 2))) c.args.sorts.now c.loop-i.i c.loop-i-test.true c.loop-i.invariant (λ b. omega arith)
+returns-then-v-le-FIRST_NUMERAL c = let v = c.peek-v.ensures ∙ ap (λ p. get_or c.args.cells.now (p + 2) 0) c.wide.ensures.0 in checked_not (λ p. Between 1 max_size (numeral_at c.args.cells.now (p + 2))) c.args.sorts.now c.loop-i.i c.loop-i-test.true c.loop-i.invariant (λ b. omega arith)
 
 pub returns-then-v : goal.returns-then-v
-returns-then-v c = let v = c.peek_cell-v.ensures ∙ ap (λ p. get_or c.args.cells.now (p + 2) 0) c.wide_cell.ensures.0 in checked_not (λ p. Between 1 max_size (numeral_at c.args.cells.now (p + 2))) c.args.sorts.now c.loop-i.i c.loop-i-test.true c.loop-i.invariant (λ b. omega arith)
+returns-then-v c = let v = c.peek-v.ensures ∙ ap (λ p. get_or c.args.cells.now (p + 2) 0) c.wide.ensures.0 in checked_not (λ p. Between 1 max_size (numeral_at c.args.cells.now (p + 2))) c.args.sorts.now c.loop-i.i c.loop-i-test.true c.loop-i.invariant (λ b. omega arith)
 
 pub loop-i-preserved : goal.loop-i-preserved
-loop-i-preserved c = let v = c.peek_cell-v.ensures ∙ ap (λ p. get_or c.args.cells.now (p + 2) 0) c.wide_cell.ensures.0 in checked_on (λ p. Between 1 max_size (numeral_at c.args.cells.now (p + 2))) c.args.sorts.now c.loop-i.i c.loop-i-test.true c.loop-i.invariant (omega arith, omega arith)
+loop-i-preserved c = let v = c.peek-v.ensures ∙ ap (λ p. get_or c.args.cells.now (p + 2) 0) c.wide.ensures.0 in checked_on (λ p. Between 1 max_size (numeral_at c.args.cells.now (p + 2))) c.args.sorts.now c.loop-i.i c.loop-i-test.true c.loop-i.invariant (omega arith, omega arith)
 
 pub returns : goal.returns
 returns c = checked_all (λ p. Between 1 max_size (numeral_at c.args.cells.now (p + 2))) c.args.sorts.now c.loop-i.i c.loop-i-test.false c.loop-i.invariant

@@ -12,8 +12,8 @@ use Rattle.names.proofs.fresh.gather.Goals as goal
 pub loop-i-init : goal.loop-i-init
 loop-i-init c = (omega arith, copied_none c.args.n c.args.names.now)
 
-pub overflow_add-wide_cell : goal.overflow_add-wide_cell
-overflow_add-wide_cell c = omega (arith, c.wide_cell.ensures)
+pub overflow_add-wide : goal.overflow_add-wide
+overflow_add-wide c = omega (arith, c.wide.ensures)
 
 pub overflow_add-names : goal.overflow_add-names
 overflow_add-names c = omega (arith, c.requires)
@@ -26,10 +26,10 @@ bounds-names-n c = omega (arith, c.requires, c.loop-i.invariant.1.same)
 
 pub loop-i-preserved : goal.loop-i-preserved
 loop-i-preserved c =
-    let e : map (name_cell c.args.cells.now) (take (c.loop-i.i + 1) c.args.places.now) ≡ map (name_cell c.args.cells.now) (take c.loop-i.i c.args.places.now) ++ (c.peek_cell.result ∷ [])
+    let e : map (name_cell c.args.cells.now) (take (c.loop-i.i + 1) c.args.places.now) ≡ map (name_cell c.args.cells.now) (take c.loop-i.i c.args.places.now) ++ (c.peek.result ∷ [])
     = mapped_more (name_cell c.args.cells.now) c.args.places.now c.loop-i.i c.loop-i-test.true
-    ∙ ap (λ (v : ℕ). map (name_cell c.args.cells.now) (take c.loop-i.i c.args.places.now) ++ (v ∷ [])) (sym (c.peek_cell.ensures ∙ ap (name_cell c.args.cells.now) c.wide_cell.ensures.0)) in
-    (omega arith, copied_next c.args.n c.loop-i.i _ c.peek_cell.result _ _ c.args.names.now c.loop-i.names c.loop-i.invariant.1 (omega (arith, c.requires)) refl e)
+    ∙ ap (λ (v : ℕ). map (name_cell c.args.cells.now) (take c.loop-i.i c.args.places.now) ++ (v ∷ [])) (sym (c.peek.ensures ∙ ap (name_cell c.args.cells.now) c.wide.ensures.0)) in
+    (omega arith, copied_next c.args.n c.loop-i.i _ c.peek.result _ _ c.args.names.now c.loop-i.names c.loop-i.invariant.1 (omega (arith, c.requires)) refl e)
 
 pub overflow_add-result : goal.overflow_add-result
 overflow_add-result c = omega (arith, c.requires)

@@ -65,8 +65,8 @@ loop-i-smaller c =
     let a = c.args in
     let l = a.declared.now in
     let loop = c.loop-i in
-    let next : c.wide_cell-i.result ≡ get_or (nexts_in l) loop.i 0 = c.wide_cell-i.ensures.0 ∙ sym (get_or-drop max_names l loop.i 0) in
-    let more = next_after a.s.now (names_in l) (nexts_in l) (firsts_in l) a.lo a.count c.requires (name_at a.s.now a.c) loop.i (omega arith) loop.invariant c.wide_cell-i.result next in
+    let next : c.wide-i.result ≡ get_or (nexts_in l) loop.i 0 = c.wide-i.ensures.0 ∙ sym (get_or-drop max_names l loop.i 0) in
+    let more = next_after a.s.now (names_in l) (nexts_in l) (firsts_in l) a.lo a.count c.requires (name_at a.s.now a.c) loop.i (omega arith) loop.invariant c.wide-i.result next in
     omega arith
 
 pub loop-i-preserved : goal.loop-i-preserved
@@ -74,9 +74,9 @@ loop-i-preserved c =
     let a = c.args in
     let l = a.declared.now in
     let loop = c.loop-i in
-    let next : c.wide_cell-i.result ≡ get_or (nexts_in l) loop.i 0 = c.wide_cell-i.ensures.0 ∙ sym (get_or-drop max_names l loop.i 0) in
+    let next : c.wide-i.result ≡ get_or (nexts_in l) loop.i 0 = c.wide-i.ensures.0 ∙ sym (get_or-drop max_names l loop.i 0) in
     let found = c.found_at in
-    along_goes a.s.now (names_in l) (nexts_in l) (firsts_in l) a.lo a.count c.requires (name_at a.s.now a.c) loop.i (omega arith) loop.invariant c.wide_cell-i.result next (said_no found.result found.ensures c.if-found_at.false)
+    along_goes a.s.now (names_in l) (nexts_in l) (firsts_in l) a.lo a.count c.requires (name_at a.s.now a.c) loop.i (omega arith) loop.invariant c.wide-i.result next (said_no found.result found.ensures c.if-found_at.false)
 
 pub returns : goal.returns
 returns c =

@@ -29,11 +29,7 @@ offset_bounds-declared-j c = omega (arith, c.loop-j.invariant.0, c.loop-j.invari
 pub bounds-declared-j : goal.bounds-declared-j
 bounds-declared-j c = omega (arith, c.loop-j.invariant.0, c.loop-j.invariant.1, c.loop-j-test.true)
 
-pub overflow_add-j : goal.overflow_add-j
-overflow_add-j c = omega (arith, c.loop-j.invariant.0, c.loop-j.invariant.1, c.loop-j-test.true)
 
-pub loop-j-smaller : goal.loop-j-smaller
-loop-j-smaller c = omega (arith, c.loop-j.invariant.0, c.loop-j.invariant.1, c.loop-j-test.true)
 
 pub loop-j-preserved : goal.loop-j-preserved
 loop-j-preserved c =

@@ -31,7 +31,7 @@ bounds-values-w c = omega (arith, c.requires, c.loop-k.invariant.1.same)
 
 pub loop-k-preserved : goal.loop-k-preserved
 loop-k-preserved c =
-    let v : c.value.result ≡ byte_of (numeral_at c.args.cells.now (c.args.at + 2 * c.loop-k.k + 1)) = c.value.ensures ∙ ap (λ (x : ℕ). byte_of (x - first_numeral)) c.peek_cell.ensures in
+    let v : c.value.result ≡ byte_of (numeral_at c.args.cells.now (c.args.at + 2 * c.loop-k.k + 1)) = c.value.ensures ∙ ap (λ (x : ℕ). byte_of (x - first_numeral)) c.peek.ensures in
     let e : map byte_of (item_values c.args.cells.now c.args.at (c.loop-k.k + 1)) ≡ map byte_of (item_values c.args.cells.now c.args.at c.loop-k.k) ++ (c.value.result ∷ [])
     = ap (map byte_of) (values_more c.args.cells.now c.args.at c.loop-k.k (c.args.at + 2 * c.loop-k.k + 1) refl)
     ∙ (map-append byte_of (item_values c.args.cells.now c.args.at c.loop-k.k) (numeral_at c.args.cells.now (c.args.at + 2 * c.loop-k.k + 1) ∷ [])

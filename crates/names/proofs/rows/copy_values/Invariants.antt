@@ -8,5 +8,3 @@ use Rattle.names.proofs.rows.copy_values.Given as goal
 abbrev pub invariant-loop-k : goal.invariant-loop-k
 invariant-loop-k l = (l.k ≤ l.n) × Copied l.w l.k (map byte_of (item_values l.cells l.at l.k)) l.initial.values l.values
 
-abbrev pub decreases-loop-k : goal.decreases-loop-k
-decreases-loop-k l = l.n - l.k

@@ -29,7 +29,7 @@ shape_of-rows-then-d-sorts c = c.sort_row-a.auto.rows
 
 pub returns-then-d-sorts : goal.returns-then-d-sorts
 unfolding sorts_at
-returns-then-d-sorts c = record { kept = c.sort_row-a.ensures.kept; near = omega (arith, c.requires); row = gives_unknown c.args.s.now c.args.cells.now c.args.sorts.now c.args.at c.args.p c.sort_row-a.new.rows c.sort_row-a.result.at (suc (length c.args.sorts.now)) c.sort_number-d.result c.sort_row-a.result.ok (omega (arith, sorts_length c.args.s.now c.args.cells.now c.args.sorts.now)) c.sort_row-a.ensures.row (not-false _ c.if-not-a.false) (c.sort_number-d.ensures.number ∙ ap (λ (v : ℕ). or_count (suc (length c.args.sorts.now)) (number_of (name_at c.args.s.now v) (sorts_at c.args.s.now c.args.cells.now c.args.sorts.now))) c.peek_cell.ensures) c.sort_row-a.new.rows c.args.at c.if-d-sorts.true }
+returns-then-d-sorts c = record { kept = c.sort_row-a.ensures.kept; near = omega (arith, c.requires); row = gives_unknown c.args.s.now c.args.cells.now c.args.sorts.now c.args.at c.args.p c.sort_row-a.new.rows c.sort_row-a.result.at (suc (length c.args.sorts.now)) c.sort_number-d.result c.sort_row-a.result.ok (omega (arith, sorts_length c.args.s.now c.args.cells.now c.args.sorts.now)) c.sort_row-a.ensures.row (not-false _ c.if-not-a.false) (c.sort_number-d.ensures.number ∙ ap (λ (v : ℕ). or_count (suc (length c.args.sorts.now)) (number_of (name_at c.args.s.now v) (sorts_at c.args.s.now c.args.cells.now c.args.sorts.now))) c.peek.ensures) c.sort_row-a.new.rows c.args.at c.if-d-sorts.true }
 
 pub overflow_cast-rows : goal.overflow_cast-rows
 overflow_cast-rows c = omega (arith, c.requires, c.if-d-sorts.false)
@@ -48,4 +48,4 @@ shape_of-rows c = length-set c.sort_row-a.new.rows (c.args.p + 3) c.sort_number-
 
 pub returns : goal.returns
 unfolding sorts_at
-returns c = record { kept = kept_set c.args.p c.args.rows.now c.sort_row-a.new.rows (c.args.p + 3) c.sort_number-d.result c.sort_row-a.ensures.kept (omega arith); near = omega (arith, c.requires, c.sort_row-a.ensures.near); row = func_known c.args.s.now c.args.cells.now c.args.sorts.now c.args.at c.args.p c.sort_row-a.new.rows c.sort_row-a.result.at (suc (length c.args.sorts.now)) c.sort_number-d.result c.sort_row-a.result.ok (omega (arith, sorts_length c.args.s.now c.args.cells.now c.args.sorts.now)) c.sort_row-a.ensures.row (not-false _ c.if-not-a.false) (c.sort_number-d.ensures.number ∙ ap (λ (v : ℕ). or_count (suc (length c.args.sorts.now)) (number_of (name_at c.args.s.now v) (sorts_at c.args.s.now c.args.cells.now c.args.sorts.now))) c.peek_cell.ensures) (omega (arith, c.if-d-sorts.false)) (omega (arith, c.requires, c.sort_row-a.auto.rows)) }
+returns c = record { kept = kept_set c.args.p c.args.rows.now c.sort_row-a.new.rows (c.args.p + 3) c.sort_number-d.result c.sort_row-a.ensures.kept (omega arith); near = omega (arith, c.requires, c.sort_row-a.ensures.near); row = func_known c.args.s.now c.args.cells.now c.args.sorts.now c.args.at c.args.p c.sort_row-a.new.rows c.sort_row-a.result.at (suc (length c.args.sorts.now)) c.sort_number-d.result c.sort_row-a.result.ok (omega (arith, sorts_length c.args.s.now c.args.cells.now c.args.sorts.now)) c.sort_row-a.ensures.row (not-false _ c.if-not-a.false) (c.sort_number-d.ensures.number ∙ ap (λ (v : ℕ). or_count (suc (length c.args.sorts.now)) (number_of (name_at c.args.s.now v) (sorts_at c.args.s.now c.args.cells.now c.args.sorts.now))) c.peek.ensures) (omega (arith, c.if-d-sorts.false)) (omega (arith, c.requires, c.sort_row-a.auto.rows)) }

@@ -19,7 +19,7 @@ pub overflow_mul-i : goal.overflow_mul-i
 overflow_mul-i c = omega (arith, c.requires)
 
 pub func_row-f-requires : goal.func_row-f-requires
-func_row-f-requires c = (omega (arith, c.requires), omega (arith, c.wide_cell.ensures), omega (arith, c.requires, c.loop-i.invariant.0.row_same))
+func_row-f-requires c = (omega (arith, c.requires), omega (arith, c.wide.ensures), omega (arith, c.requires, c.loop-i.invariant.0.row_same))
 
 pub shape_of-rows-then-not-f : goal.shape_of-rows-then-not-f
 shape_of-rows-then-not-f c = c.func_row-f.auto.rows ∙ c.loop-i.invariant.0.row_same
@@ -31,7 +31,7 @@ pub shape_of-places-then-not-f : goal.shape_of-places-then-not-f
 shape_of-places-then-not-f c = c.loop-i.invariant.0.place_same ∙ length-set c.args.places.now 0 0
 
 pub returns-then-not-f : goal.returns-then-not-f
-returns-then-not-f c = funcs_stop c.args.s.now c.args.cells.now c.args.sorts.now c.args.lines.now c.loop-i.rows c.loop-i.values c.loop-i.places c.func_row-f.new.rows c.loop-i.values c.loop-i.places c.loop-i.w c.loop-i.i c.func_row-f.result c.loop-i-test.true refl c.loop-i.invariant.1 (subst (λ (q : ℕ). FuncRead c.args.s.now c.args.cells.now c.args.sorts.now q c.func_row-f.new.rows (4 * c.loop-i.i) c.func_row-f.result) c.wide_cell.ensures.0 c.func_row-f.ensures.row) (not-true _ c.if-not-f.true)
+returns-then-not-f c = funcs_stop c.args.s.now c.args.cells.now c.args.sorts.now c.args.lines.now c.loop-i.rows c.loop-i.values c.loop-i.places c.func_row-f.new.rows c.loop-i.values c.loop-i.places c.loop-i.w c.loop-i.i c.func_row-f.result c.loop-i-test.true refl c.loop-i.invariant.1 (subst (λ (q : ℕ). FuncRead c.args.s.now c.args.cells.now c.args.sorts.now q c.func_row-f.new.rows (4 * c.loop-i.i) c.func_row-f.result) c.wide.ensures.0 c.func_row-f.ensures.row) (not-true _ c.if-not-f.true)
 
 pub overflow_sub-values : goal.overflow_sub-values
 overflow_sub-values c = omega (arith, c.loop-i.invariant.0.within)
@@ -54,8 +54,6 @@ offset_bounds-places-i c = omega (arith, c.loop-i-test.true)
 pub bounds-places-i : goal.bounds-places-i
 bounds-places-i c = omega (arith, c.requires, c.loop-i.invariant.0.place_same, length-set c.args.places.now 0 0)
 
-pub overflow_add-i : goal.overflow_add-i
-overflow_add-i c = omega (arith, c.loop-i-test.true)
 
 pub loop-i-preserved : goal.loop-i-preserved
 loop-i-preserved c =
@@ -69,7 +67,7 @@ loop-i-preserved c =
         here = get_or-set_same c.loop-i.places (c.loop-i.i + 1) c.short.result 0 f ∙ z;
       },
       funcs_go c.args.s.now c.args.cells.now c.args.sorts.now c.args.lines.now c.loop-i.rows c.loop-i.values c.loop-i.places c.func_row-f.new.rows c.copy_values.new.values c.loop-i.w c.loop-i.i c.items-n.result c.short.result c.func_row-f.result c.loop-i-test.true c.loop-i.invariant.0.within c.loop-i.invariant.0.here f
-          c.loop-i.invariant.1 c.func_row-f.ensures.kept (subst (λ (q : ℕ). FuncRead c.args.s.now c.args.cells.now c.args.sorts.now q c.func_row-f.new.rows (4 * c.loop-i.i) c.func_row-f.result) c.wide_cell.ensures.0 c.func_row-f.ensures.row) (not-false _ c.if-not-f.false) c.items-n.ensures.count c.copy_values.ensures.kept c.copy_values.ensures.values z,
+          c.loop-i.invariant.1 c.func_row-f.ensures.kept (subst (λ (q : ℕ). FuncRead c.args.s.now c.args.cells.now c.args.sorts.now q c.func_row-f.new.rows (4 * c.loop-i.i) c.func_row-f.result) c.wide.ensures.0 c.func_row-f.ensures.row) (not-false _ c.if-not-f.false) c.items-n.ensures.count c.copy_values.ensures.kept c.copy_values.ensures.values z,
     )
 
 pub shape_of-rows : goal.shape_of-rows

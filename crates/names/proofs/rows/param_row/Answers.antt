@@ -36,7 +36,7 @@ pub shape_of-scope-then-not-new_variable : goal.shape_of-scope-then-not-new_vari
 shape_of-scope-then-not-new_variable c = c.loop-k.invariant.2
 
 pub returns-then-not-new_variable : goal.returns-then-not-new_variable
-returns-then-not-new_variable c = record { few = omega (arith, c.loop-k.invariant.0, c.items-m.ensures.most); params = params_old c.args.s.now c.args.cells.now (names_in c.args.declared.now) (kinds_in c.args.declared.now) c.args.at c.loop-k.row c.loop-k.scope c.items-m.result c.loop-k.k c.peek_cell-v.result c.new_variable.result c.loop-k.invariant.3 c.items-m.ensures.count c.loop-k-test.true c.peek_cell-v.ensures c.new_variable.ensures c.loop-k.row c.loop-k.scope _ c.if-not-new_variable.true refl }
+returns-then-not-new_variable c = record { few = omega (arith, c.loop-k.invariant.0, c.items-m.ensures.most); params = params_old c.args.s.now c.args.cells.now (names_in c.args.declared.now) (kinds_in c.args.declared.now) c.args.at c.loop-k.row c.loop-k.scope c.items-m.result c.loop-k.k c.peek-v.result c.new_variable.result c.loop-k.invariant.3 c.items-m.ensures.count c.loop-k-test.true c.peek-v.ensures c.new_variable.ensures c.loop-k.row c.loop-k.scope _ c.if-not-new_variable.true refl }
 
 pub overflow_mul-k-in-loop-k : goal.overflow_mul-k-in-loop-k
 overflow_mul-k-in-loop-k c = omega (arith, c.requires, c.items-m.ensures.most)
@@ -57,7 +57,7 @@ pub shape_of-scope-then-d-sorts : goal.shape_of-scope-then-d-sorts
 shape_of-scope-then-d-sorts c = c.loop-k.invariant.2
 
 pub returns-then-d-sorts : goal.returns-then-d-sorts
-returns-then-d-sorts c = record { few = omega (arith, c.loop-k.invariant.0, c.items-m.ensures.most); params = params_no_sort c.args.s.now c.args.cells.now (names_in c.args.declared.now) (kinds_in c.args.declared.now) c.args.at c.loop-k.row c.loop-k.scope c.items-m.result c.loop-k.k c.peek_cell-v.result c.new_variable.result c.loop-k.invariant.3 c.items-m.ensures.count c.loop-k-test.true c.peek_cell-v.ensures c.new_variable.ensures (suc (kinds_in c.args.declared.now).sorts) c.sort_in-d.result (sorts_few c.args.s.now (names_in c.args.declared.now) (kinds_in c.args.declared.now)) c.if-not-new_variable.false (c.sort_in-d.ensures.number ∙ ap (λ (v : ℕ). or_count (suc (kinds_in c.args.declared.now).sorts) (number_of (name_at c.args.s.now v) (sorts_in c.args.s.now (names_in c.args.declared.now) (kinds_in c.args.declared.now)))) c.peek_cell.ensures) c.loop-k.row c.loop-k.scope _ (omega (arith, c.cell-sorts.ensures, c.if-d-sorts.true)) refl }
+returns-then-d-sorts c = record { few = omega (arith, c.loop-k.invariant.0, c.items-m.ensures.most); params = params_no_sort c.args.s.now c.args.cells.now (names_in c.args.declared.now) (kinds_in c.args.declared.now) c.args.at c.loop-k.row c.loop-k.scope c.items-m.result c.loop-k.k c.peek-v.result c.new_variable.result c.loop-k.invariant.3 c.items-m.ensures.count c.loop-k-test.true c.peek-v.ensures c.new_variable.ensures (suc (kinds_in c.args.declared.now).sorts) c.sort_in-d.result (sorts_few c.args.s.now (names_in c.args.declared.now) (kinds_in c.args.declared.now)) c.if-not-new_variable.false (c.sort_in-d.ensures.number ∙ ap (λ (v : ℕ). or_count (suc (kinds_in c.args.declared.now).sorts) (number_of (name_at c.args.s.now v) (sorts_in c.args.s.now (names_in c.args.declared.now) (kinds_in c.args.declared.now)))) c.peek.ensures) c.loop-k.row c.loop-k.scope _ (omega (arith, c.cell-sorts.ensures, c.if-d-sorts.true)) refl }
 
 pub offset_bounds-scope-k : goal.offset_bounds-scope-k
 offset_bounds-scope-k c = omega (arith, c.requires, c.items-m.ensures.most, c.loop-k.invariant.2)
@@ -80,8 +80,8 @@ pub loop-k-preserved : goal.loop-k-preserved
 loop-k-preserved c = (
   omega arith,
   length-set c.loop-k.row (1 + c.loop-k.k) c.sort_in-d.result ∙ c.loop-k.invariant.1,
-  length-set c.loop-k.scope c.loop-k.k c.peek_cell-v.result ∙ c.loop-k.invariant.2,
-  params_go c.args.s.now c.args.cells.now (names_in c.args.declared.now) (kinds_in c.args.declared.now) c.args.at c.loop-k.row c.loop-k.scope c.items-m.result c.loop-k.k c.peek_cell-v.result c.new_variable.result c.loop-k.invariant.3 c.items-m.ensures.count c.loop-k-test.true c.peek_cell-v.ensures c.new_variable.ensures (suc (kinds_in c.args.declared.now).sorts) c.sort_in-d.result (sorts_few c.args.s.now (names_in c.args.declared.now) (kinds_in c.args.declared.now)) c.if-not-new_variable.false (c.sort_in-d.ensures.number ∙ ap (λ (v : ℕ). or_count (suc (kinds_in c.args.declared.now).sorts) (number_of (name_at c.args.s.now v) (sorts_in c.args.s.now (names_in c.args.declared.now) (kinds_in c.args.declared.now)))) c.peek_cell.ensures) (1 + c.loop-k.k) (omega (arith, c.cell-sorts.ensures, c.if-d-sorts.false)) (omega (arith, c.requires, c.items-m.ensures.most, c.loop-k.invariant.2)) refl (omega (arith, c.requires, c.items-m.ensures.most, c.loop-k.invariant.1)),
+  length-set c.loop-k.scope c.loop-k.k c.peek-v.result ∙ c.loop-k.invariant.2,
+  params_go c.args.s.now c.args.cells.now (names_in c.args.declared.now) (kinds_in c.args.declared.now) c.args.at c.loop-k.row c.loop-k.scope c.items-m.result c.loop-k.k c.peek-v.result c.new_variable.result c.loop-k.invariant.3 c.items-m.ensures.count c.loop-k-test.true c.peek-v.ensures c.new_variable.ensures (suc (kinds_in c.args.declared.now).sorts) c.sort_in-d.result (sorts_few c.args.s.now (names_in c.args.declared.now) (kinds_in c.args.declared.now)) c.if-not-new_variable.false (c.sort_in-d.ensures.number ∙ ap (λ (v : ℕ). or_count (suc (kinds_in c.args.declared.now).sorts) (number_of (name_at c.args.s.now v) (sorts_in c.args.s.now (names_in c.args.declared.now) (kinds_in c.args.declared.now)))) c.peek.ensures) (1 + c.loop-k.k) (omega (arith, c.cell-sorts.ensures, c.if-d-sorts.false)) (omega (arith, c.requires, c.items-m.ensures.most, c.loop-k.invariant.2)) refl (omega (arith, c.requires, c.items-m.ensures.most, c.loop-k.invariant.1)),
 )
 
 pub overflow_cast-row-2 : goal.overflow_cast-row-2

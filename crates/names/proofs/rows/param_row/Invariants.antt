@@ -8,5 +8,3 @@ use Rattle.names.proofs.rows.param_row.Given as goal
 abbrev pub invariant-loop-k : goal.invariant-loop-k
 invariant-loop-k l = (l.k ≤ l.m) × (length l.row ≡ length l.initial.row) × (length l.scope ≡ length l.initial.scope) × ParamsGone l.s l.cells (names_in l.declared) (kinds_in l.declared) l.at l.row l.scope l.k
 
-abbrev pub decreases-loop-k : goal.decreases-loop-k
-decreases-loop-k l = l.m - l.k

@@ -17,15 +17,15 @@ bounds-out-0 c = omega (arith, c.requires)
 pub loop-i-init : goal.loop-i-init
 loop-i-init c = (omega arith, copied_none 1 (set c.args.out.now 0 2))
 
-pub overflow_add-wide_cell : goal.overflow_add-wide_cell
-overflow_add-wide_cell c = omega (arith, c.wide_cell.ensures)
+pub overflow_add-wide : goal.overflow_add-wide
+overflow_add-wide c = omega (arith, c.wide.ensures)
 
 pub bounds-out-i : goal.bounds-out-i
 bounds-out-i c = omega (arith, c.requires, c.loop-i.invariant.1.same, length-set c.args.out.now 0 2)
 
 pub loop-i-preserved : goal.loop-i-preserved
 loop-i-preserved c =
-    let v : c.value.result ≡ byte_of (numeral_at c.args.cells.now (get_or c.args.sorts.now c.loop-i.i 0 + 2)) = c.value.ensures ∙ ap (λ (x : ℕ). byte_of (x - first_numeral)) (c.peek_cell.ensures ∙ ap (λ (p : ℕ). get_or c.args.cells.now (p + 2) 0) c.wide_cell.ensures.0) in
+    let v : c.value.result ≡ byte_of (numeral_at c.args.cells.now (get_or c.args.sorts.now c.loop-i.i 0 + 2)) = c.value.ensures ∙ ap (λ (x : ℕ). byte_of (x - first_numeral)) (c.peek.ensures ∙ ap (λ (p : ℕ). get_or c.args.cells.now (p + 2) 0) c.wide.ensures.0) in
     let e : map (λ p. byte_of (numeral_at c.args.cells.now (p + 2))) (take (c.loop-i.i + 1) c.args.sorts.now) ≡ map (λ p. byte_of (numeral_at c.args.cells.now (p + 2))) (take c.loop-i.i c.args.sorts.now) ++ (c.value.result ∷ [])
     = mapped_more (λ p. byte_of (numeral_at c.args.cells.now (p + 2))) c.args.sorts.now c.loop-i.i c.loop-i-test.true
     ∙ ap (λ (v : ℕ). map (λ p. byte_of (numeral_at c.args.cells.now (p + 2))) (take c.loop-i.i c.args.sorts.now) ++ (v ∷ [])) (sym v) in

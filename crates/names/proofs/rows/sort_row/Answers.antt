@@ -35,7 +35,7 @@ returns-then-d-sorts c = record {
   kept = c.loop-k.invariant.1;
   near = omega arith;
   row = let e : numbered (sorts_at c.args.s.now c.args.cells.now c.args.sorts.now) (item_names c.args.s.now c.args.cells.now c.args.at c.items-n.result) ≡ numbered (sorts_at c.args.s.now c.args.cells.now c.args.sorts.now) (item_names c.args.s.now c.args.cells.now c.args.at (item_count c.args.cells.now 2 c.args.at 2)) = ap (λ (n : ℕ). numbered (sorts_at c.args.s.now c.args.cells.now c.args.sorts.now) (item_names c.args.s.now c.args.cells.now c.args.at n)) c.items-n.ensures.count in
-      rw (← e) (row_stops (sorts_at c.args.s.now c.args.cells.now c.args.sorts.now) _ c.loop-k.rows c.args.p (item_names c.args.s.now c.args.cells.now c.args.at c.items-n.result) _ c.loop-k.k (name_at c.args.s.now (get_or c.args.cells.now (c.args.at + 2 * c.loop-k.k + 1) 0)) (suc (length c.args.sorts.now)) c.sort_number-d.result (omega (arith, sorts_length c.args.s.now c.args.cells.now c.args.sorts.now)) c.loop-k.invariant.2 (names_next c.args.s.now c.args.cells.now c.args.at c.items-n.result c.loop-k.k (c.args.at + 2 * c.loop-k.k + 1) c.loop-k-test.true refl) (c.sort_number-d.ensures.number ∙ ap (λ (v : ℕ). or_count (suc (length c.args.sorts.now)) (number_of (name_at c.args.s.now v) (sorts_at c.args.s.now c.args.cells.now c.args.sorts.now))) c.peek_cell.ensures) c.if-d-sorts.true);
+      rw (← e) (row_stops (sorts_at c.args.s.now c.args.cells.now c.args.sorts.now) _ c.loop-k.rows c.args.p (item_names c.args.s.now c.args.cells.now c.args.at c.items-n.result) _ c.loop-k.k (name_at c.args.s.now (get_or c.args.cells.now (c.args.at + 2 * c.loop-k.k + 1) 0)) (suc (length c.args.sorts.now)) c.sort_number-d.result (omega (arith, sorts_length c.args.s.now c.args.cells.now c.args.sorts.now)) c.loop-k.invariant.2 (names_next c.args.s.now c.args.cells.now c.args.at c.items-n.result c.loop-k.k (c.args.at + 2 * c.loop-k.k + 1) c.loop-k-test.true refl) (c.sort_number-d.ensures.number ∙ ap (λ (v : ℕ). or_count (suc (length c.args.sorts.now)) (number_of (name_at c.args.s.now v) (sorts_at c.args.s.now c.args.cells.now c.args.sorts.now))) c.peek.ensures) c.if-d-sorts.true);
 }
 
 pub overflow_cast-rows : goal.overflow_cast-rows
@@ -55,7 +55,7 @@ unfolding sorts_at
 loop-k-preserved c = (
   omega arith,
   kept_set c.args.p c.args.rows.now c.loop-k.rows (c.args.p + 1 + c.loop-k.k) c.sort_number-d.result c.loop-k.invariant.1 (omega arith),
-  row_goes (sorts_at c.args.s.now c.args.cells.now c.args.sorts.now) c.loop-k.rows c.args.p (item_names c.args.s.now c.args.cells.now c.args.at c.items-n.result) c.loop-k.k (c.args.p + 1 + c.loop-k.k) (name_at c.args.s.now (get_or c.args.cells.now (c.args.at + 2 * c.loop-k.k + 1) 0)) (suc (length c.args.sorts.now)) c.sort_number-d.result refl (omega (arith, c.requires, c.items-n.ensures.most, c.loop-k.invariant.1.same)) c.loop-k.invariant.2 (names_next c.args.s.now c.args.cells.now c.args.at c.items-n.result c.loop-k.k (c.args.at + 2 * c.loop-k.k + 1) c.loop-k-test.true refl) (c.sort_number-d.ensures.number ∙ ap (λ (v : ℕ). or_count (suc (length c.args.sorts.now)) (number_of (name_at c.args.s.now v) (sorts_at c.args.s.now c.args.cells.now c.args.sorts.now))) c.peek_cell.ensures) (omega (arith, c.if-d-sorts.false)),
+  row_goes (sorts_at c.args.s.now c.args.cells.now c.args.sorts.now) c.loop-k.rows c.args.p (item_names c.args.s.now c.args.cells.now c.args.at c.items-n.result) c.loop-k.k (c.args.p + 1 + c.loop-k.k) (name_at c.args.s.now (get_or c.args.cells.now (c.args.at + 2 * c.loop-k.k + 1) 0)) (suc (length c.args.sorts.now)) c.sort_number-d.result refl (omega (arith, c.requires, c.items-n.ensures.most, c.loop-k.invariant.1.same)) c.loop-k.invariant.2 (names_next c.args.s.now c.args.cells.now c.args.at c.items-n.result c.loop-k.k (c.args.at + 2 * c.loop-k.k + 1) c.loop-k-test.true refl) (c.sort_number-d.ensures.number ∙ ap (λ (v : ℕ). or_count (suc (length c.args.sorts.now)) (number_of (name_at c.args.s.now v) (sorts_at c.args.s.now c.args.cells.now c.args.sorts.now))) c.peek.ensures) (omega (arith, c.if-d-sorts.false)),
 )
 
 pub overflow_cast-rows-2 : goal.overflow_cast-rows-2

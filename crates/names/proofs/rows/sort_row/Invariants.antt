@@ -7,5 +7,3 @@ use Rattle.names.proofs.rows.sort_row.Given as goal
 abbrev pub invariant-loop-k : goal.invariant-loop-k
 invariant-loop-k l = (l.k ≤ l.n) × Kept l.p l.initial.rows l.rows × RowGone (sorts_at l.s l.cells l.sorts) l.rows l.p (item_names l.s l.cells l.at l.n) l.k
 
-abbrev pub decreases-loop-k : goal.decreases-loop-k
-decreases-loop-k l = l.n - l.k

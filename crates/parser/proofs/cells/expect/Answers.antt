@@ -10,14 +10,14 @@ overflow_add-result c =
     let l = get_or_positive c.args.toks.now c.args.at (omega arith) in
     omega arith
 
-pub returns-then-peek_cell-sign : goal.returns-then-peek_cell-sign
-returns-then-peek_cell-sign c =
-    let at-peek = c.peek_cell in
-    let at-if1 = c.if-peek_cell-sign in
+pub returns-then-peek-sign : goal.returns-then-peek-sign
+returns-then-peek-sign c =
+    let at-peek = c.peek in
+    let at-if1 = c.if-peek-sign in
     record { ahead = omega arith; read = next (sym at-peek.ensures ∙ at-if1.true) }
 
-pub returns-else-peek_cell-sign : goal.returns-else-peek_cell-sign
-returns-else-peek_cell-sign c =
-    let at-if1 = c.if-peek_cell-sign in
-    let at-peek = c.peek_cell in
+pub returns-else-peek-sign : goal.returns-else-peek-sign
+returns-else-peek-sign c =
+    let at-if1 = c.if-peek-sign in
+    let at-peek = c.peek in
     record { ahead = omega arith; read = wrong (λ e. at-if1.false (at-peek.ensures ∙ e)) }

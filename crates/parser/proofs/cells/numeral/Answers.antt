@@ -27,7 +27,7 @@ shape_of-out c = c.put.auto.out
 pub returns : goal.returns
 returns c =
     let at-put = c.put in
-    let at-peek = c.peek_cell-t in record {
+    let at-peek = c.peek-t in record {
       ahead = omega arith;
       read = λ s f l. reads_numeral s c.args.toks.now c.args.at at-put.ensures at-peek.ensures (omega arith) (omega arith);
     }

@@ -25,11 +25,11 @@ atom-returns-then-t-eq-OPEN-clause-ahead t c =
 
 pub atom-returns-then-t-eq-OPEN-clause-read : goal.atom-returns-then-t-eq-OPEN-clause-read
 atom-returns-then-t-eq-OPEN-clause-read t c =
-    λ s. atom_nest s c.args.toks.now c.args.at (sym c.peek_cell-t.ensures ∙ c.if-t-eq-OPEN.true) c.put-v.ensures c.data_term-a.ensures.ahead (c.data_term-a.ensures.read s) c.expect.ensures.ahead c.expect.ensures.read
+    λ s. atom_nest s c.args.toks.now c.args.at (sym c.peek-t.ensures ∙ c.if-t-eq-OPEN.true) c.put-v.ensures c.data_term-a.ensures.ahead (c.data_term-a.ensures.read s) c.expect.ensures.ahead c.expect.ensures.read
 
 pub atom-returns-then-t-lt-FIRST_NUMERAL-clause-read : goal.atom-returns-then-t-lt-FIRST_NUMERAL-clause-read
 atom-returns-then-t-lt-FIRST_NUMERAL-clause-read t c =
-    λ s. atom_none s c.args.toks.now c.args.at (λ e. c.if-t-eq-OPEN.false (c.peek_cell-t.ensures ∙ e)) (omega arith) c.lost.ensures
+    λ s. atom_none s c.args.toks.now c.args.at (λ e. c.if-t-eq-OPEN.false (c.peek-t.ensures ∙ e)) (omega arith) c.lost.ensures
 
 pub atom-overflow_add-result : goal.atom-overflow_add-result
 atom-overflow_add-result t c =
@@ -38,16 +38,16 @@ atom-overflow_add-result t c =
 
 pub atom-returns-then-t-lt-FIRST_NAME-clause-read : goal.atom-returns-then-t-lt-FIRST_NAME-clause-read
 atom-returns-then-t-lt-FIRST_NAME-clause-read t c =
-    λ s. atom_value s c.args.toks.now c.args.at c.peek_cell-t.ensures c.put.ensures c.put-v-then-t-lt-FIRST_NAME.ensures (omega arith) (omega arith)
+    λ s. atom_value s c.args.toks.now c.args.at c.peek-t.ensures c.put.ensures c.put-v-then-t-lt-FIRST_NAME.ensures (omega arith) (omega arith)
 
 pub atom-overflow_add-p : goal.atom-overflow_add-p
 atom-overflow_add-p t c =
     let l = get_or_positive c.args.toks.now c.args.at (omega arith) in
     omega arith
 
-pub atom-returns-then-peek_cell-ne-OPEN-clause-read : goal.atom-returns-then-peek_cell-ne-OPEN-clause-read
-atom-returns-then-peek_cell-ne-OPEN-clause-read t c =
-    λ s. atom_variable s c.args.toks.now c.args.at c.peek_cell-t.ensures c.put-d.ensures c.put-x.ensures (omega arith) (λ e. c.if-peek_cell-ne-OPEN.true (c.peek_cell.ensures ∙ e))
+pub atom-returns-then-peek-ne-OPEN-clause-read : goal.atom-returns-then-peek-ne-OPEN-clause-read
+atom-returns-then-peek-ne-OPEN-clause-read t c =
+    λ s. atom_variable s c.args.toks.now c.args.at c.peek-t.ensures c.put-d.ensures c.put-x.ensures (omega arith) (λ e. c.if-peek-ne-OPEN.true (c.peek.ensures ∙ e))
 
 pub atom-overflow_add-p-2 : goal.atom-overflow_add-p-2
 atom-overflow_add-p-2 t c =
@@ -66,11 +66,11 @@ atom-returns-clause-ahead t c =
 
 pub atom-returns-clause-read : goal.atom-returns-clause-read
 atom-returns-clause-read t c =
-    λ s. atom_apply s c.args.toks.now c.args.at c.peek_cell-t.ensures c.put-d.ensures c.put-x.ensures (omega arith) (sym c.peek_cell.ensures ∙ c.if-peek_cell-ne-OPEN.false) c.put-2.ensures (c.data_list.ensures.read s)
+    λ s. atom_apply s c.args.toks.now c.args.at c.peek-t.ensures c.put-d.ensures c.put-x.ensures (omega arith) (sym c.peek.ensures ∙ c.if-peek-ne-OPEN.false) c.put-2.ensures (c.data_list.ensures.read s)
 
-pub comparison-returns-then-peek_cell-ne-SAME-clause-read : goal.comparison-returns-then-peek_cell-ne-SAME-clause-read
-comparison-returns-then-peek_cell-ne-SAME-clause-read t c =
-    λ s. comparison_alone s c.args.toks.now c.args.at c.put-v.ensures c.negation-a.ensures.ahead (c.negation-a.ensures.read s) (λ e. c.if-peek_cell-ne-SAME.true (c.peek_cell.ensures ∙ e))
+pub comparison-returns-then-peek-ne-SAME-clause-read : goal.comparison-returns-then-peek-ne-SAME-clause-read
+comparison-returns-then-peek-ne-SAME-clause-read t c =
+    λ s. comparison_alone s c.args.toks.now c.args.at c.put-v.ensures c.negation-a.ensures.ahead (c.negation-a.ensures.read s) (λ e. c.if-peek-ne-SAME.true (c.peek.ensures ∙ e))
 
 pub comparison-overflow_add-a : goal.comparison-overflow_add-a
 comparison-overflow_add-a t c =
@@ -89,14 +89,14 @@ comparison-returns-clause-ahead t c =
 
 pub comparison-returns-clause-read : goal.comparison-returns-clause-read
 comparison-returns-clause-read t c =
-    λ s. comparison_equal s c.args.toks.now c.args.at c.put-v.ensures c.negation-a.ensures.ahead (c.negation-a.ensures.read s) (sym c.peek_cell.ensures ∙ c.if-peek_cell-ne-SAME.false) c.put.ensures (c.negation.ensures.read s)
+    λ s. comparison_equal s c.args.toks.now c.args.at c.put-v.ensures c.negation-a.ensures.ahead (c.negation-a.ensures.read s) (sym c.peek.ensures ∙ c.if-peek-ne-SAME.false) c.put.ensures (c.negation.ensures.read s)
 
 pub conjunction-loop-out-init : goal.conjunction-loop-out-init
 conjunction-loop-out-init t c = (omega arith, λ s. joins_start)
 
-pub conjunction-returns-then-peek_cell-ne-AND-clause-read : goal.conjunction-returns-then-peek_cell-ne-AND-clause-read
-conjunction-returns-then-peek_cell-ne-AND-clause-read t c =
-    λ s. conjunction_read s c.args.toks.now c.args.at c.put-v.ensures ((c.loop-out.invariant.1 s).on (and_last s c.args.toks.now c.loop-out.from c.comparison-a.ensures.ahead (c.comparison-a.ensures.read s) (λ e. c.if-peek_cell-ne-AND.true (c.peek_cell.ensures ∙ e)))) (λ i. omega (arith, c.comparison-a.ensures.ahead)) (λ l. omega (arith, c.counted.ensures (omega arith))) c.put.ensures
+pub conjunction-returns-then-peek-ne-AND-clause-read : goal.conjunction-returns-then-peek-ne-AND-clause-read
+conjunction-returns-then-peek-ne-AND-clause-read t c =
+    λ s. conjunction_read s c.args.toks.now c.args.at c.put-v.ensures ((c.loop-out.invariant.1 s).on (and_last s c.args.toks.now c.loop-out.from c.comparison-a.ensures.ahead (c.comparison-a.ensures.read s) (λ e. c.if-peek-ne-AND.true (c.peek.ensures ∙ e)))) (λ i. omega (arith, c.comparison-a.ensures.ahead)) (λ l. omega (arith, c.counted.ensures (omega arith))) c.put.ensures
 
 pub conjunction-overflow_add-from : goal.conjunction-overflow_add-from
 conjunction-overflow_add-from t c =
@@ -117,15 +117,15 @@ pub conjunction-loop-out-preserved : goal.conjunction-loop-out-preserved
 conjunction-loop-out-preserved t c =
     let l = get_or_positive c.args.toks.now c.comparison-a.result.at (omega arith) in (
       omega (arith, c.comparison-a.ensures.ahead),
-      λ s. joins_then (c.loop-out.invariant.1 s) (record { on = and_more s c.args.toks.now c.loop-out.from c.comparison-a.ensures.ahead (c.comparison-a.ensures.read s) (sym c.peek_cell.ensures ∙ c.if-peek_cell-ne-AND.false) }),
+      λ s. joins_then (c.loop-out.invariant.1 s) (record { on = and_more s c.args.toks.now c.loop-out.from c.comparison-a.ensures.ahead (c.comparison-a.ensures.read s) (sym c.peek.ensures ∙ c.if-peek-ne-AND.false) }),
     )
 
 pub data_term-loop-out-init : goal.data_term-loop-out-init
 data_term-loop-out-init t c = (omega arith, λ s. joins_start)
 
-pub data_term-returns-then-peek_cell-ne-OR-clause-read : goal.data_term-returns-then-peek_cell-ne-OR-clause-read
-data_term-returns-then-peek_cell-ne-OR-clause-read t c =
-    λ s. data_read s c.args.toks.now c.args.at c.put-v.ensures ((c.loop-out.invariant.1 s).on (or_last s c.args.toks.now c.loop-out.from c.conjunction-a.ensures.ahead (c.conjunction-a.ensures.read s) (λ e. c.if-peek_cell-ne-OR.true (c.peek_cell.ensures ∙ e)))) (λ i. omega (arith, c.conjunction-a.ensures.ahead)) (λ l. omega (arith, c.counted.ensures (omega arith))) c.put.ensures
+pub data_term-returns-then-peek-ne-OR-clause-read : goal.data_term-returns-then-peek-ne-OR-clause-read
+data_term-returns-then-peek-ne-OR-clause-read t c =
+    λ s. data_read s c.args.toks.now c.args.at c.put-v.ensures ((c.loop-out.invariant.1 s).on (or_last s c.args.toks.now c.loop-out.from c.conjunction-a.ensures.ahead (c.conjunction-a.ensures.read s) (λ e. c.if-peek-ne-OR.true (c.peek.ensures ∙ e)))) (λ i. omega (arith, c.conjunction-a.ensures.ahead)) (λ l. omega (arith, c.counted.ensures (omega arith))) c.put.ensures
 
 pub data_term-overflow_add-from : goal.data_term-overflow_add-from
 data_term-overflow_add-from t c =
@@ -146,15 +146,15 @@ pub data_term-loop-out-preserved : goal.data_term-loop-out-preserved
 data_term-loop-out-preserved t c =
     let l = get_or_positive c.args.toks.now c.conjunction-a.result.at (omega arith) in (
       omega (arith, c.conjunction-a.ensures.ahead),
-      λ s. joins_then (c.loop-out.invariant.1 s) (record { on = or_more s c.args.toks.now c.loop-out.from c.conjunction-a.ensures.ahead (c.conjunction-a.ensures.read s) (sym c.peek_cell.ensures ∙ c.if-peek_cell-ne-OR.false) }),
+      λ s. joins_then (c.loop-out.invariant.1 s) (record { on = or_more s c.args.toks.now c.loop-out.from c.conjunction-a.ensures.ahead (c.conjunction-a.ensures.read s) (sym c.peek.ensures ∙ c.if-peek-ne-OR.false) }),
     )
 
 pub data_list-loop-a-init : goal.data_list-loop-a-init
 data_list-loop-a-init t c = (omega arith, λ s. goes_start)
 
-pub data_list-returns-then-peek_cell-ne-COMMA-clause-read : goal.data_list-returns-then-peek_cell-ne-COMMA-clause-read
-data_list-returns-then-peek_cell-ne-COMMA-clause-read t c =
-    λ s. (c.loop-a.invariant.1 s).on (list_one s c.args.toks.now c.loop-a.from c.put-u.ensures c.data_term-a.ensures.ahead (c.data_term-a.ensures.read s) (λ e. c.if-peek_cell-ne-COMMA.true (c.peek_cell.ensures ∙ e)) c.expect.ensures.ahead c.expect.ensures.read)
+pub data_list-returns-then-peek-ne-COMMA-clause-read : goal.data_list-returns-then-peek-ne-COMMA-clause-read
+data_list-returns-then-peek-ne-COMMA-clause-read t c =
+    λ s. (c.loop-a.invariant.1 s).on (list_one s c.args.toks.now c.loop-a.from c.put-u.ensures c.data_term-a.ensures.ahead (c.data_term-a.ensures.read s) (λ e. c.if-peek-ne-COMMA.true (c.peek.ensures ∙ e)) c.expect.ensures.ahead c.expect.ensures.read)
 
 pub data_list-overflow_add-from : goal.data_list-overflow_add-from
 data_list-overflow_add-from t c =
@@ -170,7 +170,7 @@ pub data_list-loop-a-preserved : goal.data_list-loop-a-preserved
 data_list-loop-a-preserved t c =
     let l = get_or_positive c.args.toks.now c.data_term-a.result.at (omega arith) in (
       omega (arith, c.data_term-a.ensures.ahead),
-      λ s. goes_then (c.loop-a.invariant.1 s) (record { on = list_more s c.args.toks.now c.loop-a.from c.put-u.ensures c.data_term-a.ensures.ahead (c.data_term-a.ensures.read s) (sym c.peek_cell.ensures ∙ c.if-peek_cell-ne-COMMA.false) c.put.ensures }),
+      λ s. goes_then (c.loop-a.invariant.1 s) (record { on = list_more s c.args.toks.now c.loop-a.from c.put-u.ensures c.data_term-a.ensures.ahead (c.data_term-a.ensures.read s) (sym c.peek.ensures ∙ c.if-peek-ne-COMMA.false) c.put.ensures }),
     )
 
 pub negation-loop-out-init : goal.negation-loop-out-init
@@ -189,9 +189,9 @@ negation-loop-out-smaller t c =
 pub negation-loop-out-preserved : goal.negation-loop-out-preserved
 negation-loop-out-preserved t c = (
   omega arith,
-  λ s. goes_then (c.loop-out.invariant.1 s) (record { on = negation_not s c.args.toks.now c.loop-out.from (sym c.peek_cell.ensures ∙ c.loop-out-test.true) c.put-v.ensures }),
+  λ s. goes_then (c.loop-out.invariant.1 s) (record { on = negation_not s c.args.toks.now c.loop-out.from (sym c.peek.ensures ∙ c.loop-out-test.true) c.put-v.ensures }),
 )
 
 pub negation-returns-clause-read : goal.negation-returns-clause-read
 negation-returns-clause-read t c =
-    λ s. (c.loop-out.invariant.1 s).on (negation_atom s c.args.toks.now c.loop-out.from (λ e. c.loop-out-test.false (c.peek_cell.ensures ∙ e)) (c.atom.ensures.read s))
+    λ s. (c.loop-out.invariant.1 s).on (negation_atom s c.args.toks.now c.loop-out.from (λ e. c.loop-out-test.false (c.peek.ensures ∙ e)) (c.atom.ensures.read s))

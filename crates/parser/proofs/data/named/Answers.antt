@@ -5,15 +5,15 @@ use Rattle.laws.specs.Places.{get_or_positive}
 use Rattle.parser.proofs.DataLaws.{call_bare, call_given}
 use Rattle.parser.proofs.data.named.Goals as goal
 
-pub shape_of-out-then-peek_cell-ne-OPEN : goal.shape_of-out-then-peek_cell-ne-OPEN
-shape_of-out-then-peek_cell-ne-OPEN c = c.name-a.auto.out ∙ c.put-x.auto.out
+pub shape_of-out-then-peek-ne-OPEN : goal.shape_of-out-then-peek-ne-OPEN
+shape_of-out-then-peek-ne-OPEN c = c.name-a.auto.out ∙ c.put-x.auto.out
 
-pub returns-then-peek_cell-ne-OPEN : goal.returns-then-peek_cell-ne-OPEN
-returns-then-peek_cell-ne-OPEN c =
+pub returns-then-peek-ne-OPEN : goal.returns-then-peek-ne-OPEN
+returns-then-peek-ne-OPEN c =
     let at-put = c.put-x in
     let at_name = c.name-a in
-    let at-if1 = c.if-peek_cell-ne-OPEN in
-    let at-peek = c.peek_cell in record {
+    let at-if1 = c.if-peek-ne-OPEN in
+    let at-peek = c.peek in record {
       ahead = omega arith;
       read = λ s f l. call_bare s c.args.toks.now c.args.at at-put.ensures at_name.ensures.ahead (at_name.ensures.read s 1 (omega arith)) (λ e. at-if1.true (at-peek.ensures ∙ e)) f;
     }
@@ -32,8 +32,8 @@ returns c =
     let at_name = c.name-a in
     let at-data-list = c.data_list in
     let at-put = c.put-x in
-    let at-peek = c.peek_cell in
-    let at-if1 = c.if-peek_cell-ne-OPEN in
+    let at-peek = c.peek in
+    let at-if1 = c.if-peek-ne-OPEN in
     let at-put2 = c.put in
     let l = get_or_positive c.args.toks.now at_name.result.at (omega arith) in record {
       ahead = omega (arith, at_name.ensures.ahead, at-data-list.ensures.ahead);

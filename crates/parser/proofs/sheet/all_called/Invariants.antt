@@ -7,5 +7,3 @@ use Rattle.parser.proofs.sheet.all_called.Given as goal
 abbrev pub invariant-loop-i : goal.invariant-loop-i
 invariant-loop-i l = (l.i ≤ l.to) × (l.to ≤ length l.toks) × ((s : List ℕ) → Still s l.toks l.from l.to l.i)
 
-abbrev pub decreases-loop-i : goal.decreases-loop-i
-decreases-loop-i l = l.to - l.i

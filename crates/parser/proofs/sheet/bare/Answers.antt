@@ -4,8 +4,8 @@ use Rattle.laws.specs.Places.{get_or_positive}
 use Rattle.parser.proofs.InitLaws.{called_low, called_told}
 use Rattle.parser.proofs.sheet.bare.Goals as goal
 
-pub returns-then-peek_cell-lt-FIRST_NAME : goal.returns-then-peek_cell-lt-FIRST_NAME
-returns-then-peek_cell-lt-FIRST_NAME c =
+pub returns-then-peek-lt-FIRST_NAME : goal.returns-then-peek-lt-FIRST_NAME
+returns-then-peek-lt-FIRST_NAME c =
     λ s. called_low s c.args.toks.now c.args.at (omega arith)
 
 pub overflow_add-at : goal.overflow_add-at
@@ -15,5 +15,5 @@ overflow_add-at c =
 
 pub returns : goal.returns
 returns c =
-    let at-peek2 = c.peek_cell-2 in
+    let at-peek2 = c.peek-2 in
     λ s. called_told s c.args.toks.now c.args.at (omega arith) at-peek2.result at-peek2.ensures

@@ -14,7 +14,7 @@ loop-places-init c = (omega arith, omega arith, refl, refl, λ i s f l. run_star
 pub overflow_add-from : goal.overflow_add-from
 overflow_add-from c =
     let at-loop = c.loop-places in
-    let at-peek = c.peek_cell in
+    let at-peek = c.peek in
     let at-if1 = c.loop-places-test in
     let q = c.requires in
     let l = get_or_positive c.args.toks.now at-loop.from (omega (arith, at-peek.ensures, at-if1.true)) in
@@ -26,7 +26,7 @@ expect-from-requires c = lit< tt
 pub overflow_add-i : goal.overflow_add-i
 overflow_add-i c =
     let at-loop = c.loop-places in
-    let at-peek = c.peek_cell in
+    let at-peek = c.peek in
     let at-if1 = c.loop-places-test in
     let q = c.requires in
     let l = get_or_positive c.args.toks.now at-loop.from (omega (arith, at-peek.ensures, at-if1.true)) in
@@ -35,7 +35,7 @@ overflow_add-i c =
 pub loop-places-smaller : goal.loop-places-smaller
 loop-places-smaller c =
     let at-loop = c.loop-places in
-    let at-peek = c.peek_cell in
+    let at-peek = c.peek in
     let at-if1 = c.loop-places-test in
     let at-line = c.line-a in
     let at-expect = c.expect-from in
@@ -46,7 +46,7 @@ loop-places-smaller c =
 pub loop-places-preserved : goal.loop-places-preserved
 loop-places-preserved c =
     let at-loop = c.loop-places in
-    let at-peek = c.peek_cell in
+    let at-peek = c.peek in
     let at-if1 = c.loop-places-test in
     let at-short = c.short in
     let at-put = c.put in
@@ -65,7 +65,7 @@ loop-places-preserved c =
 pub returns : goal.returns
 returns c =
     let at-loop = c.loop-places in
-    let at-peek = c.peek_cell in
+    let at-peek = c.peek in
     let at-if1 = c.loop-places-test in
     let q = c.requires in record {
       onward = omega arith;

@@ -9,20 +9,20 @@ use Rattle.parser.proofs.sheet.numerals.Goals as goal
 pub loop-out-init : goal.loop-out-init
 loop-out-init c = (omega arith, refl, λ s. goes_start)
 
-pub shape_of-out-then-peek_cell-ne-COMMA : goal.shape_of-out-then-peek_cell-ne-COMMA
-shape_of-out-then-peek_cell-ne-COMMA c =
+pub shape_of-out-then-peek-ne-COMMA : goal.shape_of-out-then-peek-ne-COMMA
+shape_of-out-then-peek-ne-COMMA c =
     let at-numeral = c.numeral-a in
     let at-put = c.put-u in
     let at-put2 = c.put in
     omega (arith, at-numeral.auto.out, at-put.auto.out, at-put2.auto.out)
 
-pub returns-then-peek_cell-ne-COMMA : goal.returns-then-peek_cell-ne-COMMA
-returns-then-peek_cell-ne-COMMA c =
+pub returns-then-peek-ne-COMMA : goal.returns-then-peek-ne-COMMA
+returns-then-peek-ne-COMMA c =
     let at-loop = c.loop-out in
     let at-put = c.put-u in
     let at-numeral = c.numeral-a in
-    let at-peek = c.peek_cell in
-    let at-if1 = c.if-peek_cell-ne-COMMA in
+    let at-peek = c.peek in
+    let at-if1 = c.if-peek-ne-COMMA in
     let at-put2 = c.put in record {
       ahead = omega (arith, at-numeral.ensures.ahead);
       read = λ s. (at-loop.invariant.2 s).on (numerals_last s c.args.toks.now at-loop.from at-put.ensures at-numeral.ensures.ahead (at-numeral.ensures.read s 1 (omega arith)) (λ e. at-if1.true (at-peek.ensures ∙ e)) at-put2.ensures);
@@ -45,8 +45,8 @@ loop-out-preserved c =
     let at-loop = c.loop-out in
     let at-put = c.put-u in
     let at-numeral = c.numeral-a in
-    let at-peek = c.peek_cell in
-    let at-if1 = c.if-peek_cell-ne-COMMA in
+    let at-peek = c.peek in
+    let at-if1 = c.if-peek-ne-COMMA in
     let l = get_or_positive c.args.toks.now at-numeral.result.at (omega arith) in (
       omega (arith, at-numeral.ensures.ahead),
       omega (arith, at-numeral.auto.out, at-put.auto.out),

@@ -5,15 +5,15 @@ use Rattle.laws.specs.Places.{get_or_positive}
 use Rattle.parser.proofs.LineLaws.{sorts_one, sorts_two}
 use Rattle.parser.proofs.sheet.one_or_two.Goals as goal
 
-pub shape_of-out-then-peek_cell-ne-HASH : goal.shape_of-out-then-peek_cell-ne-HASH
-shape_of-out-then-peek_cell-ne-HASH c = c.put.auto.out ∙ c.name-a.auto.out ∙ c.put-v.auto.out
+pub shape_of-out-then-peek-ne-HASH : goal.shape_of-out-then-peek-ne-HASH
+shape_of-out-then-peek-ne-HASH c = c.put.auto.out ∙ c.name-a.auto.out ∙ c.put-v.auto.out
 
-pub returns-then-peek_cell-ne-HASH : goal.returns-then-peek_cell-ne-HASH
-returns-then-peek_cell-ne-HASH c =
+pub returns-then-peek-ne-HASH : goal.returns-then-peek-ne-HASH
+returns-then-peek-ne-HASH c =
     let at_name = c.name-a in
     let at-put = c.put-v in
-    let at-if1 = c.if-peek_cell-ne-HASH in
-    let at-peek = c.peek_cell in
+    let at-if1 = c.if-peek-ne-HASH in
+    let at-peek = c.peek in
     let at-put2 = c.put in record {
       ahead = at_name.ensures.ahead;
       read = λ s f l. sorts_one s c.args.toks.now c.args.at at-put.ensures (at_name.ensures.read s 1 (omega arith)) (λ e. at-if1.true (at-peek.ensures ∙ e)) at-put2.ensures;
@@ -33,8 +33,8 @@ returns c =
     let at_name = c.name-a in
     let at-name2 = c.name-b in
     let at-put = c.put-v in
-    let at-peek = c.peek_cell in
-    let at-if1 = c.if-peek_cell-ne-HASH in
+    let at-peek = c.peek in
+    let at-if1 = c.if-peek-ne-HASH in
     let at-put3 = c.put-u in
     let at-put4 = c.put-2 in
     let l = get_or_positive c.args.toks.now at_name.result.at (omega arith) in record {

@@ -18,8 +18,8 @@ expect-c-requires c = lit< tt
 pub expect-requires : goal.expect-requires
 expect-requires c = lit< tt
 
-pub shape_of-out-then-peek_cell-ne-COMMA : goal.shape_of-out-then-peek_cell-ne-COMMA
-shape_of-out-then-peek_cell-ne-COMMA c =
+pub shape_of-out-then-peek-ne-COMMA : goal.shape_of-out-then-peek-ne-COMMA
+shape_of-out-then-peek-ne-COMMA c =
     let at-loop = c.loop-out in
     let at-put = c.put-u in
     let at_name = c.name-x in
@@ -27,15 +27,15 @@ shape_of-out-then-peek_cell-ne-COMMA c =
     let at-put2 = c.put in
     omega (arith, at-loop.invariant.1, at-put.auto.out, at_name.auto.out, at-name2.auto.out, at-put2.auto.out)
 
-pub returns-then-peek_cell-ne-COMMA : goal.returns-then-peek_cell-ne-COMMA
-returns-then-peek_cell-ne-COMMA c =
+pub returns-then-peek-ne-COMMA : goal.returns-then-peek-ne-COMMA
+returns-then-peek-ne-COMMA c =
     let at-loop = c.loop-out in
     let at-put = c.put-u in
     let at_name = c.name-x in
     let at-expect = c.expect-c in
     let at-name2 = c.name-d in
-    let at-peek = c.peek_cell in
-    let at-if1 = c.if-peek_cell-ne-COMMA in
+    let at-peek = c.peek in
+    let at-if1 = c.if-peek-ne-COMMA in
     let at-expect2 = c.expect in
     let at-put2 = c.put in
     let a = ahead_then (length c.args.toks.now) at-loop.from at_name.ensures.ahead at-expect.ensures.ahead in
@@ -68,8 +68,8 @@ loop-out-preserved c =
     let at_name = c.name-x in
     let at-expect = c.expect-c in
     let at-name2 = c.name-d in
-    let at-peek = c.peek_cell in
-    let at-if1 = c.if-peek_cell-ne-COMMA in
+    let at-peek = c.peek in
+    let at-if1 = c.if-peek-ne-COMMA in
     let l = get_or_positive c.args.toks.now at-name2.result.at (omega arith) in
     let a = ahead_then (length c.args.toks.now) at-loop.from at_name.ensures.ahead at-expect.ensures.ahead in
     let h = ahead_then (length c.args.toks.now) at-loop.from a at-name2.ensures.ahead in (

@@ -11,29 +11,29 @@ pub loop-rest-init : goal.loop-rest-init
 loop-rest-init c = (refl, listed_start c.args.m c.args.sorts.now c.put-v.result c.put-v.new.out c.ranges.m.fits)
 
 pub overflow_add-at : goal.overflow_add-at
-overflow_add-at c = omega (arith, c.wide_word.ensures.0, t_lt c.args.m c.args.sorts.now c.put-v.result c.put-v.new.out c.loop-rest.rest c.loop-rest.at c.loop-rest.v c.loop-rest.out c.requires c.loop-rest.invariant.1 (omega arith))
+overflow_add-at c = omega (arith, c.wide.ensures.0, t_lt c.args.m c.args.sorts.now c.put-v.result c.put-v.new.out c.loop-rest.rest c.loop-rest.at c.loop-rest.v c.loop-rest.out c.requires c.loop-rest.invariant.1 (omega arith))
 
 pub overflow_shr-rest : goal.overflow_shr-rest
 overflow_shr-rest c = omega (arith, t_lt c.args.m c.args.sorts.now c.put-v.result c.put-v.new.out c.loop-rest.rest c.loop-rest.at c.loop-rest.v c.loop-rest.out c.requires c.loop-rest.invariant.1 (omega arith))
 
 pub overflow_add-at-in-loop-rest : goal.overflow_add-at-in-loop-rest
-overflow_add-at-in-loop-rest c = omega (arith, c.wide_word-in-loop-rest.ensures.0, t_lt c.args.m c.args.sorts.now c.put-v.result c.put-v.new.out c.loop-rest.rest c.loop-rest.at c.loop-rest.v c.loop-rest.out c.requires c.loop-rest.invariant.1 (omega arith))
+overflow_add-at-in-loop-rest c = omega (arith, c.wide-in-loop-rest.ensures.0, t_lt c.args.m c.args.sorts.now c.put-v.result c.put-v.new.out c.loop-rest.rest c.loop-rest.at c.loop-rest.v c.loop-rest.out c.requires c.loop-rest.invariant.1 (omega arith))
 
 pub overflow_add-at-in-loop-rest-2 : goal.overflow_add-at-in-loop-rest-2
-overflow_add-at-in-loop-rest-2 c = omega (arith, c.wide_word-in-loop-rest.ensures.0, t_lt c.args.m c.args.sorts.now c.put-v.result c.put-v.new.out c.loop-rest.rest c.loop-rest.at c.loop-rest.v c.loop-rest.out c.requires c.loop-rest.invariant.1 (omega arith))
+overflow_add-at-in-loop-rest-2 c = omega (arith, c.wide-in-loop-rest.ensures.0, t_lt c.args.m c.args.sorts.now c.put-v.result c.put-v.new.out c.loop-rest.rest c.loop-rest.at c.loop-rest.v c.loop-rest.out c.requires c.loop-rest.invariant.1 (omega arith))
 
 pub loop-rest-smaller : goal.loop-rest-smaller
-loop-rest-smaller c = omega (arith, c.wide_word-in-loop-rest.ensures.0, t_lt c.args.m c.args.sorts.now c.put-v.result c.put-v.new.out c.loop-rest.rest c.loop-rest.at c.loop-rest.v c.loop-rest.out c.requires c.loop-rest.invariant.1 (omega arith))
+loop-rest-smaller c = omega (arith, c.wide-in-loop-rest.ensures.0, t_lt c.args.m c.args.sorts.now c.put-v.result c.put-v.new.out c.loop-rest.rest c.loop-rest.at c.loop-rest.v c.loop-rest.out c.requires c.loop-rest.invariant.1 (omega arith))
 
 pub loop-rest-preserved : goal.loop-rest-preserved
 loop-rest-preserved c =
     let a = c.args in
     let l = c.loop-rest in
     let t = count_trailing_zeros 32 l.rest in
-    let z : l.at + c.wide_word-in-loop-rest.result + 1 ≡ l.at + t + 1 = omega (arith, c.wide_word-in-loop-rest.ensures.0) in (
+    let z : l.at + c.wide-in-loop-rest.result + 1 ≡ l.at + t + 1 = omega (arith, c.wide-in-loop-rest.ensures.0) in (
       c.put-v-in-loop-rest.auto.out ∙ l.invariant.0,
-      listed_more a.m a.sorts.now c.put-v.result c.put-v.new.out l.rest l.at l.v l.out c.requires l.invariant.1 (omega arith) t (l.at + c.wide_word-in-loop-rest.result + 1) c.peek.result c.put-v-in-loop-rest.result c.put-v-in-loop-rest.new.out
-          refl z (c.peek.ensures ∙ ap (λ (k : ℕ). get_or a.sorts.now (l.at + k) 0) c.wide_word.ensures.0) c.put-v-in-loop-rest.ensures,
+      listed_more a.m a.sorts.now c.put-v.result c.put-v.new.out l.rest l.at l.v l.out c.requires l.invariant.1 (omega arith) t (l.at + c.wide-in-loop-rest.result + 1) c.peek.result c.put-v-in-loop-rest.result c.put-v-in-loop-rest.new.out
+          refl z (c.peek.ensures ∙ ap (λ (k : ℕ). get_or a.sorts.now (l.at + k) 0) c.wide.ensures.0) c.put-v-in-loop-rest.ensures,
     )
 
 pub shape_of-out : goal.shape_of-out

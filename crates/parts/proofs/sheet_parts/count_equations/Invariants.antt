@@ -6,5 +6,3 @@ use Rattle.parts.proofs.sheet_parts.count_equations.Given as goal
 abbrev pub invariant-loop-k : goal.invariant-loop-k
 invariant-loop-k l = (l.k ≤ l.n.procs) × (l.total ≤ count_cut) × CountLeft l.procs l.cells l.starts l.n l.k l.total
 
-abbrev pub decreases-loop-k : goal.decreases-loop-k
-decreases-loop-k l = l.n.procs - l.k

@@ -8,5 +8,3 @@ use Rattle.parts.proofs.sheet_parts.put_written.Given as goal
 abbrev pub invariant-loop-k : goal.invariant-loop-k
 invariant-loop-k l = (l.k ≤ l.n) × Puts (concatenated l.k (λ j. row_bytes l.procs (proc_width * j))) l.w l.initial.out l.v l.out
 
-abbrev pub decreases-loop-k : goal.decreases-loop-k
-decreases-loop-k l = l.n - l.k

@@ -9,5 +9,3 @@ use Rattle.printer.proofs.unlike.none_there.Given as goal
 abbrev pub invariant-loop-d : goal.invariant-loop-d
 invariant-loop-d l = (l.d ≤ l.m) × ((k : ℕ) → k < l.d → Every (Unlike (list_at l.names (get_or l.cells k 0))) (names_at l.s l.places l.n))
 
-abbrev pub decreases-loop-d : goal.decreases-loop-d
-decreases-loop-d l = l.m - l.d

@@ -7,5 +7,3 @@ use Rattle.printer.proofs.unlike.other.Given as goal
 abbrev pub invariant-loop-i : goal.invariant-loop-i
 invariant-loop-i l = (l.i ≤ l.n) × ((k : ℕ) → k < l.i → Unlike l.name (list_at l.s (get_or l.places k 0)))
 
-abbrev pub decreases-loop-i : goal.decreases-loop-i
-decreases-loop-i l = l.n - l.i

@@ -8,5 +8,3 @@ use Rattle.printer.proofs.watch.apart.Given as goal
 abbrev pub invariant-loop-i : goal.invariant-loop-i
 invariant-loop-i l = (l.i ≤ l.n) × (l.state < met_number) × ((s : List ℕ) → Watches (cell_token s) l.cells l.n l.i l.state)
 
-abbrev pub decreases-loop-i : goal.decreases-loop-i
-decreases-loop-i l = l.n - l.i

@@ -13,14 +13,14 @@ use Rattle.resolver.proofs.data.+atom_comparison_conjunction_data_list_data_term
 pub atom-overflow_add-at : goal.atom-overflow_add-at
 atom-overflow_add-at t c =
     let args = c.args in
-    let l = get_or_positive args.raw.now args.at (let k = c.peek_cell-k.ensures in omega arith) in
+    let l = get_or_positive args.raw.now args.at (let k = c.peek-k.ensures in omega arith) in
     omega arith
 
 pub atom-data_term-requires : goal.atom-data_term-requires
 atom-data_term-requires t c =
     let args = c.args in
     let q = c.requires.0 in
-    let l = get_or_positive args.raw.now args.at (let k = c.peek_cell-k.ensures in omega arith) in
+    let l = get_or_positive args.raw.now args.at (let k = c.peek-k.ensures in omega arith) in
     (omega arith, (omega arith, c.requires.1))
 
 pub atom-shape_of-out-then-k-eq-NEST_TAG : goal.atom-shape_of-out-then-k-eq-NEST_TAG
@@ -31,28 +31,28 @@ atom-returns-then-k-eq-NEST_TAG t c =
     let args = c.args in
     let called = c.data_term in
     let a = called.ensures.ahead in
-    record { ahead = omega arith; resolves = nest_took args.s.now args.raw.now (names_in args.declared.now) (kinds_in args.declared.now) args.scope.now args.n args.at args.w args.out.now (sym c.peek_cell-k.ensures ∙ c.if-k-eq-NEST_TAG.true) called.result called.new.out called.ensures.resolves }
+    record { ahead = omega arith; resolves = nest_took args.s.now args.raw.now (names_in args.declared.now) (kinds_in args.declared.now) args.scope.now args.n args.at args.w args.out.now (sym c.peek-k.ensures ∙ c.if-k-eq-NEST_TAG.true) called.result called.new.out called.ensures.resolves }
 
 pub atom-overflow_add-at-then-k-eq-VALUE_TAG : goal.atom-overflow_add-at-then-k-eq-VALUE_TAG
 atom-overflow_add-at-then-k-eq-VALUE_TAG t c =
     let args = c.args in
-    let l = get_or_positive args.raw.now args.at (let k = c.peek_cell-k.ensures in omega arith) in
+    let l = get_or_positive args.raw.now args.at (let k = c.peek-k.ensures in omega arith) in
     omega arith
 
 pub atom-returns-then-c-lt-FIRST_NUMERAL : goal.atom-returns-then-c-lt-FIRST_NUMERAL
 atom-returns-then-c-lt-FIRST_NUMERAL t c =
     let args = c.args in
-    record { ahead = let z = c.lost.ensures in omega arith; resolves = value_lost args.s.now args.raw.now (names_in args.declared.now) (kinds_in args.declared.now) args.scope.now args.n args.at args.w args.out.now (sym c.peek_cell-k.ensures ∙ c.if-k-eq-VALUE_TAG.true) c.lost.result args.out.now (λ v h. let a = h.least in let b = c.peek_cell-c.ensures in omega arith) }
+    record { ahead = let z = c.lost.ensures in omega arith; resolves = value_lost args.s.now args.raw.now (names_in args.declared.now) (kinds_in args.declared.now) args.scope.now args.n args.at args.w args.out.now (sym c.peek-k.ensures ∙ c.if-k-eq-VALUE_TAG.true) c.lost.result args.out.now (λ v h. let a = h.least in let b = c.peek-c.ensures in omega arith) }
 
 pub atom-returns-then-c-ge-FIRST_NAME : goal.atom-returns-then-c-ge-FIRST_NAME
 atom-returns-then-c-ge-FIRST_NAME t c =
     let args = c.args in
-    record { ahead = let z = c.lost-then-c-ge-FIRST_NAME.ensures in omega arith; resolves = value_lost args.s.now args.raw.now (names_in args.declared.now) (kinds_in args.declared.now) args.scope.now args.n args.at args.w args.out.now (sym c.peek_cell-k.ensures ∙ c.if-k-eq-VALUE_TAG.true) c.lost-then-c-ge-FIRST_NAME.result args.out.now (λ v h. let a = h.most in let b = c.peek_cell-c.ensures in omega arith) }
+    record { ahead = let z = c.lost-then-c-ge-FIRST_NAME.ensures in omega arith; resolves = value_lost args.s.now args.raw.now (names_in args.declared.now) (kinds_in args.declared.now) args.scope.now args.n args.at args.w args.out.now (sym c.peek-k.ensures ∙ c.if-k-eq-VALUE_TAG.true) c.lost-then-c-ge-FIRST_NAME.result args.out.now (λ v h. let a = h.most in let b = c.peek-c.ensures in omega arith) }
 
 pub atom-overflow_add-result : goal.atom-overflow_add-result
 atom-overflow_add-result t c =
     let args = c.args in
-    let l = get_or_positive args.raw.now args.at (let k = c.peek_cell-k.ensures in omega arith) in
+    let l = get_or_positive args.raw.now args.at (let k = c.peek-k.ensures in omega arith) in
     omega arith
 
 pub atom-shape_of-out-then-k-eq-VALUE_TAG : goal.atom-shape_of-out-then-k-eq-VALUE_TAG
@@ -61,14 +61,14 @@ atom-shape_of-out-then-k-eq-VALUE_TAG t c = c.put.auto.out
 pub atom-returns-then-k-eq-VALUE_TAG : goal.atom-returns-then-k-eq-VALUE_TAG
 atom-returns-then-k-eq-VALUE_TAG t c =
     let args = c.args in
-    let cell2 = c.peek_cell-c in
+    let cell2 = c.peek-c in
     let put = c.put in
-    record { ahead = omega arith; resolves = value_took args.s.now args.raw.now (names_in args.declared.now) (kinds_in args.declared.now) args.scope.now args.n args.at args.w args.out.now (sym c.peek_cell-k.ensures ∙ c.if-k-eq-VALUE_TAG.true) cell2.result _ put.result put.new.out cell2.ensures refl put.ensures }
+    record { ahead = omega arith; resolves = value_took args.s.now args.raw.now (names_in args.declared.now) (kinds_in args.declared.now) args.scope.now args.n args.at args.w args.out.now (sym c.peek-k.ensures ∙ c.if-k-eq-VALUE_TAG.true) cell2.result _ put.result put.new.out cell2.ensures refl put.ensures }
 
 pub atom-overflow_add-at-then-k-eq-VARIABLE_TAG : goal.atom-overflow_add-at-then-k-eq-VARIABLE_TAG
 atom-overflow_add-at-then-k-eq-VARIABLE_TAG t c =
     let args = c.args in
-    let l = get_or_positive args.raw.now args.at (let k = c.peek_cell-k.ensures in omega arith) in
+    let l = get_or_positive args.raw.now args.at (let k = c.peek-k.ensures in omega arith) in
     omega arith
 
 pub atom-scope_number-i-requires : goal.atom-scope_number-i-requires
@@ -77,14 +77,14 @@ atom-scope_number-i-requires t c = let q = c.requires.0 in omega arith
 pub atom-returns-then-i-n : goal.atom-returns-then-i-n
 atom-returns-then-i-n t c =
     let args = c.args in
-    let cell3 = c.peek_cell in
+    let cell3 = c.peek in
     let scope-number = c.scope_number-i in
-    record { ahead = let z = c.lost-then-i-n.ensures in omega arith; resolves = variable_lost args.s.now args.raw.now (names_in args.declared.now) (kinds_in args.declared.now) args.scope.now args.n args.at args.w args.out.now (sym c.peek_cell-k.ensures ∙ c.if-k-eq-VARIABLE_TAG.true) (let q = c.requires.0 in omega arith) cell3.result scope-number.result cell3.ensures scope-number.ensures.number c.lost-then-i-n.result args.out.now c.lost-then-i-n.ensures c.if-i-n.true }
+    record { ahead = let z = c.lost-then-i-n.ensures in omega arith; resolves = variable_lost args.s.now args.raw.now (names_in args.declared.now) (kinds_in args.declared.now) args.scope.now args.n args.at args.w args.out.now (sym c.peek-k.ensures ∙ c.if-k-eq-VARIABLE_TAG.true) (let q = c.requires.0 in omega arith) cell3.result scope-number.result cell3.ensures scope-number.ensures.number c.lost-then-i-n.result args.out.now c.lost-then-i-n.ensures c.if-i-n.true }
 
 pub atom-overflow_add-result-then-k-eq-VARIABLE_TAG : goal.atom-overflow_add-result-then-k-eq-VARIABLE_TAG
 atom-overflow_add-result-then-k-eq-VARIABLE_TAG t c =
     let args = c.args in
-    let l = get_or_positive args.raw.now args.at (let k = c.peek_cell-k.ensures in omega arith) in
+    let l = get_or_positive args.raw.now args.at (let k = c.peek-k.ensures in omega arith) in
     omega arith
 
 pub atom-shape_of-out-then-k-eq-VARIABLE_TAG : goal.atom-shape_of-out-then-k-eq-VARIABLE_TAG
@@ -93,23 +93,23 @@ atom-shape_of-out-then-k-eq-VARIABLE_TAG t c = c.put-then-k-eq-VARIABLE_TAG.auto
 pub atom-returns-then-k-eq-VARIABLE_TAG : goal.atom-returns-then-k-eq-VARIABLE_TAG
 atom-returns-then-k-eq-VARIABLE_TAG t c =
     let args = c.args in
-    let cell3 = c.peek_cell in
+    let cell3 = c.peek in
     let scope-number = c.scope_number-i in
     let short = c.short in
     let put2 = c.put-then-k-eq-VARIABLE_TAG in
     let q = c.requires in
-    record { ahead = omega arith; resolves = variable_took args.s.now args.raw.now (names_in args.declared.now) (kinds_in args.declared.now) args.scope.now args.n args.at args.w args.out.now (sym c.peek_cell-k.ensures ∙ c.if-k-eq-VARIABLE_TAG.true) (let q = c.requires.0 in omega arith) cell3.result scope-number.result cell3.ensures scope-number.ensures.number short.result put2.result put2.new.out c.if-i-n.false (short.ensures (omega arith)) put2.ensures }
+    record { ahead = omega arith; resolves = variable_took args.s.now args.raw.now (names_in args.declared.now) (kinds_in args.declared.now) args.scope.now args.n args.at args.w args.out.now (sym c.peek-k.ensures ∙ c.if-k-eq-VARIABLE_TAG.true) (let q = c.requires.0 in omega arith) cell3.result scope-number.result cell3.ensures scope-number.ensures.number short.result put2.result put2.new.out c.if-i-n.false (short.ensures (omega arith)) put2.ensures }
 
 pub atom-returns-then-k-ne-APPLY_TAG : goal.atom-returns-then-k-ne-APPLY_TAG
 atom-returns-then-k-ne-APPLY_TAG t c =
     let args = c.args in
-    let cell = c.peek_cell-k in
+    let cell = c.peek-k in
     record { ahead = let z = c.lost-then-k-ne-APPLY_TAG.ensures in omega arith; resolves = other_lost args.s.now args.raw.now (names_in args.declared.now) (kinds_in args.declared.now) args.scope.now args.n args.at args.w args.out.now c.lost-then-k-ne-APPLY_TAG.result args.out.now (λ e. c.if-k-eq-VALUE_TAG.false (cell.ensures ∙ e)) (λ e. c.if-k-eq-VARIABLE_TAG.false (cell.ensures ∙ e)) (λ e. c.if-k-ne-APPLY_TAG.true (cell.ensures ∙ e)) (λ e. c.if-k-eq-NEST_TAG.false (cell.ensures ∙ e)) }
 
 pub atom-overflow_add-at-2 : goal.atom-overflow_add-at-2
 atom-overflow_add-at-2 t c =
     let args = c.args in
-    let l = get_or_positive args.raw.now args.at (let k = c.peek_cell-k.ensures in omega arith) in
+    let l = get_or_positive args.raw.now args.at (let k = c.peek-k.ensures in omega arith) in
     omega arith
 
 pub atom-func_in-f-requires : goal.atom-func_in-f-requires
@@ -118,16 +118,16 @@ atom-func_in-f-requires t c = c.requires.1
 pub atom-returns-then-f-cell : goal.atom-returns-then-f-cell
 atom-returns-then-f-cell t c =
     let args = c.args in
-    let cell4 = c.peek_cell-2 in
+    let cell4 = c.peek-2 in
     let func-in = c.func_in-f in
-    record { ahead = let z = c.lost-then-f-cell.ensures in omega arith; resolves = apply_lost args.s.now args.raw.now (names_in args.declared.now) (kinds_in args.declared.now) args.scope.now args.n args.at args.w args.out.now (sym c.peek_cell-k.ensures ∙ (let z = c.if-k-ne-APPLY_TAG.false in omega arith)) cell4.result func-in.result cell4.ensures func-in.ensures.number c.lost-then-f-cell.result args.out.now c.lost-then-f-cell.ensures (omega (arith, c.cell.ensures, c.if-f-cell.true)) }
+    record { ahead = let z = c.lost-then-f-cell.ensures in omega arith; resolves = apply_lost args.s.now args.raw.now (names_in args.declared.now) (kinds_in args.declared.now) args.scope.now args.n args.at args.w args.out.now (sym c.peek-k.ensures ∙ (let z = c.if-k-ne-APPLY_TAG.false in omega arith)) cell4.result func-in.result cell4.ensures func-in.ensures.number c.lost-then-f-cell.result args.out.now c.lost-then-f-cell.ensures (omega (arith, c.cell.ensures, c.if-f-cell.true)) }
 
 pub atom-overflow_add-at-3 : goal.atom-overflow_add-at-3
 atom-overflow_add-at-3 t c =
     let args = c.args in
     let q = c.requires.0 in
     let z = c.if-k-ne-APPLY_TAG.false in
-    let l = get_or_positive args.raw.now args.at (let k = c.peek_cell-k.ensures in omega arith) in
+    let l = get_or_positive args.raw.now args.at (let k = c.peek-k.ensures in omega arith) in
     omega arith
 
 pub atom-data_list-l-requires : goal.atom-data_list-l-requires
@@ -135,7 +135,7 @@ atom-data_list-l-requires t c =
     let args = c.args in
     let q = c.requires.0 in
     let z = c.if-k-ne-APPLY_TAG.false in
-    let l = get_or_positive args.raw.now args.at (let k = c.peek_cell-k.ensures in omega arith) in
+    let l = get_or_positive args.raw.now args.at (let k = c.peek-k.ensures in omega arith) in
     (omega arith, (omega arith, c.requires.1))
 
 pub atom-shape_of-out : goal.atom-shape_of-out
@@ -144,9 +144,9 @@ atom-shape_of-out t c = c.put-2.auto.out ∙ c.data_list-l.auto.out ∙ c.put-d.
 pub atom-returns : goal.atom-returns
 atom-returns t c =
     let args = c.args in
-    let cell = c.peek_cell-k in
+    let cell = c.peek-k in
     let called = c.data_list-l in
-    let cell4 = c.peek_cell-2 in
+    let cell4 = c.peek-2 in
     let func-in = c.func_in-f in
     let short2 = c.short-2 in
     let put3 = c.put-v in
@@ -163,14 +163,14 @@ atom-returns t c =
 pub comparison-overflow_add-at : goal.comparison-overflow_add-at
 comparison-overflow_add-at t c =
     let args = c.args in
-    let l = get_or_positive args.raw.now args.at (let k = c.peek_cell-k.ensures in omega arith) in
+    let l = get_or_positive args.raw.now args.at (let k = c.peek-k.ensures in omega arith) in
     omega arith
 
 pub comparison-negation-requires : goal.comparison-negation-requires
 comparison-negation-requires t c =
     let args = c.args in
     let q = c.requires.0 in
-    let l = get_or_positive args.raw.now args.at (let k = c.peek_cell-k.ensures in omega arith) in
+    let l = get_or_positive args.raw.now args.at (let k = c.peek-k.ensures in omega arith) in
     (omega arith, (omega arith, c.requires.1))
 
 pub comparison-shape_of-out-then-k-eq-ALONE_TAG : goal.comparison-shape_of-out-then-k-eq-ALONE_TAG
@@ -181,19 +181,19 @@ comparison-returns-then-k-eq-ALONE_TAG t c =
     let args = c.args in
     let called = c.negation in
     let a = called.ensures.ahead in
-    record { ahead = omega arith; resolves = alone_took args.s.now args.raw.now (names_in args.declared.now) (kinds_in args.declared.now) args.scope.now args.n args.at args.w args.out.now (sym c.peek_cell-k.ensures ∙ c.if-k-eq-ALONE_TAG.true) called.result called.new.out called.ensures.resolves }
+    record { ahead = omega arith; resolves = alone_took args.s.now args.raw.now (names_in args.declared.now) (kinds_in args.declared.now) args.scope.now args.n args.at args.w args.out.now (sym c.peek-k.ensures ∙ c.if-k-eq-ALONE_TAG.true) called.result called.new.out called.ensures.resolves }
 
 pub comparison-returns-then-k-ne-EQUAL_TAG : goal.comparison-returns-then-k-ne-EQUAL_TAG
 comparison-returns-then-k-ne-EQUAL_TAG t c =
     let args = c.args in
-    let cell = c.peek_cell-k in
+    let cell = c.peek-k in
     record { ahead = let z = c.lost.ensures in omega arith; resolves = comparison_lost args.s.now args.raw.now (names_in args.declared.now) (kinds_in args.declared.now) args.scope.now args.n args.at args.w args.out.now (λ e. c.if-k-eq-ALONE_TAG.false (cell.ensures ∙ e)) (λ e. c.if-k-ne-EQUAL_TAG.true (cell.ensures ∙ e)) c.lost.result args.out.now }
 
 pub comparison-overflow_add-at-2 : goal.comparison-overflow_add-at-2
 comparison-overflow_add-at-2 t c =
     let args = c.args in
     let z = c.if-k-ne-EQUAL_TAG.false in
-    let l = get_or_positive args.raw.now args.at (let k = c.peek_cell-k.ensures in omega arith) in
+    let l = get_or_positive args.raw.now args.at (let k = c.peek-k.ensures in omega arith) in
     omega arith
 
 pub comparison-negation-a-requires : goal.comparison-negation-a-requires
@@ -201,7 +201,7 @@ comparison-negation-a-requires t c =
     let args = c.args in
     let q = c.requires.0 in
     let z = c.if-k-ne-EQUAL_TAG.false in
-    let l = get_or_positive args.raw.now args.at (let k = c.peek_cell-k.ensures in omega arith) in
+    let l = get_or_positive args.raw.now args.at (let k = c.peek-k.ensures in omega arith) in
     (omega arith, (omega arith, c.requires.1))
 
 pub comparison-negation-b-requires : goal.comparison-negation-b-requires
@@ -210,7 +210,7 @@ comparison-negation-b-requires t c =
     let q = c.requires.0 in
     let z = c.if-k-ne-EQUAL_TAG.false in
     let a = c.negation-a.ensures.ahead in
-    let l = get_or_positive args.raw.now args.at (let k = c.peek_cell-k.ensures in omega arith) in
+    let l = get_or_positive args.raw.now args.at (let k = c.peek-k.ensures in omega arith) in
     (omega arith, (omega arith, c.requires.1))
 
 pub comparison-shape_of-out : goal.comparison-shape_of-out
@@ -220,56 +220,56 @@ pub comparison-returns : goal.comparison-returns
 comparison-returns t c =
     let args = c.args in
     let z = c.if-k-ne-EQUAL_TAG.false in
-    let l = get_or_positive args.raw.now args.at (let k = c.peek_cell-k.ensures in omega arith) in
+    let l = get_or_positive args.raw.now args.at (let k = c.peek-k.ensures in omega arith) in
     let first = c.negation-a in
     let second = c.negation-b in
     let a = first.ensures.ahead in
     let b = second.ensures.ahead in
-    record { ahead = omega arith; resolves = equal_took args.s.now args.raw.now (names_in args.declared.now) (kinds_in args.declared.now) args.scope.now args.n args.at args.w args.out.now c.requires.0 c.put-c.result c.put-v.result c.put-c.new.out c.put-v.new.out c.put-c.ensures c.put-v.ensures first.result first.new.out first.ensures.resolves second.result second.new.out second.ensures.resolves second.ensures.ahead c.peek_cell-x.result c.peek_cell-y.result c.peek_cell-x.ensures c.peek_cell-y.ensures c.equal_cell.result c.put.result c.put.new.out c.equal_cell.ensures c.put.ensures (sym c.peek_cell-k.ensures ∙ (let z = c.if-k-ne-EQUAL_TAG.false in omega arith)) }
+    record { ahead = omega arith; resolves = equal_took args.s.now args.raw.now (names_in args.declared.now) (kinds_in args.declared.now) args.scope.now args.n args.at args.w args.out.now c.requires.0 c.put-c.result c.put-v.result c.put-c.new.out c.put-v.new.out c.put-c.ensures c.put-v.ensures first.result first.new.out first.ensures.resolves second.result second.new.out second.ensures.resolves second.ensures.ahead c.peek-x.result c.peek-y.result c.peek-x.ensures c.peek-y.ensures c.equal_cell.result c.put.result c.put.new.out c.equal_cell.ensures c.put.ensures (sym c.peek-k.ensures ∙ (let z = c.if-k-ne-EQUAL_TAG.false in omega arith)) }
 
 pub conjunction-returns-then-k-lt-FIRST_ANDS : goal.conjunction-returns-then-k-lt-FIRST_ANDS
 conjunction-returns-then-k-lt-FIRST_ANDS t c =
     let args = c.args in
-    record { ahead = let z = c.lost.ensures in omega arith; resolves = conjunction_lost args.s.now args.raw.now (names_in args.declared.now) (kinds_in args.declared.now) args.scope.now args.n args.at args.w args.w args.out.now args.out.now (let k = c.peek_cell-k.ensures in omega arith) c.lost.result args.out.now }
+    record { ahead = let z = c.lost.ensures in omega arith; resolves = conjunction_lost args.s.now args.raw.now (names_in args.declared.now) (kinds_in args.declared.now) args.scope.now args.n args.at args.w args.w args.out.now args.out.now (let k = c.peek-k.ensures in omega arith) c.lost.result args.out.now }
 
 pub conjunction-overflow_add-p : goal.conjunction-overflow_add-p
 conjunction-overflow_add-p t c =
     let args = c.args in
-    let l = get_or_positive args.raw.now args.at (let k = c.peek_cell-k.ensures in omega arith) in
+    let l = get_or_positive args.raw.now args.at (let k = c.peek-k.ensures in omega arith) in
     omega arith
 
 pub conjunction-loop-i-init : goal.conjunction-loop-i-init
 conjunction-loop-i-init t c =
     let args = c.args in
-    ((omega arith, omega arith, refl), operands_start enc_comparison comparison_cells args.s.now args.raw.now (names_in args.declared.now) (kinds_in args.declared.now) args.scope.now args.n (args.at + 1) (c.wide_cell-more.result + 1) c.put_joins-v.result c.put_joins-v.new.out)
+    ((omega arith, omega arith, refl), operands_start enc_comparison comparison_cells args.s.now args.raw.now (names_in args.declared.now) (kinds_in args.declared.now) args.scope.now args.n (args.at + 1) (c.wide-more.result + 1) c.put_joins-v.result c.put_joins-v.new.out)
 
 pub conjunction-comparison-a-requires : goal.conjunction-comparison-a-requires
 conjunction-comparison-a-requires t c =
     let args = c.args in
     let q = c.requires.0 in
     let i = c.loop-i.invariant.0 in
-    let l = get_or_positive args.raw.now args.at (let k = c.peek_cell-k.ensures in omega arith) in
+    let l = get_or_positive args.raw.now args.at (let k = c.peek-k.ensures in omega arith) in
     (omega arith, (omega arith, c.requires.1))
 
 pub conjunction-overflow_add-i : goal.conjunction-overflow_add-i
 conjunction-overflow_add-i t c =
     let args = c.args in
     let b = c.type_inv.raw args.at in
-    let k = c.peek_cell-k.ensures in
-    let m = c.wide_cell-more.ensures.0 in
+    let k = c.peek-k.ensures in
+    let m = c.wide-more.ensures.0 in
     let i = c.loop-i.invariant.0 in
     omega (arith, b)
 
 pub conjunction-loop-i-preserved : goal.conjunction-loop-i-preserved
 conjunction-loop-i-preserved t c =
     let args = c.args in
-    let l = get_or_positive args.raw.now args.at (let k = c.peek_cell-k.ensures in let z = c.if-k-lt-FIRST_ANDS.false in omega arith) in
+    let l = get_or_positive args.raw.now args.at (let k = c.peek-k.ensures in let z = c.if-k-lt-FIRST_ANDS.false in omega arith) in
     let h = c.loop-i-test.true in
     let here = c.loop-i in
     let called = c.comparison-a in
     let a = called.ensures.ahead in
     let i = here.invariant.0 in
-    ((omega arith, omega arith, called.auto.out ∙ here.invariant.0.2), operands_step enc_comparison comparison_cells args.s.now args.raw.now (names_in args.declared.now) (kinds_in args.declared.now) args.scope.now args.n (args.at + 1) (c.wide_cell-more.result + 1) c.put_joins-v.result c.put_joins-v.new.out here.p here.v here.i here.out here.invariant.1 (omega arith) called.result called.new.out called.ensures.ahead called.ensures.resolves)
+    ((omega arith, omega arith, called.auto.out ∙ here.invariant.0.2), operands_step enc_comparison comparison_cells args.s.now args.raw.now (names_in args.declared.now) (kinds_in args.declared.now) args.scope.now args.n (args.at + 1) (c.wide-more.result + 1) c.put_joins-v.result c.put_joins-v.new.out here.p here.v here.i here.out here.invariant.1 (omega arith) called.result called.new.out called.ensures.ahead called.ensures.resolves)
 
 pub conjunction-shape_of-out : goal.conjunction-shape_of-out
 conjunction-shape_of-out t c = c.loop-i.invariant.0.2 ∙ c.put_joins-v.auto.out
@@ -277,10 +277,10 @@ conjunction-shape_of-out t c = c.loop-i.invariant.0.2 ∙ c.put_joins-v.auto.out
 pub conjunction-returns : goal.conjunction-returns
 conjunction-returns t c =
     let args = c.args in
-    let l = get_or_positive args.raw.now args.at (let k = c.peek_cell-k.ensures in omega arith) in
+    let l = get_or_positive args.raw.now args.at (let k = c.peek-k.ensures in omega arith) in
     let here = c.loop-i in
     let i = here.invariant.0 in
-    record { ahead = omega arith; resolves = conjunction_took args.s.now args.raw.now (names_in args.declared.now) (kinds_in args.declared.now) args.scope.now args.n args.at args.w c.put_joins-v.result args.out.now c.put_joins-v.new.out c.wide_cell-more.result here.p here.v here.i here.out (let k = c.peek_cell-k.ensures in let m = c.wide_cell-more.ensures.0 in omega arith) c.put_joins-v.ensures here.invariant.1 (omega arith) }
+    record { ahead = omega arith; resolves = conjunction_took args.s.now args.raw.now (names_in args.declared.now) (kinds_in args.declared.now) args.scope.now args.n args.at args.w c.put_joins-v.result args.out.now c.put_joins-v.new.out c.wide-more.result here.p here.v here.i here.out (let k = c.peek-k.ensures in let m = c.wide-more.ensures.0 in omega arith) c.put_joins-v.ensures here.invariant.1 (omega arith) }
 
 pub data_list-loop-p-init : goal.data_list-loop-p-init
 data_list-loop-p-init t c =
@@ -289,23 +289,23 @@ data_list-loop-p-init t c =
 
 pub data_list-overflow_add-p : goal.data_list-overflow_add-p
 data_list-overflow_add-p t c =
-    let l = get_or_positive c.args.raw.now c.loop-p.p (let k = c.peek_cell.ensures in omega arith) in
+    let l = get_or_positive c.args.raw.now c.loop-p.p (let k = c.peek.ensures in omega arith) in
     omega arith
 
 pub data_list-data_term-a-requires : goal.data_list-data_term-a-requires
 data_list-data_term-a-requires t c =
     let q = c.requires in
-    let l = get_or_positive c.args.raw.now c.loop-p.p (let k = c.peek_cell.ensures in omega arith) in
+    let l = get_or_positive c.args.raw.now c.loop-p.p (let k = c.peek.ensures in omega arith) in
     (omega arith, (omega arith, c.requires.1))
 
 pub data_list-overflow_add-count : goal.data_list-overflow_add-count
 data_list-overflow_add-count t c =
-    let l = get_or_positive c.args.raw.now c.loop-p.p (let k = c.peek_cell.ensures in omega arith) in
+    let l = get_or_positive c.args.raw.now c.loop-p.p (let k = c.peek.ensures in omega arith) in
     omega arith
 
 pub data_list-loop-p-smaller : goal.data_list-loop-p-smaller
 data_list-loop-p-smaller t c =
-    let l = get_or_positive c.args.raw.now c.loop-p.p (let k = c.peek_cell.ensures in omega arith) in
+    let l = get_or_positive c.args.raw.now c.loop-p.p (let k = c.peek.ensures in omega arith) in
     let a = c.data_term-a.ensures.ahead in
     omega arith
 
@@ -313,36 +313,36 @@ pub data_list-loop-p-preserved : goal.data_list-loop-p-preserved
 data_list-loop-p-preserved t c =
     let args = c.args in
     let here = c.loop-p in
-    let cell = c.peek_cell in
+    let cell = c.peek in
     let called = c.data_term-a in
     let l = get_or_positive args.raw.now here.p (let k = cell.ensures in omega arith) in
     let a = called.ensures.ahead in
     ((omega arith, called.auto.out ∙ here.invariant.0.1), list_step args.s.now args.raw.now (names_in args.declared.now) (kinds_in args.declared.now) args.scope.now args.n args.at args.w args.out.now here.p here.v here.count here.out here.invariant.1 (sym cell.ensures ∙ c.loop-p-test.true) called.result called.new.out called.ensures.resolves)
 
-pub data_list-shape_of-out-then-peek_cell-ne-ONE_TAG : goal.data_list-shape_of-out-then-peek_cell-ne-ONE_TAG
-data_list-shape_of-out-then-peek_cell-ne-ONE_TAG t c = c.loop-p.invariant.0.1
+pub data_list-shape_of-out-then-peek-ne-ONE_TAG : goal.data_list-shape_of-out-then-peek-ne-ONE_TAG
+data_list-shape_of-out-then-peek-ne-ONE_TAG t c = c.loop-p.invariant.0.1
 
-pub data_list-returns-then-peek_cell-ne-ONE_TAG : goal.data_list-returns-then-peek_cell-ne-ONE_TAG
-data_list-returns-then-peek_cell-ne-ONE_TAG t c =
+pub data_list-returns-then-peek-ne-ONE_TAG : goal.data_list-returns-then-peek-ne-ONE_TAG
+data_list-returns-then-peek-ne-ONE_TAG t c =
     let args = c.args in
     let here = c.loop-p in
     let z = c.lost-l.ensures in
-    record { ahead = omega arith; resolves = list_lost args.s.now args.raw.now (names_in args.declared.now) (kinds_in args.declared.now) args.scope.now args.n args.at args.w args.out.now here.p here.v here.count here.out here.invariant.1 (λ e. c.loop-p-test.false (c.peek_cell.ensures ∙ e)) (λ e. c.if-peek_cell-ne-ONE_TAG.true (c.peek_cell-2.ensures ∙ e)) (record { at = c.lost-l.result.at; w = here.v; count = here.count }) c.lost-l.ensures }
+    record { ahead = omega arith; resolves = list_lost args.s.now args.raw.now (names_in args.declared.now) (kinds_in args.declared.now) args.scope.now args.n args.at args.w args.out.now here.p here.v here.count here.out here.invariant.1 (λ e. c.loop-p-test.false (c.peek.ensures ∙ e)) (λ e. c.if-peek-ne-ONE_TAG.true (c.peek-2.ensures ∙ e)) (record { at = c.lost-l.result.at; w = here.v; count = here.count }) c.lost-l.ensures }
 
 pub data_list-overflow_add-p-2 : goal.data_list-overflow_add-p-2
 data_list-overflow_add-p-2 t c =
-    let l = get_or_positive c.args.raw.now c.loop-p.p (let k = c.peek_cell-2.ensures in omega arith) in
+    let l = get_or_positive c.args.raw.now c.loop-p.p (let k = c.peek-2.ensures in omega arith) in
     omega arith
 
 pub data_list-data_term-a-requires-2 : goal.data_list-data_term-a-requires-2
 data_list-data_term-a-requires-2 t c =
     let q = c.requires in
-    let l = get_or_positive c.args.raw.now c.loop-p.p (let k = c.peek_cell-2.ensures in omega arith) in
+    let l = get_or_positive c.args.raw.now c.loop-p.p (let k = c.peek-2.ensures in omega arith) in
     (omega arith, (omega arith, c.requires.1))
 
 pub data_list-overflow_add-result : goal.data_list-overflow_add-result
 data_list-overflow_add-result t c =
-    let l = get_or_positive c.args.raw.now c.loop-p.p (let k = c.peek_cell-2.ensures in omega arith) in
+    let l = get_or_positive c.args.raw.now c.loop-p.p (let k = c.peek-2.ensures in omega arith) in
     omega arith
 
 pub data_list-shape_of-out : goal.data_list-shape_of-out
@@ -354,58 +354,58 @@ data_list-returns t c =
     let here = c.loop-p in
     let data-term2 = c.data_term-a-2 in
     let q = c.requires in
-    let l = get_or_positive args.raw.now here.p (let k = c.peek_cell-2.ensures in omega arith) in
+    let l = get_or_positive args.raw.now here.p (let k = c.peek-2.ensures in omega arith) in
     let a = data-term2.ensures.ahead in
     record { ahead = omega arith; resolves = list_took args.s.now args.raw.now (names_in args.declared.now) (kinds_in args.declared.now) args.scope.now args.n args.at args.w args.out.now here.p here.v here.count here.out here.invariant.1 (omega arith) (omega arith) data-term2.result data-term2.new.out data-term2.ensures.resolves }
 
 pub data_term-returns-then-k-lt-FIRST_ORS : goal.data_term-returns-then-k-lt-FIRST_ORS
 data_term-returns-then-k-lt-FIRST_ORS t c =
     let args = c.args in
-    record { ahead = let z = c.lost.ensures in omega arith; resolves = data_lost args.s.now args.raw.now (names_in args.declared.now) (kinds_in args.declared.now) args.scope.now args.n args.at args.w args.w args.out.now args.out.now (λ a b. let k = c.peek_cell-k.ensures in omega arith) c.lost.result args.out.now }
+    record { ahead = let z = c.lost.ensures in omega arith; resolves = data_lost args.s.now args.raw.now (names_in args.declared.now) (kinds_in args.declared.now) args.scope.now args.n args.at args.w args.w args.out.now args.out.now (λ a b. let k = c.peek-k.ensures in omega arith) c.lost.result args.out.now }
 
 pub data_term-returns-then-k-ge-FIRST_ANDS : goal.data_term-returns-then-k-ge-FIRST_ANDS
 data_term-returns-then-k-ge-FIRST_ANDS t c =
     let args = c.args in
-    record { ahead = let z = c.lost-then-k-ge-FIRST_ANDS.ensures in omega arith; resolves = data_lost args.s.now args.raw.now (names_in args.declared.now) (kinds_in args.declared.now) args.scope.now args.n args.at args.w args.w args.out.now args.out.now (λ a b. let k = c.peek_cell-k.ensures in omega arith) c.lost-then-k-ge-FIRST_ANDS.result args.out.now }
+    record { ahead = let z = c.lost-then-k-ge-FIRST_ANDS.ensures in omega arith; resolves = data_lost args.s.now args.raw.now (names_in args.declared.now) (kinds_in args.declared.now) args.scope.now args.n args.at args.w args.w args.out.now args.out.now (λ a b. let k = c.peek-k.ensures in omega arith) c.lost-then-k-ge-FIRST_ANDS.result args.out.now }
 
 pub data_term-overflow_add-p : goal.data_term-overflow_add-p
 data_term-overflow_add-p t c =
     let args = c.args in
-    let l = get_or_positive args.raw.now args.at (let k = c.peek_cell-k.ensures in omega arith) in
+    let l = get_or_positive args.raw.now args.at (let k = c.peek-k.ensures in omega arith) in
     omega arith
 
 pub data_term-loop-i-init : goal.data_term-loop-i-init
 data_term-loop-i-init t c =
     let args = c.args in
-    ((omega arith, omega arith, refl), operands_start enc_conjunction conjunction_cells args.s.now args.raw.now (names_in args.declared.now) (kinds_in args.declared.now) args.scope.now args.n (args.at + 1) (c.wide_cell-more.result + 1) c.put_joins-v.result c.put_joins-v.new.out)
+    ((omega arith, omega arith, refl), operands_start enc_conjunction conjunction_cells args.s.now args.raw.now (names_in args.declared.now) (kinds_in args.declared.now) args.scope.now args.n (args.at + 1) (c.wide-more.result + 1) c.put_joins-v.result c.put_joins-v.new.out)
 
 pub data_term-conjunction-a-requires : goal.data_term-conjunction-a-requires
 data_term-conjunction-a-requires t c =
     let args = c.args in
     let q = c.requires.0 in
     let i = c.loop-i.invariant.0 in
-    let l = get_or_positive args.raw.now args.at (let k = c.peek_cell-k.ensures in omega arith) in
+    let l = get_or_positive args.raw.now args.at (let k = c.peek-k.ensures in omega arith) in
     (omega arith, (omega arith, c.requires.1))
 
 pub data_term-overflow_add-i : goal.data_term-overflow_add-i
 data_term-overflow_add-i t c =
     let args = c.args in
     let b = c.type_inv.raw args.at in
-    let k = c.peek_cell-k.ensures in
-    let m = c.wide_cell-more.ensures.0 in
+    let k = c.peek-k.ensures in
+    let m = c.wide-more.ensures.0 in
     let i = c.loop-i.invariant.0 in
     omega (arith, b)
 
 pub data_term-loop-i-preserved : goal.data_term-loop-i-preserved
 data_term-loop-i-preserved t c =
     let args = c.args in
-    let l = get_or_positive args.raw.now args.at (let k = c.peek_cell-k.ensures in let z = c.if-k-lt-FIRST_ORS.false in omega arith) in
+    let l = get_or_positive args.raw.now args.at (let k = c.peek-k.ensures in let z = c.if-k-lt-FIRST_ORS.false in omega arith) in
     let h = c.loop-i-test.true in
     let here = c.loop-i in
     let called = c.conjunction-a in
     let a = called.ensures.ahead in
     let i = here.invariant.0 in
-    ((omega arith, omega arith, called.auto.out ∙ here.invariant.0.2), operands_step enc_conjunction conjunction_cells args.s.now args.raw.now (names_in args.declared.now) (kinds_in args.declared.now) args.scope.now args.n (args.at + 1) (c.wide_cell-more.result + 1) c.put_joins-v.result c.put_joins-v.new.out here.p here.v here.i here.out here.invariant.1 (omega arith) called.result called.new.out called.ensures.ahead called.ensures.resolves)
+    ((omega arith, omega arith, called.auto.out ∙ here.invariant.0.2), operands_step enc_conjunction conjunction_cells args.s.now args.raw.now (names_in args.declared.now) (kinds_in args.declared.now) args.scope.now args.n (args.at + 1) (c.wide-more.result + 1) c.put_joins-v.result c.put_joins-v.new.out here.p here.v here.i here.out here.invariant.1 (omega arith) called.result called.new.out called.ensures.ahead called.ensures.resolves)
 
 pub data_term-shape_of-out : goal.data_term-shape_of-out
 data_term-shape_of-out t c = c.loop-i.invariant.0.2 ∙ c.put_joins-v.auto.out
@@ -413,10 +413,10 @@ data_term-shape_of-out t c = c.loop-i.invariant.0.2 ∙ c.put_joins-v.auto.out
 pub data_term-returns : goal.data_term-returns
 data_term-returns t c =
     let args = c.args in
-    let l = get_or_positive args.raw.now args.at (let k = c.peek_cell-k.ensures in omega arith) in
+    let l = get_or_positive args.raw.now args.at (let k = c.peek-k.ensures in omega arith) in
     let here = c.loop-i in
     let i = here.invariant.0 in
-    record { ahead = omega arith; resolves = data_took args.s.now args.raw.now (names_in args.declared.now) (kinds_in args.declared.now) args.scope.now args.n args.at args.w c.put_joins-v.result args.out.now c.put_joins-v.new.out c.wide_cell-more.result here.p here.v here.i here.out (let k = c.peek_cell-k.ensures in let m = c.wide_cell-more.ensures.0 in omega arith) c.put_joins-v.ensures here.invariant.1 (omega arith) }
+    record { ahead = omega arith; resolves = data_took args.s.now args.raw.now (names_in args.declared.now) (kinds_in args.declared.now) args.scope.now args.n args.at args.w c.put_joins-v.result args.out.now c.put_joins-v.new.out c.wide-more.result here.p here.v here.i here.out (let k = c.peek-k.ensures in let m = c.wide-more.ensures.0 in omega arith) c.put_joins-v.ensures here.invariant.1 (omega arith) }
 
 pub negation-loop-out-init : goal.negation-loop-out-init
 negation-loop-out-init t c =
@@ -427,22 +427,22 @@ pub negation-overflow_add-p : goal.negation-overflow_add-p
 negation-overflow_add-p t c =
     let args = c.args in
     let here = c.loop-out in
-    let l = get_or_positive args.raw.now here.p (let k = c.peek_cell.ensures in omega arith) in
+    let l = get_or_positive args.raw.now here.p (let k = c.peek.ensures in omega arith) in
     omega arith
 
 pub negation-loop-out-smaller : goal.negation-loop-out-smaller
 negation-loop-out-smaller t c =
     let args = c.args in
     let here = c.loop-out in
-    let l = get_or_positive args.raw.now here.p (let k = c.peek_cell.ensures in omega arith) in
+    let l = get_or_positive args.raw.now here.p (let k = c.peek.ensures in omega arith) in
     omega arith
 
 pub negation-loop-out-preserved : goal.negation-loop-out-preserved
 negation-loop-out-preserved t c =
     let args = c.args in
     let here = c.loop-out in
-    let l = get_or_positive args.raw.now here.p (let k = c.peek_cell.ensures in omega arith) in
-    ((omega arith, c.put-v.auto.out ∙ c.put-a.auto.out ∙ here.invariant.0.1), nots_step args.s.now args.raw.now (names_in args.declared.now) (kinds_in args.declared.now) args.scope.now args.n args.at args.w args.out.now here.p here.v here.out here.invariant.1 (sym c.peek_cell.ensures ∙ c.loop-out-test.true) c.put-a.result c.put-v.result c.put-a.new.out c.put-v.new.out c.put-a.ensures c.put-v.ensures)
+    let l = get_or_positive args.raw.now here.p (let k = c.peek.ensures in omega arith) in
+    ((omega arith, c.put-v.auto.out ∙ c.put-a.auto.out ∙ here.invariant.0.1), nots_step args.s.now args.raw.now (names_in args.declared.now) (kinds_in args.declared.now) args.scope.now args.n args.at args.w args.out.now here.p here.v here.out here.invariant.1 (sym c.peek.ensures ∙ c.loop-out-test.true) c.put-a.result c.put-v.result c.put-a.new.out c.put-v.new.out c.put-a.ensures c.put-v.ensures)
 
 pub negation-atom-requires : goal.negation-atom-requires
 negation-atom-requires t c =
@@ -460,4 +460,4 @@ negation-returns t c =
     let here = c.loop-out in
     let a = c.atom.ensures.ahead in
     let i = here.invariant.0 in
-    record { ahead = omega arith; resolves = nots_end args.s.now args.raw.now (names_in args.declared.now) (kinds_in args.declared.now) args.scope.now args.n args.at args.w args.out.now here.p here.v here.out here.invariant.1 (λ e. c.loop-out-test.false (c.peek_cell.ensures ∙ e)) c.atom.result c.atom.new.out c.atom.ensures.resolves }
+    record { ahead = omega arith; resolves = nots_end args.s.now args.raw.now (names_in args.declared.now) (kinds_in args.declared.now) args.scope.now args.n args.at args.w args.out.now here.p here.v here.out here.invariant.1 (λ e. c.loop-out-test.false (c.peek.ensures ∙ e)) c.atom.result c.atom.new.out c.atom.ensures.resolves }

@@ -9,7 +9,7 @@ use Rattle.resolver.proofs.data.given.Goals as goal
 pub overflow_add-result : goal.overflow_add-result
 overflow_add-result c =
     let args = c.args in
-    let l = get_or_positive args.raw.now args.at (let k = c.peek_cell-k.ensures in omega arith) in
+    let l = get_or_positive args.raw.now args.at (let k = c.peek-k.ensures in omega arith) in
     omega arith
 
 pub shape_of-out-then-k-eq-BARE_TAG : goal.shape_of-out-then-k-eq-BARE_TAG
@@ -20,7 +20,7 @@ returns-then-k-eq-BARE_TAG c =
     let args = c.args in
     let put = c.put-c in
     let put2 = c.put-v in
-    record { ahead = omega arith; resolves = given_bare args.s.now args.raw.now (names_in args.declared.now) (kinds_in args.declared.now) args.scope.now args.n args.at args.w args.out.now put.result put2.result put.new.out put2.new.out put.ensures put2.ensures (sym c.peek_cell-k.ensures ∙ c.if-k-eq-BARE_TAG.true) }
+    record { ahead = omega arith; resolves = given_bare args.s.now args.raw.now (names_in args.declared.now) (kinds_in args.declared.now) args.scope.now args.n args.at args.w args.out.now put.result put2.result put.new.out put2.new.out put.ensures put2.ensures (sym c.peek-k.ensures ∙ c.if-k-eq-BARE_TAG.true) }
 
 pub shape_of-out-then-k-ne-GIVEN_TAG : goal.shape_of-out-then-k-ne-GIVEN_TAG
 shape_of-out-then-k-ne-GIVEN_TAG c = c.put-v.auto.out ∙ c.put-c.auto.out
@@ -28,13 +28,13 @@ shape_of-out-then-k-ne-GIVEN_TAG c = c.put-v.auto.out ∙ c.put-c.auto.out
 pub returns-then-k-ne-GIVEN_TAG : goal.returns-then-k-ne-GIVEN_TAG
 returns-then-k-ne-GIVEN_TAG c =
     let args = c.args in
-    let cell = c.peek_cell-k in
+    let cell = c.peek-k in
     record { ahead = let z = c.lost.ensures in omega arith; resolves = given_lost args.s.now args.raw.now (names_in args.declared.now) (kinds_in args.declared.now) args.scope.now args.n args.at args.w args.out.now c.lost.result c.put-v.new.out (λ e. c.if-k-eq-BARE_TAG.false (cell.ensures ∙ e)) (λ e. c.if-k-ne-GIVEN_TAG.true (cell.ensures ∙ e)) }
 
 pub overflow_add-at : goal.overflow_add-at
 overflow_add-at c =
     let args = c.args in
-    let l = get_or_positive args.raw.now args.at (let k = c.peek_cell-k.ensures in omega arith) in
+    let l = get_or_positive args.raw.now args.at (let k = c.peek-k.ensures in omega arith) in
     omega arith
 
 pub data_list-l-requires : goal.data_list-l-requires
@@ -46,7 +46,7 @@ shape_of-out c = c.put-2.auto.out ∙ (c.put.auto.out ∙ (c.data_list-l.auto.ou
 pub returns : goal.returns
 returns c =
     let args = c.args in
-    let l = get_or_positive args.raw.now args.at (let k = c.peek_cell-k.ensures in omega arith) in
+    let l = get_or_positive args.raw.now args.at (let k = c.peek-k.ensures in omega arith) in
     let list = c.data_list-l in
     let put = c.put-c in
     let put2 = c.put-v in
@@ -54,4 +54,4 @@ returns c =
     let put4 = c.put-2 in
     let span = c.span in
     let a = list.ensures.ahead in
-    record { ahead = omega arith; resolves = given_took args.s.now args.raw.now (names_in args.declared.now) (kinds_in args.declared.now) args.scope.now args.n args.at args.w args.out.now put.result put2.result put.new.out put2.new.out put.ensures put2.ensures (sym c.peek_cell-k.ensures ∙ (let z = c.if-k-ne-GIVEN_TAG.false in omega arith)) list.result list.new.out c.short.result put3.result put3.new.out span.result put4.result put4.new.out list.ensures.resolves c.short.ensures put3.ensures span.ensures put4.ensures }
+    record { ahead = omega arith; resolves = given_took args.s.now args.raw.now (names_in args.declared.now) (kinds_in args.declared.now) args.scope.now args.n args.at args.w args.out.now put.result put2.result put.new.out put2.new.out put.ensures put2.ensures (sym c.peek-k.ensures ∙ (let z = c.if-k-ne-GIVEN_TAG.false in omega arith)) list.result list.new.out c.short.result put3.result put3.new.out span.result put4.result put4.new.out list.ensures.resolves c.short.ensures put3.ensures span.ensures put4.ensures }

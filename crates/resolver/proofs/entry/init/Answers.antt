@@ -16,7 +16,7 @@ proc_in-k-requires c = c.requires.2
 pub returns-then-k-cell : goal.returns-then-k-cell
 returns-then-k-cell c =
     let args = c.args in
-    init_unknown args.s.now args.raw.now (names_in args.declared.now) (kinds_in args.declared.now) args.scope.now args.at args.w args.out.now c.peek_cell.result c.proc_in-k.result c.peek_cell.ensures c.proc_in-k.ensures.number (omega (arith, c.cell.ensures, c.if-k-cell.true)) (record { ok = _; next = args.at; w = args.w }) args.out.now refl
+    init_unknown args.s.now args.raw.now (names_in args.declared.now) (kinds_in args.declared.now) args.scope.now args.at args.w args.out.now c.peek.result c.proc_in-k.result c.peek.ensures c.proc_in-k.ensures.number (omega (arith, c.cell.ensures, c.if-k-cell.true)) (record { ok = _; next = args.at; w = args.w }) args.out.now refl
 
 pub overflow_add-at-2 : goal.overflow_add-at-2
 overflow_add-at-2 c = let q = c.requires in omega arith
@@ -35,5 +35,5 @@ returns c =
     let given = c.given-a in
     let below = c.if-k-cell.false in
     let count = c.cell.ensures in
-    init_answered args.s.now args.raw.now (names_in args.declared.now) (kinds_in args.declared.now) args.scope.now args.at args.w args.out.now c.peek_cell.result c.proc_in-k.result c.peek_cell.ensures c.proc_in-k.ensures.number (omega arith) c.first_cell.result c.first_cell.ensures given.result given.new.out
+    init_answered args.s.now args.raw.now (names_in args.declared.now) (kinds_in args.declared.now) args.scope.now args.at args.w args.out.now c.peek.result c.proc_in-k.result c.peek.ensures c.proc_in-k.ensures.number (omega arith) c.first_cell.result c.first_cell.ensures given.result given.new.out
     (node_put args.s.now args.raw.now (names_in args.declared.now) (kinds_in args.declared.now) args.scope.now 0 (args.at + 1) c.first_cell.result args.w args.out.now put.result put.new.out put.ensures given.result given.new.out given.ensures.resolves)

@@ -99,7 +99,7 @@ term-loop-p-preserved-then-k-eq-SUM_TAG t c =
     let a = binder.ensures.ahead in
     let k = binder.auto.scope in
     let l = binder.auto.out in
-    ((omega arith, omega arith, λ h. (let b = binder.ensures.bound h in let d = b.0 in omega arith), omega arith, omega arith), kept_on args.n here.m binder.new.scope here.scope args.scope.now here.invariant.0.1 binder.ensures.kept here.invariant.1, term_binder args.s.now args.raw.now (names_in args.declared.now) (kinds_in args.declared.now) args.scope.now args.n args.from.at args.after args.from.w args.out.now here.p here.m here.r here.v here.scope here.out here.invariant.2 (sym c.peek_cell-k.ensures ∙ c.if-k-eq-SUM_TAG.true) loop-test.true (let w = here.invariant.0.3 in let f = q.0.scope_many in w ∙ f) q.0.kinds_few.sorts_few binder.result binder.new.out binder.ensures.binds binder.new.scope binder.ensures.bound)
+    ((omega arith, omega arith, λ h. (let b = binder.ensures.bound h in let d = b.0 in omega arith), omega arith, omega arith), kept_on args.n here.m binder.new.scope here.scope args.scope.now here.invariant.0.1 binder.ensures.kept here.invariant.1, term_binder args.s.now args.raw.now (names_in args.declared.now) (kinds_in args.declared.now) args.scope.now args.n args.from.at args.after args.from.w args.out.now here.p here.m here.r here.v here.scope here.out here.invariant.2 (sym c.peek-k.ensures ∙ c.if-k-eq-SUM_TAG.true) loop-test.true (let w = here.invariant.0.3 in let f = q.0.scope_many in w ∙ f) q.0.kinds_few.sorts_few binder.result binder.new.out binder.ensures.binds binder.new.scope binder.ensures.bound)
 
 pub term-named_part-requires : goal.term-named_part-requires
 term-named_part-requires t c =
@@ -121,7 +121,7 @@ term-returns-then-tokens-gt0 t c =
     let args = c.args in
     let here = c.loop-p in
     let named-part = c.named_part in
-    let cell = c.peek_cell-k in
+    let cell = c.peek-k in
     let q = c.requires in
     let i = here.invariant.0 in
     let a = named-part.ensures.ahead in
@@ -138,7 +138,7 @@ pub term-returns-then-f-eq0 : goal.term-returns-then-f-eq0
 term-returns-then-f-eq0 t c =
     let args = c.args in
     let here = c.loop-p in
-    let cell = c.peek_cell-k in
+    let cell = c.peek-k in
     let constant = c.constant in
     let q = c.requires in
     let i = here.invariant.0 in
@@ -152,7 +152,7 @@ term-loop-p-preserved-then-f-eq1 t c =
     let args = c.args in
     let here = c.loop-p in
     let loop-test = c.loop-p-test in
-    let cell = c.peek_cell-k in
+    let cell = c.peek-k in
     let q = c.requires in
     let i = here.invariant.0 in
     let h = loop-test.true in
@@ -183,7 +183,7 @@ term-loop-p-preserved t c =
     let args = c.args in
     let here = c.loop-p in
     let loop-test = c.loop-p-test in
-    let cell = c.peek_cell-k in
+    let cell = c.peek-k in
     let called = c.first_part-h in
     let q = c.requires in
     let i = here.invariant.0 in

@@ -19,7 +19,7 @@ returns-then-not-new_variable c =
     let few = c.requires.0 in
     let q = c.requires.1 in
     let z = c.lost.ensures in
-    record { ahead = omega arith; kept = nothing_changed args.n args.scope.now; bound = λ h. absurd (omega arith); binds = binder_old args.s.now args.raw.now (names_in args.declared.now) (kinds_in args.declared.now) args.scope.now args.n args.from.at args.after args.from.w args.out.now (omega arith) c.peek_cell-x.result c.peek_cell-x.ensures c.new_variable.result (says_new args.s.now (names_in args.declared.now) (kinds_in args.declared.now) args.scope.now args.n c.peek_cell-x.result c.new_variable.result c.new_variable.ensures) c.if-not-new_variable.true c.lost.result args.out.now c.lost.ensures }
+    record { ahead = omega arith; kept = nothing_changed args.n args.scope.now; bound = λ h. absurd (omega arith); binds = binder_old args.s.now args.raw.now (names_in args.declared.now) (kinds_in args.declared.now) args.scope.now args.n args.from.at args.after args.from.w args.out.now (omega arith) c.peek-x.result c.peek-x.ensures c.new_variable.result (says_new args.s.now (names_in args.declared.now) (kinds_in args.declared.now) args.scope.now args.n c.peek-x.result c.new_variable.result c.new_variable.ensures) c.if-not-new_variable.true c.lost.result args.out.now c.lost.ensures }
 
 pub overflow_add-from-2 : goal.overflow_add-from-2
 overflow_add-from-2 c = let q = c.requires in omega arith
@@ -33,7 +33,7 @@ returns-then-d-cell c =
     let few = c.requires.0 in
     let q = c.requires.1 in
     let z = c.lost-then-d-cell.ensures in
-    record { ahead = omega arith; kept = nothing_changed args.n args.scope.now; bound = λ h. absurd (omega arith); binds = binder_no_sort args.s.now args.raw.now (names_in args.declared.now) (kinds_in args.declared.now) args.scope.now args.n args.from.at args.after args.from.w args.out.now (omega arith) c.peek_cell-x.result c.peek_cell-x.ensures c.new_variable.result (says_new args.s.now (names_in args.declared.now) (kinds_in args.declared.now) args.scope.now args.n c.peek_cell-x.result c.new_variable.result c.new_variable.ensures) c.if-not-new_variable.false c.peek_cell.result c.peek_cell.ensures c.sort_in-d.result c.sort_in-d.ensures.number (omega (arith, c.cell.ensures, c.if-d-cell.true)) c.lost-then-d-cell.result args.out.now c.lost-then-d-cell.ensures }
+    record { ahead = omega arith; kept = nothing_changed args.n args.scope.now; bound = λ h. absurd (omega arith); binds = binder_no_sort args.s.now args.raw.now (names_in args.declared.now) (kinds_in args.declared.now) args.scope.now args.n args.from.at args.after args.from.w args.out.now (omega arith) c.peek-x.result c.peek-x.ensures c.new_variable.result (says_new args.s.now (names_in args.declared.now) (kinds_in args.declared.now) args.scope.now args.n c.peek-x.result c.new_variable.result c.new_variable.ensures) c.if-not-new_variable.false c.peek.result c.peek.ensures c.sort_in-d.result c.sort_in-d.ensures.number (omega (arith, c.cell.ensures, c.if-d-cell.true)) c.lost-then-d-cell.result args.out.now c.lost-then-d-cell.ensures }
 
 pub returns-then-n-ge-MAX_SCOPE : goal.returns-then-n-ge-MAX_SCOPE
 returns-then-n-ge-MAX_SCOPE c =
@@ -53,10 +53,10 @@ pub overflow_add-scope : goal.overflow_add-scope
 overflow_add-scope c = let q = c.requires in omega arith
 
 pub offset_bounds-scope-n-2 : goal.offset_bounds-scope-n-2
-offset_bounds-scope-n-2 c = let q = c.requires in let l = length-set c.args.scope.now c.args.n c.peek_cell-x.result in omega arith
+offset_bounds-scope-n-2 c = let q = c.requires in let l = length-set c.args.scope.now c.args.n c.peek-x.result in omega arith
 
 pub bounds-scope-n-2 : goal.bounds-scope-n-2
-bounds-scope-n-2 c = let q = c.requires in let l = length-set c.args.scope.now c.args.n c.peek_cell-x.result in omega arith
+bounds-scope-n-2 c = let q = c.requires in let l = length-set c.args.scope.now c.args.n c.peek-x.result in omega arith
 
 pub overflow_add-result : goal.overflow_add-result
 overflow_add-result c = let q = c.requires in omega arith
@@ -68,7 +68,7 @@ pub overflow_add-n : goal.overflow_add-n
 overflow_add-n c = let q = c.requires in omega arith
 
 pub shape_of-scope : goal.shape_of-scope
-shape_of-scope c = length-set (set c.args.scope.now c.args.n c.peek_cell-x.result) _ _ ∙ length-set c.args.scope.now c.args.n c.peek_cell-x.result
+shape_of-scope c = length-set (set c.args.scope.now c.args.n c.peek-x.result) _ _ ∙ length-set c.args.scope.now c.args.n c.peek-x.result
 
 pub shape_of-out : goal.shape_of-out
 shape_of-out c = c.put.auto.out ∙ c.node-v.auto.out
@@ -81,4 +81,4 @@ returns c =
     let found : c.sort_in-d.result ≤ (kinds_in args.declared.now).sorts = omega (arith, c.cell.ensures, c.if-d-cell.false) in
     let deep : args.n < 32 = c.if-n-ge-MAX_SCOPE.false in
     let sort = c.short.ensures (omega arith) in
-    record { ahead = omega arith; kept = push_kept args.scope.now args.n c.peek_cell-x.result c.short.result deep few.scope_many; bound = λ h. (deep, both_pushed args.s.now args.raw.now (names_in args.declared.now) (kinds_in args.declared.now) args.scope.now args.n args.from.at c.peek_cell-x.result c.peek_cell.result c.short.result c.sort_in-d.result c.peek_cell-x.ensures c.peek_cell.ensures c.sort_in-d.ensures.number sort); binds = binder_took args.s.now args.raw.now (names_in args.declared.now) (kinds_in args.declared.now) args.scope.now args.n args.from.at args.after args.from.w args.out.now (omega arith) c.peek_cell-x.result c.peek_cell-x.ensures c.new_variable.result (says_new args.s.now (names_in args.declared.now) (kinds_in args.declared.now) args.scope.now args.n c.peek_cell-x.result c.new_variable.result c.new_variable.ensures) c.if-not-new_variable.false c.peek_cell.result c.peek_cell.ensures c.sort_in-d.result c.sort_in-d.ensures.number found c.first_cell.result c.short-2.result c.node-v.result c.put.result c.node-v.new.out c.put.new.out c.first_cell.ensures (c.short-2.ensures (omega arith)) c.node-v.ensures c.put.ensures }
+    record { ahead = omega arith; kept = push_kept args.scope.now args.n c.peek-x.result c.short.result deep few.scope_many; bound = λ h. (deep, both_pushed args.s.now args.raw.now (names_in args.declared.now) (kinds_in args.declared.now) args.scope.now args.n args.from.at c.peek-x.result c.peek.result c.short.result c.sort_in-d.result c.peek-x.ensures c.peek.ensures c.sort_in-d.ensures.number sort); binds = binder_took args.s.now args.raw.now (names_in args.declared.now) (kinds_in args.declared.now) args.scope.now args.n args.from.at args.after args.from.w args.out.now (omega arith) c.peek-x.result c.peek-x.ensures c.new_variable.result (says_new args.s.now (names_in args.declared.now) (kinds_in args.declared.now) args.scope.now args.n c.peek-x.result c.new_variable.result c.new_variable.ensures) c.if-not-new_variable.false c.peek.result c.peek.ensures c.sort_in-d.result c.sort_in-d.ensures.number found c.first_cell.result c.short-2.result c.node-v.result c.put.result c.node-v.new.out c.put.new.out c.first_cell.ensures (c.short-2.ensures (omega arith)) c.node-v.ensures c.put.ensures }

@@ -16,7 +16,7 @@ named-f-requires c = let q = c.requires.0 in (omega arith, omega arith, c.requir
 pub returns-then-not-f : goal.returns-then-not-f
 returns-then-not-f c =
     let args = c.args in
-    record { ahead = let z = c.lost.ensures in omega arith; resolves = part_lost args.s.now args.raw.now (names_in args.declared.now) (kinds_in args.declared.now) args.scope.now args.n args.from.at args.after args.from.w args.out.now c.peek_cell.result c.peek_cell.ensures c.named-f.result c.named-f.ensures (not-true _ c.if-not-f.true) c.lost.result args.out.now c.lost.ensures }
+    record { ahead = let z = c.lost.ensures in omega arith; resolves = part_lost args.s.now args.raw.now (names_in args.declared.now) (kinds_in args.declared.now) args.scope.now args.n args.from.at args.after args.from.w args.out.now c.peek.result c.peek.ensures c.named-f.result c.named-f.ensures (not-true _ c.if-not-f.true) c.lost.result args.out.now c.lost.ensures }
 
 pub given-requires : goal.given-requires
 given-requires c = let q = c.requires.0 in (omega arith, c.requires.2)
@@ -31,4 +31,4 @@ returns c =
     let put = c.put-v in
     let given = c.given in
     let head = node_put args.s.now args.raw.now (names_in args.declared.now) (kinds_in args.declared.now) args.scope.now args.n args.from.at named.result.first args.from.w args.out.now put.result put.new.out put.ensures given.result given.new.out given.ensures.resolves in
-    record { ahead = given.ensures.ahead; resolves = part_took args.s.now args.raw.now (names_in args.declared.now) (kinds_in args.declared.now) args.scope.now args.n args.from.at args.after args.from.w args.out.now c.peek_cell.result c.peek_cell.ensures named.result named.ensures (not-false _ c.if-not-f.false) given.result given.new.out head }
+    record { ahead = given.ensures.ahead; resolves = part_took args.s.now args.raw.now (names_in args.declared.now) (kinds_in args.declared.now) args.scope.now args.n args.from.at args.after args.from.w args.out.now c.peek.result c.peek.ensures named.result named.ensures (not-false _ c.if-not-f.false) given.result given.new.out head }

@@ -48,7 +48,7 @@ process-r-requires c =
     let few = c.requires.2 in
     let at = proc_width * loop.k in
     let row = length-take-le (at + proc_width - at) (drop at loop.rows) (omega (arith, loop.invariant.0.rows_many, length-drop at loop.rows)) in
-    (c.requires.0, c.requires.1, c.wide_cell.ensures.1, omega (arith, row))
+    (c.requires.0, c.requires.1, c.wide.ensures.1, omega (arith, row))
 
 pub loop-k-preserved : goal.loop-k-preserved
 loop-k-preserved c =
@@ -65,7 +65,7 @@ loop-k-preserved c =
     let taken = c.loop-k-test.true in
     let cells = process.auto.out in (
       stays_on c.args.out.now c.loop-k.rows rows c.loop-k.out out c.loop-k.starts c.loop-k.k c.short.result c.loop-k.ok held (row_kept loop.rows row at (at + proc_width - at) room many).same cells,
-      procs_go c.args.s.now c.args.raw.now c.args.procs.now (names_in c.args.declared.now) (kinds_in c.args.declared.now) c.args.funcs.now c.loop-k.rows rows row c.loop-k.out out c.loop-k.starts c.loop-k.w c.loop-k.k c.wide_cell.result process.result taken cells c.wide_cell.ensures.0 c.loop-k.invariant.1 process.ensures
+      procs_go c.args.s.now c.args.raw.now c.args.procs.now (names_in c.args.declared.now) (kinds_in c.args.declared.now) c.args.funcs.now c.loop-k.rows rows row c.loop-k.out out c.loop-k.starts c.loop-k.w c.loop-k.k c.wide.result process.result taken cells c.wide.ensures.0 c.loop-k.invariant.1 process.ensures
           c.short.result (omega (arith, held.starts_many)) (omega (arith, c.requires.3, held.cells_same)) c.short.ensures (row_kept loop.rows row at (at + proc_width - at) room many) (λ Ds h. row_placed loop.rows row at (at + proc_width - at) room many Ds (omega arith)) (not-false _ c.if-not-r.false),
     )
 
@@ -90,5 +90,5 @@ returns-then-not-r c =
     let rows = with_row loop.rows row at (at + proc_width - at) room many in
     let out = process.new.out in
     let cells = process.auto.out in
-    procs_stop c.args.s.now c.args.raw.now c.args.procs.now (names_in c.args.declared.now) (kinds_in c.args.declared.now) c.args.funcs.now c.loop-k.rows rows row c.loop-k.out out c.loop-k.starts c.loop-k.w c.loop-k.k c.wide_cell.result process.result c.loop-k-test.true cells c.wide_cell.ensures.0 c.loop-k.invariant.1 process.ensures
+    procs_stop c.args.s.now c.args.raw.now c.args.procs.now (names_in c.args.declared.now) (kinds_in c.args.declared.now) c.args.funcs.now c.loop-k.rows rows row c.loop-k.out out c.loop-k.starts c.loop-k.w c.loop-k.k c.wide.result process.result c.loop-k-test.true cells c.wide.ensures.0 c.loop-k.invariant.1 process.ensures
     (record { ok = false; procs = rows; starts = set c.loop-k.starts c.loop-k.k c.short.result; w = c.loop-k.w }) (not-true _ c.if-not-r.true) refl

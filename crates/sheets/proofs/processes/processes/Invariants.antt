@@ -7,5 +7,3 @@ use Rattle.sheets.proofs.processes.processes.Given as goal
 abbrev pub invariant-loop-k : goal.invariant-loop-k
 invariant-loop-k l = Stays l.initial.out l.rows l.out l.starts l.ok × ProcsGone l.s l.raw l.procs (names_in l.declared) (kinds_in l.declared) l.funcs l.rows l.out l.starts l.w l.k
 
-abbrev pub decreases-loop-k : goal.decreases-loop-k
-decreases-loop-k l = length l.procs - l.k

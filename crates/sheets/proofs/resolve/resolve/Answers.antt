@@ -23,4 +23,4 @@ slice_bounds-resolve_lines-end-4 c =
 pub returns : goal.returns
 returns c =
     found_resolve c.args.s.now c.args.raw.now c.args.lines c.resolve_lines.new.values c.resolve_lines.new.out
-    c.resolve_lines.result c.wide_cell.result (rooms c.args.lines _ c.well_formed.1.1.0) c.requires.0 c.wide_cell.ensures.0 c.resolve_lines.ensures
+    c.resolve_lines.result c.wide.result (rooms c.args.lines _ c.well_formed.1.1.0) c.requires.0 c.wide.ensures.0 c.resolve_lines.ensures
