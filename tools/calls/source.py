@@ -18,18 +18,27 @@ READS_A_SHEET = ("wizbratel_check_sheet", "wizbratel_make_table", "wizbratel_wal
 LIBRARY = "wizbratel_c"
 ARCHIVE = "wizbratel"
 
-# What the sources call that they do not define: of the language.
-METHODS = {"len"}
-KIT = {"u32::count_ones", "u32::trailing_zeros"}
-# Attributes by which nothing is called.
-ATTRIBUTE = re.compile(r"unsafe\(no_mangle\)|repr\(C\)|derive\(Clone,Copy\)|inline\(never\)|(tactic|cycle)\(.*\)")
+# What the sources call that they do not define: of the language. None of them calls back.
+METHODS = set(
+    "len is_empty min max saturating_add saturating_sub copy_from_slice fill iter iter_mut copied enumerate rev zip chunks_exact "
+    "step_by get first last is_some is_none is_ok is_err ok_or ok unwrap_or".split()
+)
+KIT = {"count_ones", "trailing_zeros", "from", "try_from", "MAX"}
+CONSTRUCTORS = {"Some", "Ok", "Err"}
+# Attributes by which nothing is called: what derives write calls nothing of the sources, since no trait of theirs is SHUT.
+DERIVED = "Clone|Copy|Debug|PartialEq|Eq|PartialOrd|Ord|Drop|Default"
+ATTRIBUTE = re.compile(
+    r"unsafe\(no_mangle\)|repr\((C|u8)\)|derive\((%s)(,(%s))*\)|inline\(never\)|(tactic|cycle)\(.*\)" % (DERIVED, DERIVED)
+)
 NUMBERS = {"u8", "u16", "u32", "u64", "usize"}
+# Traits of the language that the sources may implement: their functions are called by name, or by `?` and a `for`.
+OPEN_TRAITS = {"From", "TryFrom"}
 
 # Words that are no name; and those that a body may not have, since they begin an item or a form that could hide a call.
 WORDS = set("as break continue else false for if in let loop match mut return self true while".split())
 SHUT_OUT = set(
     "async await const dyn enum extern fn ghost impl macro_rules mod move pub ref static struct super trait "
-    "type unsafe use where yield Self".split()
+    "type unsafe use where yield".split()
 )
 
 TOKEN = re.compile(
@@ -83,9 +92,9 @@ class Module:
 class Function:
     """A function: its name with crate, module and type; and what calls are looked for in."""
 
-    def __init__(self, key, module, place, exported, params, body):
+    def __init__(self, key, module, place, exported, params, body, types=frozenset()):
         self.key, self.module, self.place, self.exported = key, module, place, exported
-        self.params, self.body = params, body
+        self.params, self.body, self.types = params, body, types
 
 
 class Items:
@@ -201,6 +210,7 @@ class Items:
 
     def read_struct(self):
         name = self.next()
+        self.generics()
         self.module.add(name, "type", self.module.key(name))
         fields = self.group("(", ")") if self.peek() == "(" else self.group("{", "}")
         if "fn" in fields:
@@ -214,35 +224,82 @@ class Items:
         self.module.add(name, "type", key)
         inside, depth = self.group("{", "}"), 0
         for token in inside:
-            if depth == 0 and token not in (",", "(", "[", "{") and token.kind != "word":
+            if depth == 0 and token not in (",", "(", "[", "{", "=") and token.kind not in ("word", "number"):
                 self.fault("the enum `%s` is not read" % name)
             if depth == 0 and token.kind == "word":
                 self.world.member(key, token, ("variant", None))
             depth += (token in ("(", "[", "{")) - (token in (")", "]", "}"))
 
+    def generics(self):
+        """The names of type parameters, if there are any. A bound is no code."""
+        names, depth = set(), 0
+        while self.peek() == "<" or depth:
+            token = self.next()
+            if token in ("Fn", "FnMut", "FnOnce"):
+                self.fault("a function value is not read")
+            depth += token.count("<") - (token.count(">") if token != "->" else 0)
+            if depth == 1 and token.kind == "word" and self.tokens[self.at - 2] in ("<", ",", "const"):
+                names.add(token)
+        return names
+
+    def read_trait(self):
+        """A trait: what its functions do stands in the types that have it, or here."""
+        name = self.next()
+        self.module.add(name, "type", self.module.key(name))
+        self.generics()
+        self.until("{")
+        self.members(name)
+
     def read_impl(self):
+        """The functions of a type: its own, or those of a trait."""
+        types = self.generics()
         owner = self.next()
+        self.generics()
+        if self.peek() == "for":
+            self.next()
+            if owner not in OPEN_TRAITS and owner not in self.module.items:
+                self.fault("an `impl` of `%s` could hide a call" % owner)
+            owner = self.next()
+            self.generics()
+        self.members(owner, types)
+
+    def members(self, owner, types=frozenset()):
         self.next("{")
         while self.peek() != "}":
+            self.attributes()
             if self.peek() == "pub":
                 self.next()
-            self.next("fn")
-            self.read_fn(False, owner)
+            word = self.next()
+            if word == "fn":
+                self.read_fn(False, owner, types)
+            elif word in ("ghost", "type", "const"):
+                inside = self.until(";")
+                if word == "const" and any(t == "(" for t in inside):
+                    self.fault("a call in a constant is not read")
+                self.next(";")
+            else:
+                self.fault("a member that begins with `%s` is not read" % word)
         self.next("}")
 
-    def read_fn(self, exported, owner=None):
+    def read_fn(self, exported, owner=None, types=frozenset()):
         name = self.next()
-        if self.peek() == "<" and any(t.kind != "life" for t in self.until("(")[1:-1] if t != ","):
-            self.fault("a generic function is not read")
+        types = types | self.generics()
         params = self.group("(", ")")
-        result = self.until("{", "requires", "ensures")
-        if "fn" in params + result:
+        result = self.until("{", ";", "requires", "ensures")
+        if "fn" in params + result or "dyn" in params + result or "impl" in params + result or "Fn" in params + result:
             self.fault("a function value is not read")
-        while self.peek() != "{":
+        while self.peek() not in ("{", ";"):
             self.contract()
         key = self.module.key(*([owner, name] if owner else [name]))
+        if self.peek() == ";":
+            if not owner:
+                self.fault("a function without a body is not read")
+            self.next()
+            return
         body = self.group("{", "}")
-        self.world.function(Function(key, self.module, name.place, exported, params, body))
+        if owner and key in self.world.functions:
+            key += "@%s" % name.place.split(":")[-1]
+        self.world.function(Function(key, self.module, name.place, exported, params, body, types))
         if owner:
             self.world.member(self.module.key(owner), name, ("fn", key))
         else:
@@ -322,7 +379,7 @@ class World:
             found = [("mod", self.modules[name, ""])]
         if found and any(kind in ("mod", "type") and (kind, what) not in found for kind, what in own):
             raise Fault("%s: `%s` is a crate and an item too" % (name.place, name))
-        return own + found + ([("kit", str(name))] if name in NUMBERS else [])
+        return own + found
 
     def items(self, module, name, busy):
         """What stands in a module under a name, with what its `use` lines bring."""
@@ -336,12 +393,16 @@ class World:
             return self.items(what, name, busy)
         if kind == "type":
             return self.members.get(what, {}).get(name, [])
-        return [("kit", what + "::" + name)] if kind == "kit" else []
+        return []
 
     def method(self, name):
         """All methods of a name: the type of what it is called on is not looked for."""
         found = [item for names in self.members.values() for item in names.get(name, [])]
         return sorted(what for kind, what in found if kind == "fn")
+
+    def called_by(self, form):
+        """The methods that a form of the language calls: `?` turns an error, a `for` takes what comes next."""
+        return self.method("from" if form == "?" else "next")
 
 
 class Calls:
@@ -354,6 +415,8 @@ class Calls:
         for i, token in enumerate(self.body):
             self.shut_out(i, token)
             before, after = self.around(i)
+            if token in ("?", "for"):
+                self.found += [(key, token.place) for key in world.called_by(token)]
             if token.kind != "word" or token in WORDS or before == "::":
                 continue
             if before != ".":
@@ -366,9 +429,11 @@ class Calls:
 
     def locals(self):
         names = {one for one, two in zip(self.function.params, self.function.params[1:]) if two == ":"}
-        for i, token in enumerate(self.body[:-2]):
+        for i, token in enumerate(self.body):
             if token in ("let", "for"):
-                names.add(self.body[i + 2] if self.body[i + 1] == "mut" else self.body[i + 1])
+                ends = ("=", ":") if token == "let" else ("in",)
+                until = next((j for j in range(i + 1, len(self.body)) if self.body[j] in ends), i)
+                names |= {word for word in self.body[i + 1 : until] if word.kind == "word"}
         return names
 
     def fault(self, token, what):
@@ -378,7 +443,7 @@ class Calls:
         """Fails on a form that could hide a call."""
         before, after = self.around(i)
         word = isinstance(before, Token) and before.kind == "word" and before not in WORDS
-        if token in SHUT_OUT or not token.isascii() and token.kind != "text" or token in ("?", "#", "@", "$", "`", "\\"):
+        if token in SHUT_OUT or not token.isascii() and token.kind != "text" or token in ("#", "@", "$", "`", "\\"):
             self.fault(token, "`%s` is not read" % token)
         if token == "!" and word:
             self.fault(token, "the macro `%s!` is not read" % before)
@@ -386,27 +451,38 @@ class Calls:
             self.fault(token, "a call of a value is not read")
         if token in ("|", "||") and (before in ("(", "[", "{", ",", ";", "=", "=>", ":") or before in WORDS - {"true", "false", "self"}):
             self.fault(token, "a closure is not read")
-        if token == "::" and (after == "<" or not word):
+        if token == "::" and not word:
             self.fault(token, "a path by `::%s` is not read" % after)
-        if token == "for" and ".." not in self.header(i) and "..=" not in self.header(i):
-            self.fault(token, "a `for` over no range is not read")
 
-    def header(self, i):
-        return self.body[i : next(j for j in range(i, len(self.body)) if self.body[j] == "{")]
-
-    def method(self, token):
+    def method(self, token, known=METHODS):
         keys = self.world.method(token)
-        if not keys and token not in METHODS:
+        if not keys and token not in known:
             self.fault(token, "no method `%s` is known" % token)
         self.found += [(key, token.place) for key in keys]
+
+    def arguments(self, at):
+        """The place where arguments in pointed brackets end, which are no code."""
+        depth = 0
+        while True:
+            depth += self.body[at].count("<") - (self.body[at].count(">") if self.body[at] != "->" else 0)
+            if depth == 0:
+                return at
+            at += 1
 
     def path(self, i):
         """A path that begins at a token: a call, or something that is no function."""
         path, at = [self.body[i]], i
         while self.around(at)[1] == "::":
             at += 2
-            path.append(self.body[at])
+            if self.body[at] == "<":
+                at = self.arguments(at)
+            else:
+                path.append(self.body[at])
         after, first = self.around(at)[1], self.body[i]
+        if len(path) == 2 and (first in self.function.types or first == "Self" or first in NUMBERS):
+            return self.method(path[1], METHODS | KIT if first in NUMBERS else METHODS)
+        if path[0] in CONSTRUCTORS and len(path) == 1:
+            return None
         items = self.world.named(self.function.module, path)
         keys = {what for kind, what in items if kind == "fn"}
         if after != "(":
@@ -416,7 +492,7 @@ class Calls:
                 self.fault(first, "`%s` names nothing" % "::".join(path))
         elif len(keys) == 1:
             self.found.append((keys.pop(), first.place))
-        elif keys or not any(kind in ("variant", "type") or what in KIT for kind, what in items):
+        elif keys or not any(kind in ("variant", "type") for kind, what in items):
             self.fault(first, "`%s` is %s" % ("::".join(path), "ambiguous" if keys else "no function that is known"))
 
 
