@@ -25,7 +25,7 @@ pub returns-then-d-n : goal.returns-then-d-n
 returns-then-d-n c =
     let args = c.args in
     let d = c.data_at-d in
-    fits_function args.cells.now args.scope.now args.sizes.now args.funcs.now args.n args.at args.sort d.result d.ensures.data_views (λ z. omega arith) (λ z. omega arith) (omega arith) c.cell.result c.cell.ensures.0
+    fits_function args.cells.now args.scope.now args.sizes.now args.funcs.now args.n args.at args.sort d.result d.ensures.data_views (λ z. omega arith) (λ z. omega arith) (omega arith) c.cell-then-d-n.result c.cell-then-d-n.ensures.0
 
 pub returns-then-not-o : goal.returns-then-not-o
 returns-then-not-o c =
