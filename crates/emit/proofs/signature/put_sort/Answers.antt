@@ -15,4 +15,4 @@ returns c =
     let a = c.args in
     let size = c.put-v in
     let name = c.put_name in
-    other_put a.w a.out.now name.result name.new.out size.result size.new.out a.s.now a.sizes.now a.names.now a.d c.peek.result c.peek.result (omega arith) c.peek.ensures c.peek.ensures size.ensures name.ensures
+    other_put a.w a.out.now name.result name.new.out size.result size.new.out a.s.now a.sizes.now a.names.now a.d c.peek.result c.peek-2.result (omega arith) c.peek.ensures c.peek-2.ensures size.ensures name.ensures
