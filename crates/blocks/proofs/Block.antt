@@ -26,7 +26,7 @@ module _ (xs st h s z t : List ℕ) (number count x : ℕ) (len : length xs ≡ 
   -- Head, stream bytes, zeros and check, each written over its part, make the block.
   pub block_written :
       h ≡ low_first number ++ low_first count
-      → s ≡ st ++ drop (length st) (take (at - 4) (drop 4 ys₁))
+      → s ≡ st
       → z ≡ replicate (length (take (510 - at) (drop at ys₂))) 0
       → x ≡ crc (take 510 (drop 0 ys₃))
       → t ≡ high_first x
@@ -36,9 +36,8 @@ module _ (xs st h s z t : List ℕ) (number count x : ℕ) (len : length xs ≡ 
       let h4 : length h ≡ 4 = ap length eh in
       let f₁ : Front xs h ys₁ = rw h4 in
       let l₁ : length ys₁ ≡ 512 = front_length xs h ys₁ f₁ (omega arith) ∙ len in
-      let es' : s ≡ st = es ∙ ap (λ (l : List ℕ). st ++ l) (drop_of_length-le (take (at - 4) (drop 4 ys₁)) {i = length st} (omega (arith, length_part 4 (at - 4) ys₁ (omega arith)))) ∙ append-nil st in
-      let f₂ : Front xs (h ++ s) ys₂ = front_more xs h s ys₁ 4 (at - 4) f₁ h4 (omega (arith, ap length es')) in
-      let l₂ : length (h ++ s) ≡ at = omega (arith, length-append h s, ap length es') in
+      let f₂ : Front xs (h ++ s) ys₂ = front_more xs h s ys₁ 4 (at - 4) f₁ h4 (omega (arith, ap length es)) in
+      let l₂ : length (h ++ s) ≡ at = omega (arith, length-append h s, ap length es) in
       let l₂' : length ys₂ ≡ 512 = front_length xs (h ++ s) ys₂ f₂ (omega arith) ∙ len in
       let ez' : z ≡ replicate (510 - at) 0 = ez ∙ ap (λ (k : ℕ). replicate k 0) (length_part at (510 - at) ys₂ (omega arith)) in
       let lz : length z ≡ 510 - at = ap length ez' ∙ length-replicate (510 - at) 0 in
@@ -46,7 +45,7 @@ module _ (xs st h s z t : List ℕ) (number count x : ℕ) (len : length xs ≡ 
       let l₃ : length ((h ++ s) ++ z) ≡ 510 = omega (arith, length-append (h ++ s) z, l₂, lz) in
       let left : 510 - at ≡ 506 - length st = omega arith in
       let body : (h ++ s) ++ z ≡ block_body number count st =
-      append_assoc h s z ∙ ap₂ (λ (p r : List ℕ). p ++ r) eh (ap₂ (λ (p r : List ℕ). p ++ r) es' (ez' ∙ ap (λ (k : ℕ). replicate k 0) left)) in
+      append_assoc h s z ∙ ap₂ (λ (p r : List ℕ). p ++ r) eh (ap₂ (λ (p r : List ℕ). p ++ r) es (ez' ∙ ap (λ (k : ℕ). replicate k 0) left)) in
       let ex' : x ≡ crc (block_body number count st) = ex ∙ ap crc (ap (take 510) f₃ ∙ take_at ((h ++ s) ++ z) (drop (length ((h ++ s) ++ z)) xs) 510 l₃ ∙ body) in
       let f₄ : Front xs (((h ++ s) ++ z) ++ t) (put_mid 510 2 ys₃ t) = front_more xs ((h ++ s) ++ z) t ys₃ 510 2 f₃ l₃ (ap length et) in
       let l₄ : length (((h ++ s) ++ z) ++ t) ≡ 512 = omega (arith, length-append ((h ++ s) ++ z) t, l₃, ap length et) in

@@ -1,11 +1,11 @@
 -- Questions 12 and 13 in code: block by block, and what that answers for the file.
 use mathlib.Core.Path.{◌≡◌, refl, sym, ◌∙◌, ap}
-use mathlib.Core.List.{List, ◌++◌, append-nil}
+use mathlib.Core.List.{List, ◌++◌}
 use mathlib.Core.Bool.{Bool, true, false}
 use Prim.Native.Nat.{ℕ, ◌+◌, ◌-◌, ◌*◌, ◌/◌, ◌≤◌, ◌<◌}
 use native.Mathlib.Omega.{arith}
 use borrow.Author.Count.{below_more}
-use lib.ListN.{length, take, drop, drop_of_length-le}
+use lib.ListN.{length, take, drop}
 use lib.Seq.{take_at}
 use Rattle.pcrl.specs.Result.{refused, accepted}
 use Rattle.pcrl.specs.Blocks.{block_bytes, block_stream, block, RightLength, right_length?, block_count, block_at, stream_at, RightBlock, RightBlocks, right_blocks?, stream_of}
@@ -14,7 +14,9 @@ use Rattle.laws.specs.Questions.{question_passes, question_fails}
 use Rattle.laws.specs.Says.{Says, said_yes, said_no}
 use Rattle.codec.specs.Cut.{every_tabulate, every_tabulated, length_joined}
 use Rattle.codec.specs.FileOfStream.{length_stream_at}
-use Rattle.blocks.specs.declared.Opened.{Opened}
+use Rattle.std.specs.Prelude.{Ok, Err}
+use Rattle.refusals.specs.declared.Refusal.TheVariants.{NoFile, WrongBlock}
+use Rattle.refusals.specs.Answered.{Answered}
 use Rattle.blocks.specs.Answers.{Hands, Opens}
 use Rattle.blocks.proofs.Fronts.{cut, cut_is, length_cut, length_part}
 use Rattle.blocks.proofs.Joined.{Laid, laid_none, laid_more, laid_all}
@@ -24,10 +26,6 @@ use Rattle.blocks.proofs.Joined.{Laid, laid_none, laid_more, laid_all}
 tells_right : (f b : List ℕ) (i n : ℕ) (r : Bool) → b ≡ block_at f i → n ≡ block_count f → Says r (b ≡ block i n (take block_stream (drop 4 b))) → Says r (RightBlock f i)
 unfolding RightBlock stream_at
 tells_right f b i n r eb en t = rw (eb, en) at t
-
--- what is copied over a part of its length is the part
-copied : (t old new : List ℕ) → length old ≤ length t → new ≡ t ++ drop (length t) old → new ≡ t
-copied t old new h e = e ∙ ap (λ (l : List ℕ). t ++ l) (drop_of_length-le old {i = length t} h) ∙ append-nil t
 
 -- ALL BLOCKS
 
@@ -58,7 +56,7 @@ module _ (f out₀ out : List ℕ) (i : ℕ) (right : RightLength f) (room : len
   length_place = length_cut 506 i out (omega arith)
 
   -- there is room for them
-  pub stream_fits : length its_stream ≤ length (cut 506 i out)
+  pub stream_fits : length (cut 506 i out) ≡ length its_stream
   stream_fits = omega (arith, length_its_stream, length_place)
 
   it_is : it ≡ block_at f i
@@ -75,11 +73,11 @@ module _ (f out₀ out : List ℕ) (i : ℕ) (right : RightLength f) (room : len
     right? = tells_right f it i (length f / 512) r it_is refl t
 
     -- Block i is right, and its stream bytes are copied.
-    pub read_more : (new : List ℕ) → r ≡ true → new ≡ its_stream ++ drop (length its_stream) (cut 506 i out)
+    pub read_more : (new : List ℕ) → r ≡ true → new ≡ its_stream
         → Read f out₀ (take (i * 506) out ++ (new ++ drop (i * 506 + 506 - i * 506) (drop (i * 506) out))) (i + 1)
     unfolding RightLength block_count
     read_more new er e =
-        let place : new ≡ stream_at f i = copied its_stream (cut 506 i out) new (omega (arith, length_its_stream, length_place)) e ∙ its_stream_is in
+        let place : new ≡ stream_at f i = e ∙ its_stream_is in
         (laid_more (length f / 512) 506 (stream_at f) (length_stream_at f right) out₀ out new i (omega arith) h before.0 place, below_more (RightBlock f) i before.1 (said_yes r right? er))
 
     -- Block i is wrong.
@@ -113,18 +111,18 @@ module _ (f : List ℕ) where
   length_stream_of right = length_joined (length f / 512) 506 (stream_at f) (length_stream_at f right)
 
   -- What is answered, by what the tests said.
-  module _ (r : Opened) (out out' : List ℕ) where
-    pub opens_12 : ¬ RightLength f → r.refused ≡ 12 → Opens (stream_read f) r out
-    unfolding Opens
-    opens_12 wrong e = rw (refused_12 wrong) e
+  module _ (out out' : List ℕ) where
+    pub opens_12 : ¬ RightLength f → Opens (stream_read f) (Err NoFile) out
+    unfolding Answered
+    opens_12 wrong = rw (refused_12 wrong) refl
 
-    pub opens_13 : (b : Bool) → RightLength f → Hands b f out out' → b ≡ false → r.refused ≡ 13 → Opens (stream_read f) r out'
-    unfolding Opens Hands
-    opens_13 b right h eb e = rw (refused_13 right (rw eb at h)) e
+    pub opens_13 : (b : Bool) → RightLength f → Hands b f out out' → b ≡ false → Opens (stream_read f) (Err WrongBlock) out'
+    unfolding Answered Hands
+    opens_13 b right h eb = rw (refused_13 right (rw eb at h)) refl
 
-    pub opens_all : (b : Bool) → RightLength f → Hands b f out out' → b ≡ true → r.refused ≡ 0 → r.count ≡ length f / 512 * 506 → Opens (stream_read f) r out'
-    unfolding Opens Hands
-    opens_all b right h eb e ec =
+    pub opens_all : (b : Bool) (n : ℕ) → RightLength f → Hands b f out out' → b ≡ true → n ≡ length f / 512 * 506 → Opens (stream_read f) (Ok n) out'
+    unfolding Answered Hands
+    opens_all b n right h eb ec =
         let (blocks, front) : RightBlocks f × (out' ≡ stream_of f ++ drop (length (stream_of f)) out) = rw eb at h in
-        let c : r.count ≡ length (stream_of f) = ec ∙ sym (length_stream_of right) in
-        rw (read_whole right blocks) (e, c, ap (take r.count) front ∙ take_at (stream_of f) (drop (length (stream_of f)) out) r.count (sym c))
+        let c : n ≡ length (stream_of f) = ec ∙ sym (length_stream_of right) in
+        rw (read_whole right blocks) (c, ap (take n) front ∙ take_at (stream_of f) (drop (length (stream_of f)) out) n (sym c))

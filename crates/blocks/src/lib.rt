@@ -9,10 +9,9 @@ ghost use Rattle.pcrl.specs.Tests.{Between};
 ghost use Rattle.pcrl.specs.Blocks.{block_bytes, block_stream, low_first, high_first, block as block_of, blocks_for, file_of_stream, max_file, RightLength};
 ghost use Rattle.pcrl.specs.Answers.{stream_filed, output_after, stream_read};
 ghost use Rattle.laws.specs.Says.{Says};
-ghost use Rattle.blocks.specs.Answers.{filed_answer, Hands, Opens};
+ghost use Rattle.blocks.specs.Answers.{Filed, Hands, Opens};
 
-use elements::smaller;
-use limits::{NO_FILE, NO_ROOM, WRONG_BLOCK};
+use refusals::Refusal;
 
 // "Each 512 bytes: number and block count, two bytes each; 506 stream bytes; CRC-16"
 const BLOCK: usize = 512;
@@ -38,37 +37,11 @@ pub const SHORT_FILE: usize = 4096;
 
 pub const SHORT_STREAM: usize = 4048;
 
-// The answer of a writer: the number of the question that failed, or how many bytes were written.
-#[derive(Clone, Copy)]
-pub enum Filed {
-    Refused(u8),
-    Bytes(usize),
-}
-
-// The answer of a reader: the number of the question that failed, or 0 and how many bytes the stream has.
-#[derive(Clone, Copy)]
-pub struct Opened {
-    pub refused: u8,
-    pub count: usize,
-}
-
 // Zeros over a whole slice.
 pub fn fill(s: &mut [u8])
     ensures { s.new ≡ replicate (length s.old) 0 }
 {
-    for i in 0..s.len() {
-        s[i] = 0;
-    }
-}
-
-// Bytes over the front of a slice.
-fn copy(s: &mut [u8], t: &[u8])
-    requires { length t.now ≤ length s.old }
-    ensures { s.new ≡ t.now ++ drop (length t.now) s.old }
-{
-    for i in 0..t.len() {
-        s[i] = t[i];
-    }
+    s.fill(0);
 }
 
 // "number (from 0) and block count, two bytes each, low first"
@@ -98,7 +71,7 @@ fn write_block(block: &mut [u8], number: usize, count: usize, stream: &[u8])
 {
     head(&mut block[0..STREAM_START], number, count);
     let at = STREAM_START + stream.len();
-    copy(&mut block[STREAM_START..at], stream);
+    block[STREAM_START..at].copy_from_slice(stream);
     fill(&mut block[at..STREAM_END]);
     let x = crc::crc16(&block[0..STREAM_END]);
     tail(&mut block[STREAM_END..BLOCK], x);
@@ -111,28 +84,27 @@ fn write_blocks(stream: &[u8], out: &mut [u8], count: usize)
 {
     for i in 0..count {
         let from = i * BLOCK_STREAM;
-        let to = smaller(from + BLOCK_STREAM, stream.len());
+        let to = (from + BLOCK_STREAM).min(stream.len());
         let at = i * BLOCK;
         let end = at + BLOCK;
         write_block(&mut out[at..end], i, count, &stream[from..to]);
     }
 }
 
-// 11: "The lent output long enough for its blocks?"
+// 11: "The lent output long enough for its blocks?" Else how many bytes were written.
 // A refusal alters nothing, and beyond the blocks nothing is touched.
-pub fn write_file(stream: &[u8], out: &mut [u8]) -> Filed
+pub fn write_file(stream: &[u8], out: &mut [u8]) -> Result<usize, Refusal>
     requires { length stream.now ≤ max_stream }
-    ensures answer { result ≡ filed_answer (stream_filed stream.now (length out.old)) }
+    ensures answer { Filed (stream_filed stream.now (length out.old)) result }
     ensures written { out.new ≡ output_after (stream_filed stream.now (length out.old)) out.old }
 {
     let count = (stream.len() + (BLOCK_STREAM - 1)) / BLOCK_STREAM;
     let size = count * BLOCK;
-    if size <= out.len() {
-        write_blocks(stream, out, count);
-        Filed::Bytes(size)
-    } else {
-        Filed::Refused(NO_ROOM)
+    if out.len() < size {
+        return Err(Refusal::NoRoom);
     }
+    write_blocks(stream, out, count);
+    Ok(size)
 }
 
 // A number of two bytes.
@@ -172,7 +144,7 @@ fn read_blocks(file: &[u8], out: &mut [u8]) -> bool
         }
         let to = i * BLOCK_STREAM;
         let till = to + BLOCK_STREAM;
-        copy(&mut out[to..till], &block[STREAM_START..STREAM_END]);
+        out[to..till].copy_from_slice(&block[STREAM_START..STREAM_END]);
     }
     true
 }
@@ -190,25 +162,16 @@ fn right_length(n: usize) -> bool
     n % BLOCK == 0
 }
 
-// Questions 12 and 13, put to any bytes; of a file that is too long none is read.
-pub fn read_file(file: &[u8], out: &mut [u8]) -> Opened
+// Questions 12 and 13, put to any bytes; of a file that is too long none is read. Else how many bytes the stream has.
+pub fn read_file(file: &[u8], out: &mut [u8]) -> Result<usize, Refusal>
     requires { min (length file.now / block_bytes * block_stream) max_stream ≤ length out.old }
     ensures { Opens (stream_read file.now) result out.new }
 {
     if !right_length(file.len()) {
-        return Opened {
-            refused: NO_FILE,
-            count: 0,
-        };
+        return Err(Refusal::NoFile);
     }
     if !read_blocks(file, out) {
-        return Opened {
-            refused: WRONG_BLOCK,
-            count: 0,
-        };
+        return Err(Refusal::WrongBlock);
     }
-    Opened {
-        refused: 0,
-        count: file.len() / BLOCK * BLOCK_STREAM,
-    }
+    Ok(file.len() / BLOCK * BLOCK_STREAM)
 }

@@ -1,7 +1,5 @@
 -- Each question is put, and its answer is that of the rules.
 use mathlib.Core.Path.{refl}
-use Prim.Native.Nat.{◌*◌, ◌/◌}
-use lib.ListN.{length}
 use native.Mathlib.Omega.{arith}
 use Rattle.pcrl.specs.Blocks.{RightLength}
 use Rattle.laws.specs.Says.{said_yes, said_no}
@@ -12,7 +10,7 @@ pub returns-then-not-right_length : goal.returns-then-not-right_length
 unfolding RightLength
 returns-then-not-right_length c =
     let a = c.args in
-    opens_12 a.file.now (record { refused = 12; count = 0 }) a.out.now a.out.now (said_no c.right_length.result c.right_length.ensures c.if-not-right_length.true) refl
+    opens_12 a.file.now a.out.now a.out.now (said_no c.right_length.result c.right_length.ensures c.if-not-right_length.true)
 
 pub read_blocks-requires : goal.read_blocks-requires
 unfolding RightLength
@@ -26,7 +24,7 @@ returns-then-not-read_blocks c =
     let a = c.args in
     let blocks = c.read_blocks in
     let right = said_yes c.right_length.result c.right_length.ensures c.if-not-right_length.false in
-    opens_13 a.file.now (record { refused = 13; count = 0 }) a.out.now blocks.new.out _ right blocks.ensures c.if-not-read_blocks.true refl
+    opens_13 a.file.now a.out.now blocks.new.out _ right blocks.ensures c.if-not-read_blocks.true
 
 pub returns : goal.returns
 unfolding RightLength
@@ -34,4 +32,4 @@ returns c =
     let a = c.args in
     let blocks = c.read_blocks in
     let right = said_yes c.right_length.result c.right_length.ensures c.if-not-right_length.false in
-    opens_all a.file.now (record { refused = 0; count = length a.file.now / 512 * 506 }) a.out.now blocks.new.out _ right blocks.ensures c.if-not-read_blocks.false refl refl
+    opens_all a.file.now a.out.now blocks.new.out _ _ right blocks.ensures c.if-not-read_blocks.false refl

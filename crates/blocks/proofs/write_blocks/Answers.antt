@@ -21,14 +21,14 @@ write_block-requires c =
     let l = c.loop-i in
     let a = c.args in
     let p = c.requires in
-    block_fits a.stream.now a.out.now l.out a.count l.i c.smaller-to.result p.1 p.2 (omega arith) c.smaller-to.ensures l.invariant
+    block_fits a.stream.now a.out.now l.out a.count l.i c.min-to.result p.1 p.2 (omega arith) c.min-to.ensures l.invariant
 
 pub loop-i-preserved : goal.loop-i-preserved
 loop-i-preserved c =
     let l = c.loop-i in
     let a = c.args in
     let p = c.requires in
-    write_more a.stream.now a.out.now l.out a.count l.i c.smaller-to.result p.1 p.2 (omega arith) c.smaller-to.ensures l.invariant c.write_block.new.block c.write_block.ensures
+    write_more a.stream.now a.out.now l.out a.count l.i c.min-to.result p.1 p.2 (omega arith) c.min-to.ensures l.invariant c.write_block.new.block c.write_block.ensures
 
 pub returns : goal.returns
 returns c =

@@ -11,20 +11,20 @@ pub write_blocks-requires : goal.write_blocks-requires
 unfolding blocks_for
 write_blocks-requires c = (omega arith, refl, omega arith)
 
-pub returns-then-size-out : goal.returns-then-size-out
+pub returns : goal.returns
 unfolding blocks_for
-returns-then-size-out c =
+returns c =
     let a = c.args in
     record {
-      answer = answer_fits a.stream.now a.out.now ((length a.stream.now + 505) / 506 * 512) refl c.if-size-out.true;
-      written = output_fits a.stream.now a.out.now ((length a.stream.now + 505) / 506 * 512) refl _ c.if-size-out.true c.write_blocks.ensures;
+      answer = answer_fits a.stream.now a.out.now ((length a.stream.now + 505) / 506 * 512) refl c.if-out-size.false;
+      written = output_fits a.stream.now a.out.now ((length a.stream.now + 505) / 506 * 512) refl _ c.if-out-size.false c.write_blocks.ensures;
     }
 
-pub returns-else-size-out : goal.returns-else-size-out
+pub returns-then-out-size : goal.returns-then-out-size
 unfolding blocks_for
-returns-else-size-out c =
+returns-then-out-size c =
     let a = c.args in
     record {
-      answer = answer_refused a.stream.now a.out.now ((length a.stream.now + 505) / 506 * 512) refl c.if-size-out.false;
-      written = output_refused a.stream.now a.out.now ((length a.stream.now + 505) / 506 * 512) refl c.if-size-out.false;
+      answer = answer_refused a.stream.now a.out.now ((length a.stream.now + 505) / 506 * 512) refl c.if-out-size.true;
+      written = output_refused a.stream.now a.out.now ((length a.stream.now + 505) / 506 * 512) refl c.if-out-size.true;
     }
