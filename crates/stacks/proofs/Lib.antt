@@ -3,3 +3,4 @@ pub mod FittingLaws
 pub mod RightFrameLaws
 pub mod Filling
 pub mod StartLaws
+pub mod Parts

@@ -2,7 +2,7 @@
 use mathlib.Core.Path.{◌≡◌, refl, sym, ap, ap₂, subst, ◌∙◌}
 use mathlib.Core.List.{List}
 use mathlib.Core.Bool.{Bool, true, false}
-use Prim.Native.Nat.{ℕ, suc, ◌+◌, ◌-◌, ◌*◌, ◌/◌, ◌<◌, ◌≤◌, min}
+use Prim.Native.Nat.{ℕ, ◌+◌, ◌-◌, ◌*◌, ◌/◌, ◌<◌, ◌≤◌, min}
 use native.Mathlib.Omega.{arith}
 use native.Mathlib.Decide.{dec_lt, ℕ_discrete}
 use lib.Dec.{eqb}
@@ -136,14 +136,18 @@ module _ (width : ℕ) (bytes : List ℕ) (at : ℕ) (inside : at + frame_bytes 
         (subst (IsZero width) (sym (frame_cut width bytes cut at refl)) z))
   ]
 
--- zeros from a byte on, one byte after another from the last one down
-abbrev pub From : List ℕ → ℕ → ℕ → Type 0
-From s at end = (k : ℕ) → at ≤ k → k < end → get_or s k 0 ≡ 0
+-- the first n bytes are zeros
+abbrev pub Front : List ℕ → ℕ → Type 0
+Front s n = (k : ℕ) → k < n → get_or s k 0 ≡ 0
 
-pub one_more_zero : (s : List ℕ) (end j i : ℕ) → j ≡ suc i → i < end → (good : Bool) → Says good (From s j end) → Says (and good (eqb (get_or s i 0) 0)) (From s i end)
-one_more_zero s end j i z h true q =
-    says_as (eqb (get_or s i 0) 0) (λ e k l w. elim (ℕ_discrete k i) [ yes a ↦ ap (λ (x : ℕ). get_or s x 0) a ∙ e | no n ↦ q k (omega arith) w ]) (λ r. r i (omega arith) h) (says_eq (get_or s i 0) 0)
-one_more_zero s end j i z h false q = λ r. q (λ k l w. r k (omega arith) w)
+pub one_more_zero : (s : List ℕ) (n : ℕ) (good : Bool) → Says good (Front s n) → Says (and good (eqb (get_or s n 0) 0)) (Front s (n + 1))
+one_more_zero s n true q =
+    says_as (eqb (get_or s n 0) 0) (λ e k l. elim (ℕ_discrete k n) [ yes a ↦ ap (λ (x : ℕ). get_or s x 0) a ∙ e | no b ↦ q k (omega arith) ]) (λ r. r n (omega arith)) (says_eq (get_or s n 0) 0)
+one_more_zero s n false q = λ r. q (λ k l. r k (omega arith))
+
+-- a byte behind a place, in the part from there on
+pub byte_in : (s : List ℕ) (at n k : ℕ) → at ≤ k → k < at + n → get_or (take n (drop at s)) (k - at) 0 ≡ get_or s k 0
+byte_in s at n k l h = get_or-take n (drop at s) (k - at) 0 (omega arith) ∙ get_or-drop at s (k - at) 0 ∙ ap (λ (x : ℕ). get_or s x 0) (omega arith)
 
 module _ (width limit : ℕ) (T : Table) (bytes : List ℕ) (depth : ℕ) where
   abbrev fs : List Frame

@@ -6,7 +6,9 @@ use native.Mathlib.Omega.{arith}
 use native.Mathlib.Decide.{ℕ_discrete, dec_lt}
 use native.Mathlib.Nat.{mul-le-mul_right, add-mul, one-mul}
 use lib.ListN.{length, get_or, take, drop, set, length-drop, length-set, get_or-append}
-use lib.Seq.{paste, length-paste, length_paste_head, length-take-le, get_or-take, get_or-drop, get_or-append-add, get_or-set_same, get_or-set_other, ext_get_or}
+use borrow.Rule.Slice.PartMut.{put_mid}
+use lib.Seq.{paste, take-take, length-paste, length_paste_head, length-take-le, get_or-take, get_or-drop, get_or-append-add, get_or-set_same, get_or-set_other, ext_get_or}
+use Rattle.std.proofs.lemmas.Slice.{put_mid-paste}
 use Rattle.pcrl.specs.Lists.{tabulate}
 use Rattle.pcrl.specs.Stack.{Frame}
 use Rattle.laws.specs.Lists.{length_tabulate, get_d_tabulate}
@@ -51,6 +53,13 @@ module _ (d : List ℕ) (at : ℕ) (s : List ℕ) (n : ℕ) (room : at + n ≤ l
       ∙ get_or-append-add (take at d ++ take n s) (drop (at + n) d) (x - (at + n)) 0
       ∙ get_or-drop (at + n) d (x - (at + n)) 0
       ∙ ap (λ (y : ℕ). get_or d y 0) w
+
+-- n bytes from j on, copied over those from i on
+pub pasted : (d o ys : List ℕ) (i j k m n : ℕ) → k ≡ n → m ≡ n → j + n ≤ length o → ys ≡ take m (drop j o) → put_mid i k d ys ≡ paste d i (drop j o) n
+pasted d o ys i j k m n e f room h =
+    let same : ys ≡ take n (drop j o) = h ∙ ap (λ (x : ℕ). take x (drop j o)) f in
+    let long : length (take n (drop j o)) ≡ n = length-take-le n (drop j o) (omega (arith, length-drop j o)) in
+    put_mid-paste i k d ys (take n (drop j o)) n same (sym e) (sym long) ∙ ap (λ (l : List ℕ). (take i d ++ l) ++ drop (i + n) d) (take-take n n (drop j o) (omega arith))
 
 -- FRAMES
 

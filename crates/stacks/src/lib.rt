@@ -12,7 +12,7 @@ ghost use Rattle.stacks.specs.Lent.{frame_bytes, frame_at, frames_at, frames_in,
 ghost use Rattle.stacks.specs.Fitting.{FitsAt, Fitting};
 ghost use Rattle.stacks.specs.Known.{Known};
 
-use elements::{both, cell, peek, wide};
+use elements::{cell, peek, wide};
 use limits::{MAX_FUNCTIONS, STACK_LIMIT};
 
 // "A frame is an equation number and four values": its bytes.
@@ -59,32 +59,25 @@ fn right_frame(s: &[u8], sizes: &[u16], params: &[u16], f: &[u8]) -> bool
     fitting(sizes, terms::list_at(s, cell(params, e)), &f[1..])
 }
 
-// "all unused .. frames zero": the bytes from `at` on and before `end`. The loop has one way out, so that the compiler tests many at once.
-fn zeros(s: &[u8], at: usize, end: usize) -> bool
-    requires { (at ≤ end) × (end ≤ length s.now) }
-    ensures { Says result ((k : ℕ) → at ≤ k → k < end → get_or s.now k 0 ≡ 0) }
+// "all unused .. frames zero": are these bytes? The loop has one way out, so that the compiler tests many at once.
+fn zeros(s: &[u8]) -> bool
+    ensures { Says result ((k : ℕ) → k < length s.now → get_or s.now k 0 ≡ 0) }
 {
     let mut good = true;
-    let mut i = end;
-    while at < i {
-        i -= 1;
-        good = both(good, s[i] == 0);
+    for x in s {
+        good = good & (*x == 0);
     }
     good
 }
 
-// n cells from a place on, or as many as there are.
-fn cells(s: &[u16], at: usize, n: usize) -> &[u16]
+// n elements from a place on, or as many as there are.
+pub fn part<T: Copy>(s: &[T], at: usize, n: usize) -> &[T]
     ensures { result.now ≡ take n (drop at s.now) }
 {
-    if s.len() <= at {
-        return &s[0..0];
-    }
-    if s.len() - at <= n {
-        return &s[at..];
-    }
-    let end = at + n;
-    &s[at..end]
+    let from = at.min(s.len());
+    let rest = &s[from..];
+    let count = n.min(rest.len());
+    &rest[..count]
 }
 
 // Question 15.
@@ -98,11 +91,11 @@ pub fn right_frames(s: &[u8], index: tables::Index, frames: &[u8], depth: usize)
         return false;
     }
     let funcs = index.funcs;
-    let sizes = cells(&funcs, MAX_FUNCTIONS, index.sort_count);
+    let sizes = part(&funcs, MAX_FUNCTIONS, index.sort_count);
     let places = index.params;
-    let params = cells(&places, 0, index.equations);
+    let params = part(&places, 0, index.equations);
     let unused = depth * FRAME;
-    if !zeros(frames, unused, BYTES) {
+    if !zeros(&frames[unused..BYTES]) {
         return false;
     }
     for i in 0..depth {
@@ -122,9 +115,7 @@ pub fn put(frames: &mut [u8], i: usize, others: &[u8], j: usize)
 {
     let to = i * FRAME;
     let from = j * FRAME;
-    for n in 0..FRAME {
-        frames[to + n] = others[from + n];
-    }
+    frames[to..to + FRAME].copy_from_slice(&others[from..from + FRAME]);
 }
 
 // The top frame is replaced by the first n of others, the first of them on top.
@@ -137,20 +128,6 @@ pub fn replace(frames: &mut [u8], depth: usize, others: &[u8], n: usize)
     for i in 0..n {
         put(frames, depth - 1 + (n - 1 - i), others, i);
     }
-}
-
-// n bytes from a place on, or as many as there are.
-pub fn part(s: &[u8], at: usize, n: usize) -> &[u8]
-    ensures { result.now ≡ take n (drop at s.now) }
-{
-    if s.len() <= at {
-        return &s[0..0];
-    }
-    if s.len() - at <= n {
-        return &s[at..];
-    }
-    let end = at + n;
-    &s[at..end]
 }
 
 // The bytes, and zeros behind them.

@@ -10,4 +10,3 @@ use Rattle.stacks.proofs.replace.Given as goal
 
 abbrev pub invariant-loop-i : goal.invariant-loop-i
 invariant-loop-i l = (l.i ≤ l.n) × ((length l.frames ≡ length l.initial.frames) × ((low : List Frame) → length low ≡ l.depth - 1 → frames_in frame_width l.initial.frames ≡ filling frame_width stack_limit low l.n 0 (frames_at frame_width l.n l.others) → frames_in frame_width l.frames ≡ filling frame_width stack_limit low l.n l.i (frames_at frame_width l.n l.others)))
-

@@ -10,7 +10,6 @@ use Rattle.stacks.proofs.spread.Goals as goal
 pub loop-i-init : goal.loop-i-init
 loop-i-init c = (omega arith, (refl, λ j w. absurd (omega arith)))
 
-
 pub loop-i-preserved : goal.loop-i-preserved
 loop-i-preserved c =
     let out = c.loop-i.out in

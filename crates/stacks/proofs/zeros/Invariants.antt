@@ -1,10 +1,6 @@
-use Prim.Native.Nat.{◌≤◌}
 use Rattle.laws.specs.Says.{Says}
-use Rattle.stacks.proofs.RightFrameLaws.{From}
+use Rattle.stacks.proofs.RightFrameLaws.{Front}
 use Rattle.stacks.proofs.zeros.Given as goal
 
-abbrev pub invariant-loop-i : goal.invariant-loop-i
-invariant-loop-i l = (l.at ≤ l.i) × ((l.i ≤ l.end) × Says l.good (From l.s l.i l.end))
-
-abbrev pub decreases-loop-i : goal.decreases-loop-i
-decreases-loop-i l = l.i
+abbrev pub invariant-loop-x : goal.invariant-loop-x
+invariant-loop-x l = Says l.good (Front l.s l.x-index)
