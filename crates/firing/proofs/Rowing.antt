@@ -3,6 +3,7 @@ use mathlib.Core.Path.{◌≡◌, refl, ap, sym, subst, ◌∙◌}
 use mathlib.Core.List.{List, [], ◌∷◌, ◌++◌, map, append_assoc}
 use mathlib.Core.Bool.{Bool, true, false}
 use mathlib.Core.Option.{Option, none, some}
+use Rattle.std.specs.Prelude.{Ok, Err}
 use Prim.Native.Nat.{ℕ, zero, suc, ◌+◌, ◌-◌, ◌<◌, ◌≤◌, min}
 use native.Mathlib.Omega.{arith}
 use native.Mathlib.Numerals.{add-one}
@@ -153,7 +154,7 @@ module _ (S : Sig) (Ps : List (List ℕ)) (s funcs acts params Δ vs : List ℕ)
     -- what is answered
     pub fires_here : (f w before after : List ℕ) (r : Fired) → w ≡ digits_of sizes o.at → Alike f (env p first w)
         → ((S : Sig) (Ps : List (List ℕ)) (Γ vs : List ℕ) (a : Act) (ts : List Data) (cs : List (ℕ × List Data)) (rest : List ℕ) → Valued S s funcs f Γ vs → KnownParts S Ps s acts params → IsAct S a → Each (RightTerm S Γ) (takes_of S a) ts → Every (RightCall S Ps Γ) cs → length cs ≤ max_calls → drop o.end s ≡ encode_act a ++ (all encode_data ts ++ (encode_list encode_call cs ++ rest)) → Gives S (label S a (map (eval S vs) ts)) (map (call_frame frame_width S vs) cs) r before after)
-        → (n : ℕ) → Fires S (some (outcome frame_width S (whole S s funcs Δ vs h known few in_Δ sorts few_vars o.at) h)) n r before after
+        → (n : ℕ) → Fires S (some (outcome frame_width S (whole S s funcs Δ vs h known few in_Δ sorts few_vars o.at) h)) n (Ok r) before after
     unfolding Fires outcome
     fires_here f w before after r ew a given n =
         given S Ps (Δ ++ h.vars) (whole S s funcs Δ vs h known few in_Δ sorts few_vars o.at) h.act h.terms h.calls more (valued f w ew a) parts act_right terms_right calls_right few_calls sought.1
@@ -178,16 +179,16 @@ module _ (s funcs acts params first : List ℕ) (p row k n : ℕ) where
       let b = byte_at s row (length hs) (all encode_summand hs ++ rest) here in
       (en ∙ b.0, (ap (λ (x : ℕ). drop x s) ea ∙ drop_within s (row + 1) ∙ b.1, (refl, refl)))
 
-  pub row_end : (at left i : ℕ) (r : Fired) (before : List ℕ) → n ≤ i → r.found ≡ false → r.passed ≡ k - left → Rowing s funcs acts params first p row k n at left i
+  pub row_end : (at left i passed : ℕ) (before : List ℕ) → n ≤ i → passed ≡ k - left → Rowing s funcs acts params first p row k n at left i
       → (S : Sig) (Ps : List (List ℕ)) (Δ vs : List ℕ) (hs : List Summand) (rest : List ℕ) → AtRow S Ps s funcs acts params Δ vs hs → take p first ≡ vs → drop row s ≡ encode_list encode_summand hs ++ rest
-      → Fires S (get_elem? (all (fired frame_width S vs) hs) k) (length (all (fired frame_width S vs) hs)) r before before
+      → Fires S (get_elem? (all (fired frame_width S vs) hs) k) (length (all (fired frame_width S vs) hs)) (Err passed) before before
   unfolding Rowing Fires all
-  row_end at left i r before l nf np w S Ps Δ vs hs rest there e here =
+  row_end at left i passed before l np w S Ps Δ vs hs rest there e here =
       let (en, (h, (g, m))) = w S Ps Δ vs hs rest there e here in
       let none_left : drop i hs ≡ [] = drop_of_length-le hs {i = i} (omega arith) in
       let z : length (all (fired frame_width S vs) (drop i hs)) ≡ 0 = ap (λ (x : List Summand). length (all (fired frame_width S vs) x)) none_left in
       let o : get_elem? (all (fired frame_width S vs) hs) k ≡ none = get_elem?_past (all (fired frame_width S vs) hs) k (omega arith) in
-      subst (λ (x : Option (Label × List Frame)). Fires S x (length (all (fired frame_width S vs) hs)) r before before) (sym o) (nf, (np ∙ omega arith, refl))
+      subst (λ (x : Option (Label × List Frame)). Fires S x (length (all (fired frame_width S vs) hs)) (Err passed) before before) (sym o) (np ∙ omega arith, refl)
 
   module _ (at left i : ℕ) (below : i < n) (w : Rowing s funcs acts params first p row k n at left i) (sizes : List ℕ) (b : ℕ) (eb : b ≡ at + 1 + get_or s at 0)
       (sized : (S : Sig) (vars : List ℕ) → KnownTerms S s funcs → Stands s at (encode_numbers vars) → AreSorts S.sorts vars → length vars ≤ max_variables → sizes ≡ sizes_of S vars) (o : Sought) (seeks : Seeks s funcs first p sizes b left o) where
@@ -219,7 +220,7 @@ module _ (s funcs acts params first : List ℕ) (p row k n : ℕ) where
     pub row_found : (f v before after : List ℕ) (r : Fired) → o.found ≡ true → v ≡ digits_of sizes o.at → Alike f (env p first v)
         → ((S : Sig) (Ps : List (List ℕ)) (Γ vs : List ℕ) (a : Act) (ts : List Data) (cs : List (ℕ × List Data)) (rest : List ℕ) → Valued S s funcs f Γ vs → KnownParts S Ps s acts params → IsAct S a → Each (RightTerm S Γ) (takes_of S a) ts → Every (RightCall S Ps Γ) cs → length cs ≤ max_calls → drop o.end s ≡ encode_act a ++ (all encode_data ts ++ (encode_list encode_call cs ++ rest)) → Gives S (label S a (map (eval S vs) ts)) (map (call_frame frame_width S vs) cs) r before after)
         → (S : Sig) (Ps : List (List ℕ)) (Δ vs : List ℕ) (hs : List Summand) (rest : List ℕ) → AtRow S Ps s funcs acts params Δ vs hs → take p first ≡ vs → drop row s ≡ encode_list encode_summand hs ++ rest
-        → Fires S (get_elem? (all (fired frame_width S vs) hs) k) (length (all (fired frame_width S vs) hs)) r before after
+        → Fires S (get_elem? (all (fired frame_width S vs) hs) k) (length (all (fired frame_width S vs) hs)) (Ok r) before after
     unfolding Rowing
     row_found f v before after r yes_found ev alike given S Ps Δ vs hs rest there e here =
         let (en, (left_here, (g, m))) = w S Ps Δ vs hs rest there e here in
@@ -232,5 +233,5 @@ module _ (s funcs acts params first : List ℕ) (p row k n : ℕ) where
         let at_k = hit S Ps s funcs acts params Δ vs h there.known there.parts there.few there.in_sorts right at more this p first e sizes ez b eb left o seeks yes_found in
         let split : all (fired frame_width S vs) (drop i hs) ≡ fired frame_width S vs h ++ all (fired frame_width S vs) (drop (i + 1) hs) = all_cons (fired frame_width S vs) hs i no_summand in_list in
         let at_left = g ∙ ap (λ (l : List (Label × List Frame)). get_elem? l left) split ∙ some_append (fired frame_width S vs h) (all (fired frame_width S vs) (drop (i + 1) hs)) left _ at_k in
-        subst (λ (x : Option (Label × List Frame)). Fires S x (length (all (fired frame_width S vs) hs)) r before after) (sym at_left)
+        subst (λ (x : Option (Label × List Frame)). Fires S x (length (all (fired frame_width S vs) hs)) (Ok r) before after) (sym at_left)
         (fires_here S Ps s funcs acts params Δ vs h there.known there.parts there.few there.in_sorts right at more this p first e sizes ez b eb left o seeks f v before after r ev alike given (length (all (fired frame_width S vs) hs)))

@@ -2,6 +2,7 @@
 use mathlib.Core.Path.{◌≡◌, refl, ap, ap₂, sym, ◌∙◌}
 use mathlib.Core.List.{List, [], ◌∷◌, ◌++◌, append_assoc}
 use mathlib.Core.Option.{Option, none, some}
+use Rattle.std.specs.Prelude.{Result, Ok, Err}
 use Prim.Native.Nat.{ℕ, zero, suc, ◌+◌, ◌*◌}
 use native.Mathlib.Nat.{suc-mul}
 use native.Mathlib.Omega.{arith}
@@ -58,9 +59,11 @@ module _ (w : ℕ) where
       bytes_length f e = let z : suc (length f.values) ≡ 1 + w = omega arith in sym (frame_length f) ∙ z
 
 -- THE STEP ASKED FOR IS WHAT THE ANSWER TELLS.
-pub told_is : (S : Sig) (o : Option (Label × List Frame)) (n : ℕ) (r : Fired) (before after : List ℕ) → Fires S o n r before after → o ≡ told S r after
+pub told_is : (S : Sig) (o : Option (Label × List Frame)) (n : ℕ) (r : Result Fired ℕ) (before after : List ℕ) → Fires S o n r before after → o ≡ told S r after
 unfolding Fires told
-told_is S none n r before after h = rw h.0 refl
-told_is S (some x) n r before after g =
-    rw (g.found_is, g.calls_are, g.frames_are)
+told_is S none n (Err passed) before after h = refl
+told_is S none n (Ok r) before after h = absurd h
+told_is S (some x) n (Err passed) before after h = absurd h
+told_is S (some x) n (Ok r) before after g =
+    rw (g.calls_are, g.frames_are)
     (ap₂ (λ (l : Label) (fs : List Frame). some (l, fs)) g.label_is (sym (frames_read frame_width x.1 (drop (length (all frame_bytes x.1)) before) g.wide)))

@@ -1,5 +1,5 @@
 -- The answer of `fire` as one optional step: the frames are read from the lent bytes.
-use Rattle.std.specs.Prelude.{List, true, false, ℕ, ◌+◌, ◌*◌, get_or, take}
+use Rattle.std.specs.Prelude.{List, ℕ, ◌+◌, ◌*◌, get_or, take, Result, Ok, Err}
 use Rattle.std.proofs.Math.Option.{Option, none, some}
 use Rattle.pcrl.specs.Limits.{frame_width}
 use Rattle.pcrl.specs.Lists.{tabulate}
@@ -17,5 +17,6 @@ frame_at width s at = record { number = get_or s at 0; values = tabulate width (
 unfoldable pub frames_at : ℕ → ℕ → List ℕ → List Frame
 frames_at width n s = tabulate n (λ i. frame_at width s (i * (1 + width)))
 
-unfoldable pub told : Sig → Fired → List ℕ → Option (Label × List Frame)
-told S r made = elim r.found [ true ↦ some (label S (act_of r.action) (take r.arity r.values), frames_at frame_width r.calls made) | false ↦ none ]
+unfoldable pub told : Sig → Result Fired ℕ → List ℕ → Option (Label × List Frame)
+told S (Ok r) made = some (label S (act_of r.action) (take r.arity r.values), frames_at frame_width r.calls made)
+told S (Err n) made = none

@@ -1,6 +1,6 @@
 #![tactic(auto)]
 // Step k of an equation, found in the stream: its label, and the frames of its calls.
-ghost use Rattle.std.specs.Prelude.{◌≡◌, List, [], ◌++◌, map, ℕ, ◌+◌, ◌-◌, ◌*◌, ◌≤◌, ◌<◌, max, false, length, get_or, take, drop};
+ghost use Rattle.std.specs.Prelude.{◌≡◌, List, [], ◌++◌, map, ℕ, ◌+◌, ◌-◌, ◌*◌, ◌≤◌, ◌<◌, max, Ok, length, get_or, take, drop};
 ghost use Rattle.std.proofs.Math.ListN.{get_elem?};
 ghost use Rattle.pcrl.specs.Limits.{max_stream, max_arity, max_calls, frame_width};
 ghost use Rattle.pcrl.specs.Tests.{Every, Each};
@@ -31,15 +31,13 @@ const ARITY: u8 = limits::MAX_ARITY as u8;
 
 const WIDTH: u8 = limits::FRAME_WIDTH as u8;
 
-// A step: the action's number and its values; how many calls there are. Or none: how many steps there are.
+// A step: the action's number and its values; how many calls there are.
 #[derive(Clone, Copy)]
 pub struct Fired {
-    pub found: bool,
     pub action: u8,
     pub values: [u8; MAX_ARITY],
     pub arity: u8,
     pub calls: usize,
-    pub passed: u64,
 }
 
 // The values of n terms that stand one behind another; the answer is where they end.
@@ -153,7 +151,7 @@ fn fire_at(
     made: &mut [u8],
 ) -> Fired
     requires { (length s.now ≤ max_stream) × ((at ≤ max_stream * 2 + 64) × (max_calls * (1 + frame_width) ≤ length made.old)) }
-    ensures { InBounds result made.old made.new × ((S : Sig) (Ps : List (List ℕ)) (Γ vs : List ℕ) (a : Act) (ts : List Data) (cs : List (ℕ × List Data)) (rest : List ℕ) → Valued S s.now funcs.now e.now Γ vs → KnownParts S Ps s.now acts.now params.now → IsAct S a → Each (RightTerm S Γ) (takes_of S a) ts → Every (RightCall S Ps Γ) cs → length cs ≤ max_calls → drop at s.now ≡ encode_act a ++ (all encode_data ts ++ (encode_list encode_call cs ++ rest)) → Gives S (label S a (map (eval S vs) ts)) (map (call_frame frame_width S vs) cs) result made.old made.new) }
+    ensures { InBounds (Ok result) made.old made.new × ((S : Sig) (Ps : List (List ℕ)) (Γ vs : List ℕ) (a : Act) (ts : List Data) (cs : List (ℕ × List Data)) (rest : List ℕ) → Valued S s.now funcs.now e.now Γ vs → KnownParts S Ps s.now acts.now params.now → IsAct S a → Each (RightTerm S Γ) (takes_of S a) ts → Every (RightCall S Ps Γ) cs → length cs ≤ max_calls → drop at s.now ≡ encode_act a ++ (all encode_data ts ++ (encode_list encode_call cs ++ rest)) → Gives S (label S a (map (eval S vs) ts)) (map (call_frame frame_width S vs) cs) result made.old made.new) }
 {
     let b = peek(s, at);
     let n = action_arity(s, acts, b);
@@ -162,36 +160,10 @@ fn fire_at(
     let k = smaller(wide(peek(s, m)), MAX_CALLS);
     frames_at(s, funcs, params, e, m + 1, k, made);
     Fired {
-        found: true,
         action: b,
         values: v,
         arity: n,
         calls: k,
-        passed: 0,
-    }
-}
-
-// a - b, or 0.
-fn less(a: u64, b: u64) -> u64
-    ensures { result ≡ a - b }
-{
-    if a < b {
-        return 0;
-    }
-    a - b
-}
-
-// No step: so many were passed.
-fn none(passed: u64) -> Fired
-    ensures { (result.found ≡ false) × ((result.passed ≡ passed) × ((result.arity ≡ 0) × (result.calls ≡ 0))) }
-{
-    Fired {
-        found: false,
-        action: 0,
-        values: [0u8; MAX_ARITY],
-        arity: 0,
-        calls: 0,
-        passed: passed,
     }
 }
 
@@ -238,7 +210,7 @@ fn seek(
     }
 }
 
-// Step k of the summands whose count stands at a place, where the first p variables have their values.
+// Step k of the summands whose count stands at a place, where the first p variables have their values; or how many steps there are.
 fn fire_rows(
     s: &[u8],
     funcs: &[u16],
@@ -249,7 +221,7 @@ fn fire_rows(
     row: usize,
     k: u64,
     made: &mut [u8],
-) -> Fired
+) -> Result<Fired, u64>
     requires { (length s.now ≤ max_stream) × ((p ≤ frame_width) × (((i : ℕ) → p ≤ i → get_or first.at i 0 ≡ 0) × ((row < 65536) × (max_calls * (1 + frame_width) ≤ length made.old)))) }
     ensures { InBounds result made.old made.new × ((S : Sig) (Ps : List (List ℕ)) (Δ vs : List ℕ) (hs : List Summand) (rest : List ℕ) → AtRow S Ps s.now funcs.now acts.now params.now Δ vs hs → take p first.at ≡ vs → drop row s.now ≡ encode_list encode_summand hs ++ rest → Fires S (get_elem? (all (fired frame_width S vs) hs) k) (length (all (fired frame_width S vs) hs)) result made.old made.new) }
 {
@@ -262,15 +234,15 @@ fn fire_rows(
         if f.found {
             let e = assignments::environment(first, p, assignments::values(z, f.at));
             let a = e.at;
-            return fire_at(s, funcs, acts, params, &a, f.end, made);
+            return Ok(fire_at(s, funcs, acts, params, &a, f.end, made));
         }
         left = f.left;
         at = past(s, funcs, acts, params, f.end);
     }
-    none(less(k, left))
+    Err(k.saturating_sub(left))
 }
 
-// STEP k OF EQUATION e, WHERE ITS PARAMETERS HAVE THE GIVEN VALUES.
+// STEP k OF EQUATION e, WHERE ITS PARAMETERS HAVE THE GIVEN VALUES, OR HOW MANY STEPS THERE ARE.
 pub fn fire(
     s: &[u8],
     funcs: &[u16],
@@ -281,7 +253,7 @@ pub fn fire(
     params: &[u8],
     k: u64,
     made: &mut [u8],
-) -> Fired
+) -> Result<Fired, u64>
     requires { (length s.now ≤ max_stream) × (max_calls * (1 + frame_width) ≤ length made.old) }
     ensures { InBounds result made.old made.new × ((T : Table) (vs : List ℕ) → KnownTable T s.now funcs.now acts.now places.now rows.now → e < length T.equations → InSorts T.sig (equation T e).params vs → take (length vs) params.now ≡ vs → Fires T.sig (get_elem? (listing T e vs) k) (length (listing T e vs)) result made.old made.new) }
 {

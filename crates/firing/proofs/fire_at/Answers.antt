@@ -2,7 +2,7 @@
 use Rattle.firing.proofs.Framing.{frames_wide}
 use native.Mathlib.Omega.{arith}
 use Prim.Native.Nat.{ℕ, min}
-use mathlib.Core.Path.{refl, sym, ◌∙◌, ap}
+use mathlib.Core.Path.{sym, ◌∙◌, ap}
 use mathlib.Core.List.{◌++◌}
 use lib.ListN.{length-map}
 use Rattle.pcrl.specs.Limits.{frame_width}
@@ -20,5 +20,5 @@ returns c = (
       let t = c.terms_at-m.ensures.1.1 S Γ vs (takes_of S act) ts (encode_list encode_call cs ++ rest) valued right (en ∙ sym c.wide.ensures.0) (terms_here S Ps a.s.now a.funcs.now a.acts.now a.params.now a.e.now Γ vs act ts cs rest valued parts is right calls few a.at here) in
       let k = count_is S Ps a.s.now a.funcs.now a.acts.now a.params.now a.e.now Γ vs act ts cs rest valued parts is right calls few a.at here c.terms_at-m.result c.smaller-k.result t.1 (c.smaller-k.ensures ∙ ap (λ (x : ℕ). min x 8) (c.wide-2.ensures.0 ∙ c.peek.ensures)) in
       let f = c.frames_at.ensures.1 S Ps a.acts.now Γ vs cs rest valued parts calls k (first_call S Ps a.s.now a.funcs.now a.acts.now a.params.now a.e.now Γ vs act ts cs rest valued parts is right calls few a.at here c.terms_at-m.result t.1) in
-      record { found_is = refl; label_is = label_given S Ps a.s.now a.funcs.now a.acts.now a.params.now a.e.now Γ vs act ts cs rest valued parts is right calls few a.at here c.peek-b.result c.action_arity-n.result _ _ c.peek-b.ensures en t.0; calls_are = sym (length-map cs (call_frame frame_width S vs) ∙ k); frames_are = f; wide = frames_wide S Ps Γ vs parts.few_params cs calls },
+      record { label_is = label_given S Ps a.s.now a.funcs.now a.acts.now a.params.now a.e.now Γ vs act ts cs rest valued parts is right calls few a.at here c.peek-b.result c.action_arity-n.result _ _ c.peek-b.ensures en t.0; calls_are = sym (length-map cs (call_frame frame_width S vs) ∙ k); frames_are = f; wide = frames_wide S Ps Γ vs parts.few_params cs calls },
 )

@@ -1,5 +1,6 @@
 -- Each summand is opened where the one before it ends; it is passed, or step k is found in it.
 use native.Mathlib.Omega.{arith}
+use Rattle.std.specs.Prelude.{Ok, Err}
 use Prim.Native.Nat.{ℕ, ◌+◌}
 use mathlib.Core.Path.{◌≡◌, refl, sym, ◌∙◌, ap, subst}
 use mathlib.Core.List.{List}
@@ -46,7 +47,7 @@ returns-then-f c = (
   let b = c.fire_at.ensures.0 in record { few_calls = b.few_calls; few_values = b.few_values; as_long = b.as_long ∙ ap length c.loop-i.invariant.1.1.0 },
   λ S Ps Δ vs hs rest there e here. let a = c.args in let l = c.loop-i in let v = c.values in let f = c.fire_at in let o = c.seek-f in
       let eb : l.at + 1 + c.wide.result ≡ l.at + 1 + get_or a.s.now l.at 0 = ap (λ (x : ℕ). l.at + 1 + x) (c.wide.ensures.0 ∙ c.peek-in-loop-i.ensures) in
-      subst (λ (m : List ℕ). Fires S (get_elem? (all (fired frame_width S vs) hs) a.k) (length (all (fired frame_width S vs) hs)) f.result m f.new.made) l.invariant.1.1.0
+      subst (λ (m : List ℕ). Fires S (get_elem? (all (fired frame_width S vs) hs) a.k) (length (all (fired frame_width S vs) hs)) (Ok f.result) m f.new.made) l.invariant.1.1.0
       (row_found a.s.now a.funcs.now a.acts.now a.params.now a.first.at a.p a.row a.k c.wide-n.result l.at l.left l.i c.loop-i-test.true l.invariant.1.1.1 c.sizes-z.result.at (l.at + 1 + c.wide.result) eb c.sizes-z.ensures.1 o.result o.ensures.1 c.environment-e.result.at v.result.at l.made f.new.made f.result c.if-f.true v.ensures c.environment-e.ensures f.ensures.1 S Ps Δ vs hs rest there e here),
 )
 
@@ -63,8 +64,8 @@ shape_of-made c = ap length c.loop-i.invariant.1.1.0
 
 pub returns : goal.returns
 returns c = (
-  record { few_calls = omega (arith, c.none.ensures.1.1.1); few_values = omega (arith, c.none.ensures.1.1.0); as_long = ap length c.loop-i.invariant.1.1.0 },
+  record { few_calls = tt; few_values = tt; as_long = ap length c.loop-i.invariant.1.1.0 },
   λ S Ps Δ vs hs rest there e here. let a = c.args in let l = c.loop-i in
-      subst (λ (m : List ℕ). Fires S (get_elem? (all (fired frame_width S vs) hs) a.k) (length (all (fired frame_width S vs) hs)) c.none.result a.made.now m) (sym l.invariant.1.1.0)
-      (row_end a.s.now a.funcs.now a.acts.now a.params.now a.first.at a.p a.row a.k c.wide-n.result l.at l.left l.i c.none.result a.made.now (omega arith) c.none.ensures.0 (c.none.ensures.1.0 ∙ c.less.ensures) l.invariant.1.1.1 S Ps Δ vs hs rest there e here),
+      subst (λ (m : List ℕ). Fires S (get_elem? (all (fired frame_width S vs) hs) a.k) (length (all (fired frame_width S vs) hs)) (Err c.saturating_sub.result) a.made.now m) (sym l.invariant.1.1.0)
+      (row_end a.s.now a.funcs.now a.acts.now a.params.now a.first.at a.p a.row a.k c.wide-n.result l.at l.left l.i c.saturating_sub.result a.made.now (omega arith) c.saturating_sub.ensures l.invariant.1.1.1 S Ps Δ vs hs rest there e here),
 )

@@ -6,4 +6,3 @@ use Rattle.firing.proofs.terms_at.Given as goal
 
 abbrev pub invariant-loop-i : goal.invariant-loop-i
 invariant-loop-i l = (l.i ≤ l.n) × ((l.a ≤ max l.at (length l.s)) × ((length l.out ≡ length l.initial.out) × Valuing l.s l.funcs l.e l.at l.n l.initial.out l.out l.a l.i))
-
