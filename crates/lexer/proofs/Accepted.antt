@@ -20,8 +20,11 @@ use Rattle.pcrl.specs.Tokens.{Token, name, numeral, sign, words, punctuation, ru
 use Rattle.pcrl.specs.Answers.{tokens_read}
 use Rattle.laws.specs.Lists.{map_drop}
 use Rattle.laws.specs.Every.{every_at, map_every}
-use Rattle.lexer.specs.Cells.{first_name, cell_token, Lexes}
-use Rattle.lexer.specs.declared.Lexed.{Lexed}
+use Rattle.std.specs.Prelude.{Ok, Err}
+use Rattle.refusals.specs.declared.Refusal.{Refusal}
+use Rattle.refusals.specs.Numbers.{number_of}
+use Rattle.refusals.specs.Answered.{Answered}
+use Rattle.lexer.specs.Cells.{first_name, cell_token, CellsOf, Lexes}
 use Rattle.lexer.proofs.Runs.{drop_at, run_fits, length_front}
 use Rattle.lexer.proofs.Cells.{name_cell}
 
@@ -151,27 +154,28 @@ every_of_map : (f : ℕ → Token) (l : List ℕ) (i : ℕ) → Every Solid (map
 every_of_map f l i h k = every_at (λ c. Solid (f c)) l 0 i (map_every (λ c. Solid (f c)) Solid f (λ c x. x) l h) k
 
 -- ---- the two answers
-pub record Accepted (s : List ℕ) (r : Lexed) (out : List ℕ) : Type 0 where
+pub record Accepted (s : List ℕ) (n : ℕ) (out : List ℕ) : Type 0 where
   pub tokens : List Token
   pub read : tokens_read s ≡ accepted tokens
-  pub count : r.count ≡ length tokens
-  pub fits : r.count ≤ length s
+  pub count : n ≡ length tokens
+  pub fits : n ≤ length s
   pub short : length s ≤ max_bytes
-  pub room : r.count ≤ length out
-  pub usable : (i : ℕ) → i < r.count → Usable s (get_or out i 0)
+  pub room : n ≤ length out
+  -- the cells written are the tokens
+  pub cells : map (cell_token s) (take n out) ≡ tokens
+  pub usable : (i : ℕ) → i < n → Usable s (get_or out i 0)
   -- the tokens from the i-th on begin with that of the i-th cell
-  pub next : (i : ℕ) → i < r.count → drop i tokens ≡ cell_token s (get_or out i 0) ∷ drop (i + 1) tokens
-  pub end : (i : ℕ) → r.count ≤ i → drop i tokens ≡ []
+  pub next : (i : ℕ) → i < n → drop i tokens ≡ cell_token s (get_or out i 0) ∷ drop (i + 1) tokens
+  pub end : (i : ℕ) → n ≤ i → drop i tokens ≡ []
 
-module _ (s out : List ℕ) (r : Lexed) where
-  accepted_of : (ts : List Token) → tokens_read s ≡ accepted ts → Sound s (accepted ts) → Lexes (accepted ts) s r out → Accepted s r out
-  unfolding Lexes
-  accepted_of ts e k l =
-      let (z, n, m) = l in
-      let (solid, few, short) = k in
-      let size : length (take r.count out) ≡ r.count = sym (length-map (take r.count out) (cell_token s)) ∙ ap length m ∙ sym n in
-      let room : r.count ≤ length out = omega (arith, length-take r.count out) in
-      let cell : (i : ℕ) → i < r.count → get_or (take r.count out) i 0 ≡ get_or out i 0 = λ i h. get_or-take r.count out i 0 h in
+module _ (s out : List ℕ) where
+  accepted_of : (n : ℕ) (ts : List Token) → tokens_read s ≡ accepted ts → Sound s (accepted ts) → CellsOf s out ts n → Accepted s n out
+  accepted_of k ts e z l =
+      let (n, m) = l in
+      let (solid, few, short) = z in
+      let size : length (take k out) ≡ k = sym (length-map (take k out) (cell_token s)) ∙ ap length m ∙ sym n in
+      let room : k ≤ length out = omega (arith, length-take k out) in
+      let cell : (i : ℕ) → i < k → get_or (take k out) i 0 ≡ get_or out i 0 = λ i h. get_or-take k out i 0 h in
       record {
         tokens = ts;
         read = e;
@@ -179,27 +183,28 @@ module _ (s out : List ℕ) (r : Lexed) where
         fits = omega arith;
         short = short;
         room = room;
-        usable = λ i h. usable s (get_or out i 0) short (subst (λ (c : ℕ). Solid (cell_token s c)) (cell i h) (every_of_map (cell_token s) (take r.count out) i (subst⁻¹ (Every Solid) m solid) (omega arith)));
+        cells = m;
+        usable = λ i h. usable s (get_or out i 0) short (subst (λ (c : ℕ). Solid (cell_token s c)) (cell i h) (every_of_map (cell_token s) (take k out) i (subst⁻¹ (Every Solid) m solid) (omega arith)));
         next = λ i h.
-            ap (drop i) (sym m) ∙ map_drop (cell_token s) i (take r.count out) ∙ ap (map (cell_token s)) (drop_at (take r.count out) i (omega arith))
-            ∙ ap₂ (λ (c : ℕ) (w : List Token). cell_token s c ∷ w) (cell i h) (sym (map_drop (cell_token s) (i + 1) (take r.count out)) ∙ ap (drop (i + 1)) m);
+            ap (drop i) (sym m) ∙ map_drop (cell_token s) i (take k out) ∙ ap (map (cell_token s)) (drop_at (take k out) i (omega arith))
+            ∙ ap₂ (λ (c : ℕ) (w : List Token). cell_token s c ∷ w) (cell i h) (sym (map_drop (cell_token s) (i + 1) (take k out)) ∙ ap (drop (i + 1)) m);
         end = λ i h. drop_of_length-le ts {i = i} (omega arith);
       }
 
   -- a sheet that is not refused is accepted, and its cells are the definition's tokens
-  pub accepted_cells : Lexes (tokens_read s) s r out → r.refused ≡ 0 → Accepted s r out
-  unfolding Lexes
-  accepted_cells l z = go (tokens_read s) refl (sound s) l
+  pub accepted_cells : (n : ℕ) → Lexes (tokens_read s) s (Ok n) out → Accepted s n out
+  unfolding Answered
+  accepted_cells n l = go (tokens_read s) refl (sound s) l
     where
-      go : (x : Result (List Token)) → tokens_read s ≡ x → Sound s x → Lexes x s r out → Accepted s r out
-      go (refused n) e k m = absurd (k (sym m.0 ∙ z))
-      go (accepted ts) e k m = accepted_of ts e k m
+      go : (x : Result (List Token)) → tokens_read s ≡ x → Sound s x → Lexes x s (Ok n) out → Accepted s n out
+      go (refused n) e k m = absurd m
+      go (accepted ts) e k m = accepted_of n ts e k m
 
   -- and a refusal is the definition's
-  pub refused_number : Lexes (tokens_read s) s r out → r.refused ≢ 0 → tokens_read s ≡ refused r.refused
-  unfolding Lexes
-  refused_number l z = go (tokens_read s) refl l
+  pub refused_number : (r : Refusal) → Lexes (tokens_read s) s (Err r) out → tokens_read s ≡ refused (number_of r)
+  unfolding Answered
+  refused_number r l = go (tokens_read s) refl l
     where
-      go : (x : Result (List Token)) → tokens_read s ≡ x → Lexes x s r out → tokens_read s ≡ refused r.refused
-      go (refused n) e m = e ∙ ap refused (sym m.0)
-      go (accepted ts) e m = absurd (z m.0)
+      go : (x : Result (List Token)) → tokens_read s ≡ x → Lexes x s (Err r) out → tokens_read s ≡ refused (number_of r)
+      go (refused n) e m = e ∙ ap refused (sym m)
+      go (accepted ts) e m = absurd m

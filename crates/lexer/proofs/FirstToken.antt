@@ -22,6 +22,8 @@ use Rattle.lexer.proofs.Runs.{drop_at}
 use Rattle.lexer.proofs.Signs.{sign_cell_none, starting, no_sign_starting, Found, Missing, look_up, unlike, lone, no_mark, lone_mark, pair_mark, no_pair_mark, no_pair_end}
 use Rattle.lexer.proofs.Cells.{cell_mark, cell_long_mark}
 use Rattle.lexer.proofs.Reading.{reads_none, reads_some}
+use Rattle.std.specs.Prelude as R
+use Rattle.std.proofs.lemmas.Option.{none-some, same_Some}
 
 -- what holds of each of some bytes holds of one of them
 one_of_step : (p : ℕ → Bool) (k : ℕ) (ks : List ℕ) (b : ℕ) (x : Bool) → eqb b k ≡ x → T (and (p k) (all_of p ks)) → (T (all_of p ks) → one_of ks b ≡ true → T (p b)) → or x (one_of ks b) ≡ true → T (p b)
@@ -70,7 +72,7 @@ module _ (s : List ℕ) (at : ℕ) (h : at < length s) where
   pub of_long_mark : leads (get_or s at 0) ≡ true → first_token (get_or s at 0) (drop (at + 1) s) ≡ mark_of punctuation (drop at s)
   of_long_mark e = here _ (mark_of punctuation) (of_mark (get_or s at 0) (drop (at + 1) s) (λ b. true) (one_of_test (neither (λ b. true)) lead_bytes tt (get_or s at 0) e)).0
 
-  pub reads_mark : alone (get_or s at 0) ≡ true → Reads s (first_token (get_or s at 0) (drop (at + 1) s)) (record { cell = get_or s at 0; len = 1 })
+  pub reads_mark : alone (get_or s at 0) ≡ true → Reads s (first_token (get_or s at 0) (drop (at + 1) s)) (R.Some (record { cell = get_or s at 0; len = 1 }))
   unfolding punctuation
   reads_mark e =
       let low = leb→le 1 (get_or s at 0) (one_of_test (leb 1) alone_bytes tt (get_or s at 0) e) in
@@ -78,18 +80,17 @@ module _ (s : List ℕ) (at : ℕ) (h : at < length s) where
       let (f, t) = of_mark (get_or s at 0) (drop (at + 1) s) (λ b. lone b punctuation) (one_of_test (neither (λ b. lone b punctuation)) alone_bytes tt (get_or s at 0) e) in
       reads_some s (first_token (get_or s at 0) (drop (at + 1) s)) (record { cell = get_or s at 0; len = 1 }) (sign (get_or s at 0 ∷ [])) 1
       (f ∙ lone_mark (get_or s at 0) (drop (at + 1) s) punctuation t)
-      (λ z. omega arith)
       (cell_mark s (get_or s at 0) (omega arith))
       refl
 
-  pub reads_other : T (neither (λ b. unlike b punctuation) (get_or s at 0)) → Reads s (first_token (get_or s at 0) (drop (at + 1) s)) (record { cell = 0; len = 1 })
+  pub reads_other : T (neither (λ b. unlike b punctuation) (get_or s at 0)) → Reads s (first_token (get_or s at 0) (drop (at + 1) s)) R.None
   reads_other n =
       let (f, t) = of_mark (get_or s at 0) (drop (at + 1) s) (λ b. unlike b punctuation) n in
-      reads_none s (first_token (get_or s at 0) (drop (at + 1) s)) (record { cell = 0; len = 1 }) (f ∙ no_mark (get_or s at 0) (drop (at + 1) s) punctuation t) refl
+      reads_none s (first_token (get_or s at 0) (drop (at + 1) s)) (f ∙ no_mark (get_or s at 0) (drop (at + 1) s) punctuation t)
 
 -- ---- marks of two bytes
 pub no_pair : (a b : ℕ) → (a ≡ 45 → b ≡ 62 → ⊥) → (a ≡ 60 → b ≡ 124 → ⊥) → (a ≡ 124 → b ≡ 62 → ⊥)
-    → (a ≡ 61 → b ≡ 61 → ⊥) → (a ≡ 47 → b ≡ 92 → ⊥) → (a ≡ 92 → b ≡ 47 → ⊥) → 0 ≡ sign_cell first_long_mark long_marks (a ∷ b ∷ [])
+    → (a ≡ 61 → b ≡ 61 → ⊥) → (a ≡ 47 → b ≡ 92 → ⊥) → (a ≡ 92 → b ≡ 47 → ⊥) → R.None ≡ sign_cell first_long_mark long_marks (a ∷ b ∷ [])
 unfolding long_marks Every
 no_pair a b n₁ n₂ n₃ n₄ n₅ n₆ =
     sym (sign_cell_none first_long_mark long_marks (a ∷ b ∷ []) (other n₁, (other n₂, (other n₃, (other n₄, (other n₅, (other n₆, tt)))))))
@@ -98,11 +99,11 @@ no_pair a b n₁ n₂ n₃ n₄ n₅ n₆ =
     other n e = n (cc) (cc)
 
 -- one mark begins with k, and b is not its second byte
-pub no_pair_from : (a b k j : ℕ) → starting k long_marks ≡ (k ∷ j ∷ []) ∷ [] → a ≡ k → (b ≡ j → ⊥) → 0 ≡ sign_cell first_long_mark long_marks (a ∷ b ∷ [])
+pub no_pair_from : (a b k j : ℕ) → starting k long_marks ≡ (k ∷ j ∷ []) ∷ [] → a ≡ k → (b ≡ j → ⊥) → R.None ≡ sign_cell first_long_mark long_marks (a ∷ b ∷ [])
 unfolding Every
 no_pair_from a b k j q e n = no_sign_starting (a ∷ b ∷ []) k e first_long_mark long_marks (subst⁻¹ (Every (λ v. a ∷ b ∷ [] ≡ v → ⊥)) q (λ p. n (cc), tt))
 
-no_second : (a : ℕ) → sign_cell first_long_mark long_marks (a ∷ 0 ∷ []) ≡ 0
+no_second : (a : ℕ) → sign_cell first_long_mark long_marks (a ∷ 0 ∷ []) ≡ R.None
 no_second a = sym (no_pair a 0 (λ p q. omega arith) (λ p q. omega arith) (λ p q. omega arith) (λ p q. omega arith) (λ p q. omega arith) (λ p q. omega arith))
 
 -- the marks of one byte
@@ -117,55 +118,57 @@ module _ (a : ℕ) where
 
   pair_found : (l : List ℕ) → Found first_long_mark long_marks (a ∷ get_or l 0 0 ∷ []) → mark_of punctuation (a ∷ l) ≡ some (sign (a ∷ get_or l 0 0 ∷ []), 2)
   unfolding punctuation long_marks
-  pair_found [] f = absurd (let q = f.cell in let z = no_second a in omega arith)
+  pair_found [] f = absurd (none-some (first_long_mark + f.place) (sym (no_second a) ∙ f.cell))
   pair_found (x ∷ l) f = pair_mark a x l long_marks short_marks tt f.known
 
 -- the marks of two bytes, and `=`, at a place where the first byte of one stands
-module _ (s : List ℕ) (at m : ℕ) (h : at < length s) (f : m ≡ sign_cell first_long_mark long_marks (get_or s at 0 ∷ get_or s (at + 1) 0 ∷ [])) where
+module _ (s : List ℕ) (at : ℕ) (h : at < length s) where
   second : get_or (drop (at + 1) s) 0 0 ≡ get_or s (at + 1) 0
   second = get_or-drop (at + 1) s 0 0 ∙ ap (λ (j : ℕ). get_or s j 0) (add-zero (at + 1))
 
-  cell_is : m ≡ sign_cell first_long_mark long_marks (get_or s at 0 ∷ get_or (drop (at + 1) s) 0 0 ∷ [])
-  cell_is = f ∙ ap (λ (x : ℕ). sign_cell first_long_mark long_marks (get_or s at 0 ∷ x ∷ [])) (sym second)
+  -- the cell of the two bytes there
+  abbrev pub pair_cell : R.Option ℕ
+  pair_cell = sign_cell first_long_mark long_marks (get_or s at 0 ∷ get_or s (at + 1) 0 ∷ [])
+
+  cell_is : pair_cell ≡ sign_cell first_long_mark long_marks (get_or s at 0 ∷ get_or (drop (at + 1) s) 0 0 ∷ [])
+  cell_is = ap (λ (x : ℕ). sign_cell first_long_mark long_marks (get_or s at 0 ∷ x ∷ [])) (sym second)
 
   at_place : (x : Option Lexeme) → mark_of punctuation (get_or s at 0 ∷ drop (at + 1) s) ≡ x → mark_of punctuation (drop at s) ≡ x
   at_place x q = ap (mark_of punctuation) (drop_at s at h) ∙ q
 
-  module _ (z : m ≡ 0) where
+  module _ (f : R.None ≡ pair_cell) where
     one_byte : mark_of punctuation (drop at s) ≡ mark_of short_marks (get_or s at 0 ∷ drop (at + 1) s)
     one_byte =
-        ⊎_elim (λ q. absurd (let c = q.cell in let i = cell_is in omega arith))
+        ⊎_elim (λ q. absurd (none-some (first_long_mark + q.place) (f ∙ cell_is ∙ q.cell)))
         (λ q. at_place _ (pair_missing (get_or s at 0) (drop (at + 1) s) q))
         (look_up first_long_mark long_marks (get_or s at 0 ∷ get_or (drop (at + 1) s) 0 0 ∷ []))
 
-    pub reads_no_pair : leads (get_or s at 0) ≡ true → (get_or s at 0 ≡ 61 → ⊥) → Reads s (mark_of punctuation (drop at s)) (record { cell = 0; len = 1 })
+    pub reads_no_pair : leads (get_or s at 0) ≡ true → (get_or s at 0 ≡ 61 → ⊥) → Reads s (mark_of punctuation (drop at s)) R.None
     unfolding punctuation
     reads_no_pair e n =
         let other : T (unlike (get_or s at 0) short_marks) = or_no (eqb (get_or s at 0) 61) (unlike (get_or s at 0) short_marks) (λ t. n (eqb→eq (get_or s at 0) 61 t))
         (one_of_test (λ b. or (eqb b 61) (unlike b short_marks)) lead_bytes tt (get_or s at 0) e) in
-        reads_none s (mark_of punctuation (drop at s)) (record { cell = 0; len = 1 }) (one_byte ∙ no_mark (get_or s at 0) (drop (at + 1) s) short_marks other) refl
+        reads_none s (mark_of punctuation (drop at s)) (one_byte ∙ no_mark (get_or s at 0) (drop (at + 1) s) short_marks other)
 
-    pub reads_equals : get_or s at 0 ≡ 61 → Reads s (mark_of punctuation (drop at s)) (record { cell = 61; len = 1 })
+    pub reads_equals : get_or s at 0 ≡ 61 → Reads s (mark_of punctuation (drop at s)) (R.Some (record { cell = 61; len = 1 }))
     unfolding punctuation
     reads_equals q =
         reads_some s (mark_of punctuation (drop at s)) (record { cell = 61; len = 1 }) (sign (61 ∷ [])) 1
         (one_byte ∙ ap (λ (b : ℕ). mark_of short_marks (b ∷ drop (at + 1) s)) q ∙ lone_mark 61 (drop (at + 1) s) short_marks tt)
-        (λ i. omega arith)
         (cell_mark s 61 (omega arith))
         refl
 
-  module _ (z : m ≡ 0 → ⊥) where
-    reads_found : Found first_long_mark long_marks (get_or s at 0 ∷ get_or (drop (at + 1) s) 0 0 ∷ []) → Reads s (mark_of punctuation (drop at s)) (record { cell = m; len = 2 })
+  module _ (m : ℕ) (f : R.Some m ≡ pair_cell) where
+    reads_found : Found first_long_mark long_marks (get_or s at 0 ∷ get_or (drop (at + 1) s) 0 0 ∷ []) → Reads s (mark_of punctuation (drop at s)) (R.Some (record { cell = m; len = 2 }))
     unfolding long_marks
     reads_found q =
         reads_some s (mark_of punctuation (drop at s)) (record { cell = m; len = 2 }) (sign (get_or s at 0 ∷ get_or (drop (at + 1) s) 0 0 ∷ [])) 2
         (at_place _ (pair_found (get_or s at 0) (drop (at + 1) s) q))
-        z
-        (ap (cell_token s) (cell_is ∙ q.cell) ∙ cell_long_mark s q.place (omega (arith, q.inside)) ∙ ap sign q.here)
+        (ap (cell_token s) (same_Some m (first_long_mark + q.place) (f ∙ cell_is ∙ q.cell)) ∙ cell_long_mark s q.place (omega (arith, q.inside)) ∙ ap sign q.here)
         refl
 
-    pub reads_pair : Reads s (mark_of punctuation (drop at s)) (record { cell = m; len = 2 })
-    reads_pair = ⊎_elim (λ q. reads_found q) (λ q. absurd (z (cell_is ∙ q.cell))) (look_up first_long_mark long_marks (get_or s at 0 ∷ get_or (drop (at + 1) s) 0 0 ∷ []))
+    pub reads_pair : Reads s (mark_of punctuation (drop at s)) (R.Some (record { cell = m; len = 2 }))
+    reads_pair = ⊎_elim (λ q. reads_found q) (λ q. absurd (none-some m (sym q.cell ∙ sym cell_is ∙ sym f))) (look_up first_long_mark long_marks (get_or s at 0 ∷ get_or (drop (at + 1) s) 0 0 ∷ []))
 
     pub pair_fits : Fits (length s) at (record { cell = m; len = 2 })
     pair_fits = record { least = omega arith; most = go (leb (at + 2) (length s)) refl }
@@ -174,4 +177,4 @@ module _ (s : List ℕ) (at m : ℕ) (h : at < length s) (f : m ≡ sign_cell fi
         go true q = leb-true (at + 2) (length s) q
         go false q =
             let short = leb-false (at + 2) (length s) q in
-            absurd (z (f ∙ ap (λ (x : ℕ). sign_cell first_long_mark long_marks (get_or s at 0 ∷ x ∷ [])) (get_or-eq_default s 0 (omega arith)) ∙ no_second (get_or s at 0)))
+            absurd (none-some m (sym (no_second (get_or s at 0)) ∙ ap (λ (x : ℕ). sign_cell first_long_mark long_marks (get_or s at 0 ∷ x ∷ [])) (sym (get_or-eq_default s 0 (omega arith))) ∙ sym f))

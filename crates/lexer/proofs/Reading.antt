@@ -1,6 +1,6 @@
 -- A name, a numeral and a mark at a place of the sheet: what the code found there is the definition's token (`Reads`).
 use mathlib.Core.Path.{◌≡◌, refl, sym, ap, ◌∙◌, subst, subst⁻¹}
-use mathlib.Core.Logic.{◌⊎◌, inl, inr, ⊎_elim, ◌≢◌}
+use mathlib.Core.Logic.{◌⊎◌, inl, inr, ⊎_elim}
 use mathlib.Core.Bool.{Bool, true, false}
 use mathlib.Core.List.{List, [], ◌∷◌}
 use mathlib.Core.Option.{Option, none, some}
@@ -18,17 +18,19 @@ use Rattle.pcrl.specs.Tokens.{Token, name, numeral, sign, words, run, front, Lex
 use Rattle.lexer.specs.Classes.{in_classes, sign_cell, capped}
 use Rattle.lexer.specs.Cells.{first_word, first_numeral, first_name, cell_token, Reads, Fits}
 use Rattle.lexer.specs.declared.Taken.{Taken}
+use Rattle.std.specs.Prelude as R
+use Rattle.std.proofs.lemmas.Option.{none-some, same_Some}
 use Rattle.lexer.proofs.Runs.{drop_at, run_same, run_fits, run_more, length_front, is_digit, is_name_byte}
 use Rattle.lexer.proofs.Signs.{Found, Missing, look_up}
 use Rattle.lexer.proofs.Cells.{cell_word, cell_numeral, cell_name}
 
-pub reads_none : (s : List ℕ) (x : Option Lexeme) (t : Taken) → x ≡ none → t.cell ≡ 0 → Reads s x t
+pub reads_none : (s : List ℕ) (x : Option Lexeme) → x ≡ none → Reads s x R.None
 unfolding Reads
-reads_none s x t e z = subst⁻¹ (λ (y : Option Lexeme). Reads s y t) e z
+reads_none s x e = subst⁻¹ (λ (y : Option Lexeme). Reads s y R.None) e tt
 
-pub reads_some : (s : List ℕ) (x : Option Lexeme) (t : Taken) (k : Token) (n : ℕ) → x ≡ some (k, n) → t.cell ≢ 0 → cell_token s t.cell ≡ k → t.len ≡ n → Reads s x t
+pub reads_some : (s : List ℕ) (x : Option Lexeme) (t : Taken) (k : Token) (n : ℕ) → x ≡ some (k, n) → cell_token s t.cell ≡ k → t.len ≡ n → Reads s x (R.Some t)
 unfolding Reads
-reads_some s x t k n e z c l = subst⁻¹ (λ (y : Option Lexeme). Reads s y t) e (z, c, l)
+reads_some s x t k n e c l = subst⁻¹ (λ (y : Option Lexeme). Reads s y (R.Some t)) e (c, l)
 
 -- ---- names and words
 name_long : (w : List ℕ) → max_name < length w → name_of w ≡ none
@@ -56,11 +58,10 @@ pub digit_run : (s : List ℕ) (at m n : ℕ) → n ≡ min m (run (in_classes 2
 digit_run s at m n e = omega (arith, run_same (in_classes 2 2) digit is_digit (drop at s))
 
 -- a run that goes past the most is none, of which only the first n bytes were looked at
-pub reads_long : (s : List ℕ) (at n : ℕ) → n ≤ run name_byte (drop at s) → max_name < n → Reads s (name_of (front name_byte (drop at s))) (record { cell = 0; len = n })
+pub reads_long : (s : List ℕ) (at n : ℕ) → n ≤ run name_byte (drop at s) → max_name < n → Reads s (name_of (front name_byte (drop at s))) R.None
 reads_long s at n e h =
-    reads_none s (name_of (front name_byte (drop at s))) (record { cell = 0; len = n })
+    reads_none s (name_of (front name_byte (drop at s)))
     (name_long (front name_byte (drop at s)) (omega (arith, length_front name_byte (drop at s))))
-    refl
 
 module _ (s : List ℕ) (at n : ℕ) (e : n ≡ run name_byte (drop at s)) where
   width : length (front name_byte (drop at s)) ≡ n
@@ -69,33 +70,36 @@ module _ (s : List ℕ) (at n : ℕ) (e : n ≡ run name_byte (drop at s)) where
   part : take (at + n - at) (drop at s) ≡ front name_byte (drop at s)
   part = ap (λ (k : ℕ). take k (drop at s)) (add-sub_cancel_left at n ∙ e)
 
-  module _ (h : n ≤ max_name) (w : ℕ) (f : w ≡ sign_cell first_word words (take (at + n - at) (drop at s))) where
-    cell_is : w ≡ sign_cell first_word words (front name_byte (drop at s))
-    cell_is = f ∙ ap (sign_cell first_word words) part
+  -- what is looked up
+  abbrev found_cell : R.Option ℕ
+  found_cell = sign_cell first_word words (take (at + n - at) (drop at s))
 
-    reads_found : Found first_word words (front name_byte (drop at s)) → (w ≡ 0 → ⊥) → Reads s (name_of (front name_byte (drop at s))) (record { cell = w; len = n })
+  module _ (h : n ≤ max_name) where
+    cell_is : found_cell ≡ sign_cell first_word words (front name_byte (drop at s))
+    cell_is = ap (sign_cell first_word words) part
+
+    reads_found : (w : ℕ) → R.Some w ≡ found_cell → Found first_word words (front name_byte (drop at s)) → Reads s (name_of (front name_byte (drop at s))) (R.Some (record { cell = w; len = n }))
     unfolding words
-    reads_found q z =
+    reads_found w f q =
+        let c : w ≡ first_word + q.place = same_Some w (first_word + q.place) (f ∙ cell_is ∙ q.cell) in
         reads_some s (name_of (front name_byte (drop at s))) (record { cell = w; len = n }) (sign (front name_byte (drop at s))) (length (front name_byte (drop at s)))
         (name_word (front name_byte (drop at s)) (omega (arith, width)) q.known)
-        z
-        (ap (cell_token s) (cell_is ∙ q.cell) ∙ cell_word s q.place (omega (arith, q.inside)) ∙ ap sign q.here)
+        (ap (cell_token s) c ∙ cell_word s q.place (omega (arith, q.inside)) ∙ ap sign q.here)
         (sym width)
 
-    pub reads_word : (w ≡ 0 → ⊥) → Reads s (name_of (front name_byte (drop at s))) (record { cell = w; len = n })
-    reads_word z = ⊎_elim (λ q. reads_found q z) (λ q. absurd (z (cell_is ∙ q.cell))) (look_up first_word words (front name_byte (drop at s)))
+    pub reads_word : (w : ℕ) → R.Some w ≡ found_cell → Reads s (name_of (front name_byte (drop at s))) (R.Some (record { cell = w; len = n }))
+    reads_word w f = ⊎_elim (λ q. reads_found w f q) (λ q. absurd (none-some w (sym q.cell ∙ sym cell_is ∙ sym f))) (look_up first_word words (front name_byte (drop at s)))
 
-    reads_missing : Missing first_word words (front name_byte (drop at s)) → Reads s (name_of (front name_byte (drop at s))) (record { cell = first_name + at; len = n })
+    reads_missing : Missing first_word words (front name_byte (drop at s)) → Reads s (name_of (front name_byte (drop at s))) (R.Some (record { cell = first_name + at; len = n }))
     reads_missing q =
         reads_some s (name_of (front name_byte (drop at s))) (record { cell = first_name + at; len = n }) (name (front name_byte (drop at s))) (length (front name_byte (drop at s)))
         (name_new (front name_byte (drop at s)) (omega (arith, width)) q.unknown)
-        (λ z. omega arith)
         (cell_name s at)
         (sym width)
 
-    pub reads_name : w ≡ 0 → Reads s (name_of (front name_byte (drop at s))) (record { cell = first_name + at; len = n })
-    reads_name z =
-        ⊎_elim (λ q. absurd (let c = q.cell in let i = cell_is in omega arith)) (λ q. reads_missing q) (look_up first_word words (front name_byte (drop at s)))
+    pub reads_name : R.None ≡ found_cell → Reads s (name_of (front name_byte (drop at s))) (R.Some (record { cell = first_name + at; len = n }))
+    reads_name f =
+        ⊎_elim (λ q. absurd (none-some (first_word + q.place) (f ∙ cell_is ∙ q.cell))) (λ q. reads_missing q) (look_up first_word words (front name_byte (drop at s)))
 
 -- what was looked at of the run of a byte that starts one has a byte at least, and no more than there are
 pub run_fit : (test : ℕ → Bool) (s : List ℕ) (at n c : ℕ) → n ≤ run test (drop at s) → (1 ≤ run test (drop at s) → 1 ≤ n)
@@ -119,20 +123,23 @@ pub value_end : (v : ℕ) (t : List ℕ) (i : ℕ) → length t ≤ i → value_
 unfolding value_of
 value_end v t i h = rw (drop_of_length-le t h)
 
-pub capped_over : (v : ℕ) → max_numeral < v → suc max_numeral ≡ capped v
+pub capped_over : (v : ℕ) → max_numeral < v → R.None ≡ capped v
 unfolding capped
 capped_over v h = rw (lt-leb _ _ h, capped)
 
-pub capped_within : (v : ℕ) → v ≤ max_numeral → v ≡ capped v
+pub capped_within : (v : ℕ) → v ≤ max_numeral → R.Some v ≡ capped v
 unfolding capped
 capped_within v h = rw (le-leb _ _ h, capped)
 
-capped_cases : (v : ℕ) → ((capped v ≡ v) × (v ≤ max_numeral)) ⊎ ((capped v ≡ suc max_numeral) × (max_numeral < v))
+capped_cases : (v : ℕ) → ((capped v ≡ R.Some v) × (v ≤ max_numeral)) ⊎ ((capped v ≡ R.None) × (max_numeral < v))
 capped_cases v = go (leb v max_numeral) refl
   where
-    go : (t : Bool) → leb v max_numeral ≡ t → ((capped v ≡ v) × (v ≤ max_numeral)) ⊎ ((capped v ≡ suc max_numeral) × (max_numeral < v))
+    go : (t : Bool) → leb v max_numeral ≡ t → ((capped v ≡ R.Some v) × (v ≤ max_numeral)) ⊎ ((capped v ≡ R.None) × (max_numeral < v))
     go true e = inl (sym (capped_within v (leb-true v max_numeral e)), leb-true v max_numeral e)
     go false e = inr (sym (capped_over v (leb-false v max_numeral e)), leb-false v max_numeral e)
+
+pub capped_low : (v n : ℕ) → R.Some v ≡ capped n → v ≤ max_numeral
+capped_low v n e = ⊎_elim (λ k. let q : v ≡ n = same_Some v n (e ∙ k.0) in omega (arith, k.1)) (λ k. absurd (none-some v (sym k.0 ∙ sym e))) (capped_cases n)
 
 -- one digit, or a first one above 0
 abbrev pub Plain : List ℕ → Type 0
@@ -159,25 +166,23 @@ unfolding numeral_of
 numeral_is t q h = rw (plain_test t q, le-leb _ _ h, numeral_of)
 
 module _ (s t : List ℕ) where
-  pub reads_zero : (length t ≡ 1 → ⊥) → get_or t 0 0 ≤ byte "0" → Reads s (numeral_of t) (record { cell = 0; len = length t })
-  reads_zero n h = reads_none s (numeral_of t) (record { cell = 0; len = length t }) (numeral_zero t n h) refl
+  pub reads_zero : (length t ≡ 1 → ⊥) → get_or t 0 0 ≤ byte "0" → Reads s (numeral_of t) R.None
+  reads_zero n h = reads_none s (numeral_of t) (numeral_zero t n h)
 
-  module _ (q : Plain t) (v : ℕ) (e : v ≡ capped (value_of 0 t)) where
-    pub reads_over : max_numeral < v → Reads s (numeral_of t) (record { cell = 0; len = length t })
-    reads_over h =
-        reads_none s (numeral_of t) (record { cell = 0; len = length t })
-        (numeral_over t q (⊎_elim (λ k. let (a, b) = k in absurd (omega arith)) (λ k. k.1) (capped_cases (value_of 0 t))))
-        refl
+  module _ (q : Plain t) where
+    pub reads_over : R.None ≡ capped (value_of 0 t) → Reads s (numeral_of t) R.None
+    reads_over e =
+        reads_none s (numeral_of t)
+        (numeral_over t q (⊎_elim (λ k. absurd (none-some (value_of 0 t) (e ∙ k.0))) (λ k. k.1) (capped_cases (value_of 0 t))))
 
-    pub reads_numeral : v ≤ max_numeral → Reads s (numeral_of t) (record { cell = first_numeral + v; len = length t })
-    reads_numeral h = ⊎_elim (λ k. go k.0 k.1) (λ k. let (a, b) = k in absurd (omega arith)) (capped_cases (value_of 0 t))
+    pub reads_numeral : (v : ℕ) → R.Some v ≡ capped (value_of 0 t) → Reads s (numeral_of t) (R.Some (record { cell = first_numeral + v; len = length t }))
+    reads_numeral v e = ⊎_elim (λ k. go (same_Some v (value_of 0 t) (e ∙ k.0)) k.1) (λ k. absurd (none-some v (sym k.0 ∙ sym e))) (capped_cases (value_of 0 t))
       where
-        go : capped (value_of 0 t) ≡ value_of 0 t → value_of 0 t ≤ max_numeral → Reads s (numeral_of t) (record { cell = first_numeral + v; len = length t })
+        go : v ≡ value_of 0 t → value_of 0 t ≤ max_numeral → Reads s (numeral_of t) (R.Some (record { cell = first_numeral + v; len = length t }))
         go a b =
             reads_some s (numeral_of t) (record { cell = first_numeral + v; len = length t }) (numeral (value_of 0 t)) (length t)
             (numeral_is t q b)
-            (λ z. omega arith)
-            (cell_numeral s v (omega arith) ∙ ap numeral (e ∙ a))
+            (cell_numeral s v (omega arith) ∙ ap numeral a)
             refl
 
 -- four digits have a zero first, or spell more than the most
@@ -200,17 +205,18 @@ numeral_long t h = go (ltb (byte "0") (get_or t 0 0)) refl
     go false e = numeral_zero t (λ q. omega arith) (ltb-false (byte "0") (get_or t 0 0) e)
 
 -- of so many digits only the first n were looked at
-pub reads_many : (s : List ℕ) (at n : ℕ) → n ≤ run digit (drop at s) → 3 < n → Reads s (numeral_of (front digit (drop at s))) (record { cell = 0; len = n })
+pub reads_many : (s : List ℕ) (at n : ℕ) → n ≤ run digit (drop at s) → 3 < n → Reads s (numeral_of (front digit (drop at s))) R.None
 reads_many s at n e h =
-    reads_none s (numeral_of (front digit (drop at s))) (record { cell = 0; len = n })
+    reads_none s (numeral_of (front digit (drop at s)))
     (numeral_long (front digit (drop at s)) (omega (arith, length_front digit (drop at s))))
-    refl
 
 -- what is read of the digits at a place is read of their run
-pub reads_digits : (s : List ℕ) (at n c : ℕ) → n ≡ run digit (drop at s)
-    → Reads s (numeral_of (take (at + n - at) (drop at s))) (record { cell = c; len = length (take (at + n - at) (drop at s)) })
-    → Reads s (numeral_of (front digit (drop at s))) (record { cell = c; len = n })
-reads_digits s at n c e r =
-    let p : take (at + n - at) (drop at s) ≡ front digit (drop at s) = ap (λ (k : ℕ). take k (drop at s)) (add-sub_cancel_left at n ∙ e) in
-    subst (λ (k : ℕ). Reads s (numeral_of (front digit (drop at s))) (record { cell = c; len = k })) (length_front digit (drop at s) ∙ sym e)
-    (subst (λ (w : List ℕ). Reads s (numeral_of w) (record { cell = c; len = length w })) p r)
+module _ (s : List ℕ) (at n : ℕ) (e : n ≡ run digit (drop at s)) where
+  digits : take (at + n - at) (drop at s) ≡ front digit (drop at s)
+  digits = ap (λ (k : ℕ). take k (drop at s)) (add-sub_cancel_left at n ∙ e)
+
+  pub reads_digits : (x : R.Option Taken) → Reads s (numeral_of (take (at + n - at) (drop at s))) x → Reads s (numeral_of (front digit (drop at s))) x
+  reads_digits x r = subst (λ (w : List ℕ). Reads s (numeral_of w) x) digits r
+
+  pub digits_long : length (take (at + n - at) (drop at s)) ≡ n
+  digits_long = ap length digits ∙ length_front digit (drop at s) ∙ sym e

@@ -13,6 +13,9 @@ use Rattle.pcrl.specs.Bytes.{separator}
 use Rattle.pcrl.specs.Tokens.{Token, run, Lexeme, first_token, before, followed, tokens_behind, tokens}
 use Rattle.lexer.specs.Cells.{cell_token, Reads, Lexes}
 use Rattle.lexer.specs.declared.Taken.{Taken}
+use Rattle.std.specs.Prelude as R
+use Rattle.refusals.specs.declared.Refusal.TheVariants.{NoToken}
+use Rattle.refusals.specs.Answered.{Answered}
 
 -- ---- bytes passed over
 behind_skip : (k : ℕ) (l : List ℕ) → tokens_behind k l ≡ tokens_behind 0 (drop k l)
@@ -65,31 +68,31 @@ unfolding tokens_behind
 from_end s p h = rw (drop_of_length-le s h)
 
 -- ---- a token that was read
-followed_none : (s : List ℕ) (x : Option Lexeme) (t : Taken) (k : ℕ → Option (List Token)) → Reads s x t → t.cell ≡ 0 → followed x k ≡ none
+followed_none : (s : List ℕ) (x : Option Lexeme) (k : ℕ → Option (List Token)) → Reads s x R.None → followed x k ≡ none
 unfolding followed Reads
-followed_none s none t k r z = refl
-followed_none s (some l) t k r z = absurd (r.0 z)
+followed_none s none k r = refl
+followed_none s (some l) k r = absurd r
 
-followed_some : (s : List ℕ) (x : Option Lexeme) (t : Taken) (k : ℕ → Option (List Token)) → Reads s x t → (t.cell ≡ 0 → ⊥) → followed x k ≡ before (cell_token s t.cell) (k t.len)
+followed_some : (s : List ℕ) (x : Option Lexeme) (t : Taken) (k : ℕ → Option (List Token)) → Reads s x (R.Some t) → followed x k ≡ before (cell_token s t.cell) (k t.len)
 unfolding followed Reads
-followed_some s none t k r z = absurd (z r)
-followed_some s (some l) t k r z = ap₂ (λ (a : Token) (n : ℕ). before a (k n)) (sym r.1) (sym r.2)
+followed_some s none t k r = absurd r
+followed_some s (some l) t k r = ap₂ (λ (a : Token) (n : ℕ). before a (k n)) (sym r.0) (sym r.1)
 
-module _ (s : List ℕ) (p : ℕ) (h : p < length s) (b : separator (get_or s p 0) ≡ false) (t : Taken) (r : Reads s (first_token (get_or s p 0) (drop (p + 1) s)) t) where
+module _ (s : List ℕ) (p : ℕ) (h : p < length s) (b : separator (get_or s p 0) ≡ false) (x : R.Option Taken) (r : Reads s (first_token (get_or s p 0) (drop (p + 1) s)) x) where
   here : from s p ≡ followed (first_token (get_or s p 0) (drop (suc p) s)) (λ n. tokens_behind (pred n) (drop (suc p) s))
   unfolding tokens_behind
   here = rw (drop-cons s p 0 h, b, tokens_behind)
 
-  reads : Reads s (first_token (get_or s p 0) (drop (suc p) s)) t
-  reads = subst (λ (j : ℕ). Reads s (first_token (get_or s p 0) (drop j s)) t) (add-one p) r
+  reads : (y : R.Option Taken) → x ≡ y → Reads s (first_token (get_or s p 0) (drop (suc p) s)) y
+  reads y e = subst (λ (j : ℕ). Reads s (first_token (get_or s p 0) (drop j s)) y) (add-one p) (subst (λ (z : R.Option Taken). Reads s (first_token (get_or s p 0) (drop (p + 1) s)) z) e r)
 
-  from_bad : t.cell ≡ 0 → from s p ≡ none
-  from_bad z = here ∙ followed_none s _ t _ reads z
+  from_bad : x ≡ R.None → from s p ≡ none
+  from_bad e = here ∙ followed_none s _ _ (reads R.None e)
 
-  from_token : (t.cell ≡ 0 → ⊥) → 1 ≤ t.len → from s p ≡ before (cell_token s t.cell) (from s (p + t.len))
-  from_token z l =
+  from_token : (t : Taken) → x ≡ R.Some t → 1 ≤ t.len → from s p ≡ before (cell_token s t.cell) (from s (p + t.len))
+  from_token t e l =
       let q : suc p + pred t.len ≡ p + t.len = omega arith in
-      here ∙ followed_some s _ t _ reads z
+      here ∙ followed_some s _ t _ (reads (R.Some t) e)
       ∙ ap (before (cell_token s t.cell))
       (behind_skip (pred t.len) (drop (suc p) s) ∙ ap (tokens_behind 0) (drop-drop (pred t.len) (suc p) s) ∙ ap (λ (j : ℕ). tokens_behind 0 (drop j s)) q)
 
@@ -118,31 +121,31 @@ glue_step f o n c (some r) h =
     ∙ ap (λ (l : List ℕ). map f l ++ r) (sym (take-suc-set o n c h) ∙ ap (λ (k : ℕ). take k (set o n c)) (sym (add-one n))))
 
 lexes_all : (s : List ℕ) (x : Option (List Token)) (o : List ℕ) (n : ℕ) → x ≡ glue (map (cell_token s) (take n o)) (some []) → n ≤ length o
-    → Lexes (question_of 3 x accepted) s (record { refused = 0; count = n }) o
-unfolding glue Lexes question_of
+    → Lexes (question_of 3 x accepted) s (R.Ok n) o
+unfolding glue Answered question_of
 lexes_all s x o n e h =
-    subst⁻¹ (λ (y : Option (List Token)). Lexes (question_of 3 y accepted) s (record { refused = 0; count = n }) o) (e ∙ ap some (append-nil (map (cell_token s) (take n o))))
-    (refl, sym (length-map (take n o) (cell_token s) ∙ length-take-le n o h), refl)
+    subst⁻¹ (λ (y : Option (List Token)). Lexes (question_of 3 y accepted) s (R.Ok n) o) (e ∙ ap some (append-nil (map (cell_token s) (take n o))))
+    (sym (length-map (take n o) (cell_token s) ∙ length-take-le n o h), refl)
 
-lexes_none : (s : List ℕ) (x : Option (List Token)) (l : List Token) (o : List ℕ) → x ≡ glue l none → Lexes (question_of 3 x accepted) s (record { refused = 3; count = 0 }) o
-unfolding glue Lexes question_of
-lexes_none s x l o e = subst⁻¹ (λ (y : Option (List Token)). Lexes (question_of 3 y accepted) s (record { refused = 3; count = 0 }) o) e (refl, refl)
+lexes_none : (s : List ℕ) (x : Option (List Token)) (l : List Token) (o : List ℕ) → x ≡ glue l none → Lexes (question_of 3 x accepted) s (R.Err NoToken) o
+unfolding glue Answered question_of
+lexes_none s x l o e = subst⁻¹ (λ (y : Option (List Token)). Lexes (question_of 3 y accepted) s (R.Err NoToken) o) e refl
 
 -- ---- a turn of the loop: n cells are written, and the separators from `at` on reach to p
 module _ (s out : List ℕ) (at n p : ℕ) (e : tokens s ≡ glue (map (cell_token s) (take n out)) (from s at)) (blanks : p ≡ at + run separator (drop at s)) where
   -- the sheet ends there
-  pub all_written : length s ≤ p → n ≤ length out → Lexes (question_of 3 (tokens s) accepted) s (record { refused = 0; count = n }) out
+  pub all_written : length s ≤ p → n ≤ length out → Lexes (question_of 3 (tokens s) accepted) s (R.Ok n) out
   all_written h room = lexes_all s (tokens s) out n (e ∙ ap (glue (map (cell_token s) (take n out))) (from_blank s at p blanks ∙ from_end s p h)) room
 
-  module _ (h : p < length s) (t : Taken) (r : Reads s (first_token (get_or s p 0) (drop (p + 1) s)) t) where
+  module _ (h : p < length s) (x : R.Option Taken) (r : Reads s (first_token (get_or s p 0) (drop (p + 1) s)) x) where
     -- no token stands there
-    pub none_written : t.cell ≡ 0 → Lexes (question_of 3 (tokens s) accepted) s (record { refused = 3; count = 0 }) out
+    pub none_written : x ≡ R.None → Lexes (question_of 3 (tokens s) accepted) s (R.Err NoToken) out
     none_written z =
         lexes_none s (tokens s) (map (cell_token s) (take n out)) out
-        (e ∙ ap (glue (map (cell_token s) (take n out))) (from_blank s at p blanks ∙ from_bad s p h (no_blank s at p blanks h) t r z))
+        (e ∙ ap (glue (map (cell_token s) (take n out))) (from_blank s at p blanks ∙ from_bad s p h (no_blank s at p blanks h) x r z))
 
     -- a token stands there, and its cell is written
-    pub one_more : (t.cell ≡ 0 → ⊥) → 1 ≤ t.len → n < length out → tokens s ≡ glue (map (cell_token s) (take (n + 1) (set out n t.cell))) (from s (p + t.len))
-    one_more z l room =
-        e ∙ ap (glue (map (cell_token s) (take n out))) (from_blank s at p blanks ∙ from_token s p h (no_blank s at p blanks h) t r z l)
+    pub one_more : (t : Taken) → x ≡ R.Some t → 1 ≤ t.len → n < length out → tokens s ≡ glue (map (cell_token s) (take (n + 1) (set out n t.cell))) (from s (p + t.len))
+    one_more t z l room =
+        e ∙ ap (glue (map (cell_token s) (take n out))) (from_blank s at p blanks ∙ from_token s p h (no_blank s at p blanks h) x r t z l)
         ∙ glue_step (cell_token s) out n t.cell (from s (p + t.len)) room

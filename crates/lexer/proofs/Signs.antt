@@ -10,6 +10,7 @@ use native.Mathlib.Omega.{arith}
 use lib.Dec.{T, eqb}
 use lib.ListN.{length, take, get_or}
 use borrow.Author.Tests.{eqb-true, eqb-false}
+use Rattle.std.specs.Prelude.{None, Some}
 use Rattle.pcrl.specs.Text.{bytes}
 use Rattle.pcrl.specs.Tests.{and, or, negated, same?, among, Every}
 use Rattle.pcrl.specs.Tokens.{sign, words, mark_of}
@@ -19,21 +20,21 @@ use Rattle.lexer.specs.Classes.{sign_cell}
 use Rattle.lexer.specs.Cells.{first_word}
 
 -- ---- a sign among some
-pub sign_cell_none : (c : ℕ) (vs : List (List ℕ)) (w : List ℕ) → Every (λ v. w ≡ v → ⊥) vs → sign_cell c vs w ≡ 0
+pub sign_cell_none : (c : ℕ) (vs : List (List ℕ)) (w : List ℕ) → Every (λ v. w ≡ v → ⊥) vs → sign_cell c vs w ≡ None
 unfolding sign_cell Every
 sign_cell_none c [] w h = refl
-sign_cell_none c (v ∷ vs) w h = where_no (same? w v) h.0 c (sign_cell (suc c) vs w) ∙ sign_cell_none (suc c) vs w h.1
+sign_cell_none c (v ∷ vs) w h = where_no (same? w v) h.0 (Some c) (sign_cell (suc c) vs w) ∙ sign_cell_none (suc c) vs w h.1
 
 -- w is one of the signs, and its cell is as far from c as its place from the first
 pub record Found (c : ℕ) (vs : List (List ℕ)) (w : List ℕ) : Type 0 where
   pub place : ℕ
   pub inside : place < length vs
-  pub cell : sign_cell c vs w ≡ c + place
+  pub cell : sign_cell c vs w ≡ Some (c + place)
   pub here : get_or vs place [] ≡ w
   pub known : among w vs ≡ true
 
 pub record Missing (c : ℕ) (vs : List (List ℕ)) (w : List ℕ) : Type 0 where
-  pub cell : sign_cell c vs w ≡ 0
+  pub cell : sign_cell c vs w ≡ None
   pub unknown : among w vs ≡ false
 
 look_up_step : (c : ℕ) (v : List ℕ) (vs : List (List ℕ)) (w : List ℕ) (d : Dec (w ≡ v)) → Found (suc c) vs w ⊎ Missing (suc c) vs w
@@ -43,7 +44,7 @@ look_up_step c v vs w (yes e) f =
     inl (record {
       place = 0;
       inside = omega arith;
-      cell = where_yes (same? w v) e c (sign_cell (suc c) vs w) ∙ sym (add-zero c);
+      cell = where_yes (same? w v) e (Some c) (sign_cell (suc c) vs w) ∙ ap Some (sym (add-zero c));
       here = sym e;
       known = where_yes (same? w v) e true (among w vs);
     })
@@ -52,13 +53,13 @@ look_up_step c v vs w (no h) (inl f) =
     inl (record {
       place = suc f.place;
       inside = omega (arith, f.inside);
-      cell = where_no (same? w v) h c (sign_cell (suc c) vs w) ∙ f.cell ∙ q;
+      cell = where_no (same? w v) h (Some c) (sign_cell (suc c) vs w) ∙ f.cell ∙ ap Some q;
       here = f.here;
       known = where_no (same? w v) h true (among w vs) ∙ f.known;
     })
 look_up_step c v vs w (no h) (inr m) =
     inr (record {
-      cell = where_no (same? w v) h c (sign_cell (suc c) vs w) ∙ m.cell;
+      cell = where_no (same? w v) h (Some c) (sign_cell (suc c) vs w) ∙ m.cell;
       unknown = where_no (same? w v) h true (among w vs) ∙ m.unknown;
     })
 
@@ -70,7 +71,7 @@ look_up c (v ∷ vs) w = look_up_step c v vs w (same? w v) (look_up (suc c) vs w
 -- ---- words
 module _ (w : List ℕ) where
   pub no_word : (w ≡ bytes "sort" → ⊥) → (w ≡ bytes "func" → ⊥) → (w ≡ bytes "act" → ⊥) → (w ≡ bytes "proc" → ⊥)
-      → (w ≡ bytes "init" → ⊥) → (w ≡ bytes "sum" → ⊥) → (w ≡ bytes "delta" → ⊥) → (w ≡ bytes "tau" → ⊥) → 0 ≡ sign_cell first_word words w
+      → (w ≡ bytes "init" → ⊥) → (w ≡ bytes "sum" → ⊥) → (w ≡ bytes "delta" → ⊥) → (w ≡ bytes "tau" → ⊥) → None ≡ sign_cell first_word words w
   unfolding words Every
   no_word n₁ n₂ n₃ n₄ n₅ n₆ n₇ n₈ = sym (sign_cell_none first_word words w (n₁, (n₂, (n₃, (n₄, (n₅, (n₆, (n₇, (n₈, tt)))))))))
 
@@ -79,7 +80,7 @@ module _ (w : List ℕ) where
 
   -- no word begins with its first byte
   pub first_unlike : (get_or w 0 0 ≡ 115 → ⊥) → (get_or w 0 0 ≡ 102 → ⊥) → (get_or w 0 0 ≡ 97 → ⊥) → (get_or w 0 0 ≡ 112 → ⊥)
-      → (get_or w 0 0 ≡ 105 → ⊥) → (get_or w 0 0 ≡ 100 → ⊥) → (get_or w 0 0 ≡ 116 → ⊥) → 0 ≡ sign_cell first_word words w
+      → (get_or w 0 0 ≡ 105 → ⊥) → (get_or w 0 0 ≡ 100 → ⊥) → (get_or w 0 0 ≡ 116 → ⊥) → None ≡ sign_cell first_word words w
   first_unlike s f a p i d t =
       no_word (other_first (bytes "sort") s) (other_first (bytes "func") f) (other_first (bytes "act") a) (other_first (bytes "proc") p)
       (other_first (bytes "init") i) (other_first (bytes "sum") s) (other_first (bytes "delta") d) (other_first (bytes "tau") t)
@@ -88,7 +89,7 @@ module _ (w : List ℕ) where
   other_length v h e = let q = ap length e in omega arith
 
   -- each word has three bytes at least
-  pub short_no_word : length w < 3 → 0 ≡ sign_cell first_word words w
+  pub short_no_word : length w < 3 → None ≡ sign_cell first_word words w
   short_no_word h =
       no_word (other_length (bytes "sort") (omega arith)) (other_length (bytes "func") (omega arith)) (other_length (bytes "act") (omega arith)) (other_length (bytes "proc") (omega arith))
       (other_length (bytes "init") (omega arith)) (other_length (bytes "sum") (omega arith)) (other_length (bytes "delta") (omega arith)) (other_length (bytes "tau") (omega arith))
@@ -112,10 +113,10 @@ module _ (w : List ℕ) (b : ℕ) (first : get_or w 0 0 ≡ b) where
   starting_none [] h = tt
   starting_none (v ∷ vs) h = starting_step v vs (eqb b (get_or v 0 0)) refl h (starting_none vs)
 
-  pub no_sign_starting : (c : ℕ) (vs : List (List ℕ)) → Every (λ v. w ≡ v → ⊥) (starting b vs) → 0 ≡ sign_cell c vs w
+  pub no_sign_starting : (c : ℕ) (vs : List (List ℕ)) → Every (λ v. w ≡ v → ⊥) (starting b vs) → None ≡ sign_cell c vs w
   no_sign_starting c vs h = sym (sign_cell_none c vs w (starting_none vs h))
 
-  pub no_word_starting : Every (λ v. w ≡ v → ⊥) (starting b words) → 0 ≡ sign_cell first_word words w
+  pub no_word_starting : Every (λ v. w ≡ v → ⊥) (starting b words) → None ≡ sign_cell first_word words w
   no_word_starting = no_sign_starting first_word words
 
 -- ---- the mark that bytes begin with

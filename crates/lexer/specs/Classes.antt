@@ -1,5 +1,5 @@
 -- Classes of bytes, and what the functions of this crate decide. The bytes of a name have classes one after another, 2 to 4.
-use Rattle.std.specs.Prelude.{List, [], ◌∷◌, Bool, true, false, ℕ, suc, eqb, leb}
+use Rattle.std.specs.Prelude.{List, [], ◌∷◌, Bool, true, false, ℕ, suc, eqb, leb, Option, None, Some}
 use Rattle.pcrl.specs.Text.{byte}
 use Rattle.pcrl.specs.Limits.{max_numeral}
 use Rattle.pcrl.specs.Tests.{or, within, same?}
@@ -41,11 +41,11 @@ class_of b = class_by (separator b) (digit b) (letter b) (eqb b (byte "_")) (alo
 abbrev pub in_classes : ℕ → ℕ → ℕ → Bool
 in_classes lo hi b = within lo hi (class_of b)
 
--- the cell of the first of some signs that is w, where theirs count from c; 0 if it is none of them
-unfoldable pub sign_cell : ℕ → List (List ℕ) → List ℕ → ℕ
-sign_cell c [] w = 0
-sign_cell c (v ∷ vs) w = elim (same? w v) [ yes e ↦ c | no h ↦ sign_cell (suc c) vs w ]
+-- the cell of the first of some signs that is w, where theirs count from c, if it is one of them
+unfoldable pub sign_cell : ℕ → List (List ℕ) → List ℕ → Option ℕ
+sign_cell c [] w = None
+sign_cell c (v ∷ vs) w = elim (same? w v) [ yes e ↦ Some c | no h ↦ sign_cell (suc c) vs w ]
 
--- a value that a numeral may have, or one more than the most
-unfoldable pub capped : ℕ → ℕ
-capped v = elim (leb v max_numeral) [ true ↦ v | false ↦ suc max_numeral ]
+-- a value that a numeral may have
+unfoldable pub capped : ℕ → Option ℕ
+capped v = elim (leb v max_numeral) [ true ↦ Some v | false ↦ None ]

@@ -12,12 +12,11 @@ pub mod brackets; // brackets that are open
 
 use brackets::shallow;
 use bytes::all_printable;
-use limits::{MAX_BYTES, NOT_TEXT, TOO_LONG, TOO_OPEN};
+use limits::MAX_BYTES;
+use refusals::Refusal;
 use tokens::tokens;
 
-// Cells: 0 for no token, its byte for a mark of one byte.
-pub const NO_TOKEN: u16 = 0;
-
+// Cells: tokens stay numbers, one u16 a token, since they stand in an array that is lent (fixed memory). A mark of one byte is its byte.
 pub const BANG: u16 = 33;
 
 pub const HASH: u16 = 35;
@@ -73,47 +72,27 @@ pub const FIRST_NUMERAL: u16 = 256;
 
 pub const FIRST_NAME: u16 = 1024;
 
-// The question that refused the sheet, or 0, and how many cells were written.
-#[derive(Clone, Copy)]
-pub struct Lexed {
-    pub refused: u8,
-    pub count: usize,
-}
-
-// The cell of a token and how many bytes it takes; cell 0 where there is no token.
+// The cell of a token and how many bytes it takes.
 #[derive(Clone, Copy)]
 pub struct Taken {
     pub cell: u16,
     pub len: usize,
 }
 
-// Questions 1 to 4, each put to the whole sheet before the next; the cells of an accepted sheet are left in out.
-pub fn lex(sheet: &[u8], out: &mut [u16]) -> Lexed
+// Questions 1 to 4, each put to the whole sheet before the next; the cells of an accepted sheet are left in out. How many there are.
+pub fn lex(sheet: &[u8], out: &mut [u16]) -> Result<usize, Refusal>
     requires { min (length sheet.now) max_bytes ≤ length out.old }
     ensures { Lexes (tokens_read sheet.now) sheet.now result out.new }
 {
     if MAX_BYTES < sheet.len() {
-        return Lexed {
-            refused: TOO_LONG,
-            count: 0,
-        };
+        return Err(Refusal::TooLong);
     }
     if !all_printable(sheet) {
-        return Lexed {
-            refused: NOT_TEXT,
-            count: 0,
-        };
+        return Err(Refusal::NotText);
     }
-    let r = tokens(sheet, out);
-    if r.refused != 0 {
-        return r;
-    }
-    let n = r.count;
+    let n = tokens(sheet, out)?;
     if !shallow(out, n) {
-        return Lexed {
-            refused: TOO_OPEN,
-            count: 0,
-        };
+        return Err(Refusal::TooOpen);
     }
-    r
+    Ok(n)
 }

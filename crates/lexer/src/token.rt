@@ -1,5 +1,5 @@
 // One token, by its first byte.
-ghost use Rattle.std.specs.Prelude.{true, ◌≡◌, ◌≢◌, List, [], ◌∷◌, ℕ, ◌+◌, ◌-◌, ◌≤◌, ◌<◌, length, drop, get_or};
+ghost use Rattle.std.specs.Prelude.{true, ◌≡◌, ◌≢◌, List, [], ◌∷◌, ℕ, ◌+◌, ◌-◌, ◌≤◌, ◌<◌, length, drop, get_or, Option, Some, IfSome};
 ghost use Rattle.pcrl.specs.Text.{byte};
 ghost use Rattle.pcrl.specs.Limits.{max_bytes};
 ghost use Rattle.pcrl.specs.Bytes as B;
@@ -7,12 +7,12 @@ ghost use Rattle.pcrl.specs.Tokens as T;
 ghost use Rattle.lexer.specs.Classes.{leads, sign_cell, capped};
 ghost use Rattle.lexer.specs.Cells.{first_word, first_long_mark, long_marks, Reads, Fits};
 
-use crate::bytes::{DIGIT, UNDERSCORE, run_within, same};
+use crate::bytes::{DIGIT, UNDERSCORE, run_within};
 use crate::{
-    ACT, AND, ARROW, DELTA, ELSE, EQUALS, FIRST_NAME, FIRST_NUMERAL, FUNC, IF, INIT, NO_TOKEN, OR,
-    PROC, SAME, SORT, SUM, TAU, Taken,
+    ACT, AND, ARROW, DELTA, ELSE, EQUALS, FIRST_NAME, FIRST_NUMERAL, FUNC, IF, INIT, OR, PROC,
+    SAME, SORT, SUM, TAU, Taken,
 };
-use elements::{cell_of, peek};
+use elements::peek;
 use limits::MAX_NAME;
 
 const MAX_NUMERAL: u16 = limits::MAX_NUMERAL as u16;
@@ -22,52 +22,71 @@ const MIN_WORD: usize = 3;
 // more digits have a zero first, or spell more
 const MAX_DIGITS: usize = 3;
 
-// The cell of a word, or 0: by the first byte, which only `sort` and `sum` share.
-pub fn word(t: &[u8]) -> u16
+// The cell of a word: by the first byte, which only `sort` and `sum` share.
+pub fn word(t: &[u8]) -> Option<u16>
     ensures { result ≡ sign_cell first_word T.words t.now }
 {
     if t.len() < MIN_WORD {
-        return NO_TOKEN;
+        return None;
     }
     match peek(t, 0) {
-        b's' => if same(t, b"sort") {
-            SORT
-        } else if same(t, b"sum") {
-            SUM
+        b's' => if t == b"sort".as_slice() {
+            Some(SORT)
+        } else if t == b"sum".as_slice() {
+            Some(SUM)
         } else {
-            NO_TOKEN
+            None
         },
-        b'f' => if same(t, b"func") { FUNC } else { NO_TOKEN },
-        b'a' => if same(t, b"act") { ACT } else { NO_TOKEN },
-        b'p' => if same(t, b"proc") { PROC } else { NO_TOKEN },
-        b'i' => if same(t, b"init") { INIT } else { NO_TOKEN },
-        b'd' => if same(t, b"delta") { DELTA } else { NO_TOKEN },
-        b't' => if same(t, b"tau") { TAU } else { NO_TOKEN },
-        _ => NO_TOKEN,
+        b'f' => if t == b"func".as_slice() {
+            Some(FUNC)
+        } else {
+            None
+        },
+        b'a' => if t == b"act".as_slice() {
+            Some(ACT)
+        } else {
+            None
+        },
+        b'p' => if t == b"proc".as_slice() {
+            Some(PROC)
+        } else {
+            None
+        },
+        b'i' => if t == b"init".as_slice() {
+            Some(INIT)
+        } else {
+            None
+        },
+        b'd' => if t == b"delta".as_slice() {
+            Some(DELTA)
+        } else {
+            None
+        },
+        b't' => if t == b"tau".as_slice() {
+            Some(TAU)
+        } else {
+            None
+        },
+        _ => None,
     }
 }
 
 // The name or word at `at`, where a letter stands.
-fn name_at(s: &[u8], at: usize) -> Taken
+fn name_at(s: &[u8], at: usize) -> Option<Taken>
     requires { (at < length s.now) × (length s.now ≤ max_bytes) × (B.letter (get_or s.now at 0) ≡ true) }
-    ensures fits { Fits (length s.now) at result }
+    ensures fits { IfSome result (Fits (length s.now) at) }
     ensures reads { Reads s.now (T.name_of (T.front B.name_byte (drop at s.now))) result }
 {
     let n = 1 + run_within(s, at + 1, MAX_NAME, DIGIT, UNDERSCORE);
     if MAX_NAME < n {
-        return Taken {
-            cell: NO_TOKEN,
-            len: n,
-        };
+        return None;
     }
-    let w = word(&s[at..at + n]);
-    if w == NO_TOKEN {
-        Taken {
+    match word(&s[at..at + n]) {
+        Some(cell) => Some(Taken { cell, len: n }),
+        None => Some(Taken {
             cell: FIRST_NAME + at as u16,
             len: n,
-        }
-    } else {
-        Taken { cell: w, len: n }
+        }),
     }
 }
 
@@ -75,71 +94,65 @@ fn name_at(s: &[u8], at: usize) -> Taken
 fn digit_value(b: u8) -> u16
     ensures { result ≡ b - 48 }
 {
-    if b < b'0' { 0 } else { cell_of(b - b'0') }
+    if b < b'0' { 0 } else { u16::from(b - b'0') }
 }
 
-// The number that digits spell, or 256 where it is above 255.
-fn value_of(t: &[u8]) -> u16
+// The number that digits spell, where it is 255 at most.
+fn value_of(t: &[u8]) -> Option<u16>
     ensures { result ≡ capped (T.value_of 0 t.now) }
 {
     let mut v: u16 = 0;
     for i in 0..t.len() {
         v = v * 10 + digit_value(t[i]);
         if MAX_NUMERAL < v {
-            return MAX_NUMERAL + 1;
+            return None;
         }
     }
-    v
+    Some(v)
 }
 
-// The cell of the numeral that digits spell, or 0: no leading zero but in 0 itself.
-fn numeral(t: &[u8]) -> u16
-    ensures { (s : List ℕ) → Reads s (T.numeral_of t.now) (record { cell = result; len = length t.now }) }
+// The numeral that digits spell: no leading zero but in 0 itself.
+fn numeral(t: &[u8]) -> Option<Taken>
+    ensures long { IfSome result (λ n. n.len ≡ length t.now) }
+    ensures reads { (s : List ℕ) → Reads s (T.numeral_of t.now) result }
 {
     if t.len() != 1 {
         if peek(t, 0) <= b'0' {
-            return NO_TOKEN;
+            return None;
         }
     }
-    let v = value_of(t);
-    if MAX_NUMERAL < v {
-        NO_TOKEN
-    } else {
-        FIRST_NUMERAL + v
-    }
+    let v = value_of(t)?;
+    Some(Taken {
+        cell: FIRST_NUMERAL + v,
+        len: t.len(),
+    })
 }
 
 // The numeral at `at`, where a digit stands.
-fn numeral_at(s: &[u8], at: usize) -> Taken
+fn numeral_at(s: &[u8], at: usize) -> Option<Taken>
     requires { (at < length s.now) × (B.digit (get_or s.now at 0) ≡ true) }
-    ensures fits { Fits (length s.now) at result }
+    ensures fits { IfSome result (Fits (length s.now) at) }
     ensures reads { Reads s.now (T.numeral_of (T.front B.digit (drop at s.now))) result }
 {
     let n = run_within(s, at, MAX_DIGITS + 1, DIGIT, DIGIT);
     if MAX_DIGITS < n {
-        return Taken {
-            cell: NO_TOKEN,
-            len: n,
-        };
+        return None;
     }
-    Taken {
-        cell: numeral(&s[at..at + n]),
-        len: n,
-    }
+    numeral(&s[at..at + n])
 }
 
-// The cell of the mark of two bytes that does not begin with `=`, or 0.
-fn long_mark(a: u8, b: u8) -> u16
+// The cell of the mark of two bytes that does not begin with `=`.
+fn long_mark(a: u8, b: u8) -> Option<u16>
     requires { a ≢ byte "=" }
     ensures { result ≡ sign_cell first_long_mark long_marks (a ∷ b ∷ []) }
 {
     match a {
-        b'-' => if b == b'>' { ARROW } else { NO_TOKEN },
-        b'<' => if b == b'|' { IF } else { NO_TOKEN },
-        b'|' => if b == b'>' { ELSE } else { NO_TOKEN },
-        b'/' => if b == b'\\' { AND } else { NO_TOKEN },
-        b'\\' => if b == b'/' { OR } else { NO_TOKEN },
-        _ => NO_TOKEN,
+        b'-' => if b == b'>' { Some(ARROW) } else { None },
+        b'<' => if b == b'|' { Some(IF) } else { None },
+        b'|' => if b == b'>' { Some(ELSE) } else { None },
+        b'/' => if b == b'\\' { Some(AND) } else { None },
+        b'\\' => if b == b'/' { Some(OR) } else { None },
+        _ => None,
     }
 }
 
@@ -147,7 +160,7 @@ fn long_mark(a: u8, b: u8) -> u16
 fn equals_at(s: &[u8], at: usize) -> Taken
     requires { (at < length s.now) × (get_or s.now at 0 ≡ byte "=") }
     ensures fits { Fits (length s.now) at result }
-    ensures reads { Reads s.now (T.mark_of T.punctuation (drop at s.now)) result }
+    ensures reads { Reads s.now (T.mark_of T.punctuation (drop at s.now)) (Some result) }
 {
     if peek(s, at + 1) == b'=' {
         Taken { cell: SAME, len: 2 }
@@ -160,45 +173,35 @@ fn equals_at(s: &[u8], at: usize) -> Taken
 }
 
 // The mark at `at`, where the first byte of a mark of two stands.
-fn long_mark_at(s: &[u8], at: usize) -> Taken
+fn long_mark_at(s: &[u8], at: usize) -> Option<Taken>
     requires { (at < length s.now) × (leads (get_or s.now at 0) ≡ true) }
-    ensures fits { Fits (length s.now) at result }
+    ensures fits { IfSome result (Fits (length s.now) at) }
     ensures reads { Reads s.now (T.mark_of T.punctuation (drop at s.now)) result }
 {
     let a = peek(s, at);
     if a == b'=' {
-        return equals_at(s, at);
+        return Some(equals_at(s, at));
     }
-    let m = long_mark(a, peek(s, at + 1));
-    if m == NO_TOKEN {
-        Taken {
-            cell: NO_TOKEN,
-            len: 1,
-        }
-    } else {
-        Taken { cell: m, len: 2 }
-    }
+    let cell = long_mark(a, peek(s, at + 1))?;
+    Some(Taken { cell, len: 2 })
 }
 
 // The token at `at`, by the value of its first byte: a letter, a digit, a mark of one byte, the first byte of a longer mark. Separators were
 // skipped before (`skip`), and no other byte begins a token.
-pub fn token_at(s: &[u8], at: usize) -> Taken
+pub fn token_at(s: &[u8], at: usize) -> Option<Taken>
     requires { (at < length s.now) × (length s.now ≤ max_bytes) }
-    ensures fits { Fits (length s.now) at result }
+    ensures fits { IfSome result (Fits (length s.now) at) }
     ensures reads { Reads s.now (T.first_token (get_or s.now at 0) (drop (at + 1) s.now)) result }
 {
     let b = s[at];
     match b {
         b'A'..=b'Z' | b'a'..=b'z' => name_at(s, at),
         b'0'..=b'9' => numeral_at(s, at),
-        b'(' | b')' | b',' | b';' | b':' | b'#' | b'+' | b'.' | b'!' => Taken {
-            cell: cell_of(b),
+        b'(' | b')' | b',' | b';' | b':' | b'#' | b'+' | b'.' | b'!' => Some(Taken {
+            cell: u16::from(b),
             len: 1,
-        },
+        }),
         b'-' | b'<' | b'|' | b'=' | b'/' | b'\\' => long_mark_at(s, at),
-        _ => Taken {
-            cell: NO_TOKEN,
-            len: 1,
-        },
+        _ => None,
     }
 }

@@ -1,5 +1,5 @@
 // Question 3: the tokens of a sheet.
-ghost use Rattle.std.specs.Prelude.{◌≤◌, length};
+ghost use Rattle.std.specs.Prelude.{◌≤◌, length, IfOk};
 ghost use Rattle.pcrl.specs.Limits.{max_bytes};
 ghost use Rattle.pcrl.specs.Result.{accepted, question_of};
 ghost use Rattle.pcrl.specs.Tokens as T;
@@ -7,12 +7,12 @@ ghost use Rattle.lexer.specs.Cells.{Lexes};
 
 use crate::bytes::Cursor;
 use crate::token::token_at;
-use crate::{Lexed, NO_TOKEN};
+use refusals::Refusal;
 
-// One after another, into the front of out.
-pub fn tokens(sheet: &[u8], out: &mut [u16]) -> Lexed
+// One after another, into the front of out: how many there are.
+pub fn tokens(sheet: &[u8], out: &mut [u16]) -> Result<usize, Refusal>
     requires { (length sheet.now ≤ max_bytes) × (length sheet.now ≤ length out.old) }
-    ensures count_in_bounds { result.count ≤ length sheet.now }
+    ensures count_in_bounds { IfOk result (λ n. n ≤ length sheet.now) }
     ensures lexes { Lexes (question_of 3 (T.tokens sheet.now) accepted) sheet.now result out.new }
 {
     let mut cursor = Cursor { at: 0 };
@@ -21,18 +21,11 @@ pub fn tokens(sheet: &[u8], out: &mut [u16]) -> Lexed
         cursor = cursor.skip(sheet);
         let at = cursor.at;
         if sheet.len() <= at {
-            return Lexed {
-                refused: 0,
-                count: n,
-            };
+            return Ok(n);
         }
-        let t = token_at(sheet, at);
-        if t.cell == NO_TOKEN {
-            return Lexed {
-                refused: limits::NO_TOKEN,
-                count: 0,
-            };
-        }
+        let Some(t) = token_at(sheet, at) else {
+            return Err(Refusal::NoToken);
+        };
         out[n] = t.cell;
         n += 1;
         cursor = cursor.past(t.len);

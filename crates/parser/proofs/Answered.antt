@@ -9,7 +9,6 @@ use native.Mathlib.Omega.{arith}
 use lib.ListN.{take, get_or, length-take, get_or-eq_default}
 use lib.Seq.{get_or-take}
 use Rattle.pcrl.specs.Tree.{RawSheet}
-use Rattle.lexer.specs.declared.Lexed.{Lexed}
 use Rattle.lexer.proofs.Accepted.{Accepted}
 use Rattle.parser.specs.Cells.{first_ors}
 use Rattle.parser.specs.Reading.{Few}
@@ -29,7 +28,7 @@ none_of none s r cells h e = refl
 none_of (some R) s r cells h e = let z : ◌≡◌ {A = ℕ} 0 1 = let q : true ≡ false = sym h.ok ∙ e in cc in absurd (omega arith)
 
 -- the cells of an accepted sheet
-pub accepted_few : {s out : List ℕ} {r : Lexed} → Accepted s r out → (n : ℕ) → n ≤ r.count → Few (take n out)
+pub accepted_few : {s out : List ℕ} {r : ℕ} → Accepted s r out → (n : ℕ) → n ≤ r → Few (take n out)
 accepted_few {s} {out} {r} a n l = record { short = omega (arith, length-take n out, a.fits, a.short); low = λ i. by i (dec_lt i n) }
   where
     by : (i : ℕ) → Dec (i < n) → get_or (take n out) i 0 < first_ors

@@ -14,20 +14,17 @@ equals_at-requires c = (omega arith, sym c.peek-a.ensures ∙ c.if-a-eq61.true)
 pub returns-then-a-eq61 : goal.returns-then-a-eq61
 returns-then-a-eq61 c = c.equals_at.ensures
 
-pub long_mark-m-requires : goal.long_mark-m-requires
-long_mark-m-requires c = c.if-a-eq61.false
+pub long_mark-requires : goal.long_mark-requires
+long_mark-requires c = c.if-a-eq61.false
 
-pub returns-then-m-eq-NO_TOKEN : goal.returns-then-m-eq-NO_TOKEN
-returns-then-m-eq-NO_TOKEN c = let a = c.args in
-    let e = c.long_mark-m.ensures ∙ ap₂ (λ (x y : ℕ). sign_cell first_long_mark long_marks (x ∷ y ∷ [])) c.peek-a.ensures c.peek.ensures in record {
-      fits = omega arith;
-      reads = reads_no_pair a.s.now a.at c.long_mark-m.result (omega arith) e c.if-m-eq-NO_TOKEN.true c.requires.1
-          (λ q. c.if-a-eq61.false (c.peek-a.ensures ∙ q));
-    }
+pub returns-in_err-cell-clause-reads : goal.returns-in_err-cell-clause-reads
+returns-in_err-cell-clause-reads c = let a = c.args in
+    let e = c.in_err-cell.ensures ∙ ap₂ (λ (x y : ℕ). sign_cell first_long_mark long_marks (x ∷ y ∷ [])) c.peek-a.ensures c.peek.ensures in
+    rw c.from_residual.ensures (reads_no_pair a.s.now a.at (omega arith) e c.requires.1 (λ q. c.if-a-eq61.false (c.peek-a.ensures ∙ q)))
 
-pub returns-else-m-eq-NO_TOKEN : goal.returns-else-m-eq-NO_TOKEN
-returns-else-m-eq-NO_TOKEN c = let a = c.args in
-    let e = c.long_mark-m.ensures ∙ ap₂ (λ (x y : ℕ). sign_cell first_long_mark long_marks (x ∷ y ∷ [])) c.peek-a.ensures c.peek.ensures in record {
-      fits = pair_fits a.s.now a.at c.long_mark-m.result (omega arith) e c.if-m-eq-NO_TOKEN.false;
-      reads = reads_pair a.s.now a.at c.long_mark-m.result (omega arith) e c.if-m-eq-NO_TOKEN.false;
+pub returns : goal.returns
+returns c = let a = c.args in
+    let e = c.in_ok-cell.ensures ∙ ap₂ (λ (x y : ℕ). sign_cell first_long_mark long_marks (x ∷ y ∷ [])) c.peek-a.ensures c.peek.ensures in record {
+      fits = pair_fits a.s.now a.at (omega arith) c.in_ok-cell.cell e;
+      reads = reads_pair a.s.now a.at (omega arith) c.in_ok-cell.cell e;
     }

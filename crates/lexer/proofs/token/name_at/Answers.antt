@@ -7,23 +7,21 @@ use Rattle.lexer.proofs.Reading.{run_fit, letter_name, letter_run, reads_long, r
 use Rattle.lexer.proofs.Runs.{run_fits}
 use Rattle.lexer.proofs.token.name_at.Goals as goal
 
-pub returns-then-n-gt-MAX_NAME : goal.returns-then-n-gt-MAX_NAME
-returns-then-n-gt-MAX_NAME c = let a = c.args in let m = c.run_within-n in let k = letter_run a.s.now a.at m.result (omega arith) c.requires.2 m.ensures in record {
-  fits = run_fit name_byte a.s.now a.at (1 + m.result) 0 (omega arith) (λ h. omega arith) (omega arith) (letter_name (get_or a.s.now a.at 0) c.requires.2);
-  reads = reads_long a.s.now a.at (1 + m.result) (omega arith) (omega arith);
-}
+pub returns-then-n-gt-MAX_NAME-clause-reads : goal.returns-then-n-gt-MAX_NAME-clause-reads
+returns-then-n-gt-MAX_NAME-clause-reads c = let a = c.args in let m = c.run_within-n in let k = letter_run a.s.now a.at m.result (omega arith) c.requires.2 m.ensures in
+    reads_long a.s.now a.at (1 + m.result) (omega arith) (omega arith)
 
 pub slice_bounds-word-end : goal.slice_bounds-word-end
 slice_bounds-word-end c = let a = c.args in let m = c.run_within-n in let k = letter_run a.s.now a.at m.result (omega arith) c.requires.2 m.ensures in omega (arith, run_fits name_byte a.s.now a.at)
 
-pub returns-then-w-eq-NO_TOKEN : goal.returns-then-w-eq-NO_TOKEN
-returns-then-w-eq-NO_TOKEN c = let a = c.args in let m = c.run_within-n in let k = letter_run a.s.now a.at m.result (omega arith) c.requires.2 m.ensures in record {
+pub returns-in-None : goal.returns-in-None
+returns-in-None c = let a = c.args in let m = c.run_within-n in let k = letter_run a.s.now a.at m.result (omega arith) c.requires.2 m.ensures in record {
   fits = run_fit name_byte a.s.now a.at (1 + m.result) _ (omega arith) (λ h. omega arith) (omega arith) (letter_name (get_or a.s.now a.at 0) c.requires.2);
-  reads = reads_name a.s.now a.at (1 + m.result) (omega arith) (omega arith) c.word-w.result c.word-w.ensures c.if-w-eq-NO_TOKEN.true;
+  reads = reads_name a.s.now a.at (1 + m.result) (omega arith) (omega arith) c.in-None.ensures;
 }
 
-pub returns-else-w-eq-NO_TOKEN : goal.returns-else-w-eq-NO_TOKEN
-returns-else-w-eq-NO_TOKEN c = let a = c.args in let m = c.run_within-n in let k = letter_run a.s.now a.at m.result (omega arith) c.requires.2 m.ensures in record {
-  fits = run_fit name_byte a.s.now a.at (1 + m.result) c.word-w.result (omega arith) (λ h. omega arith) (omega arith) (letter_name (get_or a.s.now a.at 0) c.requires.2);
-  reads = reads_word a.s.now a.at (1 + m.result) (omega arith) (omega arith) c.word-w.result c.word-w.ensures c.if-w-eq-NO_TOKEN.false;
+pub returns-in-Some : goal.returns-in-Some
+returns-in-Some c = let a = c.args in let m = c.run_within-n in let k = letter_run a.s.now a.at m.result (omega arith) c.requires.2 m.ensures in record {
+  fits = run_fit name_byte a.s.now a.at (1 + m.result) c.in-Some.cell (omega arith) (λ h. omega arith) (omega arith) (letter_name (get_or a.s.now a.at 0) c.requires.2);
+  reads = reads_word a.s.now a.at (1 + m.result) (omega arith) (omega arith) c.in-Some.cell c.in-Some.ensures;
 }

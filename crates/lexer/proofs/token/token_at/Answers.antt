@@ -4,13 +4,13 @@ use mathlib.Core.Option.{Option}
 use mathlib.Core.Path.{subst⁻¹}
 use mathlib.Core.Bool.{Bool}
 use mathlib.Core.List.{List, [], ◌∷◌}
-use Prim.Native.Nat.{ℕ, ◌+◌}
+use Prim.Native.Nat.{ℕ}
 use native.Mathlib.Omega.{arith}
 use lib.Dec.{T}
-use lib.ListN.{get_or, drop}
+use lib.ListN.{get_or}
 use Rattle.pcrl.specs.Tests.{and, negated}
 use Rattle.pcrl.specs.Bytes.{letter, digit}
-use Rattle.pcrl.specs.Tokens.{Lexeme, punctuation, first_token}
+use Rattle.pcrl.specs.Tokens.{Lexeme, punctuation}
 use Rattle.laws.specs.Tests.{is_true}
 use Rattle.lexer.specs.Classes.{alone, leads}
 use Rattle.lexer.specs.Cells.{Reads}
@@ -74,4 +74,4 @@ returns-in-40-clause-reads c = let a = c.args in let b = get_or a.s.now a.at 0 i
       | in_default+then-b-lt60+else-b-lt40+then-b-lt42 w ↦ from_all alone 40 2 tt b (omega arith) (omega arith)
       | in_default+then-b-lt60+else-b-lt40+else-b-lt42+else-b-lt43+then-b-lt45 w ↦ from_all alone 43 2 tt b (omega arith) (omega arith)
       | in_default+then-b-lt60+else-b-lt40+else-b-lt42+else-b-lt43+else-b-lt45+else-b-lt58 w ↦ from_all alone 58 2 tt b (omega arith) (omega arith)
-    ] in subst⁻¹ (λ (x : ℕ). Reads a.s.now (first_token b (drop (a.at + 1) a.s.now)) (record { cell = x; len = 1 })) c.cell_of.ensures (reads_mark a.s.now a.at (omega arith) (is_true (alone b) d))
+    ] in rw c.from.ensures (reads_mark a.s.now a.at (omega arith) (is_true (alone b) d))

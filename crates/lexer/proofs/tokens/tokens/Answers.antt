@@ -19,17 +19,17 @@ shape_of-out-then-sheet-at c = c.loop-cursor.invariant.2
 pub returns-then-sheet-at : goal.returns-then-sheet-at
 returns-then-sheet-at c = record { count_in_bounds = omega arith; lexes = all_written c.args.sheet.now c.loop-cursor.out c.loop-cursor.cursor.at c.loop-cursor.n c.skip-cursor.result.at c.loop-cursor.invariant.3 c.skip-cursor.ensures (omega arith) (omega arith) }
 
-pub shape_of-out-then-t-eq-NO_TOKEN : goal.shape_of-out-then-t-eq-NO_TOKEN
-shape_of-out-then-t-eq-NO_TOKEN c = c.loop-cursor.invariant.2
+pub shape_of-out-in_default : goal.shape_of-out-in_default
+shape_of-out-in_default c = c.loop-cursor.invariant.2
 
-pub returns-then-t-eq-NO_TOKEN : goal.returns-then-t-eq-NO_TOKEN
-returns-then-t-eq-NO_TOKEN c = record { count_in_bounds = omega arith; lexes = none_written c.args.sheet.now c.loop-cursor.out c.loop-cursor.cursor.at c.loop-cursor.n c.skip-cursor.result.at c.loop-cursor.invariant.3 c.skip-cursor.ensures (omega arith) c.token_at-t.result c.token_at-t.ensures.reads c.if-t-eq-NO_TOKEN.true }
+pub returns-in_default-clause-lexes : goal.returns-in_default-clause-lexes
+returns-in_default-clause-lexes c = none_written c.args.sheet.now c.loop-cursor.out c.loop-cursor.cursor.at c.loop-cursor.n c.skip-cursor.result.at c.loop-cursor.invariant.3 c.skip-cursor.ensures (omega arith) c.token_at.result c.token_at.ensures.reads c.in_default.is
 
 pub loop-cursor-preserved : goal.loop-cursor-preserved
-loop-cursor-preserved c = let sheet = c.args.sheet.now in let out = set c.loop-cursor.out c.loop-cursor.n c.token_at-t.result.cell in (
-  omega arith,
-  omega arith,
+loop-cursor-preserved c = let sheet = c.args.sheet.now in let out = set c.loop-cursor.out c.loop-cursor.n c.in-Some.t.cell in let f = c.in-Some.ensures.fits in (
+  omega (arith, f.least, f.most),
+  omega (arith, f.least, f.most),
   simp length-set c.loop-cursor.invariant.2,
   subst⁻¹ (λ (k : ℕ). tokens sheet ≡ glue (map (cell_token sheet) (take (c.loop-cursor.n + 1) out)) (from sheet k)) c.past-cursor.ensures
-      (one_more sheet c.loop-cursor.out c.loop-cursor.cursor.at c.loop-cursor.n c.skip-cursor.result.at c.loop-cursor.invariant.3 c.skip-cursor.ensures (omega arith) c.token_at-t.result c.token_at-t.ensures.reads c.if-t-eq-NO_TOKEN.false c.token_at-t.ensures.fits.least (omega arith)),
+      (one_more sheet c.loop-cursor.out c.loop-cursor.cursor.at c.loop-cursor.n c.skip-cursor.result.at c.loop-cursor.invariant.3 c.skip-cursor.ensures (omega arith) c.token_at.result c.token_at.ensures.reads c.in-Some.t c.in-Some.is c.in-Some.ensures.fits.least (omega arith)),
 )
