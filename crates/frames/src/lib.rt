@@ -22,12 +22,11 @@ pub struct Stack {
     pub frames: [LentFrame; STACK_LIMIT],
 }
 
-// How many frames change places, with which, and the number of the question that failed, or 0.
+// How many frames change places, and with which.
 #[derive(Clone, Copy)]
 pub struct Ready {
     pub count: usize,
     pub stack: Stack,
-    pub refused: u8,
 }
 
 pub fn empty() -> Stack
@@ -47,11 +46,7 @@ pub fn exchange(fs: &mut [LentFrame], n: usize, s: Stack) -> Stack
     ensures { (result.frames ≡ over n fs.old s.frames) × (fs.new ≡ over n s.frames fs.old) }
 {
     let mut t = s.frames;
-    for i in 0..n {
-        let f = fs[i];
-        fs[i] = t[i];
-        t[i] = f;
-    }
+    fs[..n].swap_with_slice(&mut t[..n]);
     Stack { frames: t }
 }
 
@@ -59,18 +54,9 @@ pub fn exchange(fs: &mut [LentFrame], n: usize, s: Stack) -> Stack
 pub fn prepare(n: usize) -> Ready
     ensures { (result.count ≡ taken n) × (result.stack.frames ≡ no_frames) }
 {
-    let s = empty();
-    if n == STACK_LIMIT {
-        return Ready {
-            count: STACK_LIMIT,
-            stack: s,
-            refused: 0,
-        };
-    }
     Ready {
-        count: 0,
-        stack: s,
-        refused: 0,
+        count: if n == STACK_LIMIT { STACK_LIMIT } else { 0 },
+        stack: empty(),
     }
 }
 

@@ -1,12 +1,15 @@
 -- All 64 frames of 64, or none.
-use borrow.Author.Rules.{rules}
 use native.Mathlib.Omega.{arith}
-use mathlib.Core.Path.{sym}
+use mathlib.Core.Path.{sym, ◌∙◌}
 use Rattle.frames.proofs.Over.{taken_all, taken_none}
 use Rattle.frames.proofs.prepare.Goals as goal
-
-pub returns-then-n-eq-STACK_LIMIT : goal.returns-then-n-eq-STACK_LIMIT
-returns-then-n-eq-STACK_LIMIT c = (sym (taken_all _ (omega arith)), search rules)
+use Rattle.frames.proofs.prepare.Goals.{then-n-eq-STACK_LIMIT, else-n-eq-STACK_LIMIT}
 
 pub returns : goal.returns
-returns c = (sym (taken_none _ (λ e. omega arith)), search rules)
+returns c = (
+  elim c.if-n-eq-STACK_LIMIT.branch [
+    | then-n-eq-STACK_LIMIT w ↦ w.result-is ∙ sym (taken_all _ (omega (arith, w.if-n-eq-STACK_LIMIT)))
+    | else-n-eq-STACK_LIMIT w ↦ w.result-is ∙ sym (taken_none _ (λ e. omega (arith, w.if-n-eq-STACK_LIMIT)))
+  ],
+  c.empty.ensures,
+)
