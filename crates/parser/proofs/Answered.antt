@@ -1,13 +1,13 @@
 -- What a caller may take from the parser's answer; and what the lexer accepted is few enough to be parsed.
-use mathlib.Core.Path.{◌≡◌, refl, sym, ◌∙◌}
+use mathlib.Core.Path.{◌≡◌, refl}
 use mathlib.Core.List.{List}
-use mathlib.Core.Bool.{true, false}
 use mathlib.Core.Option.{Option, none, some}
 use Prim.Native.Nat.{ℕ, ◌≤◌, ◌<◌}
 use native.Mathlib.Decide.{dec_lt}
 use native.Mathlib.Omega.{arith}
 use lib.ListN.{take, get_or, length-take, get_or-eq_default}
 use lib.Seq.{get_or-take}
+use Rattle.std.specs.Prelude.{None, Some}
 use Rattle.pcrl.specs.Tree.{RawSheet}
 use Rattle.lexer.proofs.Accepted.{Accepted}
 use Rattle.parser.specs.Cells.{first_ors}
@@ -15,17 +15,17 @@ use Rattle.parser.specs.Reading.{Few}
 use Rattle.parser.specs.Parses.{Tree, Parses}
 use Rattle.parser.specs.declared.Parsed.{Parsed}
 
--- ok: the definition finds a sheet, and the cells are its tree
-pub tree_of : (o : Option RawSheet) (s : List ℕ) (r : Parsed) (cells : List ℕ) → Parses o s r cells → r.ok ≡ true → (R : RawSheet) × (o ≡ some R) × Tree s R r cells
+-- a tree: the definition finds a sheet, and the cells are its tree
+pub tree_of : (o : Option RawSheet) (s : List ℕ) (r : Parsed) (cells : List ℕ) → Parses o s (Some r) cells → (R : RawSheet) × (o ≡ some R) × Tree s R r cells
 unfolding Parses
-tree_of none s r cells h e = let z : ◌≡◌ {A = ℕ} 0 1 = cc in absurd (omega arith)
-tree_of (some R) s r cells h e = (R, refl, h)
+tree_of none s r cells h = absurd h
+tree_of (some R) s r cells h = (R, refl, h)
 
--- not ok: it finds none
-pub none_of : (o : Option RawSheet) (s : List ℕ) (r : Parsed) (cells : List ℕ) → Parses o s r cells → r.ok ≡ false → o ≡ none
+-- none: it finds none
+pub none_of : (o : Option RawSheet) (s : List ℕ) (cells : List ℕ) → Parses o s None cells → o ≡ none
 unfolding Parses
-none_of none s r cells h e = refl
-none_of (some R) s r cells h e = let z : ◌≡◌ {A = ℕ} 0 1 = let q : true ≡ false = sym h.ok ∙ e in cc in absurd (omega arith)
+none_of none s cells h = refl
+none_of (some R) s cells h = absurd h
 
 -- the cells of an accepted sheet
 pub accepted_few : {s out : List ℕ} {r : ℕ} → Accepted s r out → (n : ℕ) → n ≤ r → Few (take n out)

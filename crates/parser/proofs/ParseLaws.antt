@@ -2,11 +2,9 @@
 use mathlib.Core.Path.{◌≡◌, refl, sym, ap, ◌∙◌, subst}
 use mathlib.Core.List.{List, [], map}
 use Prim.Native.Nat.{ℕ, ◌+◌, ◌*◌, ◌≤◌, ◌<◌}
-use native.Mathlib.Decide.{dec_lt}
 use native.Mathlib.Omega.{arith}
-use borrow.Author.Tests.{eq-eqb, ne_eqb}
-use lib.Dec.{eqb}
 use lib.ListN.{length, length-map}
+use Rattle.std.specs.Prelude.{None, Some}
 use Rattle.pcrl.specs.Tokens.{Token}
 use Rattle.pcrl.specs.Reader.{Got, found}
 use Rattle.pcrl.specs.Tree.{RawSheet}
@@ -29,7 +27,7 @@ tokens_of s toks = map (cell_token s) toks
 
 module _ (s toks : List ℕ) (o : List ℕ) (L : Lines) (end w' : ℕ) (o' : List ℕ) (room : 3 * length toks ≤ length o) (big : length o < 65536) (few : Few toks) where
   abbrev answer : Parsed
-  answer = record { ok = eqb end (length toks); used = w'; lines = L }
+  answer = record { used = w'; lines = L }
 
   tree : (n : ℕ) (R : RawSheet) → end ≡ length toks → Writes s toks (enc_sheet R) 0 o w' o' → (Few toks → length (enc_sheet R) ≤ length o → length o < 65536 → Settled R L) → sheet n (tokens_of s toks) ≡ found R [] → Tree s R answer o'
   tree n R e u st q =
@@ -41,7 +39,6 @@ module _ (s toks : List ℕ) (o : List ℕ) (L : Lines) (end w' : ℕ) (o' : Lis
       let k = y.next in
       let v = y.same in
       record {
-        ok = eq-eqb end (length toks) e;
         used = omega arith;
         room = omega arith;
         tree = y.cells;
@@ -52,22 +49,26 @@ module _ (s toks : List ℕ) (o : List ℕ) (L : Lines) (end w' : ℕ) (o' : Lis
         init = z.init;
       }
 
-  -- THE PARSER ANSWERS AS `parse` DOES.
-  pub parses : Sheeted s toks o L end w' o' (sheet (5 * length (tokens_of s toks) + 5) (rest s toks 0)) → Parses (parse (tokens_of s toks)) s answer o'
+  -- the definition's reader at its bound
+  abbrev bound : ℕ
+  bound = 5 * length (tokens_of s toks) + 5
+
+  -- THE PARSER ANSWERS AS `parse` DOES: a tree where the line behind the last one ends the tokens.
+  pub parses : end ≡ length toks → Sheeted s toks o L end w' o' (sheet bound (rest s toks 0)) → Parses (parse (tokens_of s toks)) s (Some answer) o'
   unfolding parse Parses rest whole
-  parses h = by (sheet (5 * length (tokens_of s toks) + 5) (tokens_of s toks)) refl h
+  parses e h = by (sheet bound (tokens_of s toks)) refl h
     where
-      n : ℕ
-      n = 5 * length (tokens_of s toks) + 5
-
-      ended : (R : RawSheet) → end ≤ length toks → Writes s toks (enc_sheet R) 0 o w' o' → (Few toks → length (enc_sheet R) ≤ length o → length o < 65536 → Settled R L) → sheet n (tokens_of s toks) ≡ found R (rest s toks end)
-          → Dec (end < length toks) → Parses (whole (found R (rest s toks end))) s answer o'
-      ended R i u st q (yes l) = subst (λ ts. Parses (whole (found R ts)) s answer o') (sym (rest_next s toks end l)) (ne_eqb end (length toks) (λ e. omega arith))
-      ended R i u st q (no l) =
-          let e : end ≡ length toks = omega arith in
+      by : (g : Got Token RawSheet) → sheet bound (tokens_of s toks) ≡ g → Sheeted s toks o L end w' o' g → Parses (whole g) s (Some answer) o'
+      by g q (gone l) = absurd (omega arith)
+      by g q (full {R} i u st) =
           let z = rest_past s toks end (omega arith) in
-          subst (λ ts. Parses (whole (found R ts)) s answer o') (sym z) (tree n R e u st (q ∙ ap (found R) z))
+          subst (λ ts. Parses (whole (found R ts)) s (Some answer) o') (sym z) (tree bound R e u st (q ∙ ap (found R) z))
 
-      by : (g : Got Token RawSheet) → sheet n (tokens_of s toks) ≡ g → Sheeted s toks o L end w' o' g → Parses (whole g) s answer o'
-      by g q (gone l) = ne_eqb end (length toks) (λ e. omega arith)
-      by g q (full {R} i u st) = ended R i u st q (dec_lt end (length toks))
+  -- and none where it does not
+  pub parses_none : (end ≡ length toks → ⊥) → Sheeted s toks o L end w' o' (sheet bound (rest s toks 0)) → Parses (parse (tokens_of s toks)) s None o'
+  unfolding parse Parses rest whole
+  parses_none n h = by (sheet bound (tokens_of s toks)) h
+    where
+      by : (g : Got Token RawSheet) → Sheeted s toks o L end w' o' g → Parses (whole g) s None o'
+      by g (gone l) = tt
+      by g (full {R} i u st) = subst (λ ts. Parses (whole (found R ts)) s None o') (sym (rest_next s toks end (omega arith))) tt

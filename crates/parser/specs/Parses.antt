@@ -1,5 +1,6 @@
 -- What the parser answers: question 5, the tree in cells, and where the first lines of each kind stand.
-use Rattle.std.specs.Prelude.{◌≡◌, List, ◌∷◌, ◌++◌, map, true, false, ℕ, ◌≤◌, ◌<◌, length, take, drop, get_or}
+use Rattle.std.specs.Prelude.{◌≡◌, List, ◌∷◌, ◌++◌, map, ℕ, ◌≤◌, ◌<◌, length, take, drop, get_or}
+use Rattle.std.specs.Prelude as R
 use Rattle.std.proofs.Math.Option.{Option, none, some}
 use Rattle.pcrl.specs.Tree.{RawSheet}
 use Rattle.parser.specs.Cells.{Symbol, symbol_of, enc_sort, enc_func, enc_act, enc_proc, enc_init, enc_sheet}
@@ -16,7 +17,6 @@ pub record Kept {A : Type 0} (enc : A → List Symbol) (ls : List A) (count : �
 
 -- The first cells are the tree's.
 pub record Tree (s : List ℕ) (R : RawSheet) (r : Parsed) (cells : List ℕ) : Type 0 where
-  pub ok : r.ok ≡ true
   pub used : r.used ≡ length (enc_sheet R)
   pub room : r.used ≤ length cells
   pub tree : map (symbol_of s) (take r.used cells) ≡ enc_sheet R
@@ -26,6 +26,9 @@ pub record Tree (s : List ℕ) (R : RawSheet) (r : Parsed) (cells : List ℕ) : 
   pub procs : Kept enc_proc R.procs r.lines.proc_count r.lines.procs (enc_sheet R)
   pub init : Stands (enc_sheet R) r.lines.init (enc_init R.start)
 
-unfoldable pub Parses : Option RawSheet → List ℕ → Parsed → List ℕ → Type 0
-Parses none s r cells = r.ok ≡ false
-Parses (some R) s r cells = Tree s R r cells
+-- The parser finds a tree exactly where the definition does.
+unfoldable pub Parses : Option RawSheet → List ℕ → R.Option Parsed → List ℕ → Type 0
+Parses none s R.None cells = Unit {0}
+Parses (some T) s (R.Some r) cells = Tree s T r cells
+Parses none s (R.Some r) cells = ⊥
+Parses (some T) s R.None cells = ⊥

@@ -46,16 +46,15 @@ pub struct Lines {
     pub init: u16,
 }
 
-// Whether the form is right, how many cells the tree takes, and where its lines stand.
+// How many cells the tree takes, and where its lines stand.
 #[derive(Clone, Copy)]
 pub struct Parsed {
-    pub ok: bool,
     pub used: usize,
     pub lines: Lines,
 }
 
 // 5: "The form above?" Three cells a token are room enough.
-pub fn parse(toks: &[u16], out: &mut [u16]) -> Parsed
+pub fn parse(toks: &[u16], out: &mut [u16]) -> Option<Parsed>
     requires { (3 * length toks.now ≤ length out.old) × (length out.old < 65536) × Few toks.now }
     ensures { (s : List ℕ) → Parses (parse (map (cell_token s) toks.now)) s result out.new }
 {
@@ -71,19 +70,21 @@ pub fn parse(toks: &[u16], out: &mut [u16]) -> Parsed
     let i = expect(toks, p, lexer::INIT);
     let e = init_line(toks, i, out, d.w);
     let end = expect(toks, e.at, lexer::SEMICOLON);
-    Parsed {
-        ok: end == toks.len(),
+    if end != toks.len() {
+        return None;
+    }
+    Some(Parsed {
         used: e.w,
         lines: Lines {
-            sorts: sorts,
-            funcs: funcs,
-            acts: acts,
-            procs: procs,
+            sorts,
+            funcs,
+            acts,
+            procs,
             sort_count: a.count,
             func_count: b.count,
             act_count: c.count,
             proc_count: d.count,
             init: short(d.w),
         },
-    }
+    })
 }
