@@ -3,15 +3,11 @@ use mathlib.Core.Path.{◌≡◌, refl, sym, ◌∙◌, ap}
 use mathlib.Core.List.{List, [], ◌∷◌, ◌++◌, append_assoc, append-nil, map}
 use Prim.Native.Nat.{ℕ, zero, suc, ◌<◌, ◌≤◌}
 use native.Mathlib.Omega.{arith}
-use borrow.Author.Tests.{eq-eqb, ne_eqb}
-use mathlib.Core.Bool.{Bool, true, false}
-use lib.Dec.{eqb}
 use lib.ListN.{length, get_or, take, get_or-eq_default}
-use lib.Seq.{take-nil}
 use Rattle.pcrl.specs.Text.{bytes, decimal}
 use Rattle.pcrl.specs.Tree.{Name}
 use Rattle.pcrl.specs.Sheet.{Sig, Act, tau, action, no_action, sort_name, takes_of}
-use Rattle.pcrl.specs.Label.{Label, silent, named, label}
+use Rattle.pcrl.specs.Label.{Label, named, label}
 use Rattle.pcrl.specs.Stream.{tau_code}
 use Rattle.terms.specs.Stands.{list_at}
 use Rattle.terms.proofs.Places.{name_stands, list_is}
@@ -23,21 +19,33 @@ use Rattle.labels.specs.Labels.{label_of}
 use Rattle.pcrl.specs.Walk.{values_text, label_text, text_line, step_line}
 use Rattle.texts.specs.Pieces.{bracketed}
 
-pub no_value : (n v w : ℕ) → n ≡ 0 → [] ≡ bracketed (take n (v ∷ w ∷ []))
+pub no_value : (vs : List ℕ) → length vs ≡ 0 → [] ≡ values_text vs
+unfolding values_text
+no_value [] e = refl
+no_value (v ∷ vs) e = absurd (omega arith)
+
+pub first_value : (vs : List ℕ) (v : ℕ) → decimal v ≡ values_text (v ∷ [])
+unfolding values_text
+first_value vs v = refl
+
+-- one value more behind the others
+pub values_more : (v : ℕ) (ws : List ℕ) (k : ℕ) → k < length ws → (values_text (v ∷ take k ws) ++ bytes ",") ++ decimal (get_or ws k 0) ≡ values_text (v ∷ take (suc k) ws)
+unfolding values_text
+values_more v [] k h = absurd (omega arith)
+values_more v (w ∷ ws) zero h = append_assoc (decimal v) (bytes ",") (decimal w)
+values_more v (w ∷ ws) (suc k) h =
+    let e = values_more w ws k (omega arith) in
+    rw (← e) (simp append_assoc)
+
+pub no_brackets : (vs : List ℕ) → length vs ≡ 0 → [] ≡ bracketed vs
 unfolding bracketed
-no_value n v w e = rw e
+no_brackets [] e = refl
+no_brackets (v ∷ vs) e = absurd (omega arith)
 
-pub one_value : (n v w : ℕ) → n ≡ 1 → (bytes "(" ++ decimal v) ++ bytes ")" ≡ bracketed (take n (v ∷ w ∷ []))
-unfolding bracketed values_text
-one_value n v w e = rw e
-
-pub two_values : (n v w : ℕ) → 1 < n → (((bytes "(" ++ decimal v) ++ bytes ",") ++ decimal w) ++ bytes ")" ≡ bracketed (take n (v ∷ w ∷ []))
-unfolding bracketed values_text
-two_values zero v w h = absurd (omega arith)
-two_values (suc zero) v w h = absurd (omega arith)
-two_values (suc (suc n)) v w h =
-    let z : (((bytes "(" ++ decimal v) ++ bytes ",") ++ decimal w) ++ bytes ")" ≡ bracketed (v ∷ w ∷ []) = simp append_assoc in
-    z ∙ sym (ap (λ (l : List ℕ). bracketed (v ∷ w ∷ l)) (take-nil n))
+pub in_brackets : (vs : List ℕ) → ¬ (length vs ≡ 0) → (bytes "(" ++ values_text vs) ++ bytes ")" ≡ bracketed vs
+unfolding bracketed
+in_brackets [] h = absurd (h refl)
+in_brackets (v ∷ vs) h = append_assoc (bytes "(") (values_text (v ∷ vs)) (bytes ")")
 
 -- LABELS
 

@@ -1,12 +1,14 @@
 -- Laws of written pieces: nothing, one byte, and one piece behind another.
 use mathlib.Core.Path.{◌≡◌, refl, sym, ◌∙◌, ap, ap₂, subst}
 use mathlib.Core.List.{List, [], ◌∷◌, ◌++◌, append_assoc, append-nil}
-use Prim.Native.Nat.{ℕ, suc, ◌+◌, ◌-◌, ◌<◌, ◌≤◌, min}
+use Prim.Native.Nat.{ℕ, zero, suc, ◌+◌, ◌-◌, ◌<◌, ◌≤◌, min}
 use native.Mathlib.Omega.{arith}
 use native.Mathlib.Decide.{dec_le}
 use native.Mathlib.Numerals.{add-one}
-use lib.ListN.{length, take, drop, set, length-append, length-take, length-set}
+use lib.ListN.{length, take, drop, set, length-append, length-drop, length-set}
 use lib.Seq.{take_all, take-append-le, take-suc-set, drop-set-lt, drop-drop, length-take-le}
+use borrow.Rule.Slice.PartMut.{put_mid, same_len_mid}
+use Rattle.std.proofs.lemmas.Slice.{take-put_mid, drop-put_mid}
 use Rattle.texts.specs.Wrote.{Wrote}
 
 -- what is cut off stays cut off
@@ -43,6 +45,29 @@ wrote_full out at piece h =
       place = omega arith;
       text = l ∙ sym (ap (λ (m : List ℕ). take (length out) (m ++ piece)) l ∙ take-append-le (length out) out piece (omega arith) ∙ take_all (length out) out (omega arith));
       rest = refl;
+    }
+
+-- what is taken of a list goes past its front
+past : (xs ys : List ℕ) (n m : ℕ) → m ≡ length xs + n → take m (xs ++ ys) ≡ xs ++ take n ys
+past [] ys n m e = ap (λ (k : ℕ). take k ys) (let z : m ≡ n = omega arith in z)
+past (x ∷ xs) ys n zero e = absurd (omega arith)
+past (x ∷ xs) ys n (suc m) e = ap (λ (l : List ℕ). x ∷ l) (past xs ys n m (omega arith))
+
+-- a piece that was copied, as far as there is room
+pub wrote_copy : (out : List ℕ) (at : ℕ) (piece ys : List ℕ) (e k : ℕ) → at ≤ length out → e ≡ at + min (length piece) (length out - at) → k ≡ e - at → ys ≡ take k piece → Wrote out at piece (put_mid at k out ys) e
+wrote_copy out at piece ys e k h f g c =
+    let many : length ys ≡ k = ap length c ∙ length-take-le k piece (omega arith) in
+    let front = length-take-le at out h in
+    let room = length out - at in
+    let cut : take k piece ≡ take room piece = elim (dec_le (length piece) room) [
+      | yes fits ↦ take_all k piece (omega arith) ∙ sym (take_all room piece fits)
+      | no wide ↦ ap (λ (n : ℕ). take n piece) (let z : k ≡ room = omega arith in z)
+    ] in
+    record {
+      same = same_len_mid at k out ys (many ∙ sym (length-take-le k (drop at out) (omega (arith, length-drop at out))));
+      place = omega arith;
+      text = take-put_mid at k out ys e (omega arith) h ∙ ap (λ (l : List ℕ). take at out ++ l) (c ∙ cut) ∙ sym (past (take at out) piece room (length out) (omega arith));
+      rest = drop-put_mid at k out ys e (omega arith) h many;
     }
 
 -- one piece behind another

@@ -1,10 +1,10 @@
 #![tactic(auto)]
 // Pieces of the walk's text, written into lent bytes one behind another, as far as there is room.
-ghost use Rattle.std.specs.Prelude.{◌≡◌, [], ◌∷◌, ◌+◌, ◌%◌, ◌<◌, ◌≤◌, length, get_or, take};
+ghost use Rattle.std.specs.Prelude.{◌≡◌, [], ◌∷◌, ◌+◌, ◌%◌, ◌<◌, ◌≤◌, length, get_or};
 ghost use Rattle.pcrl.specs.Sheet.{Sig, no_action};
 ghost use Rattle.pcrl.specs.Table.{Table};
 ghost use Rattle.pcrl.specs.Text.{decimal};
-ghost use Rattle.pcrl.specs.Walk.{label_text, step_line};
+ghost use Rattle.pcrl.specs.Walk.{values_text, label_text, step_line};
 ghost use Rattle.tables.specs.Indexed.{Indexed};
 ghost use Rattle.firing.specs.Known.{ActsAt};
 ghost use Rattle.labels.specs.Labels.{label_of};
@@ -29,11 +29,9 @@ pub fn put_bytes(out: &mut [u8], at: usize, s: &[u8]) -> usize
     requires { at ≤ length out.old }
     ensures { Wrote out.old at s.now out.new result }
 {
-    let mut p = at;
-    for i in 0..s.len() {
-        p = put_byte(out, p, s[i]);
-    }
-    p
+    let end = at + s.len().min(out.len() - at);
+    out[at..end].copy_from_slice(&s[..end - at]);
+    end
 }
 
 fn digit(d: usize) -> u8
@@ -68,22 +66,34 @@ pub fn put_value(out: &mut [u8], at: usize, v: u8) -> usize
     put_decimal(out, at, wide(v))
 }
 
-// "bracketed values by commas, no blanks"
-pub fn put_values(out: &mut [u8], at: usize, arity: u8, v: u8, w: u8) -> usize
+// "values by commas, no blanks"
+pub fn put_values(out: &mut [u8], at: usize, vs: &[u8]) -> usize
     requires { at ≤ length out.old }
-    ensures { Wrote out.old at (bracketed (take arity (v ∷ w ∷ []))) out.new result }
+    ensures { Wrote out.old at (values_text vs.now) out.new result }
 {
-    if arity == 0 {
+    if vs.is_empty() {
+        return at;
+    }
+    let mut p = put_value(out, at, vs[0]);
+    let rest = &vs[1..];
+    for v in rest {
+        let q = put_byte(out, p, b',');
+        p = put_value(out, q, *v);
+    }
+    p
+}
+
+// "bracketed values by commas", nothing for none
+pub fn put_bracketed(out: &mut [u8], at: usize, vs: &[u8]) -> usize
+    requires { at ≤ length out.old }
+    ensures { Wrote out.old at (bracketed vs.now) out.new result }
+{
+    if vs.is_empty() {
         return at;
     }
     let a = put_byte(out, at, b'(');
-    let b = put_value(out, a, v);
-    if arity == 1 {
-        return put_byte(out, b, b')');
-    }
-    let c = put_byte(out, b, b',');
-    let d = put_value(out, c, w);
-    put_byte(out, d, b')')
+    let b = put_values(out, a, vs);
+    put_byte(out, b, b')')
 }
 
 // The name of an action, by where the actions stand and how many there are.
@@ -104,19 +114,17 @@ pub fn put_label(
     s: &[u8],
     index: tables::Index,
     action: u8,
-    arity: u8,
-    v: u8,
-    w: u8,
+    vs: &[u8],
 ) -> usize
     requires { at ≤ length out.old }
-    ensures { (result ≤ length out.old) × ((T : Table) → Indexed T s.now index → Wrote out.old at (label_text (label_of T.sig action (take arity (v ∷ w ∷ [])))) out.new result) }
+    ensures { (result ≤ length out.old) × ((T : Table) → Indexed T s.now index → Wrote out.old at (label_text (label_of T.sig action vs.now)) out.new result) }
 {
     if action == TAU {
         return put_bytes(out, at, b"tau");
     }
     let acts = index.acts;
     let p = put_bytes(out, at, name(s, &acts, index.actions, action));
-    put_values(out, p, arity, v, w)
+    put_bracketed(out, p, vs)
 }
 
 // "Each line is step number (from 1), label, depth after."
@@ -127,17 +135,15 @@ pub fn put_line(
     s: &[u8],
     index: tables::Index,
     action: u8,
-    arity: u8,
-    v: u8,
-    w: u8,
+    vs: &[u8],
     depth: usize,
 ) -> usize
     requires { at ≤ length out.old }
-    ensures { (result ≤ length out.old) × ((T : Table) → Indexed T s.now index → Wrote out.old at (step_line (i % 256) (label_of T.sig action (take arity (v ∷ w ∷ []))) (depth % 256)) out.new result) }
+    ensures { (result ≤ length out.old) × ((T : Table) → Indexed T s.now index → Wrote out.old at (step_line (i % 256) (label_of T.sig action vs.now) (depth % 256)) out.new result) }
 {
     let a = put_decimal(out, at, i);
     let b = put_byte(out, a, b' ');
-    let c = put_label(out, b, s, index, action, arity, v, w);
+    let c = put_label(out, b, s, index, action, vs);
     let d = put_byte(out, c, b' ');
     let e = put_decimal(out, d, depth);
     put_byte(out, e, b'\n')

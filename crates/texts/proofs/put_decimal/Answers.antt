@@ -2,7 +2,7 @@
 use native.Mathlib.Omega.{arith}
 use mathlib.Core.Path.{ap, ap₂, ◌∙◌}
 use mathlib.Core.List.{[], List, ◌∷◌, ◌++◌}
-use Prim.Native.Nat.{ℕ, ◌+◌, ◌%◌}
+use Prim.Native.Nat.{ℕ, ◌%◌}
 use Rattle.texts.proofs.Writing.{wrote_more, wrote_as}
 use Rattle.texts.proofs.Decimals.{one_digit, two_digits, three_digits}
 use Rattle.texts.proofs.put_decimal.Goals as goal

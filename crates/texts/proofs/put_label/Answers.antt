@@ -1,9 +1,8 @@
 -- tau, or a name and values in brackets.
 use native.Mathlib.Omega.{arith}
 use mathlib.Core.Path.{ap, ◌∙◌}
-use mathlib.Core.List.{[], List, ◌∷◌, ◌++◌}
+use mathlib.Core.List.{List, ◌++◌}
 use Prim.Native.Nat.{ℕ}
-use lib.ListN.{take}
 use Rattle.pcrl.specs.Text.{bytes}
 use Rattle.firing.proofs.Indexing.{acts_at}
 use Rattle.texts.specs.Pieces.{bracketed}
@@ -16,10 +15,10 @@ returns-then-action-eq-TAU c = (omega (arith, c.put_bytes.ensures.place), λ T x
 
 pub returns : goal.returns
 returns c = (
-  omega (arith, c.put_values.ensures.place, c.put_bytes-p.auto.out),
+  omega (arith, c.put_bracketed.ensures.place, c.put_bytes-p.auto.out),
   λ T x.
       let a = c.args in
-      let vs = bracketed (take a.arity (a.v ∷ a.w ∷ [])) in
+      let vs = bracketed a.vs.now in
       wrote_as _ _ (c.name.result.now ++ vs) _ _ _ (ap (λ (n : List ℕ). n ++ vs) (c.name.ensures T.sig (acts_at T a.s.now a.index x)) ∙ action_text T.sig a.action _ (λ e. omega (arith, c.if-action-eq-TAU)))
-      (wrote_more a.out.now a.at c.name.result.now c.put_bytes-p.new.out c.put_bytes-p.result vs _ _ (omega (arith, c.requires)) c.put_bytes-p.ensures c.put_values.ensures),
+      (wrote_more a.out.now a.at c.name.result.now c.put_bytes-p.new.out c.put_bytes-p.result vs _ _ (omega (arith, c.requires)) c.put_bytes-p.ensures c.put_bracketed.ensures),
 )

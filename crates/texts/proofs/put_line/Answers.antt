@@ -1,8 +1,7 @@
 -- Number, label, depth and a line feed, one behind another.
 use native.Mathlib.Omega.{arith}
-use mathlib.Core.List.{[], ◌∷◌, ◌++◌}
+use mathlib.Core.List.{◌++◌}
 use Prim.Native.Nat.{◌%◌}
-use lib.ListN.{take}
 use Rattle.pcrl.specs.Text.{bytes, decimal}
 use Rattle.pcrl.specs.Walk.{label_text}
 use Rattle.labels.specs.Labels.{label_of}
@@ -16,7 +15,7 @@ returns c = (
   λ T x.
       let a = c.args in
       let o = a.out.now in
-      let l = label_of T.sig a.action (take a.arity (a.v ∷ a.w ∷ [])) in
+      let l = label_of T.sig a.action a.vs.now in
       let i = a.i % 256 in
       let d = a.depth % 256 in
       wrote_as _ _ (((((decimal i ++ bytes " ") ++ label_text l) ++ bytes " ") ++ decimal d) ++ bytes "\n") _ _ _ (line_is i l d)
