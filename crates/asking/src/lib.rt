@@ -234,7 +234,7 @@ pub fn ask_each(
     let rows = index.rows;
     let actions = index.actions;
     let named = lettering::names_of(s, index);
-    let names = named.at;
+    let names = named;
     let mut d = depth;
     for i in 0..ks.len() {
         let r = ask(s, &funcs, &acts, &params, &rows, frames, d, ks[i]);

@@ -1,11 +1,11 @@
 -- Runs at the front of a list, byte by byte; the longest of several.
 use mathlib.Core.Path.{◌≡◌, refl, sym, ap, ◌∙◌}
-use mathlib.Core.List.{List, [], ◌∷◌, ◌++◌}
+use mathlib.Core.List.{List, [], ◌∷◌}
 use mathlib.Core.Bool.{Bool, true, false}
-use Prim.Native.Nat.{ℕ, zero, suc, ◌+◌, ◌≤◌, ◌<◌, max}
+use Prim.Native.Nat.{ℕ, suc, ◌+◌, ◌≤◌, ◌<◌, max}
 use native.Mathlib.Omega.{arith}
 use native.Mathlib.Numerals.{add-one}
-use lib.ListN.{length, get_or, drop, length-take, length-drop, replicate}
+use lib.ListN.{length, get_or, drop, length-take, length-drop}
 use lib.Seq.{drop-cons}
 use lib.Dec.{eqb}
 use Rattle.pcrl.specs.Tokens.{run}
@@ -32,14 +32,6 @@ run_ends p l i h = by (drop i l) (omega (arith, length-drop i l))
     by : (m : List ℕ) → length m ≡ 0 → run p m ≡ 0
     by [] e = refl
     by (b ∷ m) e = absurd (omega arith)
-
--- one element more behind some that are the same
-pub replicate_more : (n b : ℕ) → replicate n b ++ (b ∷ []) ≡ replicate (n + 1) b
-replicate_more n b = more n ∙ ap (λ (k : ℕ). replicate k b) (sym (add-one n))
-  where
-    more : (n : ℕ) → replicate n b ++ (b ∷ []) ≡ replicate (suc n) b
-    more zero = refl
-    more (suc n) = ap (λ (l : List ℕ). b ∷ l) (more n)
 
 -- the longest run of names from the i-th on
 pub longest_more : (b : ℕ) (ns : List (List ℕ)) (i : ℕ) → i < length ns → longest_run b (drop i ns) ≡ max (run (eqb b) (get_or ns i [])) (longest_run b (drop (i + 1) ns))

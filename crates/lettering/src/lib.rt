@@ -1,6 +1,6 @@
 #![tactic(auto)]
 // The names that sorts, functions, processes and variables get: those of sorts are the table's own, the others a letter, repeated, and an index.
-ghost use Rattle.std.specs.Prelude.{◌≡◌, false, ◌+◌, ◌*◌, ◌≤◌, ◌<◌, min, max, eqb, length, get_or, replicate};
+ghost use Rattle.std.specs.Prelude.{◌≡◌, false, ◌+◌, ◌*◌, ◌≤◌, ◌<◌, min, max, eqb, length, get_or};
 ghost use Rattle.pcrl.specs.Limits.{max_sorts, max_stream};
 ghost use Rattle.pcrl.specs.Tokens.{run};
 ghost use Rattle.pcrl.specs.Letters.{longest_run};
@@ -11,10 +11,10 @@ ghost use Rattle.texts.specs.Wrote.{Wrote};
 ghost use Rattle.lettering.specs.SortNames.{name_cell, CellsIn, ShortNames, NamesIn};
 ghost use Rattle.lettering.specs.Named.{named_by, lettered_by, sort_by, names_at, cells, cell_of, older_by, name_by, once_more, Lettered};
 
-use elements::{cell, larger, low, peek, smaller, wide};
+use elements::{cell, low, peek, wide};
 use limits::{MAX_SORT_NAME, MAX_SORTS};
 use tables::Index;
-use texts::{put_byte, put_bytes, put_decimal};
+use texts::{put_byte, put_bytes, put_decimal, put_run};
 
 // A sort's name and its length before it.
 pub const NAME_CELL: usize = MAX_SORT_NAME + 1;
@@ -33,30 +33,16 @@ pub const VARS: usize = NAMES + 2;
 
 const LETTERS: usize = NAMES + 3;
 
-// The names of a table's sorts, each in its cell.
-#[derive(Clone, Copy)]
-pub struct SortNames {
-    pub at: [u8; NAMES],
-}
-
-// The names of a table's sorts, each in its cell, and behind them how many times each letter is repeated.
-#[derive(Clone, Copy)]
-pub struct Lettering {
-    pub at: [u8; LETTERS],
-}
-
 // How many times a letter stands at the front of a name.
 fn front_run(name: &[u8], b: u8) -> usize
     ensures { (result ≡ run (eqb b) name.now) × (result ≤ length name.now) }
 {
-    let mut i: usize = 0;
-    while i < name.len() {
+    for i in 0..name.len() {
         if name[i] != b {
             return i;
         }
-        i += 1;
     }
-    i
+    name.len()
 }
 
 // The longest run of a letter at the front of n names that stand at places.
@@ -67,21 +53,9 @@ fn longest_run(s: &[u8], places: &[u16], n: usize, b: u8) -> usize
     let mut most: usize = 0;
     for i in 0..n {
         let r = front_run(terms::list_at(s, cell(places, i)), b);
-        most = larger(most, r);
+        most = most.max(r);
     }
     most
-}
-
-// A letter n times.
-fn put_run(out: &mut [u8], at: usize, b: u8, n: usize) -> usize
-    requires { at ≤ length out.old }
-    ensures { Wrote out.old at (replicate n b) out.new result }
-{
-    let mut p = at;
-    for i in 0..n {
-        p = put_byte(out, p, b);
-    }
-    p
 }
 
 // A letter n times and an index.
@@ -132,7 +106,7 @@ fn put_names(out: &mut [u8], s: &[u8], sorts: &[u16], named: bool, count: usize,
     ensures out_len_unchanged { length out.new ≡ length out.old }
     ensures cells_in { ShortNames (λ D. name_by named s.now (get_or sorts.now D 0) n D) (min count max_sorts) → CellsIn (λ D. name_by named s.now (get_or sorts.now D 0) n D) (min count max_sorts) out.new }
 {
-    let m = smaller(count, MAX_SORTS);
+    let m = count.min(MAX_SORTS);
     for d in 0..m {
         put_one(out, s, cell(sorts, d), named, n, d);
     }
@@ -147,20 +121,18 @@ fn sort_letters(s: &[u8], acts: &[u16], n: usize, named: bool) -> usize
     if named {
         return 0;
     }
-    smaller(longest_run(s, acts, n, b's'), MAX_SORT_NAME) + 1
+    longest_run(s, acts, n, b's').min(MAX_SORT_NAME) + 1
 }
 
-// The names of a table's sorts, whether they stand in its stream or not.
-pub fn names_of(s: &[u8], index: Index) -> SortNames
+// The names of a table's sorts, each in its cell, whether they stand in its stream or not.
+pub fn names_of(s: &[u8], index: Index) -> [u8; NAMES]
     requires { length s.now ≤ max_stream }
-    ensures { (T : Table) → RightTable T → Indexed T s.now index → NamesIn T.sig result.at }
+    ensures { (T : Table) → RightTable T → Indexed T s.now index → NamesIn T.sig result }
 {
     let mut at = [0u8; NAMES];
-    let sorts = index.sorts;
-    let acts = index.acts;
-    let n = sort_letters(s, &acts, index.actions, index.named);
-    put_names(&mut at, s, &sorts, index.named, index.sort_count, n);
-    SortNames { at: at }
+    let n = sort_letters(s, &index.acts, index.actions, index.named);
+    put_names(&mut at, s, &index.sorts, index.named, index.sort_count, n);
+    at
 }
 
 // A letter repeated as few times as leave no name of n actions and of m sorts that begins with that run.
@@ -168,31 +140,28 @@ fn repeated(s: &[u8], acts: &[u16], n: usize, names: &[u8], m: usize, b: u8) -> 
     requires { (length s.now ≤ max_stream) × (length names.now ≤ max_stream) }
     ensures { result ≡ once_more (max (longest_run b (names_at names.now cells m)) (longest_run b (names_at s.now acts.now n))) }
 {
-    let places = CELLS;
-    let x = longest_run(names, &places, m, b);
+    let x = longest_run(names, &CELLS, m, b);
     let y = longest_run(s, acts, n, b);
-    low(smaller(larger(x, y), MAX_SORT_NAME) + 1)
+    low(x.max(y).min(MAX_SORT_NAME) + 1)
 }
 
-// The names of a table's sorts, and how many times the other letters are repeated.
-pub fn letters_of(s: &[u8], index: Index) -> Lettering
+// The names of a table's sorts, each in its cell, and behind them how many times each letter is repeated.
+pub fn letters_of(s: &[u8], index: Index) -> [u8; LETTERS]
     requires { length s.now ≤ max_stream }
-    ensures { (T : Table) → RightTable T → Indexed T s.now index → Lettered T.sig result.at }
+    ensures { (T : Table) → RightTable T → Indexed T s.now index → Lettered T.sig result }
 {
     let mut at = [0u8; LETTERS];
-    let sorts = index.sorts;
-    let acts = index.acts;
     let k = index.actions;
     let m = index.sort_count;
-    let n = sort_letters(s, &acts, k, index.named);
-    put_names(&mut at, s, &sorts, index.named, m, n);
-    let f = repeated(s, &acts, k, &at, m, b'f');
-    let p = repeated(s, &acts, k, &at, m, b'p');
-    let v = repeated(s, &acts, k, &at, m, b'v');
+    let n = sort_letters(s, &index.acts, k, index.named);
+    put_names(&mut at, s, &index.sorts, index.named, m, n);
+    let f = repeated(s, &index.acts, k, &at, m, b'f');
+    let p = repeated(s, &index.acts, k, &at, m, b'p');
+    let v = repeated(s, &index.acts, k, &at, m, b'v');
     at[FUNCS] = f;
     at[PROCS] = p;
     at[VARS] = v;
-    Lettering { at: at }
+    at
 }
 
 // A letter as many times as the byte at k says, and an index.

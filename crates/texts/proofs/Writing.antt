@@ -5,9 +5,10 @@ use Prim.Native.Nat.{ℕ, zero, suc, ◌+◌, ◌-◌, ◌<◌, ◌≤◌, min}
 use native.Mathlib.Omega.{arith}
 use native.Mathlib.Decide.{dec_le}
 use native.Mathlib.Numerals.{add-one}
-use lib.ListN.{length, take, drop, set, length-append, length-drop, length-set}
+use lib.ListN.{length, replicate, length-replicate, take, drop, set, length-append, length-drop, length-set}
 use lib.Seq.{take_all, take-append-le, take-suc-set, drop-set-lt, drop-drop, length-take-le}
 use borrow.Rule.Slice.PartMut.{put_mid, same_len_mid}
+use Rattle.std.proofs.lemmas.List.{take-replicate}
 use Rattle.std.proofs.lemmas.Slice.{take-put_mid, drop-put_mid}
 use Rattle.texts.specs.Wrote.{Wrote}
 
@@ -69,6 +70,12 @@ wrote_copy out at piece ys e k h f g c =
       text = take-put_mid at k out ys e (omega arith) h ∙ ap (λ (l : List ℕ). take at out ++ l) (c ∙ cut) ∙ sym (past (take at out) piece room (length out) (omega arith));
       rest = drop-put_mid at k out ys e (omega arith) h many;
     }
+
+-- a byte that was written n times
+pub wrote_run : (out : List ℕ) (at b n : ℕ) (ys : List ℕ) (e k : ℕ) → at ≤ length out → e ≡ at + min n (length out - at) → k ≡ e - at → ys ≡ replicate (length (take k (drop at out))) b → Wrote out at (replicate n b) (put_mid at k out ys) e
+wrote_run out at b n ys e k h f g c =
+    let many = length-replicate n b in
+    wrote_copy out at (replicate n b) ys e k h (omega arith) g (c ∙ ap (λ (m : ℕ). replicate m b) (length-take-le k (drop at out) (omega (arith, length-drop at out))) ∙ sym (take-replicate k n b (omega arith)))
 
 -- one piece behind another
 pub wrote_more : (out : List ℕ) (at : ℕ) (p mid : List ℕ) (r : ℕ) (q last : List ℕ) (z : ℕ) → at ≤ length out → Wrote out at p mid r → Wrote mid r q last z → Wrote out at (p ++ q) last z

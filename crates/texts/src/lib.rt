@@ -1,6 +1,6 @@
 #![tactic(auto)]
 // Pieces of the walk's text, written into lent bytes one behind another, as far as there is room.
-ghost use Rattle.std.specs.Prelude.{◌≡◌, [], ◌∷◌, ◌+◌, ◌%◌, ◌<◌, ◌≤◌, length, get_or};
+ghost use Rattle.std.specs.Prelude.{◌≡◌, [], ◌∷◌, ◌+◌, ◌%◌, ◌<◌, ◌≤◌, length, get_or, replicate};
 ghost use Rattle.pcrl.specs.Sheet.{Sig, no_action};
 ghost use Rattle.pcrl.specs.Table.{Table};
 ghost use Rattle.pcrl.specs.Text.{decimal};
@@ -31,6 +31,16 @@ pub fn put_bytes(out: &mut [u8], at: usize, s: &[u8]) -> usize
 {
     let end = at + s.len().min(out.len() - at);
     out[at..end].copy_from_slice(&s[..end - at]);
+    end
+}
+
+// A byte n times.
+pub fn put_run(out: &mut [u8], at: usize, b: u8, n: usize) -> usize
+    requires { at ≤ length out.old }
+    ensures { Wrote out.old at (replicate n b) out.new result }
+{
+    let end = at + n.min(out.len() - at);
+    out[at..end].fill(b);
     end
 }
 

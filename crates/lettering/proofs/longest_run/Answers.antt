@@ -2,7 +2,7 @@
 use mathlib.Core.List.{[]}
 use native.Mathlib.Omega.{arith}
 use mathlib.Core.Path.{◌≡◌, sym, ap, ◌∙◌}
-use Prim.Native.Nat.{ℕ, ◌-◌}
+use Prim.Native.Nat.{ℕ}
 use lib.Dec.{eqb}
 use lib.ListN.{length, get_or}
 use Rattle.pcrl.specs.Tokens.{run}
@@ -26,9 +26,9 @@ loop-i-preserved c =
     let long = ap length there in (
       omega (arith, test),
       (
-        omega (arith, c.requires, c.larger-most.ensures, c.loop-i.invariant.1.0),
+        omega (arith, c.requires, c.max-most.ensures, c.loop-i.invariant.1.0),
         let here : c.list_at.result.now ≡ get_or (names_at a.s.now a.places.now a.n) i [] = there ∙ (ap (λ (p : ℕ). list_at a.s.now p) place ∙ sym (name_at a.s.now a.places.now a.n i (omega (arith, test)))) in
-            longest_step a.b (names_at a.s.now a.places.now a.n) i c.loop-i.most c.front_run-r.result c.larger-most.result (omega (arith, test, names_many a.s.now a.places.now a.n)) (counted.0 ∙ ap (run (eqb a.b)) here) c.larger-most.ensures c.loop-i.invariant.1.1,
+            longest_step a.b (names_at a.s.now a.places.now a.n) i c.loop-i.most c.front_run-r.result c.max-most.result (omega (arith, test, names_many a.s.now a.places.now a.n)) (counted.0 ∙ ap (run (eqb a.b)) here) c.max-most.ensures c.loop-i.invariant.1.1,
       ),
     )
 
