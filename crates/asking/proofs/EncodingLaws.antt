@@ -25,9 +25,10 @@ use Rattle.labels.specs.Labels.{label_of}
 use Rattle.texts.specs.Wrote.{Wrote}
 use Rattle.lettering.specs.Named.{cell_of}
 use Rattle.lettering.proofs.Given.{names_short}
-use Rattle.asking.specs.declared.Told.{Told}
+use Rattle.asking.specs.declared.Step.{Step}
+use Rattle.asking.specs.declared.Told.TheVariants.{Ended, Nothing, Stepped, TooDeep}
 use Rattle.asking.specs.Encoding.{answer_bytes, answer_fields, encode_answer}
-use Rattle.asking.specs.Replies.{answer_kind, answer_by, answer_told, label_told}
+use Rattle.asking.specs.Replies.{answer_told, label_told, step_told}
 
 -- ZEROS BEHIND A LIST
 
@@ -121,32 +122,21 @@ step_put d c v w name first second l m n out p q r z hn hf hs wl wm wn wo =
 
 -- THE FIELDS
 
-module _ (S : Sig) (r : Told) where
-  pub encode_refused : 0 < r.refused → filled answer_bytes (r.refused ∷ []) ≡ encode_answer (answer_told S r)
-  unfolding encode_answer answer_told answer_by answer_fields
-  encode_refused h = ap (filled answer_bytes) (go r.refused h)
-    where
-      go : (n : ℕ) → 0 < n → n ∷ [] ≡ answer_fields (answer_by n r.kind (label_told S r) r.depth)
-      go zero h = absurd (omega arith)
-      go (suc n) h = refl
+pub encode_ended : (S : Sig) → filled answer_bytes (0 ∷ []) ≡ encode_answer (answer_told S Ended)
+unfolding encode_answer answer_told answer_fields
+encode_ended S = refl
 
-  pub encode_kind : r.refused ≡ 0 → r.kind < 2 → filled answer_bytes (r.kind ∷ []) ≡ encode_answer (answer_told S r)
-  unfolding encode_answer answer_told answer_by answer_kind answer_fields
-  encode_kind e h = rw e (ap (filled answer_bytes) (go r.kind h))
-    where
-      go : (n : ℕ) → n < 2 → n ∷ [] ≡ answer_fields (answer_kind n (label_told S r) r.depth)
-      go zero h = refl
-      go (suc zero) h = refl
-      go (suc (suc n)) h = absurd (omega arith)
+pub encode_none : (S : Sig) → filled answer_bytes (1 ∷ []) ≡ encode_answer (answer_told S Nothing)
+unfolding encode_answer answer_told answer_fields
+encode_none S = refl
 
-  encode_step : r.refused ≡ 0 → 2 ≤ r.kind → answer_fields (Answer.stepped (label_told S r) r.depth) ≡ answer_fields (answer_told S r)
-  unfolding answer_told answer_by answer_kind
-  encode_step e h = rw e (ap answer_fields (go r.kind h))
-    where
-      go : (n : ℕ) → 2 ≤ n → Answer.stepped (label_told S r) r.depth ≡ answer_kind n (label_told S r) r.depth
-      go zero h = absurd (omega arith)
-      go (suc zero) h = absurd (omega arith)
-      go (suc (suc n)) h = refl
+pub encode_deep : (S : Sig) (n : ℕ) → n ≡ 16 → filled answer_bytes (n ∷ []) ≡ encode_answer (answer_told S TooDeep)
+unfolding encode_answer answer_told answer_fields
+encode_deep S n e = ap (λ (k : ℕ). filled answer_bytes (k ∷ [])) e
+
+pub encode_stepped : (S : Sig) (r : Step) → encode_answer (step_told S r) ≡ encode_answer (answer_told S (Stepped r))
+unfolding answer_told
+encode_stepped S r = refl
 
 tau_label : (S : Sig) (a : ℕ) (vs : List ℕ) → a ≡ tau_code → label_of S a vs ≡ silent
 unfolding label_of act_of label
@@ -173,15 +163,15 @@ shown (suc (suc n)) c a b v w e f g =
     let two : c ≡ 2 = omega arith in
     (two ∙ sym (ap (λ (l : List ℕ). length (v ∷ w ∷ l)) (take-nil n)), rw (f.0 (omega arith), g.0 (omega arith)) (sym (ap (λ (l : List ℕ). filled 2 (v ∷ w ∷ l)) (take-nil n))))
 
-module _ (S : Sig) (r : Told) (e : r.refused ≡ 0) (h : 2 ≤ r.kind) (deep : r.depth ≤ stack_limit) where
+module _ (S : Sig) (r : Step) (deep : r.depth ≤ stack_limit) where
   small : r.depth % 256 ≡ r.depth
   small = omega arith
 
-  pub encode_tau : r.action ≡ tau_code → filled answer_bytes (2 ∷ r.depth % 256 ∷ 0 ∷ 0 ∷ 0 ∷ (name_field max_name (bytes "tau") ++ (name_field max_sort_name [] ++ name_field max_sort_name []))) ≡ encode_answer (answer_told S r)
+  pub encode_tau : r.action ≡ tau_code → filled answer_bytes (2 ∷ r.depth % 256 ∷ 0 ∷ 0 ∷ 0 ∷ (name_field max_name (bytes "tau") ++ (name_field max_sort_name [] ++ name_field max_sort_name []))) ≡ encode_answer (step_told S r)
   unfolding encode_answer answer_fields label_record label_name label_sorts label_values filled
   encode_tau a =
       ap (filled answer_bytes)
-      (ap (λ (d : ℕ). 2 ∷ d ∷ 0 ∷ 0 ∷ 0 ∷ (name_field max_name (bytes "tau") ++ (name_field max_sort_name [] ++ name_field max_sort_name []))) small ∙ ap (λ (l : Label). answer_fields (Answer.stepped l r.depth)) (sym (tau_label S r.action (take r.arity r.values) a)) ∙ encode_step S r e h)
+      (ap (λ (d : ℕ). 2 ∷ d ∷ 0 ∷ 0 ∷ 0 ∷ (name_field max_name (bytes "tau") ++ (name_field max_sort_name [] ++ name_field max_sort_name []))) small ∙ ap (λ (l : Label). answer_fields (Answer.stepped l r.depth)) (sym (tau_label S r.action (take r.arity r.values) a)))
 
   -- the names of the action and of its sorts
   abbrev action_is : Action
@@ -195,7 +185,7 @@ module _ (S : Sig) (r : Told) (e : r.refused ≡ 0) (h : 2 ≤ r.kind) (deep : r
 
   pub encode_named : ¬ (r.action ≡ tau_code) → (name first second : Name) → name ≡ action_is.name → first ≡ sort_is 0 → second ≡ sort_is 1
       → (c a b v w : ℕ) → r.values ≡ v ∷ w ∷ [] → c ≡ min r.arity 2 → (0 < r.arity → a ≡ v) × (r.arity ≤ 0 → a ≡ 0) → (1 < r.arity → b ≡ w) × (r.arity ≤ 1 → b ≡ 0)
-      → filled answer_bytes (2 ∷ r.depth % 256 ∷ c ∷ a ∷ b ∷ (name_field max_name name ++ (name_field max_sort_name first ++ name_field max_sort_name second))) ≡ encode_answer (answer_told S r)
+      → filled answer_bytes (2 ∷ r.depth % 256 ∷ c ∷ a ∷ b ∷ (name_field max_name name ++ (name_field max_sort_name first ++ name_field max_sort_name second))) ≡ encode_answer (step_told S r)
   unfolding encode_answer answer_fields label_record label_name label_sorts label_values
   encode_named t name first second en ef es c a b v w vs f g i =
       let (count, two) = shown r.arity c a b v w f g i in
@@ -203,7 +193,7 @@ module _ (S : Sig) (r : Told) (e : r.refused ≡ 0) (h : 2 ≤ r.kind) (deep : r
       let fields : name_field max_name name ++ (name_field max_sort_name first ++ name_field max_sort_name second) ≡ names_are = rw (en, ef, es) refl in
       ap (filled answer_bytes)
       (ap₂ (λ (d : ℕ) (l : List ℕ). 2 ∷ d ∷ c ∷ ((a ∷ b ∷ []) ++ l)) small fields ∙ ap₂ (λ (n : ℕ) (l : List ℕ). 2 ∷ r.depth ∷ n ∷ (l ++ names_are)) count two
-      ∙ ap (λ (l : Label). answer_fields (Answer.stepped l r.depth)) (sym here) ∙ encode_step S r e h)
+      ∙ ap (λ (l : Label). answer_fields (Answer.stepped l r.depth)) (sym here))
 
 -- THE NAMES ARE SHORT
 

@@ -20,7 +20,7 @@ use Rattle.laws.specs.Lists.{length_snoc}
 use Rattle.blocks.proofs.Fronts.{Front, front_more}
 use Rattle.asking.specs.declared.Told.{Told}
 use Rattle.asking.specs.Encoding.{answer_bytes, encode_answer, answers_after}
-use Rattle.asking.specs.Replies.{answer_told, AskIs, AllIs}
+use Rattle.asking.specs.Replies.{answer_told, depth_after, AskIs, AllIs}
 use Rattle.asking.proofs.EncodingLaws.{length_answer, all_last, length_all}
 
 -- After i questions: the frames fs, of which d are used, pass 15; so many answers stand in the front of the bytes out; and the rest of the questions, put to these frames, completes them.
@@ -38,17 +38,17 @@ module _ (T : Table) (ks : List ℕ) (fs₀ : List Frame) (d₀ : ℕ) (out₀ :
   going_start p = record { done = []; count = refl; right = p; written = refl; answers = refl; stack = refl }
 
   pub going_on : RightTable T → (i : ℕ) (fs : List Frame) (d : ℕ) (out : List ℕ) → Going T ks fs₀ d₀ out₀ i fs d out → i < length ks
-      → (k : ℕ) (r : Told) (fs' : List Frame) (new : List ℕ) → k ≡ get_or ks i 0 → AskIs T fs d k r fs' → new ≡ encode_answer (answer_told T.sig r) → (at wide : ℕ) → at ≡ i * answer_bytes → wide ≡ answer_bytes
-      → Going T ks fs₀ d₀ out₀ (i + 1) fs' r.depth (take at out ++ (new ++ drop wide (drop at out)))
+      → (k : ℕ) (r : Told) (fs' : List Frame) (new : List ℕ) → k ≡ get_or ks i 0 → AskIs T fs d k r fs' → new ≡ encode_answer (answer_told T.sig r) → (e : ℕ) → e ≡ depth_after d r → (at wide : ℕ) → at ≡ i * answer_bytes → wide ≡ answer_bytes
+      → Going T ks fs₀ d₀ out₀ (i + 1) fs' e (take at out ++ (new ++ drop wide (drop at out)))
   unfolding ask_all
-  going_on right i fs d out g h k r fs' new is a encoded at wide here whole =
+  going_on right i fs d out g h k r fs' new is a encoded e left at wide here whole =
       let s = stack_of fs d in
       let next = ask frame_width stack_limit T k s in
       let holds = (passes_15 frame_width stack_limit T fs d).0 g.right in
       let after : Holds frame_width stack_limit T (frames_of frame_width stack_limit next.stack) (length next.stack) next.stack =
       still_holds frame_width stack_limit T (step_right T right frame_width) holds (answer_is frame_width stack_limit T k s) in
-      let after' : Holds frame_width stack_limit T fs' r.depth next.stack = subst₂ (λ (x : List Frame) (n : ℕ). Holds frame_width stack_limit T x n next.stack) (sym a.frames) (sym a.depth) after in
-      let there : stack_of fs' r.depth ≡ next.stack = holds_stack frame_width stack_limit T after' in
+      let after' : Holds frame_width stack_limit T fs' e next.stack = subst₂ (λ (x : List Frame) (n : ℕ). Holds frame_width stack_limit T x n next.stack) (sym a.frames) (sym (left ∙ a.depth)) after in
+      let there : stack_of fs' e ≡ next.stack = holds_stack frame_width stack_limit T after' in
       let cut : drop i ks ≡ k ∷ drop (i + 1) ks = drop-cons ks i 0 h ∙ ap₂ (λ (x n : ℕ). x ∷ drop n ks) (sym is) (sym (add-one i)) in
       let rest : ask_all frame_width stack_limit T (drop i ks) s ≡ ask_all frame_width stack_limit T (k ∷ drop (i + 1) ks) s = ap (λ (l : List ℕ). ask_all frame_width stack_limit T l s) cut in
       let more = ask_all frame_width stack_limit T (drop (i + 1) ks) next.stack in

@@ -1,20 +1,18 @@
 -- One question on frames that pass question 15: what the search of the top frame's equation says is what `ask` says.
 use mathlib.Core.Path.{◌≡◌, refl, sym, ◌∙◌, ap, ap₂, subst}
 use mathlib.Core.List.{List, [], ◌∷◌, ◌++◌, map, reverse, reverse-append}
-use mathlib.Core.Bool.{Bool, true, false}
-use mathlib.Core.Option.{Option, none, some}
+use mathlib.Core.Option.{none, some}
 use Prim.Native.Nat.{ℕ, zero, suc, ◌+◌, ◌-◌, ◌*◌, ◌/◌, ◌≤◌, ◌<◌}
 use native.Mathlib.Omega.{arith}
+use Rattle.std.specs.Prelude.{Ok, Err}
 use lib.ListN.{length, get_or, get_elem?, drop, take, replicate, length-append, length-take, length-drop, length-reverse}
 use lib.Seq.{drop_at, take-suc, length-take-le, get_or-take, get_or-drop, ext_get_or}
 use Rattle.pcrl.specs.Limits.{frame_width, stack_limit}
-use Rattle.pcrl.specs.Lists.{tabulate}
 use Rattle.pcrl.specs.Reader.{all}
 use Rattle.pcrl.specs.Sheet.{Sig}
 use Rattle.pcrl.specs.Label.{Label}
 use Rattle.pcrl.specs.Table.{Table, equation}
-use Rattle.pcrl.specs.Right.{RightTable}
-use Rattle.pcrl.specs.Stack.{Frame, Stack, InSorts, used, padded, zero_frame, RightFrame, RightFrames, frames_of, stack_of}
+use Rattle.pcrl.specs.Stack.{Frame, Stack, InSorts, used, zero_frame, RightFrame, RightFrames, frames_of, stack_of}
 use Rattle.pcrl.specs.Steps.{fired, steps}
 use Rattle.pcrl.specs.Ask.{Answer, Asked, ask}
 use Rattle.laws.specs.Lists.{length_tabulate, get_d_tabulate, past_none}
@@ -24,7 +22,6 @@ use Rattle.theory.specs.Asked.{AnswerIs, at_end, too_large, too_deep, goes_to, a
 use Rattle.terms.specs.Stands.{list_at}
 use Rattle.stacks.specs.Lent.{frame_bytes, frame_at, frames_at, frames_in, stack_bytes}
 use Rattle.stacks.proofs.Views.{no_frame, length_frames_in, get_or_frames_in}
-use Rattle.stacks.proofs.Filling.{length_frames_at}
 use Rattle.stacks.proofs.RightFrameLaws.{used_right}
 use Rattle.firing.specs.declared.Fired.{Fired}
 use Rattle.firing.specs.Fires.{listing}
@@ -33,8 +30,10 @@ use Rattle.firing.proofs.Indexing.{sorts_there}
 use Rattle.firing.specs.Told as firing
 use Rattle.firing.specs.Told.{told}
 use Rattle.labels.specs.Labels.{label_of}
+use Rattle.asking.specs.declared.Step.{Step}
 use Rattle.asking.specs.declared.Told.{Told}
-use Rattle.asking.specs.Replies.{answer_kind, answer_by, answer_told, label_told, AskIs}
+use Rattle.asking.specs.declared.Told.TheVariants.{Ended, Nothing, Stepped, TooDeep}
+use Rattle.asking.specs.Replies.{answer_told, label_told, depth_after, AskIs}
 
 get_elem?_map : {A B : Type 0} (f : A → B) (l : List A) (k : ℕ) (x : A) → get_elem? l k ≡ some x → get_elem? (map f l) k ≡ some (f x)
 get_elem?_map f [] k x e = absurd (let z : ◌≡◌ {A = ℕ} 0 1 = cc in omega arith)
@@ -47,17 +46,20 @@ none_map f (a ∷ l) zero e = absurd (let z : ◌≡◌ {A = ℕ} 0 1 = cc in om
 none_map f (a ∷ l) (suc k) e = none_map f l k e
 
 -- what is told
-pub told_found : (S : Sig) (r : Fired) (made : List ℕ) → r.found ≡ true → told S r made ≡ some (label_of S r.action (take r.arity r.values), frames_at frame_width r.calls made)
+pub told_found : (S : Sig) (f : Fired) (made : List ℕ) → told S (Ok f) made ≡ some (label_of S f.action (take f.arity f.values), frames_at frame_width f.calls made)
 unfolding told firing.frames_at firing.frame_at frames_at frame_at label_of
-told_found S r made e = rw e
+told_found S f made = refl
 
-pub told_none : (S : Sig) (r : Fired) (made : List ℕ) → r.found ≡ false → told S r made ≡ none
+pub told_none : (S : Sig) (n : ℕ) (made : List ℕ) → told S (Err n) made ≡ none
 unfolding told
-told_none S r made e = rw e
+told_none S n made = refl
 
-pub plain_told : (S : Sig) (r : Told) (n k : ℕ) → r.refused ≡ n → r.kind ≡ k → answer_told S r ≡ answer_by n k (label_told S r) r.depth
-unfolding answer_told
-plain_told S r n k e g = rw (e, g)
+-- the depth of a step does not depend on the one before
+pub first_depth : (d : ℕ) (r : Told) → depth_after d r ≤ stack_limit → depth_after 0 r ≤ stack_limit
+first_depth d Ended h = omega arith
+first_depth d Nothing h = omega arith
+first_depth d (Stepped r) h = h
+first_depth d TooDeep h = omega arith
 
 module _ (T : Table) (bytes : List ℕ) (d k : ℕ) (long : length bytes ≡ stack_bytes) (right : RightFrames frame_width stack_limit T (frames_in frame_width bytes) d) where
   abbrev fs : List Frame
@@ -70,7 +72,7 @@ module _ (T : Table) (bytes : List ℕ) (d k : ℕ) (long : length bytes ≡ sta
   holds = (passes_15 frame_width stack_limit T fs d).0 right
 
   -- by the answer of document 01
-  ask_by : (r : Told) (fs' : List Frame) (a : Answer) (t : Stack) → AnswerIs frame_width stack_limit T k s a t → answer_told T.sig r ≡ a → fs' ≡ frames_of frame_width stack_limit t → r.depth ≡ length t → AskIs T fs d k r fs'
+  ask_by : (r : Told) (fs' : List Frame) (a : Answer) (t : Stack) → AnswerIs frame_width stack_limit T k s a t → answer_told T.sig r ≡ a → fs' ≡ frames_of frame_width stack_limit t → depth_after d r ≡ length t → AskIs T fs d k r fs'
   ask_by r fs' a t is e f n =
       let x : ask frame_width stack_limit T k s ≡ record { answer = a; stack = t } = (answer_exactly frame_width stack_limit T k s a t).1 is in
       record {
@@ -79,12 +81,12 @@ module _ (T : Table) (bytes : List ℕ) (d k : ℕ) (long : length bytes ≡ sta
         depth = n ∙ sym (ap (λ (y : Asked). length y.stack) x);
       }
 
-  unchanged : (r : Told) (a : Answer) → AnswerIs frame_width stack_limit T k s a s → answer_told T.sig r ≡ a → r.depth ≡ d → AskIs T fs d k r fs
+  unchanged : (r : Told) (a : Answer) → AnswerIs frame_width stack_limit T k s a s → answer_told T.sig r ≡ a → depth_after d r ≡ d → AskIs T fs d k r fs
   unchanged r a is e n = ask_by r fs a s is e holds.frames (n ∙ holds.depth)
 
-  pub ended_is : (r : Told) → d ≡ 0 → r.refused ≡ 0 → r.kind ≡ 0 → r.depth ≡ 0 → AskIs T fs d k r fs
-  unfolding answer_by answer_kind
-  ended_is r z e g n = unchanged r Answer.ended (at_end (sym holds.depth ∙ z)) (plain_told T.sig r 0 0 e g) (n ∙ sym z)
+  pub ended_is : d ≡ 0 → AskIs T fs d k Ended fs
+  unfolding answer_told
+  ended_is z = unchanged Ended Answer.ended (at_end (sym holds.depth ∙ z)) refl refl
 
   module _ (some_frame : 0 < d) where
     abbrev at : ℕ
@@ -156,11 +158,11 @@ module _ (T : Table) (bytes : List ℕ) (d k : ℕ) (long : length bytes ≡ sta
       unfolding steps listing
       steps_are = ap (steps frame_width T) stack_is ∙ sym (ap₂ (λ (n : ℕ) (vs : List ℕ). map on_top (all (fired frame_width T.sig vs) (equation T n).summands)) number params)
 
-      pub none_is : (r : Told) → get_elem? (listing T e part) k ≡ none → r.refused ≡ 0 → r.kind ≡ 1 → r.depth ≡ d → AskIs T fs d k r fs
-      unfolding answer_by answer_kind
-      none_is r miss e₀ e₁ n =
+      pub none_is : get_elem? (listing T e part) k ≡ none → AskIs T fs d k Nothing fs
+      unfolding answer_told
+      none_is miss =
           let h = holds.depth in
-          unchanged r Answer.nothing (too_large (omega arith) (past_none (steps frame_width T s) k (ap (λ l. get_elem? l k) steps_are ∙ none_map on_top (listing T e part) k miss))) (plain_told T.sig r 0 1 e₀ e₁) n
+          unchanged Nothing Answer.nothing (too_large (omega arith) (past_none (steps frame_width T s) k (ap (λ l. get_elem? l k) steps_are ∙ none_map on_top (listing T e part) k miss))) refl refl
 
       module _ (l : Label) (made : List Frame) (found : get_elem? (listing T e part) k ≡ some (l, made)) where
         step_there : get_elem? (steps frame_width T s) k ≡ some (l, made ++ rest)
@@ -169,16 +171,16 @@ module _ (T : Table) (bytes : List ℕ) (d k : ℕ) (long : length bytes ≡ sta
         after_length : length (made ++ rest) ≡ d - 1 + length made
         after_length = let r = rest_length in simp length-append (omega arith)
 
-        pub deep_is : (r : Told) → stack_limit < d - 1 + length made → r.refused ≡ 16 → r.depth ≡ d → AskIs T fs d k r fs
-        unfolding answer_by
-        deep_is r deep e₀ n = unchanged r (Answer.refused 16) (too_deep step_there (let z = after_length in omega arith)) (plain_told T.sig r 16 r.kind e₀ refl) n
+        pub deep_is : stack_limit < d - 1 + length made → AskIs T fs d k TooDeep fs
+        unfolding answer_told
+        deep_is deep = unchanged TooDeep (Answer.refused 16) (too_deep step_there (let z = after_length in omega arith)) refl refl
 
-        pub step_is : (r : Told) (fs' : List Frame) → d - 1 + length made ≤ stack_limit → r.refused ≡ 0 → r.kind ≡ 2 → label_told T.sig r ≡ l → r.depth ≡ d - 1 + length made → fs' ≡ frames_of frame_width stack_limit (made ++ rest) → AskIs T fs d k r fs'
-        unfolding answer_by answer_kind
-        step_is r fs' fit e₀ e₁ lab n f =
+        pub step_is : (r : Step) (fs' : List Frame) → d - 1 + length made ≤ stack_limit → label_told T.sig r ≡ l → r.depth ≡ d - 1 + length made → fs' ≡ frames_of frame_width stack_limit (made ++ rest) → AskIs T fs d k (Stepped r) fs'
+        unfolding answer_told
+        step_is r fs' fit lab n f =
             let z = after_length in
             let m : r.depth ≡ length (made ++ rest) = n ∙ sym z in
-            ask_by r fs' (Answer.stepped l (length (made ++ rest))) (made ++ rest) (goes_to step_there (omega arith)) (plain_told T.sig r 0 2 e₀ e₁ ∙ ap₂ Answer.stepped lab m) f m
+            ask_by (Stepped r) fs' (Answer.stepped l (length (made ++ rest))) (made ++ rest) (goes_to step_there (omega arith)) (ap₂ Answer.stepped lab m) f m
 
     -- the frames past the depth are zero: what the replacement of the top frame needs
     pub zeros_behind : drop d fs ≡ replicate (stack_limit - d) (zero_frame frame_width)

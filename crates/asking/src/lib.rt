@@ -12,12 +12,13 @@ ghost use Rattle.firing.specs.Known.{KnownTable, ActsAt};
 ghost use Rattle.stacks.specs.Lent.{frames_in, stack_bytes};
 ghost use Rattle.lettering.specs.SortNames.{NamesIn};
 ghost use Rattle.asking.specs.Encoding.{answer_bytes, encode_answer};
-ghost use Rattle.asking.specs.Replies.{AskIs, AllIs, answer_told};
+ghost use Rattle.asking.specs.Replies.{AskIs, AllIs, answer_told, depth_after, step_told};
 
 use elements::{cell, low, peek, wide};
 use firing::TAU;
 use lettering::{NAME_CELL, put_cell};
-use limits::{MAX_CALLS, MAX_NAME, MAX_SORT_NAME, TOO_DEEP};
+use limits::{MAX_CALLS, MAX_NAME, MAX_SORT_NAME};
+use refusals::Refusal;
 use stacks::{FRAME, LIMIT};
 
 // Bytes of the frames of 8 calls.
@@ -33,41 +34,38 @@ const FIRST_SORT: usize = NAME + MAX_NAME + 2;
 
 const SECOND_SORT: usize = FIRST_SORT + MAX_SORT_NAME + 2;
 
-// What is answered where no question refuses.
+// The kinds of answers in bytes, but for refusals.
 const ENDED: u8 = 0;
 
 const NONE: u8 = 1;
 
 const STEPPED: u8 = 2;
 
-// An answer: the number of the question that refused, or 0 and what was answered; and the depth after it.
-#[derive(Clone, Copy)]
-pub struct Told {
-    pub refused: u8,
-    pub kind: u8,
+// A step: the action's byte, its values, and the depth after it.
+#[derive(Clone, Copy, Debug, PartialEq, Eq)]
+pub struct Step {
     pub action: u8,
     pub arity: u8,
     pub values: [u8; 2],
     pub depth: usize,
 }
 
-// An answer in bytes.
-#[derive(Clone, Copy)]
-pub struct Encoded {
-    pub bytes: [u8; ANSWER],
+// An answer: there is no frame, no step k, or this step, or question 16 refuses it.
+#[derive(Clone, Copy, Debug, PartialEq, Eq)]
+pub enum Told {
+    Ended,
+    Nothing,
+    Stepped(Step),
+    TooDeep,
 }
 
-// An answer with no label.
-pub fn plain(refused: u8, kind: u8, depth: usize) -> Told
-    ensures { (result.refused ≡ refused) × ((result.kind ≡ kind) × (result.depth ≡ depth)) }
+// The depth after an answer: that of its step, or as it was.
+pub fn depth_after(depth: usize, told: Told) -> usize
+    ensures { result ≡ depth_after depth told }
 {
-    Told {
-        refused: refused,
-        kind: kind,
-        action: 0,
-        arity: 0,
-        values: [0; 2],
-        depth: depth,
+    match told {
+        Told::Stepped(step) => step.depth,
+        _ => depth,
     }
 }
 
@@ -83,17 +81,17 @@ pub fn ask(
     k: u64,
 ) -> Told
     requires { (length s.now ≤ max_stream) × ((length frames.old ≡ stack_bytes) × (depth ≤ stack_limit)) }
-    ensures { (result.depth ≤ stack_limit) × ((T : Table) → KnownTable T s.now funcs.now acts.now params.now rows.now → RightFrames frame_width stack_limit T (frames_in frame_width frames.old) depth → AskIs T (frames_in frame_width frames.old) depth k result (frames_in frame_width frames.new)) }
+    ensures { (depth_after depth result ≤ stack_limit) × ((T : Table) → KnownTable T s.now funcs.now acts.now params.now rows.now → RightFrames frame_width stack_limit T (frames_in frame_width frames.old) depth → AskIs T (frames_in frame_width frames.old) depth k result (frames_in frame_width frames.new)) }
 {
     if depth == 0 {
-        return plain(0, ENDED, 0);
+        return Told::Ended;
     }
     let top = (depth - 1) * FRAME;
     let e = wide(frames[top]);
     let sorts = terms::list_at(s, cell(params, e));
     let n = sorts.len();
     let mut made = [0u8; MADE];
-    let f = firing::fire(
+    let Ok(f) = firing::fire(
         s,
         funcs,
         acts,
@@ -103,32 +101,30 @@ pub fn ask(
         stacks::part(&frames[0..], top + 1, n),
         k,
         &mut made,
-    );
-    if !f.found {
-        return plain(0, NONE, depth);
-    }
-    if LIMIT < depth - 1 + f.calls {
-        return plain(TOO_DEEP, ENDED, depth);
+    ) else {
+        return Told::Nothing;
+    };
+    let left = depth - 1 + f.calls;
+    if LIMIT < left {
+        return Told::TooDeep;
     }
     stacks::replace(frames, depth, &made, f.calls);
     let values = f.values;
-    Told {
-        refused: 0,
-        kind: STEPPED,
+    Told::Stepped(Step {
         action: f.action,
         arity: f.arity,
         values: values,
-        depth: depth - 1 + f.calls,
-    }
+        depth: left,
+    })
 }
 
 // A kind, and zeros behind it.
-fn encode_kind(kind: u8) -> Encoded
-    ensures { result.bytes ≡ filled answer_bytes (kind ∷ []) }
+fn encode_kind(kind: u8) -> [u8; ANSWER]
+    ensures { result ≡ filled answer_bytes (kind ∷ []) }
 {
     let mut bytes = [0u8; ANSWER];
     bytes[0] = kind;
-    Encoded { bytes: bytes }
+    bytes
 }
 
 // A step: the new depth, how many values, two values, the action's name, the names of its sorts, and zeros behind them. The last name is
@@ -141,8 +137,8 @@ fn encode_step(
     name: &[u8],
     first: &[u8],
     second: &[u8],
-) -> Encoded
-    ensures { length name.now ≤ max_name → length first.now ≤ max_sort_name → length second.now ≤ max_sort_name → result.bytes ≡ filled answer_bytes (2 ∷ depth % 256 ∷ count ∷ v ∷ w ∷ (name_field max_name name.now ++ (name_field max_sort_name first.now ++ name_field max_sort_name second.now))) }
+) -> [u8; ANSWER]
+    ensures { length name.now ≤ max_name → length first.now ≤ max_sort_name → length second.now ≤ max_sort_name → result ≡ filled answer_bytes (2 ∷ depth % 256 ∷ count ∷ v ∷ w ∷ (name_field max_name name.now ++ (name_field max_sort_name first.now ++ name_field max_sort_name second.now))) }
 {
     let mut bytes = [0u8; ANSWER];
     put_cell(&mut bytes, SECOND_SORT, second);
@@ -150,14 +146,7 @@ fn encode_step(
     put_cell(&mut bytes, NAME, name);
     let head = [STEPPED, low(depth), count, v, w];
     texts::put_bytes(&mut bytes, 0, &head);
-    Encoded { bytes: bytes }
-}
-
-// How many of two values are there.
-fn counted(arity: u8) -> u8
-    ensures { result ≡ min arity 2 }
-{
-    if arity < 2 { arity } else { 2 }
+    bytes
 }
 
 // Value i where it is there, and else 0.
@@ -189,31 +178,37 @@ fn sort_name<'a>(names: &'a [u8], sorts: &[u8], i: usize) -> &'a [u8]
     terms::list_at(names, NAME_CELL * wide(sorts[i]))
 }
 
-// An answer in 72 bytes; the names of the sorts stand in their cells.
-pub fn encode(s: &[u8], acts: &[u16], actions: usize, names: &[u8], r: Told) -> Encoded
-    ensures { (T : Table) → RightTable T → ActsAt T.sig s.now acts.now actions → NamesIn T.sig names.now → r.depth ≤ stack_limit → result.bytes ≡ encode_answer (answer_told T.sig r) }
+// A step in 72 bytes; the names of the sorts stand in their cells.
+fn encode_label(s: &[u8], acts: &[u16], actions: usize, names: &[u8], step: Step) -> [u8; ANSWER]
+    ensures { (T : Table) → RightTable T → ActsAt T.sig s.now acts.now actions → NamesIn T.sig names.now → step.depth ≤ stack_limit → result ≡ encode_answer (step_told T.sig step) }
 {
-    if r.refused != 0 {
-        return encode_kind(r.refused);
+    if step.action == TAU {
+        return encode_step(step.depth, 0, 0, 0, b"tau", &names[0..0], &names[0..0]);
     }
-    if r.kind < STEPPED {
-        return encode_kind(r.kind);
-    }
-    if r.action == TAU {
-        return encode_step(r.depth, 0, 0, 0, b"tau", &names[0..0], &names[0..0]);
-    }
-    let v = value(r.arity, 0, r.values[0]);
-    let w = value(r.arity, 1, r.values[1]);
-    let sorts = sorts_of(s, acts, actions, r.action);
+    let v = value(step.arity, 0, step.values[0]);
+    let w = value(step.arity, 1, step.values[1]);
+    let sorts = sorts_of(s, acts, actions, step.action);
     encode_step(
-        r.depth,
-        counted(r.arity),
+        step.depth,
+        step.arity.min(2),
         v,
         w,
-        texts::name(s, acts, actions, r.action),
+        texts::name(s, acts, actions, step.action),
         sort_name(names, sorts, 0),
         sort_name(names, sorts, 1),
     )
+}
+
+// An answer in 72 bytes.
+pub fn encode(s: &[u8], acts: &[u16], actions: usize, names: &[u8], told: Told) -> [u8; ANSWER]
+    ensures { (T : Table) → RightTable T → ActsAt T.sig s.now acts.now actions → NamesIn T.sig names.now → depth_after 0 told ≤ stack_limit → result ≡ encode_answer (answer_told T.sig told) }
+{
+    match told {
+        Told::Ended => encode_kind(ENDED),
+        Told::Nothing => encode_kind(NONE),
+        Told::Stepped(step) => encode_label(s, acts, actions, names, step),
+        Told::TooDeep => encode_kind(u8::from(Refusal::TooDeep)),
+    }
 }
 
 // The questions ks in turn, "each question gets the frames and depth that the last one left": an answer for each, and the last depth.
@@ -237,13 +232,12 @@ pub fn ask_each(
     let names = named;
     let mut d = depth;
     for i in 0..ks.len() {
-        let r = ask(s, &funcs, &acts, &params, &rows, frames, d, ks[i]);
-        let e = encode(s, &acts, actions, &names, r);
-        let bytes = e.bytes;
+        let told = ask(s, &funcs, &acts, &params, &rows, frames, d, ks[i]);
+        let bytes = encode(s, &acts, actions, &names, told);
         let at = i * ANSWER;
         let end = at + ANSWER;
-        texts::put_bytes(&mut out[at..end], 0, &bytes);
-        d = r.depth;
+        out[at..end].copy_from_slice(&bytes);
+        d = depth_after(d, told);
     }
     d
 }
