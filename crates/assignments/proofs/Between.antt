@@ -13,6 +13,7 @@ use Rattle.laws.specs.Lists.{some_append}
 use Rattle.evaluation.specs.Run.{top}
 use Rattle.evaluation.proofs.Bytes.{run_past}
 use Rattle.assignments.specs.Places.{product, digits_of, places}
+use Rattle.std.specs.Prelude.{Result, Ok, Err, MatchResult}
 use Rattle.assignments.specs.Conditions.{env, code, Finds}
 use Rattle.assignments.specs.Parting.{asked, part_met, Gapped}
 use Rattle.assignments.proofs.Passing.{Going}
@@ -86,29 +87,29 @@ module _ (acc : ℕ → Bool) (j b n w : ℕ) (whole : w ≡ n * b) (some_round 
       ap₂ get_elem? all_here (ap (λ (x : ℕ). t * x + r) one_length) ∙ map_some (λ x. j + x) (places here w 0) (t * length (places here b 0) + r) (t * b + a') (ap (λ (x : ℕ). get_elem? (places here x 0) (t * length (places here b 0) + r)) whole ∙ periods_at here b here_again n t r a' h f) ∙ ap some z
 
   -- what is found in its first round, and how many are there, says what is found in the block
-  module _ (total from k left : ℕ) (fits : j + w ≤ total) (so_far : Going acc total from k j left) (found : Bool) (at left₁ : ℕ) (first : Finds (places acc (j + b - j) j) left found at left₁) where
-    one_round : (i : ℕ) (f : Bool) (x y : ℕ) → Finds (places acc (j + b - j) j) i f x y → Finds (places acc b j) i f x y
-    one_round i f x y = let z : j + b - j ≡ b = omega arith in subst (λ (m : ℕ). Finds (places acc m j) i f x y) z
+  module _ (total from k left : ℕ) (fits : j + w ≤ total) (so_far : Going acc total from k j left) where
+    one_round : (i : ℕ) (o : Result ℕ ℕ) → Finds (places acc (j + b - j) j) i o → Finds (places acc b j) i o
+    one_round i o = let z : j + b - j ≡ b = omega arith in subst (λ (m : ℕ). Finds (places acc m j) i o) z
 
-    pub around_first : found ≡ true → Finds (places acc (total - from) from) k found at left₁
+    pub around_first : (at : ℕ) → Finds (places acc (j + b - j) j) left (Ok at) → Finds (places acc (total - from) from) k (Ok at)
     unfolding Finds
-    around_first e =
-        let f : get_elem? (places acc b j) left ≡ some at = subst (λ (t : Bool). Finds (places acc b j) left t at left₁) e (one_round left found at left₁ first) in
+    around_first at first =
+        let f : get_elem? (places acc b j) left ≡ some at = one_round left (Ok at) first in
         let z : left ≡ 0 * length (places acc b j) + left = omega arith in
         let y : 0 * b + at ≡ at = omega arith in
-        subst (λ (t : Bool). Finds (places acc (total - from) from) k t at left₁) (sym e) (going_in acc total from k j left w fits so_far at (ap (get_elem? (places acc w j)) z ∙ block_at 0 left at some_round f ∙ ap some y))
+        going_in acc total from k j left w fits so_far at (ap (get_elem? (places acc w j)) z ∙ block_at 0 left at some_round f ∙ ap some y)
 
-    module _ (e : found ≡ false) (m : ℕ) (is_m : m ≡ left - left₁) where
+    module _ (left₁ : ℕ) (first : Finds (places acc (j + b - j) j) left (Err left₁)) (m : ℕ) (is_m : m ≡ left - left₁) where
       counted : left ≡ left₁ + length (places acc b j)
       unfolding Finds
-      counted = subst (λ (t : Bool). Finds (places acc b j) left t at left₁) e (one_round left found at left₁ first)
+      counted = one_round left (Err left₁) first
 
       m_is : m ≡ length (places acc b j)
       m_is = let z = counted in omega arith
 
-      pub around_later : left / n < m → (found₂ : Bool) (at₂ left₂ : ℕ) → Finds (places acc (j + b - j) j) (left % m) found₂ at₂ left₂ → (x : ℕ) → Finds (places acc (total - from) from) k true (left / m * b + at₂) x
+      pub around_later : left / n < m → (o : Result ℕ ℕ) → Finds (places acc (j + b - j) j) (left % m) o → MatchResult o (λ at₂. Finds (places acc (total - from) from) k (Ok (left / m * b + at₂))) (λ left₂. ⊥)
       unfolding Finds
-      around_later h found₂ at₂ left₂ f x = go found₂ (one_round (left % m) found₂ at₂ left₂ f)
+      around_later h o f = go o (one_round (left % m) o f)
         where
           pos : 0 < m
           pos = omega arith
@@ -116,9 +117,9 @@ module _ (acc : ℕ → Bool) (j b n w : ℕ) (whole : w ≡ n * b) (some_round 
           few : left / m < n
           few = later_few n left m some_round h
 
-          go : (t : Bool) → Finds (places acc b j) (left % m) t at₂ left₂ → Finds (places acc (total - from) from) k true (left / m * b + at₂) x
-          go false g = absurd (omega (arith, mod-lt left {m = m} pos, m_is))
-          go true g =
+          go : (o : Result ℕ ℕ) → Finds (places acc b j) (left % m) o → MatchResult o (λ at₂. Finds (places acc (total - from) from) k (Ok (left / m * b + at₂))) (λ left₂. ⊥)
+          go (Err left₂) g = absurd (omega (arith, mod-lt left {m = m} pos, m_is))
+          go (Ok at₂) g =
               let z : left ≡ left / m * length (places acc b j) + left % m = sym (div-add-mod' left m) ∙ ap (λ (y : ℕ). left / m * y + left % m) m_is in
               going_in acc total from k j left w fits so_far (left / m * b + at₂) (ap (get_elem? (places acc w j)) z ∙ block_at (left / m) (left % m) at₂ few g)
 

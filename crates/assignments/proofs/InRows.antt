@@ -15,11 +15,12 @@ use Rattle.pcrl.specs.Tests.{and}
 use Rattle.evaluation.specs.Run.{pick, peak}
 use Rattle.evaluation.specs.Known.{Alike}
 use Rattle.assignments.specs.Places.{product, digits_of, places, Sizes}
+use Rattle.std.specs.Prelude.{Result, Ok, Err, MatchResult}
 use Rattle.assignments.specs.Conditions.{env, code, all_below, Tested, Finds}
 use Rattle.assignments.specs.Parting.{asked, part_met, Part}
 use Rattle.evaluation.specs.Rows.{lane_env}
 use Rattle.assignments.specs.Lanes.{inner, Sifted, RowMet, Strip, Lent, Rowed, Came}
-use Rattle.assignments.specs.declared.Found.{Found}
+use Rattle.assignments.specs.declared.Reached.{Reached}
 use Rattle.assignments.proofs.Blocks.{product_pos, coarser, finer, in_block, env_same, split_at, all_same, asked_same, same_on, in_grain}
 use Rattle.assignments.proofs.Periods.{around}
 use Rattle.assignments.proofs.Passing.{Going, going_start, going_skip, going_on, going_found, none_left}
@@ -302,53 +303,36 @@ module _ (lanes : List ℕ) (size g j k : ℕ) (acc : ℕ → Bool) (says : (i x
       positive : (get_or lanes i 0 ≡ 0 → ⊥) → 0 < get_or lanes i 0
       positive e = omega arith
 
-  pub lane_found : (i left at : ℕ) → i < size → (get_or lanes i 0 ≡ 0 → ⊥) → left < g → at ≡ j + i * g + left → Lane i left → (x : ℕ) → Finds (places acc (size * g) j) k true at x
+  pub lane_found : (i left at : ℕ) → i < size → (get_or lanes i 0 ≡ 0 → ⊥) → left < g → at ≡ j + i * g + left → Lane i left → Finds (places acc (size * g) j) k (Ok at)
   unfolding Finds
-  lane_found i left at h e l q w x =
+  lane_found i left at h e l q w =
       subst (λ (y : ℕ). get_elem? (places acc y j) k ≡ some at) whole (going_found acc (j + size * g) j k (j + i * g) left (j + i * g + g) at (omega arith) (below i h) (λ x u v. says i x h u v ∙ lt-ltb 0 (get_or lanes i 0) (positive e)) (omega arith) q w)
     where
       positive : (get_or lanes i 0 ≡ 0 → ⊥) → 0 < get_or lanes i 0
       positive e = omega arith
 
-  pub lane_end : (i left : ℕ) → i ≡ size → Lane i left → (x : ℕ) → Finds (places acc (size * g) j) k false x left
-  lane_end i left e w x = subst (λ (y : ℕ). Finds (places acc y j) k false x left) whole (none_left acc (j + size * g) j k (j + i * g) left (let z : j + i * g ≡ j + size * g = ap (λ (y : ℕ). j + y * g) e in omega arith) w x)
+  pub lane_end : (i left : ℕ) → i ≡ size → Lane i left → Finds (places acc (size * g) j) k (Err left)
+  lane_end i left e w = subst (λ (y : ℕ). Finds (places acc y j) k (Err left)) whole (none_left acc (j + size * g) j k (j + i * g) left (let z : j + i * g ≡ j + size * g = ap (λ (y : ℕ). j + y * g) e in omega arith) w)
 
 -- A ROW AFTER ANOTHER
 
 module _ (acc : ℕ → Bool) (total from k : ℕ) where
-  pub came_start : Came acc total from k false from k
-  unfolding Came
-  came_start = (refl, refl)
-
-  pub came_to : (j left : ℕ) → Going acc total from k j left → Came acc total from k false j left
+  pub came_to : (r : Reached) → Going acc total from k r.at r.left → Came acc total from k (Err r)
   unfolding Came Going
-  came_to j left w = w
+  came_to r w = w
 
-  pub going_from : (j left : ℕ) → Came acc total from k false j left → Going acc total from k j left
+  pub going_from : (r : Reached) → Came acc total from k (Err r) → Going acc total from k r.at r.left
   unfolding Came Going
-  going_from j left w = w
+  going_from r w = w
 
   module _ (j left w : ℕ) (fits : j + w ≤ total) (so_far : Going acc total from k j left) where
-    pub row_found : (at left' : ℕ) → Finds (places acc w j) left true at left' → (x : ℕ) → Came acc total from k true at x
+    pub row_found : (at : ℕ) → Finds (places acc w j) left (Ok at) → Came acc total from k (Ok at)
     unfolding Finds Came
-    row_found at left' f x = going_in acc total from k j left w fits so_far at f
+    row_found at f = going_in acc total from k j left w fits so_far at f
 
-    pub row_past : (at left' : ℕ) → Finds (places acc w j) left false at left' → Going acc total from k (j + w) left'
+    pub row_past : (left' : ℕ) → Finds (places acc w j) left (Err left') → Going acc total from k (j + w) left'
     unfolding Finds
-    row_past at left' f = going_by acc total from k j left w fits so_far left' f
-
--- what is gone to, by the parts of the answer
-module _ (acc : ℕ → Bool) (total from k : ℕ) (r : Found) where
-  pub came_at : (at left : ℕ) → (r.found ≡ false) × ((r.at ≡ at) × (r.left ≡ left)) → Going acc total from k at left → Came acc total from k r.found r.at r.left
-  came_at at left e w =
-      subst (λ (b : Bool). Came acc total from k b r.at r.left) (sym e.0) (subst (λ (y : ℕ). Came acc total from k false y r.left) (sym e.1.0) (subst (λ (y : ℕ). Came acc total from k false at y) (sym e.1.1) (came_to acc total from k at left w)))
-
-  pub came_in : (j left w : ℕ) → j + w ≤ total → Going acc total from k j left → r.found ≡ true → Finds (places acc w j) left r.found r.at r.left → Came acc total from k r.found r.at r.left
-  came_in j left w fits g e f =
-      subst (λ (b : Bool). Came acc total from k b r.at r.left) (sym e) (row_found acc total from k j left w fits g r.at r.left (subst (λ (b : Bool). Finds (places acc w j) left b r.at r.left) e f) r.left)
-
-  pub came_past : (j left w : ℕ) → j + w ≤ total → Going acc total from k j left → r.found ≡ false → Finds (places acc w j) left r.found r.at r.left → Going acc total from k (j + w) r.left
-  came_past j left w fits g e f = row_past acc total from k j left w fits g r.at r.left (subst (λ (b : Bool). Finds (places acc w j) left b r.at r.left) e f)
+    row_past left' f = going_by acc total from k j left w fits so_far left' f
 
 -- a strip is not long
 pub row_small : (size g : ℕ) → size ≤ 128 → g ≤ 65536 → size * g ≤ 8388608
@@ -356,30 +340,22 @@ row_small size g h k = let m : size * g ≤ 128 * 65536 = mul-le-mul h k in omeg
 
 -- THE SEARCH GOES ON BY ROWS
 
-module _ (acc : ℕ → Bool) (total from k j left : ℕ) (so_far : Going acc total from k j left) (r : Found) (came : Came acc total j left r.found r.at r.left) where
-  pub rows_found : r.found ≡ true → Finds (places acc (total - from) from) k r.found r.at r.left
+module _ (acc : ℕ → Bool) (total from k j left : ℕ) (so_far : Going acc total from k j left) where
+  pub rows_found : (at : ℕ) → Came acc total j left (Ok at) → Finds (places acc (total - from) from) k (Ok at)
   unfolding Going Came Finds
-  rows_found e =
-      let c : get_elem? (places acc (total - j) j) left ≡ some r.at = subst (λ (b : Bool). Came acc total j left b r.at r.left) e came in
-      subst (λ (b : Bool). Finds (places acc (total - from) from) k b r.at r.left) (sym e) (so_far.0 ∙ c)
+  rows_found at c = so_far.0 ∙ c
 
-  pub rows_past : r.found ≡ false → Going acc total from k r.at r.left
+  pub rows_past : (r : Reached) → Came acc total j left (Err r) → Going acc total from k r.at r.left
   unfolding Going
-  rows_past e =
-      let c = going_from acc total j left r.at r.left (subst (λ (b : Bool). Came acc total j left b r.at r.left) e came) in
+  rows_past r came =
+      let c = going_from acc total j left r came in
       (so_far.0 ∙ c.0, omega (arith, so_far.1, c.1))
 
-  found_came : r.found ≡ true → Came acc total from k r.found r.at r.left
-  unfolding Came Finds
-  found_came e = subst (λ (b : Bool). Came acc total from k b r.at r.left) (sym e) (subst (λ (b : Bool). Finds (places acc (total - from) from) k b r.at r.left) e (rows_found e))
-
   -- what the search finds from there on, or how far it comes
-  pub came_then : Came acc total from k r.found r.at r.left
-  came_then = go r.found refl
-    where
-      go : (b : Bool) → r.found ≡ b → Came acc total from k r.found r.at r.left
-      go true e = found_came e
-      go false e = came_at acc total from k r r.at r.left (e, (refl, refl)) (rows_past e)
+  pub came_then : (o : Result ℕ Reached) → Came acc total j left o → Came acc total from k o
+  unfolding Going Came
+  came_then (Ok at) c = so_far.0 ∙ c
+  came_then (Err r) c = came_to acc total from k r (rows_past r c)
 
 -- LANES OF A STRIP
 
@@ -425,16 +401,10 @@ few_rows a m size h k = let z : m * size ≤ a / size * size = mul-le-mul h (let
 pub lent_again : (rows marks slow fast met rows' marks' slow' fast' met' : List ℕ) → length rows' ≡ length rows → length marks' ≡ length marks → length slow' ≡ length slow → length fast' ≡ length fast → length met' ≡ length met → Lent rows marks slow fast met → Lent rows' marks' slow' fast' met'
 lent_again rows marks slow fast met rows' marks' slow' fast' met' a b c d e l = record { rows_long = omega (arith, l.rows_long); marks_long = omega (arith, l.marks_long); slow_long = omega (arith, l.slow_long); fast_long = omega (arith, l.fast_long); met_long = omega (arith, l.met_long) }
 
-pub finds_gone : (l : List ℕ) (k : ℕ) (r : Found) (at left : ℕ) → (r.found ≡ false) × ((r.at ≡ at) × (r.left ≡ left)) → ((x : ℕ) → Finds l k false x left) → Finds l k r.found r.at r.left
-finds_gone l k r at left e f = subst (λ (b : Bool). Finds l k b r.at r.left) (sym e.0) (subst (λ (x : ℕ). Finds l k false r.at x) (sym e.1.1) (f r.at))
-
 -- what is found in the w numbers from j on
-pub came_lanes : (acc : ℕ → Bool) (total j k : ℕ) (r : Found) (w : ℕ) → j + w ≤ total → (r.found ≡ false → r.at ≡ j + w) → Finds (places acc w j) k r.found r.at r.left → Came acc total j k r.found r.at r.left
-came_lanes acc total j k r w fits at f = go r.found refl
-  where
-    go : (b : Bool) → r.found ≡ b → Came acc total j k r.found r.at r.left
-    go true e = came_in acc total j k r j k w fits (going_start acc total j k) e f
-    go false e = came_at acc total j k r (j + w) r.left (e, (at e, refl)) (came_past acc total j k r j k w fits (going_start acc total j k) e f)
+pub came_lanes : (acc : ℕ → Bool) (total j k w : ℕ) → j + w ≤ total → (o : Result ℕ ℕ) → Finds (places acc w j) k o → MatchResult o (λ at. Came acc total j k (Ok at)) (λ left. Came acc total j k (Err (record { at = j + w; left = left })))
+came_lanes acc total j k w fits (Ok at) f = row_found acc total j k j k w fits (going_start acc total j k) at f
+came_lanes acc total j k w fits (Err left) f = came_to acc total j k (record { at = j + w; left = left }) (row_past acc total j k j k w fits (going_start acc total j k) left f)
 
 module _ (sizes : List ℕ) (l u g w : ℕ) (rowed : Rowed sizes l u g w) (four : length sizes ≡ 4) (right : Sizes sizes) where
   pub all_positive : (i : ℕ) → i < length sizes → 0 < get_or sizes i 0

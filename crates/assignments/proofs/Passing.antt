@@ -10,8 +10,8 @@ use lib.Dec.{ltb}
 use lib.ListN.{length, get_elem?}
 use borrow.Author.Tests.{ltb-true, ltb-false}
 use Rattle.assignments.specs.Places.{places}
+use Rattle.std.specs.Prelude.{Result, Ok, Err}
 use Rattle.assignments.specs.Conditions.{Finds}
-use Rattle.assignments.specs.declared.Found.{Found}
 
 module _ (acc : ℕ → Bool) (total : ℕ) where
   hit : (j : ℕ) → j < total → acc j ≡ true → places acc (total - j) j ≡ j ∷ places acc (total - (j + 1)) (j + 1)
@@ -89,26 +89,18 @@ module _ (acc : ℕ → Bool) (total : ℕ) where
     unfolding Going
     going_end j left h w = let z : length (places acc (total - j) j) ≡ 0 = ap length (passed_end j h) in omega (arith, w.1)
 
-    pub none_left : (j left : ℕ) → total ≤ j → Going j left → (x : ℕ) → Finds (places acc (total - from) from) k false x left
+    pub none_left : (j left : ℕ) → total ≤ j → Going j left → Finds (places acc (total - from) from) k (Err left)
     unfolding Finds
-    none_left j left h w x = going_end j left h w
+    none_left j left h w = going_end j left h w
 
-  pub from_first : (k : ℕ) (found : Bool) (at left : ℕ) → Finds (places acc (total - 0) 0) k found at left → Finds (places acc total 0) k found at left
-  from_first k found at left = subst (λ (x : ℕ). Finds (places acc x 0) k found at left) (sub-zero total)
+  pub from_first : (k : ℕ) (o : Result ℕ ℕ) → Finds (places acc (total - 0) 0) k o → Finds (places acc total 0) k o
+  from_first k o = subst (λ (x : ℕ). Finds (places acc x 0) k o) (sub-zero total)
 
   -- all pass
   module _ (k : ℕ) (all : (i : ℕ) → acc i ≡ true) where
-    pub any_found : k < total → (x : ℕ) → Finds (places acc total 0) k true k x
+    pub any_found : k < total → Finds (places acc total 0) k (Ok k)
     unfolding Finds
-    any_found h x = ap (λ (n : ℕ). get_elem? (places acc n 0) k) (sym (sub-zero total)) ∙ going_found 0 k 0 k total k (omega arith) (omega arith) (λ i a b. all i) (omega arith) (omega arith) (going_start 0 k)
+    any_found h = ap (λ (n : ℕ). get_elem? (places acc n 0) k) (sym (sub-zero total)) ∙ going_found 0 k 0 k total k (omega arith) (omega arith) (λ i a b. all i) (omega arith) (omega arith) (going_start 0 k)
 
-    pub any_past : total ≤ k → (x : ℕ) → Finds (places acc total 0) k false x (k - total)
-    any_past h x = from_first k false x (k - total) (none_left 0 k total (k - total) (omega arith) (going_on 0 k 0 k total (k - total) (omega arith) (omega arith) (λ i a b. all i) (omega arith) (omega arith) (going_start 0 k)) x)
-
--- what is answered, by the parts of the answer
-module _ (l : List ℕ) (k : ℕ) (r : Found) where
-  pub finds_at : (at : ℕ) → (r.found ≡ true) × ((r.at ≡ at) × (r.left ≡ 0)) → ((x : ℕ) → Finds l k true at x) → Finds l k r.found r.at r.left
-  finds_at at e h = subst (λ (b : Bool). Finds l k b r.at r.left) (sym e.0) (subst (λ (y : ℕ). Finds l k true y r.left) (sym e.1.0) (h r.left))
-
-  pub finds_none : (left : ℕ) → (r.found ≡ false) × ((r.at ≡ 0) × (r.left ≡ left)) → ((x : ℕ) → Finds l k false x left) → Finds l k r.found r.at r.left
-  finds_none left e h = subst (λ (b : Bool). Finds l k b r.at r.left) (sym e.0) (subst (λ (y : ℕ). Finds l k false r.at y) (sym e.1.1) (h r.at))
+    pub any_past : total ≤ k → Finds (places acc total 0) k (Err (k - total))
+    any_past h = from_first k (Err (k - total)) (none_left 0 k total (k - total) (omega arith) (going_on 0 k 0 k total (k - total) (omega arith) (omega arith) (λ i a b. all i) (omega arith) (omega arith) (going_start 0 k)))

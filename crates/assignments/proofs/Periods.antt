@@ -12,6 +12,7 @@ use Rattle.laws.specs.Lists.{some_append}
 use Rattle.evaluation.specs.Run.{pick, top}
 use Rattle.evaluation.proofs.Bytes.{run_past}
 use Rattle.assignments.specs.Places.{product, digits_of, places}
+use Rattle.std.specs.Prelude.{Result, Ok, Err, MatchResult}
 use Rattle.assignments.specs.Conditions.{env, code, Finds}
 use Rattle.assignments.specs.Parting.{asked, part_met, Above}
 use Rattle.assignments.proofs.Blocks.{product_pos, product_split, env_same, all_same, asked_same}
@@ -122,10 +123,10 @@ module _ (acc : ℕ → Bool) where
           let l : length (places acc N 0) ≡ n * m = ap (λ (x : ℕ). length (places acc x 0)) whole ∙ periods_length n ∙ ap (λ (x : ℕ). n * x) (sym y) in
           omega (arith, mul-le-mul_right m h, div-add-mod' k m, mul_comm m n)
 
-      pub found_later : (left m : ℕ) (found : Bool) (a left' : ℕ) → k ≡ left + c → m ≡ k - left → 0 < m → k / m < n → Finds (places acc P 0) (k % m) found a left' → get_elem? (places acc N 0) k ≡ some (k / m * P + a)
+      pub found_later : (left m : ℕ) → k ≡ left + c → m ≡ k - left → 0 < m → k / m < n → (o : Result ℕ ℕ) → Finds (places acc P 0) (k % m) o → MatchResult o (λ a. get_elem? (places acc N 0) k ≡ some (k / m * P + a)) (λ left'. ⊥)
       unfolding Finds
-      found_later left m false a left' e d pos h f = absurd (omega (arith, mod-lt k {m = m} pos))
-      found_later left m true a left' e d pos h f =
+      found_later left m e d pos h (Err left') f = absurd (omega (arith, mod-lt k {m = m} pos))
+      found_later left m e d pos h (Ok a) f =
           let y : m ≡ c = omega arith in
           let z : k ≡ k / m * c + k % m = sym (div-add-mod' k m) ∙ ap (λ (x : ℕ). k / m * x + k % m) y in
           ap₂ (λ (x y : ℕ). get_elem? (places acc x 0) y) whole z ∙ periods_at n (k / m) (k % m) a h f
@@ -191,27 +192,27 @@ module _ (s funcs froms ends blocks : List ℕ) (count p low : ℕ) (sizes a : L
   all_rounds : (product sizes ≡ product sizes / round * round) × (0 < product sizes / round)
   all_rounds = subst (λ (x : ℕ). (product sizes ≡ product sizes / x * x) × (0 < product sizes / x)) (sym is_round) (whole_rounds (low - p) sizes positive)
 
-  module _ (k : ℕ) (found : Bool) (at left : ℕ) (first : Finds (places passes round 0) k found at left) where
-    pub search_whole : round ≡ product sizes → Finds (places passes (product sizes) 0) k found at left
-    search_whole e = subst (λ (x : ℕ). Finds (places passes x 0) k found at left) e first
+  module _ (k : ℕ) where
+    pub search_whole : (o : Result ℕ ℕ) → Finds (places passes round 0) k o → round ≡ product sizes → Finds (places passes (product sizes) 0) k o
+    search_whole o first e = subst (λ (x : ℕ). Finds (places passes x 0) k o) e first
 
-    pub search_first : found ≡ true → Finds (places passes (product sizes) 0) k found at left
+    pub search_first : (at : ℕ) → Finds (places passes round 0) k (Ok at) → Finds (places passes (product sizes) 0) k (Ok at)
     unfolding Finds
-    search_first e = subst (λ (b : Bool). Finds (places passes (product sizes) 0) k b at left) (sym e) (found_first passes round again (product sizes / round) (product sizes) k all_rounds.0 all_rounds.1 at (subst (λ (b : Bool). Finds (places passes round 0) k b at left) e first))
+    search_first at first = found_first passes round again (product sizes / round) (product sizes) k all_rounds.0 all_rounds.1 at first
 
-    module _ (e : found ≡ false) (m : ℕ) (is_m : m ≡ k - left) where
+    module _ (left : ℕ) (first : Finds (places passes round 0) k (Err left)) (m : ℕ) (is_m : m ≡ k - left) where
       none_first : k ≡ left + length (places passes round 0)
       unfolding Finds
-      none_first = subst (λ (b : Bool). Finds (places passes round 0) k b at left) e first
+      none_first = first
 
-      pub search_none : m ≡ 0 → Finds (places passes (product sizes) 0) k found at left
+      pub search_none : m ≡ 0 → Finds (places passes (product sizes) 0) k (Err left)
       unfolding Finds
-      search_none z = subst (λ (b : Bool). Finds (places passes (product sizes) 0) k b at left) (sym e) (found_none passes round again (product sizes / round) (product sizes) k all_rounds.0 all_rounds.1 left m none_first is_m z)
+      search_none z = found_none passes round again (product sizes / round) (product sizes) k all_rounds.0 all_rounds.1 left m none_first is_m z
 
-      pub search_past : 0 < m → (n : ℕ) → n ≡ product sizes / round → n ≤ k / m → (x : ℕ) → Finds (places passes (product sizes) 0) k false x (k - m * n)
+      pub search_past : 0 < m → (n : ℕ) → n ≡ product sizes / round → n ≤ k / m → Finds (places passes (product sizes) 0) k (Err (k - m * n))
       unfolding Finds
-      search_past pos n is_n h x = found_past passes round again n (product sizes) k (all_rounds.0 ∙ ap (λ (y : ℕ). y * round) (sym is_n)) (subst (λ (y : ℕ). 0 < y) (sym is_n) all_rounds.1) left m none_first is_m pos h
+      search_past pos n is_n h = found_past passes round again n (product sizes) k (all_rounds.0 ∙ ap (λ (y : ℕ). y * round) (sym is_n)) (subst (λ (y : ℕ). 0 < y) (sym is_n) all_rounds.1) left m none_first is_m pos h
 
-      pub search_later : 0 < m → (n : ℕ) → n ≡ product sizes / round → k / m < n → (b : Bool) (y left' : ℕ) → Finds (places passes round 0) (k % m) b y left' → (x : ℕ) → Finds (places passes (product sizes) 0) k true (k / m * round + y) x
+      pub search_later : 0 < m → (n : ℕ) → n ≡ product sizes / round → k / m < n → (o : Result ℕ ℕ) → Finds (places passes round 0) (k % m) o → MatchResult o (λ y. Finds (places passes (product sizes) 0) k (Ok (k / m * round + y))) (λ left'. ⊥)
       unfolding Finds
-      search_later pos n is_n h b y left' f x = found_later passes round again n (product sizes) k (all_rounds.0 ∙ ap (λ (z : ℕ). z * round) (sym is_n)) (subst (λ (z : ℕ). 0 < z) (sym is_n) all_rounds.1) left m b y left' none_first is_m pos h f
+      search_later pos n is_n h = found_later passes round again n (product sizes) k (all_rounds.0 ∙ ap (λ (z : ℕ). z * round) (sym is_n)) (subst (λ (z : ℕ). 0 < z) (sym is_n) all_rounds.1) left m none_first is_m pos h

@@ -5,21 +5,22 @@ use mathlib.Core.Bool.{Bool, true, false}
 use Prim.Native.Nat.{ℕ, ◌+◌, ◌-◌, ◌*◌, ◌/◌, ◌%◌, ◌≤◌, ◌<◌, min}
 use lib.ListN.{length, get_or, drop}
 use Rattle.assignments.specs.Places.{product, digits_of, places}
+use Rattle.std.specs.Prelude.{Result, Ok, Err, MatchResult}
 use Rattle.assignments.specs.Conditions.{env, met, Ready, Finds}
 use Rattle.assignments.specs.Parting.{part_met, Apart}
 use Rattle.assignments.specs.declared.Parts.{Parts}
 use Rattle.assignments.proofs.Blocks.{product_pos}
 use Rattle.assignments.proofs.Periods.{met_again, whole_rounds}
-use Rattle.assignments.proofs.TwoTests.{same_places, both, both_none, both_found, both_past}
+use Rattle.assignments.proofs.TwoTests.{same_places, both, none_counted, both_none, both_found, both_past}
 use Rattle.assignments.proofs.Separating.{all_met, both_met, late_above, early_constant}
 
 module _ (s funcs froms ends blocks : List ℕ) (n p reach low : ℕ) (sizes a : List ℕ) (positive : (i : ℕ) → i < length sizes → 0 < get_or sizes i 0) (ready : (i : ℕ) → i < n → Ready s p sizes froms ends blocks reach low i) where
   abbrev all_at : ℕ → Bool
   all_at j = met s funcs froms ends n (env p a (digits_of sizes j))
 
-  pub search_all : (k : ℕ) (found : Bool) (at left : ℕ) → Finds (places (λ j. part_met s funcs froms ends blocks n (env p a (digits_of sizes j))) (product sizes) 0) k found at left → Finds (places all_at (product sizes) 0) k found at left
-  search_all k found at left f =
-      subst (λ (l : List ℕ). Finds l k found at left) (same_places (λ j. part_met s funcs froms ends blocks n (env p a (digits_of sizes j))) all_at (product sizes) 0 (λ j h. all_met s p sizes froms ends blocks n reach low positive ready funcs (env p a (digits_of sizes j)))) f
+  pub search_all : (k : ℕ) (o : Result ℕ ℕ) → Finds (places (λ j. part_met s funcs froms ends blocks n (env p a (digits_of sizes j))) (product sizes) 0) k o → Finds (places all_at (product sizes) 0) k o
+  search_all k o f =
+      subst (λ (l : List ℕ). Finds l k o) (same_places (λ j. part_met s funcs froms ends blocks n (env p a (digits_of sizes j))) all_at (product sizes) 0 (λ j h. all_met s p sizes froms ends blocks n reach low positive ready funcs (env p a (digits_of sizes j)))) f
 
   module _ (few : p ≤ length a) (r : Parts) (apart : Apart s p sizes froms ends blocks n r) (P : ℕ) (is_P : P ≡ product (drop (r.low - p) sizes)) where
     abbrev early_at : ℕ → Bool
@@ -40,19 +41,24 @@ module _ (s funcs froms ends blocks : List ℕ) (n p reach low : ℕ) (sizes a :
     whole : product sizes ≡ product sizes / P * P
     whole = subst (λ (x : ℕ). product sizes ≡ product sizes / x * x) (sym is_P) (whole_rounds (r.low - p) sizes positive).0
 
-    of_both : (k : ℕ) (found : Bool) (at left : ℕ) → Finds (places (both P block_some late_at again early_at) (product sizes) 0) k found at left → Finds (places all_at (product sizes) 0) k found at left
-    of_both k found at left f =
-        subst (λ (l : List ℕ). Finds l k found at left) (same_places (both P block_some late_at again early_at) all_at (product sizes) 0 (λ j h. sym (both_met s p sizes froms ends blocks n reach low positive ready r apart funcs (env p a (digits_of sizes j))))) f
+    of_both : (k : ℕ) (o : Result ℕ ℕ) → Finds (places (both P block_some late_at again early_at) (product sizes) 0) k o → Finds (places all_at (product sizes) 0) k o
+    of_both k o f =
+        subst (λ (l : List ℕ). Finds l k o) (same_places (both P block_some late_at again early_at) all_at (product sizes) 0 (λ j h. sym (both_met s p sizes froms ends blocks n reach low positive ready r apart funcs (env p a (digits_of sizes j))))) f
 
-    module _ (k : ℕ) (found : Bool) (at left : ℕ) (counted : Finds (places late_at P 0) P found at left) (m : ℕ) (is_m : m ≡ P - left) where
-      pub parts_none : m ≡ 0 → (x : ℕ) → Finds (places all_at (product sizes) 0) k false x k
-      parts_none z x = of_both k false x k (both_none P block_some late_at again early_at constant (product sizes / P) (product sizes) whole k found at left counted m is_m z x)
+    pub parts_counted : (at : ℕ) → Finds (places late_at P 0) P (Ok at) → ⊥
+    parts_counted = none_counted P block_some late_at again
 
-      module _ (some_late : 0 < m) (q : ℕ) (is_q : q ≡ min (k / m) (product sizes)) (found₂ : Bool) (at₂ left₂ : ℕ) (second : Finds (places early_at (product sizes) 0) (q * P) found₂ at₂ left₂) where
-        pub parts_found : found₂ ≡ true → (found₃ : Bool) (at₃ left₃ : ℕ) → Finds (places late_at P 0) (k % m) found₃ at₃ left₃ → (x : ℕ) → Finds (places all_at (product sizes) 0) k true (at₂ + at₃) x
-        parts_found y found₃ at₃ left₃ f x =
-            of_both k true (at₂ + at₃) x (both_found P block_some late_at again early_at constant (product sizes / P) (product sizes) whole k found at left counted m is_m some_late q is_q found₂ at₂ left₂ second y found₃ at₃ left₃ f x)
+    module _ (k left : ℕ) (counted : Finds (places late_at P 0) P (Err left)) (m : ℕ) (is_m : m ≡ P - left) where
+      pub parts_none : m ≡ 0 → Finds (places all_at (product sizes) 0) k (Err k)
+      parts_none z = of_both k (Err k) (both_none P block_some late_at again early_at constant (product sizes / P) (product sizes) whole k left counted m is_m z)
 
-        pub parts_past : found₂ ≡ false → (x : ℕ) → Finds (places all_at (product sizes) 0) k false x (k - (q * P - left₂) / P * m)
-        parts_past y x =
-            of_both k false x (k - (q * P - left₂) / P * m) (both_past P block_some late_at again early_at constant (product sizes / P) (product sizes) whole k found at left counted m is_m some_late q is_q found₂ at₂ left₂ second y x)
+      module _ (some_late : 0 < m) (q : ℕ) (is_q : q ≡ min (k / m) (product sizes)) where
+        pub parts_found : (at₂ : ℕ) → Finds (places early_at (product sizes) 0) (q * P) (Ok at₂) → (o : Result ℕ ℕ) → Finds (places late_at P 0) (k % m) o → MatchResult o (λ at₃. Finds (places all_at (product sizes) 0) k (Ok (at₂ + at₃))) (λ left₃. ⊥)
+        parts_found at₂ second (Ok at₃) f =
+            of_both k (Ok (at₂ + at₃)) (both_found P block_some late_at again early_at constant (product sizes / P) (product sizes) whole k left counted m is_m some_late q is_q at₂ second (Ok at₃) f)
+        parts_found at₂ second (Err left₃) f =
+            both_found P block_some late_at again early_at constant (product sizes / P) (product sizes) whole k left counted m is_m some_late q is_q at₂ second (Err left₃) f
+
+        pub parts_past : (left₂ : ℕ) → Finds (places early_at (product sizes) 0) (q * P) (Err left₂) → Finds (places all_at (product sizes) 0) k (Err (k - (q * P - left₂) / P * m))
+        parts_past left₂ second =
+            of_both k (Err (k - (q * P - left₂) / P * m)) (both_past P block_some late_at again early_at constant (product sizes / P) (product sizes) whole k left counted m is_m some_late q is_q left₂ second)

@@ -11,6 +11,7 @@ use Rattle.pcrl.specs.Tests.{and}
 use Rattle.laws.specs.Lists.{some_append}
 use Rattle.evaluation.specs.Run.{pick}
 use Rattle.assignments.specs.Places.{places}
+use Rattle.std.specs.Prelude.{Result, Ok, Err, MatchResult}
 use Rattle.assignments.specs.Conditions.{Finds}
 use Rattle.assignments.proofs.Passing.{none_pass, passed_end, going_start, going_on, going_found, going_end}
 use Rattle.assignments.proofs.Periods.{map_some, behind_some, places_append, places_later}
@@ -177,41 +178,40 @@ module _ (P : ℕ) (pos : 0 < P) where
 
     -- THE SEARCH: first how many the second test accepts of one block, then a block that the first accepts, then a place in it
 
-    module _ (a : ℕ → Bool) (h : Constant a) (n N : ℕ) (whole : N ≡ n * P) (k : ℕ) (found : Bool) (at left : ℕ) (counted : Finds (places late P 0) P found at left) (m : ℕ) (is_m : m ≡ P - left) where
+    -- as many are asked for as a block has: they are never found
+    pub none_counted : (at : ℕ) → Finds (places late P 0) P (Ok at) → ⊥
+    unfolding Finds
+    none_counted at e = omega (arith, some_within (places late P 0) P at e, places_few late P 0)
+
+    module _ (a : ℕ → Bool) (h : Constant a) (n N : ℕ) (whole : N ≡ n * P) (k left : ℕ) (counted : Finds (places late P 0) P (Err left)) (m : ℕ) (is_m : m ≡ P - left) where
       m_is : m ≡ c
       unfolding Finds
-      m_is = go found counted
-        where
-          go : (b : Bool) → Finds (places late P 0) P b at left → m ≡ c
-          go true e = absurd (omega (arith, some_within (places late P 0) P at e, places_few late P 0))
-          go false e = omega arith
+      m_is = let e = counted in omega arith
 
       lengths : (e : ℕ) × (length (places a N 0) ≡ e * P) × (length (places (both a) N 0) ≡ e * m)
       lengths =
           let (e, u, v) = blocks_lengths n a h in
           (e, ap (λ (x : ℕ). length (places a x 0)) whole ∙ u, ap (λ (x : ℕ). length (places (both a) x 0)) whole ∙ v ∙ ap (λ (x : ℕ). e * x) (sym m_is))
 
-      pub both_none : m ≡ 0 → (x : ℕ) → Finds (places (both a) N 0) k false x k
+      pub both_none : m ≡ 0 → Finds (places (both a) N 0) k (Err k)
       unfolding Finds
-      both_none z x = let (e, u, v) = lengths in let w : length (places (both a) N 0) ≡ 0 = v ∙ ap (λ (y : ℕ). e * y) z ∙ mul-zero e in omega arith
+      both_none z = let (e, u, v) = lengths in let w : length (places (both a) N 0) ≡ 0 = v ∙ ap (λ (y : ℕ). e * y) z ∙ mul-zero e in omega arith
 
-      module _ (some_late : 0 < m) (q : ℕ) (is_q : q ≡ min (k / m) N) (found₂ : Bool) (at₂ left₂ : ℕ) (second : Finds (places a N 0) (q * P) found₂ at₂ left₂) where
-        pub both_found : found₂ ≡ true → (found₃ : Bool) (at₃ left₃ : ℕ) → Finds (places late P 0) (k % m) found₃ at₃ left₃ → (x : ℕ) → Finds (places (both a) N 0) k true (at₂ + at₃) x
+      module _ (some_late : 0 < m) (q : ℕ) (is_q : q ≡ min (k / m) N) where
+        pub both_found : (at₂ : ℕ) → Finds (places a N 0) (q * P) (Ok at₂) → (o : Result ℕ ℕ) → Finds (places late P 0) (k % m) o → MatchResult o (λ at₃. Finds (places (both a) N 0) k (Ok (at₂ + at₃))) (λ left₃. ⊥)
         unfolding Finds
-        both_found y false at₃ left₃ f x = absurd (omega (arith, mod-lt k {m = m} some_late, m_is))
-        both_found y true at₃ left₃ f x =
-            let s : get_elem? (places a N 0) (q * P) ≡ some at₂ = subst (λ (b : Bool). Finds (places a N 0) (q * P) b at₂ left₂) y second in
+        both_found at₂ s (Err left₃) f = absurd (omega (arith, mod-lt k {m = m} some_late, m_is))
+        both_found at₂ s (Ok at₃) f =
             let w : q * P < N = let v = some_within (places a N 0) (q * P) at₂ s in omega (arith, places_few a N 0) in
             let o : q * 1 ≤ q * P = subst (λ (x : ℕ). q * 1 ≤ x) (mul_comm P q) (subst (λ (x : ℕ). x ≤ P * q) (mul_comm 1 q) (mul-le-mul_right q pos)) in
             let d : q ≡ k / m = omega arith in
             let z : k ≡ q * c + k % m = sym (div-add-mod' k m) ∙ ap₂ (λ (x y : ℕ). x * y + k % m) (sym d) m_is in
             ap₂ (λ (x y : ℕ). get_elem? (places (both a) x 0) y) whole z ∙ blocks_at n a h q at₂ (k % m) at₃ (ap (λ (x : ℕ). get_elem? (places a x 0) (q * P)) (sym whole) ∙ s) f
 
-        pub both_past : found₂ ≡ false → (x : ℕ) → Finds (places (both a) N 0) k false x (k - (q * P - left₂) / P * m)
+        pub both_past : (left₂ : ℕ) → Finds (places a N 0) (q * P) (Err left₂) → Finds (places (both a) N 0) k (Err (k - (q * P - left₂) / P * m))
         unfolding Finds
-        both_past y x =
+        both_past left₂ s =
             let (e, u, v) = lengths in
-            let s : q * P ≡ left₂ + length (places a N 0) = subst (λ (b : Bool). Finds (places a N 0) (q * P) b at₂ left₂) y second in
             let z : q * P - left₂ ≡ e * P = omega arith in
             let d : (q * P - left₂) / P ≡ e = ap (λ (x : ℕ). x / P) z ∙ mul-div_left e pos in
             let w : (q * P - left₂) / P * m ≡ length (places (both a) N 0) = ap (λ (x : ℕ). x * m) d ∙ sym v in

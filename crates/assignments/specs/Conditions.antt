@@ -1,5 +1,5 @@
 -- The conditions of a summand by their places in the stream, and what is asked of them.
-use Rattle.std.specs.Prelude.{◌≡◌, List, ◌++◌, Bool, true, false, ℕ, zero, suc, ◌+◌, ◌-◌, ◌<◌, ◌≤◌, eqb, ltb, length, get_or, take, drop}
+use Rattle.std.specs.Prelude.{◌≡◌, List, ◌++◌, Bool, true, false, ℕ, zero, suc, ◌+◌, ◌-◌, ◌<◌, ◌≤◌, eqb, ltb, length, get_or, take, drop, Result, Ok, Err}
 use Rattle.std.proofs.Math.Option.{some}
 use Rattle.std.proofs.Math.ListN.{get_elem?}
 use Rattle.pcrl.specs.Tests.{and}
@@ -48,6 +48,6 @@ pub record Tested (t : ℕ → Bool) (blocks : List ℕ) (least n r : ℕ) : Typ
   pub one_fails : least < r → (i : ℕ) × (i < n) × (t i ≡ false) × (r ≡ get_or blocks i 0)
 
 -- the k-th of a list, or how much of k is left behind it
-unfoldable pub Finds : List ℕ → ℕ → Bool → ℕ → ℕ → Type 0
-Finds l k true at left = get_elem? l k ≡ some at
-Finds l k false at left = k ≡ left + length l
+unfoldable pub Finds : List ℕ → ℕ → Result ℕ ℕ → Type 0
+Finds l k (Ok at) = get_elem? l k ≡ some at
+Finds l k (Err left) = k ≡ left + length l

@@ -1,5 +1,5 @@
 -- A strip of blocks: lane i is the block for one pair of values of two variables.
-use Rattle.std.specs.Prelude.{◌≡◌, List, Bool, true, false, ℕ, ◌+◌, ◌-◌, ◌*◌, ◌≤◌, ◌<◌, ltb, length, get_or, drop}
+use Rattle.std.specs.Prelude.{◌≡◌, List, Bool, true, ℕ, ◌+◌, ◌-◌, ◌*◌, ◌≤◌, ◌<◌, ltb, length, get_or, drop, Result, Ok, Err}
 use Rattle.std.proofs.Math.Option.{some}
 use Rattle.std.proofs.Math.ListN.{get_elem?}
 use Rattle.pcrl.specs.Limits.{max_variables}
@@ -8,6 +8,7 @@ use Rattle.evaluation.specs.Rows.{lane_count, row_room, mark_room}
 use Rattle.assignments.specs.Places.{product, places}
 use Rattle.assignments.specs.Conditions.{all_below}
 use Rattle.assignments.specs.Parting.{asked}
+use Rattle.assignments.specs.declared.Reached.{Reached}
 
 -- what condition i says if its block is less than w
 abbrev pub inner : List ℕ → List ℕ → List ℕ → List ℕ → List ℕ → ℕ → List ℕ → ℕ → Bool
@@ -47,6 +48,6 @@ pub record Rowed (sizes : List ℕ) (l u g w : ℕ) : Type 0 where
   pub again_is : w ≡ product (drop (u + 1) sizes)
 
 -- a search for the k-th of the numbers from `from` on that pass: what it found, or how far it came and how much of k is left there
-unfoldable pub Came : (ℕ → Bool) → ℕ → ℕ → ℕ → Bool → ℕ → ℕ → Type 0
-Came acc total from k true at left = get_elem? (places acc (total - from) from) k ≡ some at
-Came acc total from k false at left = (get_elem? (places acc (total - from) from) k ≡ get_elem? (places acc (total - at) at) left) × (k + length (places acc (total - at) at) ≡ left + length (places acc (total - from) from))
+unfoldable pub Came : (ℕ → Bool) → ℕ → ℕ → ℕ → Result ℕ Reached → Type 0
+Came acc total from k (Ok at) = get_elem? (places acc (total - from) from) k ≡ some at
+Came acc total from k (Err r) = (get_elem? (places acc (total - from) from) k ≡ get_elem? (places acc (total - r.at) r.at) r.left) × (k + length (places acc (total - r.at) r.at) ≡ r.left + length (places acc (total - from) from))

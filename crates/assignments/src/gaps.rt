@@ -1,13 +1,13 @@
 // A gap: sum variables that no condition names, with some before and behind them that conditions name. They are not gone through.
-ghost use Rattle.std.specs.Prelude.{◌≡◌, List, true, false, ℕ, ◌+◌, ◌≤◌, ◌<◌, length, get_or, drop};
+ghost use Rattle.std.specs.Prelude.{◌≡◌, List, ℕ, ◌+◌, ◌≤◌, ◌<◌, length, get_or, drop, IfSome, IfOk, IfErr};
 ghost use Rattle.pcrl.specs.Limits.{frame_width, max_variables, max_conditions};
 ghost use Rattle.assignments.specs.Places.{product, digits_of, places, Sizes};
 ghost use Rattle.evaluation.specs.Run.{foot};
 ghost use Rattle.assignments.specs.Conditions.{env, code, Finds};
 ghost use Rattle.assignments.specs.Parting.{Standing, part_met, Part, Gapped};
 
-use crate::one_part::{find_from, find_in, found_at, none_found};
-use crate::{Found, Gap, PerSum, PerVariable, block_size, grain};
+use crate::one_part::{find_from, find_in};
+use crate::{Gap, PerSum, PerVariable, block_size, grain};
 use elements::smaller;
 use limits::{MAX_CONDITIONS, VARIABLES};
 
@@ -43,16 +43,6 @@ fn lowest(
     low
 }
 
-fn no_gap() -> Gap
-    ensures { (result.some ≡ false) × ((result.before ≡ 1) × (result.behind ≡ 1)) }
-{
-    Gap {
-        some: false,
-        before: 1,
-        behind: 1,
-    }
-}
-
 // The gap behind the first h sum variables, if there is one.
 fn gap_at(
     s: &[u8],
@@ -64,24 +54,23 @@ fn gap_at(
     g: usize,
     round: usize,
     h: usize,
-) -> Gap
+) -> Option<Gap>
     requires { (p ≤ frame_width) × ((n ≤ max_conditions) × (Sizes z.at × (h < max_variables))) }
-    ensures { ((0 < result.behind) × ((result.behind ≤ result.before) × (result.before ≤ 65536))) × ((blocks : List ℕ) → result.some ≡ true → ((i : ℕ) → i < n → Standing s.now froms.now ends.now i) → Gapped s.now p z.at froms.now ends.now blocks n round result.before result.behind) }
+    ensures { IfSome result (λ t. ((0 < t.behind) × ((t.behind ≤ t.before) × (t.before ≤ 65536))) × ((blocks : List ℕ) → ((i : ℕ) → i < n → Standing s.now froms.now ends.now i) → Gapped s.now p z.at froms.now ends.now blocks n round t.before t.behind)) }
 {
     let w = block_size(z, h);
     if w < round {
         if g < block_size(z, h + 1) {
             let b = grain(z, lowest(s, froms, ends, n, p + h), p);
             if b < w {
-                return Gap {
-                    some: true,
+                return Some(Gap {
                     before: w,
                     behind: b,
-                };
+                });
             }
         }
     }
-    no_gap()
+    None
 }
 
 // The gap, if there is one: of four variables it is the second, the third, or both.
@@ -94,15 +83,15 @@ pub fn gap_of(
     n: usize,
     g: usize,
     round: usize,
-) -> Gap
+) -> Option<Gap>
     requires { (p ≤ frame_width) × ((n ≤ max_conditions) × Sizes z.at) }
-    ensures { ((0 < result.behind) × ((result.behind ≤ result.before) × (result.before ≤ 65536))) × ((blocks : List ℕ) → result.some ≡ true → ((i : ℕ) → i < n → Standing s.now froms.now ends.now i) → Gapped s.now p z.at froms.now ends.now blocks n round result.before result.behind) }
+    ensures { IfSome result (λ t. ((0 < t.behind) × ((t.behind ≤ t.before) × (t.before ≤ 65536))) × ((blocks : List ℕ) → ((i : ℕ) → i < n → Standing s.now froms.now ends.now i) → Gapped s.now p z.at froms.now ends.now blocks n round t.before t.behind)) }
 {
     if round < FEWEST {
-        return no_gap();
+        return None;
     }
     let x = gap_at(s, p, z, froms, ends, n, g, round, 1);
-    if x.some {
+    if x.is_some() {
         return x;
     }
     gap_at(s, p, z, froms, ends, n, g, round, 2)
@@ -124,9 +113,9 @@ fn find_around(
     t: Gap,
     total: usize,
     k: u64,
-) -> Found
+) -> Result<usize, u64>
     requires { (p ≤ frame_width) × (((i : ℕ) → p ≤ i → get_or params.at i 0 ≡ 0) × ((n ≤ max_conditions) × (Sizes z.at × ((total ≤ 65536) × ((0 < g) × ((g ≤ 65536) × ((0 < t.behind) × ((t.behind ≤ t.before) × (t.before ≤ 65536))))))))) }
-    ensures { (result.at ≤ 196608) × ((result.left ≤ k) × ((l m : ℕ) → g ≡ product (drop l z.at) → total ≡ product (drop m z.at) → ((i : ℕ) → i < n → Part s.now p z.at froms.now ends.now blocks.now g i) → Gapped s.now p z.at froms.now ends.now blocks.now n total t.before t.behind → Finds (places (λ j. part_met s.now funcs.now froms.now ends.now blocks.now n (env p params.at (digits_of z.at j))) total 0) k result.found result.at result.left)) }
+    ensures { IfOk result (λ at. at ≤ 196608) × (IfErr result (λ left. left ≤ k) × ((l m : ℕ) → g ≡ product (drop l z.at) → total ≡ product (drop m z.at) → ((i : ℕ) → i < n → Part s.now p z.at froms.now ends.now blocks.now g i) → Gapped s.now p z.at froms.now ends.now blocks.now n total t.before t.behind → Finds (places (λ j. part_met s.now funcs.now froms.now ends.now blocks.now n (env p params.at (digits_of z.at j))) total 0) k result)) }
 {
     let w = t.before;
     let b = t.behind;
@@ -134,48 +123,25 @@ fn find_around(
     let mut j: usize = 0;
     let mut left = k;
     while j < total {
-        let r = find_from(
-            s,
-            funcs,
-            params,
-            p,
-            z,
-            froms,
-            ends,
-            blocks,
-            n,
-            g,
-            j,
-            j + b,
-            left,
-        );
-        if r.found {
-            return r;
-        }
-        let m = left - r.left;
+        let to = j + b;
+        let rest = match find_from(
+            s, funcs, params, p, z, froms, ends, blocks, n, g, j, to, left,
+        ) {
+            Ok(at) => return Ok(at),
+            Err(rest) => rest,
+        };
+        let m = left - rest;
         if left / rounds < m {
             let i = left % m;
-            let f = find_from(
-                s,
-                funcs,
-                params,
-                p,
-                z,
-                froms,
-                ends,
-                blocks,
-                n,
-                g,
-                j,
-                j + b,
-                i,
-            );
-            return found_at((left / m) as usize * b + f.at);
+            let at = find_from(
+                s, funcs, params, p, z, froms, ends, blocks, n, g, j, to, i,
+            )?;
+            return Ok((left / m) as usize * b + at);
         }
         left -= m * rounds;
         j += w;
     }
-    none_found(left)
+    Err(left)
 }
 
 // The k-th of the assignments in one round, around the gap if there is one.
@@ -190,17 +156,17 @@ pub fn find_once(
     blocks: &[u32; MAX_CONDITIONS],
     n: usize,
     g: usize,
-    t: Gap,
+    t: Option<Gap>,
     round: usize,
     k: u64,
-) -> Found
-    requires { (p ≤ frame_width) × (((i : ℕ) → p ≤ i → get_or params.at i 0 ≡ 0) × ((n ≤ max_conditions) × (Sizes z.at × ((round ≤ 65536) × ((0 < g) × ((g ≤ 65536) × ((0 < t.behind) × ((t.behind ≤ t.before) × (t.before ≤ 65536))))))))) }
-    ensures { (result.at ≤ 196608) × ((result.left ≤ k) × ((l m : ℕ) → g ≡ product (drop l z.at) → round ≡ product (drop m z.at) → ((i : ℕ) → i < n → Part s.now p z.at froms.now ends.now blocks.now g i) → (t.some ≡ true → Gapped s.now p z.at froms.now ends.now blocks.now n round t.before t.behind) → Finds (places (λ j. part_met s.now funcs.now froms.now ends.now blocks.now n (env p params.at (digits_of z.at j))) round 0) k result.found result.at result.left)) }
+) -> Result<usize, u64>
+    requires { (p ≤ frame_width) × (((i : ℕ) → p ≤ i → get_or params.at i 0 ≡ 0) × ((n ≤ max_conditions) × (Sizes z.at × ((round ≤ 65536) × ((0 < g) × ((g ≤ 65536) × IfSome t (λ t. (0 < t.behind) × ((t.behind ≤ t.before) × (t.before ≤ 65536))))))))) }
+    ensures { IfOk result (λ at. at ≤ 196608) × (IfErr result (λ left. left ≤ k) × ((l m : ℕ) → g ≡ product (drop l z.at) → round ≡ product (drop m z.at) → ((i : ℕ) → i < n → Part s.now p z.at froms.now ends.now blocks.now g i) → IfSome t (λ t. Gapped s.now p z.at froms.now ends.now blocks.now n round t.before t.behind) → Finds (places (λ j. part_met s.now funcs.now froms.now ends.now blocks.now n (env p params.at (digits_of z.at j))) round 0) k result)) }
 {
-    if t.some {
-        return find_around(
-            s, funcs, params, p, z, froms, ends, blocks, n, g, t, round, k,
-        );
+    match t {
+        Some(gap) => find_around(
+            s, funcs, params, p, z, froms, ends, blocks, n, g, gap, round, k,
+        ),
+        None => find_in(s, funcs, params, p, z, froms, ends, blocks, n, g, round, k),
     }
-    find_in(s, funcs, params, p, z, froms, ends, blocks, n, g, round, k)
 }

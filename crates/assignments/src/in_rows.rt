@@ -1,5 +1,5 @@
 // Where the search by rows of blocks pays: one block for each value of the last variable that the conditions name. Rows that differ in one more variable are searched together, in strips.
-ghost use Rattle.std.specs.Prelude.{◌≡◌, true, false, ℕ, ◌+◌, ◌≤◌, ◌<◌, get_or, drop};
+ghost use Rattle.std.specs.Prelude.{◌≡◌, true, ℕ, ◌+◌, ◌≤◌, ◌<◌, get_or, drop, IfOk, IfErr};
 ghost use Rattle.pcrl.specs.Limits.{frame_width, max_variables, max_conditions};
 ghost use Rattle.assignments.specs.Places.{product, digits_of, Sizes};
 ghost use Rattle.assignments.specs.Conditions.{env};
@@ -8,7 +8,7 @@ ghost use Rattle.assignments.specs.Lanes.{Came};
 
 use crate::one_part::next;
 use crate::strips::by_strips;
-use crate::{Found, PerSum, PerVariable, block_size};
+use crate::{PerSum, PerVariable, Reached, block_size};
 use evaluation::lanes::{LANES, MARK_ROOM, ROW_ROOM};
 use limits::{MAX_CONDITIONS, MAX_VARIABLES};
 
@@ -16,17 +16,6 @@ use limits::{MAX_CONDITIONS, MAX_VARIABLES};
 const MANY: usize = 16;
 
 const FEW: u8 = 4;
-
-// The search came so far, with so much of k left.
-pub fn gone_to(at: usize, left: u64) -> Found
-    ensures { (result.found ≡ false) × ((result.at ≡ at) × (result.left ≡ left)) }
-{
-    Found {
-        found: false,
-        at: at,
-        left: left,
-    }
-}
 
 // Does a variable of more than one value stand at a level, and are blocks of g those of the variables behind it?
 fn varies(z: PerSum, g: usize, l: usize) -> bool
@@ -103,18 +92,18 @@ pub fn find_rows(
     from: usize,
     to: usize,
     k: u64,
-) -> Found
+) -> Result<usize, Reached>
     requires { (p ≤ frame_width) × (((i : ℕ) → p ≤ i → get_or params.at i 0 ≡ 0) × ((n ≤ max_conditions) × (Sizes z.at × ((to ≤ 131072) × ((0 < g) × (g ≤ 65536)))))) }
-    ensures { (result.found ≡ true → result.at ≤ to) × ((result.found ≡ false → from ≤ result.at) × ((result.left ≤ k) × ((l : ℕ) → g ≡ product (drop l z.at) → ((i : ℕ) → i < n → Part s.now p z.at froms.now ends.now blocks.now g i) → Came (λ j. part_met s.now funcs.now froms.now ends.now blocks.now n (env p params.at (digits_of z.at j))) to from k result.found result.at result.left))) }
+    ensures { IfOk result (λ at. at ≤ to) × (IfErr result (λ r. from ≤ r.at) × (IfErr result (λ r. r.left ≤ k) × ((l : ℕ) → g ≡ product (drop l z.at) → ((i : ℕ) → i < n → Part s.now p z.at froms.now ends.now blocks.now g i) → Came (λ j. part_met s.now funcs.now froms.now ends.now blocks.now n (env p params.at (digits_of z.at j))) to from k result))) }
 {
     let l = row_level(z, g);
     if MAX_VARIABLES <= l {
-        return gone_to(from, k);
+        return Err(Reached { at: from, left: k });
     }
     let w = block_size(z, l);
     let u = row_level(z, w);
     if l <= u {
-        return gone_to(from, k);
+        return Err(Reached { at: from, left: k });
     }
     let mut rows = [0u8; ROW_ROOM];
     let mut marks = [0u8; MARK_ROOM];

@@ -13,7 +13,6 @@ pub mod rounds; // the search in all rounds
 pub mod two_parts; // the conditions parted in two, and the search with both parts
 
 use limits::{MAX_CONDITIONS, MAX_VARIABLES, VARIABLES};
-use one_part::{found_at, none_found};
 use rounds::find_rounds;
 use two_parts::{find_parted, split};
 
@@ -42,27 +41,25 @@ pub struct Conditions {
     pub end: usize,
 }
 
-// The conditions in two parts, if they come apart.
+// The conditions in two parts.
 #[derive(Clone, Copy)]
 pub struct Parts {
-    pub apart: bool,
     pub early: [u32; MAX_CONDITIONS],
     pub late: [u32; MAX_CONDITIONS],
     pub grain: usize,
     pub low: usize,
 }
 
-// Blocks of the sum variables behind the first ones, before a gap if there is one, and of those behind it.
+// Blocks of the sum variables behind the first ones, before a gap, and of those behind it.
 #[derive(Clone, Copy)]
 pub struct Gap {
-    pub some: bool,
     pub before: usize,
     pub behind: usize,
 }
 
+// How far a search by rows came, and how much of k is left there.
 #[derive(Clone, Copy)]
-pub struct Found {
-    pub found: bool,
+pub struct Reached {
     pub at: usize,
     pub left: u64,
 }
@@ -164,16 +161,16 @@ pub fn environment(params: PerVariable, p: usize, w: PerSum) -> PerVariable
     PerVariable { at: a }
 }
 
-// The k-th of all assignments.
-pub fn find_any(sizes: PerSum, k: u64) -> Found
+// The k-th of all assignments, or how much of k is left.
+pub fn find_any(sizes: PerSum, k: u64) -> Result<usize, u64>
     requires { Sizes sizes.at }
-    ensures { (acc : ℕ → Bool) → ((i : ℕ) → acc i ≡ true) → Finds (places acc (product sizes.at) 0) k result.found result.at result.left }
+    ensures { (acc : ℕ → Bool) → ((i : ℕ) → acc i ≡ true) → Finds (places acc (product sizes.at) 0) k result }
 {
     let total = block_size(sizes, 0) as u64;
     if k < total {
-        return found_at(k as usize);
+        return Ok(k as usize);
     }
-    none_found(k - total)
+    Err(k - total)
 }
 
 // The k-th assignment that meets the conditions, or how much of k is left.
@@ -185,9 +182,9 @@ pub fn find(
     sizes: PerSum,
     c: Conditions,
     k: u64,
-) -> Found
+) -> Result<usize, u64>
     requires { (p ≤ frame_width) × (((i : ℕ) → p ≤ i → get_or params.at i 0 ≡ 0) × ((c.count ≤ max_conditions) × Sizes sizes.at)) }
-    ensures { ((i : ℕ) → i < c.count → Ready s.now p sizes.at c.froms c.ends c.blocks c.reach c.low i) → Finds (places (λ j. met s.now funcs.now c.froms c.ends c.count (env p params.at (digits_of sizes.at j))) (product sizes.at) 0) k result.found result.at result.left }
+    ensures { ((i : ℕ) → i < c.count → Ready s.now p sizes.at c.froms c.ends c.blocks c.reach c.low i) → Finds (places (λ j. met s.now funcs.now c.froms c.ends c.count (env p params.at (digits_of sizes.at j))) (product sizes.at) 0) k result }
 {
     let froms = c.froms;
     let ends = c.ends;
@@ -199,8 +196,7 @@ pub fn find(
     let g = grain(sizes, c.reach, p);
     let round = grain(sizes, c.low, p);
     if 1 < n {
-        let t = split(s, p, sizes, &froms, &ends, &blocks, n, g, c.low);
-        if t.apart {
+        if let Some(t) = split(s, p, sizes, &froms, &ends, &blocks, n, g, c.low) {
             return find_parted(s, funcs, params, p, sizes, &froms, &ends, n, t, g, round, k);
         }
     }

@@ -1,5 +1,5 @@
 // The search with one part of the conditions: blocks of assignments are passed or counted as wholes, and rounds of them.
-ghost use Rattle.std.specs.Prelude.{◌≡◌, true, false, ℕ, ◌+◌, ◌-◌, ◌/◌, ◌≤◌, ◌<◌, length, get_or, drop};
+ghost use Rattle.std.specs.Prelude.{◌≡◌, ℕ, ◌+◌, ◌-◌, ◌/◌, ◌≤◌, ◌<◌, length, get_or, drop, IfOk, IfErr};
 ghost use Rattle.pcrl.specs.Limits.{frame_width, max_conditions};
 ghost use Rattle.laws.specs.TermLength.{max_term};
 ghost use Rattle.assignments.specs.Places.{product, digits_of, places, Sizes};
@@ -7,8 +7,7 @@ ghost use Rattle.assignments.specs.Conditions.{env, holds, tried_of, Tested, Fin
 ghost use Rattle.assignments.specs.Parting.{Standing, asked, part_met, Part};
 
 use crate::in_rows::{find_rows, first_row};
-use crate::{Found, PerSum, PerVariable, environment, values, wide_block};
-use elements::smaller;
+use crate::{PerSum, PerVariable, environment, values, wide_block};
 use limits::MAX_CONDITIONS;
 
 // The first number of the next block of d.
@@ -57,28 +56,6 @@ pub fn test(
     out
 }
 
-// The assignment that was looked for.
-pub fn found_at(at: usize) -> Found
-    ensures { (result.found ≡ true) × ((result.at ≡ at) × (result.left ≡ 0)) }
-{
-    Found {
-        found: true,
-        at: at,
-        left: 0,
-    }
-}
-
-// There are fewer: so much of k is left.
-pub fn none_found(left: u64) -> Found
-    ensures { (result.found ≡ false) × ((result.at ≡ 0) × (result.left ≡ left)) }
-{
-    Found {
-        found: false,
-        at: 0,
-        left: left,
-    }
-}
-
 // The k-th of the assignments from `from` on and before `to` that meet the conditions asked, or how much of k is left; what they say changes only between blocks of g.
 pub fn find_from(
     s: &[u8],
@@ -94,21 +71,21 @@ pub fn find_from(
     from: usize,
     to: usize,
     k: u64,
-) -> Found
+) -> Result<usize, u64>
     requires { (p ≤ frame_width) × (((i : ℕ) → p ≤ i → get_or params.at i 0 ≡ 0) × ((n ≤ max_conditions) × (Sizes z.at × ((to ≤ 131072) × ((0 < g) × (g ≤ 65536)))))) }
-    ensures { (result.at ≤ to) × ((result.left ≤ k) × ((l : ℕ) → g ≡ product (drop l z.at) → ((i : ℕ) → i < n → Part s.now p z.at froms.now ends.now blocks.now g i) → Finds (places (λ j. part_met s.now funcs.now froms.now ends.now blocks.now n (env p params.at (digits_of z.at j))) (to - from) from) k result.found result.at result.left)) }
+    ensures { IfOk result (λ at. at ≤ to) × (IfErr result (λ left. left ≤ k) × ((l : ℕ) → g ≡ product (drop l z.at) → ((i : ℕ) → i < n → Part s.now p z.at froms.now ends.now blocks.now g i) → Finds (places (λ j. part_met s.now funcs.now froms.now ends.now blocks.now n (env p params.at (digits_of z.at j))) (to - from) from) k result)) }
 {
     let mut j = from;
     let mut left = k;
     let mut start = first_row(z, g, from, to);
     while j < to {
         if start <= j {
-            let r = find_rows(
+            let r = match find_rows(
                 s, funcs, params, p, z, froms, ends, blocks, n, g, j, to, left,
-            );
-            if r.found {
-                return r;
-            }
+            ) {
+                Ok(at) => return Ok(at),
+                Err(r) => r,
+            };
             start = to;
             left = r.left;
             j = r.at;
@@ -118,10 +95,10 @@ pub fn find_from(
         let a = e.at;
         let d = test(s, funcs, &a, froms, ends, blocks, n, 0);
         if d == 0 {
-            let r = smaller(next(j, g), to);
+            let r = next(j, g).min(to);
             let m = (r - j) as u64;
             if left < m {
-                return found_at(j + (left as usize));
+                return Ok(j + (left as usize));
             }
             left -= m;
             j = r;
@@ -129,7 +106,7 @@ pub fn find_from(
             j = next(j, wide_block(d));
         }
     }
-    none_found(left)
+    Err(left)
 }
 
 // The same from the first assignment on.
@@ -146,9 +123,9 @@ pub fn find_in(
     g: usize,
     total: usize,
     k: u64,
-) -> Found
+) -> Result<usize, u64>
     requires { (p ≤ frame_width) × (((i : ℕ) → p ≤ i → get_or params.at i 0 ≡ 0) × ((n ≤ max_conditions) × (Sizes z.at × ((total ≤ 65536) × ((0 < g) × (g ≤ 65536)))))) }
-    ensures { (result.at ≤ 65536) × ((result.left ≤ k) × ((l : ℕ) → g ≡ product (drop l z.at) → ((i : ℕ) → i < n → Part s.now p z.at froms.now ends.now blocks.now g i) → Finds (places (λ j. part_met s.now funcs.now froms.now ends.now blocks.now n (env p params.at (digits_of z.at j))) total 0) k result.found result.at result.left)) }
+    ensures { IfOk result (λ at. at ≤ 65536) × (IfErr result (λ left. left ≤ k) × ((l : ℕ) → g ≡ product (drop l z.at) → ((i : ℕ) → i < n → Part s.now p z.at froms.now ends.now blocks.now g i) → Finds (places (λ j. part_met s.now funcs.now froms.now ends.now blocks.now n (env p params.at (digits_of z.at j))) total 0) k result)) }
 {
     find_from(
         s, funcs, params, p, z, froms, ends, blocks, n, g, 0, total, k,

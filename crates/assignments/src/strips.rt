@@ -1,5 +1,5 @@
 // The search in a strip of rows: blocks for pairs of values of two variables, evaluated at once as lanes. Lane i is the block of g assignments from j + i * g on.
-ghost use Rattle.std.specs.Prelude.{◌≡◌, List, Bool, true, false, ℕ, ◌+◌, ◌*◌, ◌≤◌, ◌<◌, ltb, length, get_or};
+ghost use Rattle.std.specs.Prelude.{◌≡◌, List, Bool, true, ℕ, ◌+◌, ◌*◌, ◌≤◌, ◌<◌, ltb, length, get_or, IfOk, IfErr};
 ghost use Rattle.pcrl.specs.Limits.{frame_width, max_conditions};
 ghost use Rattle.evaluation.specs.Run.{pick};
 ghost use Rattle.evaluation.specs.Rows.{lane_count, lane_env, Marked, Zeros};
@@ -8,9 +8,9 @@ ghost use Rattle.assignments.specs.Conditions.{env, holds, all_below, Finds};
 ghost use Rattle.assignments.specs.Parting.{Standing, part_met, Part};
 ghost use Rattle.assignments.specs.Lanes.{inner, Sifted, RowMet, Strip, Lent, Rowed, Came};
 
-use crate::in_rows::{gone_to, narrow};
-use crate::one_part::{found_at, next, test};
-use crate::{Found, PerSum, PerVariable, block_size, environment, values, wide_block};
+use crate::in_rows::narrow;
+use crate::one_part::{next, test};
+use crate::{PerSum, PerVariable, Reached, block_size, environment, values, wide_block};
 use elements::{smaller, wide};
 use evaluation::lanes::LANES;
 use evaluation::rows::UNKNOWN;
@@ -104,28 +104,21 @@ fn row_test(
 }
 
 // The k-th of the assignments in a row of blocks of g from j on: those of the lanes that are kept.
-fn in_row(lanes: &[u8], size: usize, g: usize, j: usize, k: u64) -> Found
+fn in_row(lanes: &[u8], size: usize, g: usize, j: usize, k: u64) -> Result<usize, u64>
     requires { (size ≤ lane_count) × ((lane_count ≤ length lanes.now) × ((g ≤ 65536) × (j < 131072))) }
-    ensures { (result.at ≤ j + size * g) × ((result.left ≤ k) × ((result.found ≡ false → result.at ≡ j + size * g) × ((acc : ℕ → Bool) → ((i x : ℕ) → i < size → j + i * g ≤ x → x < j + i * g + g → acc x ≡ ltb 0 (get_or lanes.now i 0)) → Finds (places acc (size * g) j) k result.found result.at result.left))) }
+    ensures { IfOk result (λ at. at ≤ j + size * g) × (IfErr result (λ left. left ≤ k) × ((acc : ℕ → Bool) → ((i x : ℕ) → i < size → j + i * g ≤ x → x < j + i * g + g → acc x ≡ ltb 0 (get_or lanes.now i 0)) → Finds (places acc (size * g) j) k result)) }
 {
     let m = g as u64;
     let mut left = k;
-    let mut at = j;
-    let mut i: usize = 0;
-    while i < size {
-        if lanes[i] == 0 {
-            at += g;
-            i += 1;
-        } else {
+    for i in 0..size {
+        if lanes[i] != 0 {
             if left < m {
-                return found_at(at + (left as usize));
+                return Ok(j + i * g + (left as usize));
             }
             left -= m;
-            at += g;
-            i += 1;
         }
     }
-    gone_to(at, left)
+    Err(left)
 }
 
 // What n lanes have for the two variables, the first one `first` for the slow one; all are kept.
@@ -185,21 +178,27 @@ fn in_lanes(
     slow: &mut [u8],
     fast: &mut [u8],
     met: &mut [u8],
-) -> Found
+) -> Result<usize, Reached>
     requires { ((j < to) × ((to ≤ 131072) × (g ≤ 65536))) × (((0 < size) × ((first ≤ 16) × (lanes ≤ lane_count))) × ((n ≤ max_conditions) × Lent rows.old marks.old slow.old fast.old met.old)) }
-    ensures { (result.found ≡ true → result.at ≤ to) × ((result.found ≡ false → j ≤ result.at) × ((result.left ≤ k) × (((i : ℕ) → i < n → Standing s.now froms.now ends.now i) → u < length e.now → v < length e.now → Marked rows.old marks.old → Zeros rows.old → Marked rows.new marks.new × (Zeros rows.new × ((acc : ℕ → Bool) → ((sl fa me : List ℕ) → Strip size first lanes sl fa me → (i x : ℕ) → i < lanes → j + i * g ≤ x → x < j + i * g + g → acc x ≡ all_below n (inner s.now funcs.now froms.now ends.now blocks.now b (lane_env e.now u v sl fa i))) → Came acc to j k result.found result.at result.left))))) }
+    ensures { IfOk result (λ at. at ≤ to) × (IfErr result (λ r. j ≤ r.at) × (IfErr result (λ r. r.left ≤ k) × (((i : ℕ) → i < n → Standing s.now froms.now ends.now i) → u < length e.now → v < length e.now → Marked rows.old marks.old → Zeros rows.old → Marked rows.new marks.new × (Zeros rows.new × ((acc : ℕ → Bool) → ((sl fa me : List ℕ) → Strip size first lanes sl fa me → (i x : ℕ) → i < lanes → j + i * g ≤ x → x < j + i * g + g → acc x ≡ all_below n (inner s.now funcs.now froms.now ends.now blocks.now b (lane_env e.now u v sl fa i))) → Came acc to j k result))))) }
 {
     if to - j < lanes * g {
-        return gone_to(j, k);
+        return Err(Reached { at: j, left: k });
     }
     strip(slow, fast, met, size, first, lanes);
     let some = row_test(
         s, funcs, e, u, v, slow, fast, lanes, froms, ends, blocks, n, b, rows, marks, met,
     );
     if some == UNKNOWN {
-        return gone_to(j, k);
+        return Err(Reached { at: j, left: k });
     }
-    in_row(met, lanes, g, j, k)
+    match in_row(met, lanes, g, j, k) {
+        Ok(at) => Ok(at),
+        Err(left) => Err(Reached {
+            at: j + lanes * g,
+            left: left,
+        }),
+    }
 }
 
 // The same for a strip that begins with assignment j, or past a block that the conditions shut out.
@@ -225,26 +224,27 @@ fn in_strip(
     slow: &mut [u8],
     fast: &mut [u8],
     met: &mut [u8],
-) -> Found
+) -> Result<usize, Reached>
     requires { ((p ≤ frame_width) × (((i : ℕ) → p ≤ i → get_or params.at i 0 ≡ 0) × ((n ≤ max_conditions) × (Sizes z.at × ((to ≤ 131072) × ((0 < g) × (g ≤ 65536))))))) × ((j < to) × (Rowed z.at l u g w × Lent rows.old marks.old slow.old fast.old met.old)) }
-    ensures { (result.found ≡ true → result.at ≤ to) × ((result.found ≡ false → j ≤ result.at) × ((result.left ≤ k) × (((i : ℕ) → i < n → Part s.now p z.at froms.now ends.now blocks.now g i) → Marked rows.old marks.old → Zeros rows.old → Marked rows.new marks.new × (Zeros rows.new × Came (λ j. part_met s.now funcs.now froms.now ends.now blocks.now n (env p params.at (digits_of z.at j))) to j k result.found result.at result.left)))) }
+    ensures { IfOk result (λ at. at ≤ to) × (IfErr result (λ r. j ≤ r.at) × (IfErr result (λ r. r.left ≤ k) × (((i : ℕ) → i < n → Part s.now p z.at froms.now ends.now blocks.now g i) → Marked rows.old marks.old → Zeros rows.old → Marked rows.new marks.new × (Zeros rows.new × Came (λ j. part_met s.now funcs.now froms.now ends.now blocks.now n (env p params.at (digits_of z.at j))) to j k result)))) }
 {
     if j % w != 0 {
-        return gone_to(j, k);
+        return Err(Reached { at: j, left: k });
     }
     let b = narrow(block_size(z, u));
     let e = environment(params, p, values(z, j));
     let a = e.at;
     let d = test(s, funcs, &a, froms, ends, blocks, n, b - 1);
     if b <= d {
-        return gone_to(next(j, wide_block(d)), k);
+        let at = next(j, wide_block(d));
+        return Err(Reached { at: at, left: k });
     }
     let sizes = z.at;
     let size = sizes[l];
     let first = a[p + u];
     let m = rows_in(size, sizes[u], first);
     if m == 0 {
-        return gone_to(j, k);
+        return Err(Reached { at: j, left: k });
     }
     in_lanes(
         s,
@@ -295,25 +295,25 @@ pub fn by_strips(
     slow: &mut [u8],
     fast: &mut [u8],
     met: &mut [u8],
-) -> Found
+) -> Result<usize, Reached>
     requires { ((p ≤ frame_width) × (((i : ℕ) → p ≤ i → get_or params.at i 0 ≡ 0) × ((n ≤ max_conditions) × (Sizes z.at × ((to ≤ 131072) × ((0 < g) × (g ≤ 65536))))))) × (Rowed z.at l u g w × Lent rows.old marks.old slow.old fast.old met.old) }
-    ensures { (result.found ≡ true → result.at ≤ to) × ((result.found ≡ false → from ≤ result.at) × ((result.left ≤ k) × (((i : ℕ) → i < n → Part s.now p z.at froms.now ends.now blocks.now g i) → Marked rows.old marks.old → Zeros rows.old → Came (λ j. part_met s.now funcs.now froms.now ends.now blocks.now n (env p params.at (digits_of z.at j))) to from k result.found result.at result.left))) }
+    ensures { IfOk result (λ at. at ≤ to) × (IfErr result (λ r. from ≤ r.at) × (IfErr result (λ r. r.left ≤ k) × (((i : ℕ) → i < n → Part s.now p z.at froms.now ends.now blocks.now g i) → Marked rows.old marks.old → Zeros rows.old → Came (λ j. part_met s.now funcs.now froms.now ends.now blocks.now n (env p params.at (digits_of z.at j))) to from k result))) }
 {
     let mut j = from;
     let mut left = k;
     while j < to {
-        let r = in_strip(
+        let r = match in_strip(
             s, funcs, params, p, z, froms, ends, blocks, n, g, l, u, w, j, to, left, rows, marks,
             slow, fast, met,
-        );
-        if r.found {
-            return r;
+        ) {
+            Ok(at) => return Ok(at),
+            Err(r) => r,
+        };
+        if r.at <= j {
+            return Err(r);
         }
         left = r.left;
-        if r.at <= j {
-            return gone_to(r.at, left);
-        }
         j = r.at;
     }
-    gone_to(j, left)
+    Err(Reached { at: j, left: left })
 }

@@ -1,19 +1,18 @@
 // The conditions in two parts, which are searched apart.
-ghost use Rattle.std.specs.Prelude.{◌≡◌, List, true, ℕ, ◌+◌, ◌-◌, ◌≤◌, ◌<◌, min, length, get_or, drop};
+ghost use Rattle.std.specs.Prelude.{◌≡◌, List, ℕ, ◌+◌, ◌-◌, ◌≤◌, ◌<◌, length, get_or, drop, IfSome};
 ghost use Rattle.pcrl.specs.Limits.{frame_width, max_variables, max_conditions};
 ghost use Rattle.assignments.specs.Places.{product, digits_of, places, Sizes};
 ghost use Rattle.assignments.specs.Conditions.{env, met, Ready, Finds};
 ghost use Rattle.assignments.specs.Parting.{Apart};
 
 use crate::gaps::term_low;
-use crate::one_part::{find_in, found_at, none_found};
+use crate::one_part::find_in;
 use crate::rounds::find_rounds;
-use crate::{Found, Parts, PerSum, PerVariable, block_size, grain, wide_block};
-use elements::smaller;
+use crate::{Parts, PerSum, PerVariable, block_size, grain, wide_block};
 use limits::{MAX_CONDITIONS, VARIABLES};
 
 // The conditions in two parts: blocks of the early ones, which are of b assignments at least, and of the late ones; 0 for a condition that is not of the part.
-// `grain`: the early ones change only between blocks of it; `low`: the late ones name no sum variable before it. They are apart if that is level l.
+// `grain`: the early ones change only between blocks of it; `low`: the late ones name no sum variable before it. No parts, if that is below level l.
 fn parted(
     s: &[u8],
     p: usize,
@@ -24,35 +23,35 @@ fn parted(
     b: usize,
     total: usize,
     l: usize,
-) -> Parts
+) -> Option<Parts>
     requires { (p ≤ frame_width) × ((n ≤ max_conditions) × ((0 < b) × ((0 < total) × ((total ≤ 65536) × (l ≤ max_variables))))) }
-    ensures { ((0 < result.grain) × (result.grain ≤ 65536)) × ((sizes : List ℕ) (reach low : ℕ) → result.apart ≡ true → Sizes sizes → length sizes ≡ max_variables → total ≡ product sizes → b ≡ product (drop l sizes) → ((i : ℕ) → i < n → Ready s.now p sizes froms.now ends.now blocks.now reach low i) → Apart s.now p sizes froms.now ends.now blocks.now n result) }
+    ensures { IfSome result (λ t. ((0 < t.grain) × (t.grain ≤ 65536)) × ((sizes : List ℕ) (reach low : ℕ) → Sizes sizes → length sizes ≡ max_variables → total ≡ product sizes → b ≡ product (drop l sizes) → ((i : ℕ) → i < n → Ready s.now p sizes froms.now ends.now blocks.now reach low i) → Apart s.now p sizes froms.now ends.now blocks.now n t)) }
 {
     let mut early = [0u32; MAX_CONDITIONS];
     let mut late = [0u32; MAX_CONDITIONS];
     let mut grain = total;
     let mut low: usize = VARIABLES;
-    let mut i: usize = 0;
-    while i < n {
+    for i in 0..n {
         let d = blocks[i];
         let w = wide_block(d);
         if w < b {
             late[i] = d;
-            low = smaller(low, term_low(s, froms[i], ends[i], p));
-            i += 1;
+            low = low.min(term_low(s, froms[i], ends[i], p));
         } else {
             early[i] = d;
-            grain = smaller(grain, w);
-            i += 1;
+            grain = grain.min(w);
         }
     }
-    Parts {
-        apart: p + l <= low,
-        early: early,
-        late: late,
-        grain: grain,
-        low: low,
+    let apart = p + l <= low;
+    if apart {
+        return Some(Parts {
+            early: early,
+            late: late,
+            grain: grain,
+            low: low,
+        });
     }
+    None
 }
 
 // The conditions parted at level l, unless all are early or all are late.
@@ -67,9 +66,9 @@ fn apart_at(
     g: usize,
     low: usize,
     l: usize,
-) -> Parts
+) -> Option<Parts>
     requires { (p ≤ frame_width) × ((n ≤ max_conditions) × (Sizes sizes.at × (l ≤ max_variables))) }
-    ensures { ((0 < result.grain) × (result.grain ≤ 65536)) × ((reach low : ℕ) → result.apart ≡ true → ((i : ℕ) → i < n → Ready s.now p sizes.at froms.now ends.now blocks.now reach low i) → Apart s.now p sizes.at froms.now ends.now blocks.now n result) }
+    ensures { IfSome result (λ t. ((0 < t.grain) × (t.grain ≤ 65536)) × ((reach low : ℕ) → ((i : ℕ) → i < n → Ready s.now p sizes.at froms.now ends.now blocks.now reach low i) → Apart s.now p sizes.at froms.now ends.now blocks.now n t)) }
 {
     let b = block_size(sizes, l);
     if low < p + l {
@@ -77,13 +76,7 @@ fn apart_at(
             return parted(s, p, froms, ends, blocks, n, b, block_size(sizes, 0), l);
         }
     }
-    Parts {
-        apart: false,
-        early: [0u32; MAX_CONDITIONS],
-        late: [0u32; MAX_CONDITIONS],
-        grain: 1,
-        low: 0,
-    }
+    None
 }
 
 // The conditions parted where they come apart, in the middle if they do there.
@@ -97,26 +90,19 @@ pub fn split(
     n: usize,
     g: usize,
     low: usize,
-) -> Parts
+) -> Option<Parts>
     requires { (p ≤ frame_width) × ((n ≤ max_conditions) × Sizes sizes.at) }
-    ensures { ((0 < result.grain) × (result.grain ≤ 65536)) × ((reach low : ℕ) → result.apart ≡ true → ((i : ℕ) → i < n → Ready s.now p sizes.at froms.now ends.now blocks.now reach low i) → Apart s.now p sizes.at froms.now ends.now blocks.now n result) }
+    ensures { IfSome result (λ t. ((0 < t.grain) × (t.grain ≤ 65536)) × ((reach low : ℕ) → ((i : ℕ) → i < n → Ready s.now p sizes.at froms.now ends.now blocks.now reach low i) → Apart s.now p sizes.at froms.now ends.now blocks.now n t)) }
 {
     let x = apart_at(s, p, sizes, froms, ends, blocks, n, g, low, 2);
-    if x.apart {
+    if x.is_some() {
         return x;
     }
     let y = apart_at(s, p, sizes, froms, ends, blocks, n, g, low, 3);
-    if y.apart {
+    if y.is_some() {
         return y;
     }
     apart_at(s, p, sizes, froms, ends, blocks, n, g, low, 1)
-}
-
-fn bounded(a: u64, b: usize) -> u64
-    ensures { result ≡ min a b }
-{
-    let w = b as u64;
-    if a < w { a } else { w }
 }
 
 // The k-th assignment that meets the conditions of both parts: each block that the early ones accept has in it what the late ones accept of one.
@@ -133,26 +119,31 @@ pub fn find_parted(
     g: usize,
     round: usize,
     k: u64,
-) -> Found
+) -> Result<usize, u64>
     requires { (p ≤ frame_width) × (((i : ℕ) → p ≤ i → get_or params.at i 0 ≡ 0) × ((n ≤ max_conditions) × (Sizes z.at × ((round ≤ 65536) × ((0 < round) × ((0 < g) × ((g ≤ 65536) × ((0 < t.grain) × (t.grain ≤ 65536))))))))) }
-    ensures { (blocks : List ℕ) (reach low : ℕ) → g ≡ product (drop (reach - p) z.at) → round ≡ product (drop (low - p) z.at) → ((i : ℕ) → i < n → Ready s.now p z.at froms.now ends.now blocks reach low i) → Apart s.now p z.at froms.now ends.now blocks n t → Finds (places (λ j. met s.now funcs.now froms.now ends.now n (env p params.at (digits_of z.at j))) (product z.at) 0) k result.found result.at result.left }
+    ensures { (blocks : List ℕ) (reach low : ℕ) → g ≡ product (drop (reach - p) z.at) → round ≡ product (drop (low - p) z.at) → ((i : ℕ) → i < n → Ready s.now p z.at froms.now ends.now blocks reach low i) → Apart s.now p z.at froms.now ends.now blocks n t → Finds (places (λ j. met s.now funcs.now froms.now ends.now n (env p params.at (digits_of z.at j))) (product z.at) 0) k result }
 {
     let early = t.early;
     let late = t.late;
     let d = t.grain;
     let b = grain(z, t.low, p);
     let w = b as u64;
-    let total = block_size(z, 0);
-    let r = find_in(s, funcs, params, p, z, froms, ends, &late, n, g, b, w);
-    let m = w - r.left;
+    let total = block_size(z, 0) as u64;
+    // More is asked for than there is, so what is left says how many are met.
+    let left = match find_in(s, funcs, params, p, z, froms, ends, &late, n, g, b, w) {
+        Ok(_) => return Err(k),
+        Err(left) => left,
+    };
+    let m = w - left;
     if m == 0 {
-        return none_found(k);
+        return Err(k);
     }
-    let q = bounded(k / m, total) * w;
-    let e = find_rounds(s, funcs, params, p, z, froms, ends, &early, n, d, round, q);
-    if e.found {
-        let f = find_in(s, funcs, params, p, z, froms, ends, &late, n, g, b, k % m);
-        return found_at(e.at + f.at);
+    let q = (k / m).min(total) * w;
+    match find_rounds(s, funcs, params, p, z, froms, ends, &early, n, d, round, q) {
+        Ok(first) => {
+            let at = find_in(s, funcs, params, p, z, froms, ends, &late, n, g, b, k % m)?;
+            Ok(first + at)
+        }
+        Err(rest) => Err(k - (q - rest) / w * m),
     }
-    none_found(k - (q - e.left) / w * m)
 }

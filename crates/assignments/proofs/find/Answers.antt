@@ -20,16 +20,16 @@ grain-g-requires c = c.requires.1.1.1
 pub grain-round-requires : goal.grain-round-requires
 grain-round-requires c = c.requires.1.1.1
 
-pub split-t-requires : goal.split-t-requires
-split-t-requires c = let q = c.requires in (q.0, (q.1.1.0, q.1.1.1))
+pub split-requires : goal.split-requires
+split-requires c = let q = c.requires in (q.0, (q.1.1.0, q.1.1.1))
 
 pub find_parted-requires : goal.find_parted-requires
 find_parted-requires c = let q = c.requires in let a = c.args in let len = per_sum_length a.sizes _ c.well_formed.1.1.1.1.0 in
     let positive : (i : ℕ) → i < length a.sizes.at → 0 < get_or a.sizes.at i 0 = λ i h. (c.requires.1.1.1 i (omega arith)).0 in
-    (q.0, (q.1.0, (q.1.1.0, (q.1.1.1, (c.grain-round.ensures.1, (omega (arith, c.grain-round.ensures.0, product_pos (a.c.low - a.p) a.sizes.at positive), (omega (arith, c.grain-g.ensures.0, product_pos (a.c.reach - a.p) a.sizes.at positive), (c.grain-g.ensures.1, (c.split-t.ensures.0.0, c.split-t.ensures.0.1)))))))))
+    (q.0, (q.1.0, (q.1.1.0, (q.1.1.1, (c.grain-round.ensures.1, (omega (arith, c.grain-round.ensures.0, product_pos (a.c.low - a.p) a.sizes.at positive), (omega (arith, c.grain-g.ensures.0, product_pos (a.c.reach - a.p) a.sizes.at positive), (c.grain-g.ensures.1, c.in-Some.ensures.0))))))))
 
-pub returns-then-t : goal.returns-then-t
-returns-then-t c = λ ready. let a = c.args in c.find_parted.ensures a.c.blocks a.c.reach a.c.low c.grain-g.ensures.0 c.grain-round.ensures.0 ready (c.split-t.ensures.1 a.c.reach a.c.low c.if-t.true ready)
+pub returns-in-Some : goal.returns-in-Some
+returns-in-Some c = λ ready. let a = c.args in c.find_parted.ensures a.c.blocks a.c.reach a.c.low c.grain-g.ensures.0 c.grain-round.ensures.0 ready (c.in-Some.ensures.1 a.c.reach a.c.low ready)
 
 pub find_rounds-requires : goal.find_rounds-requires
 find_rounds-requires c = let q = c.requires in let a = c.args in let len = per_sum_length a.sizes _ c.well_formed.1.1.1.1.0 in
@@ -39,4 +39,4 @@ find_rounds-requires c = let q = c.requires in let a = c.args in let len = per_s
 pub returns : goal.returns
 returns c = λ ready. let a = c.args in let len = per_sum_length a.sizes _ c.well_formed.1.1.1.1.0 in
     let positive : (i : ℕ) → i < length a.sizes.at → 0 < get_or a.sizes.at i 0 = λ i h. (c.requires.1.1.1 i (omega arith)).0 in
-    search_all a.s.now a.funcs.now a.c.froms a.c.ends a.c.blocks a.c.count a.p a.c.reach a.c.low a.sizes.at a.params.at positive ready a.k c.find_rounds.result.found c.find_rounds.result.at c.find_rounds.result.left (c.find_rounds.ensures.1.1 (a.c.reach - a.p) a.c.low c.grain-g.ensures.0 c.grain-round.ensures.0 (all_part a.s.now a.p a.sizes.at a.c.froms a.c.ends a.c.blocks a.c.count a.c.reach a.c.low positive ready c.grain-g.result c.grain-g.ensures.0) (all_above a.s.now a.p a.sizes.at a.c.froms a.c.ends a.c.blocks a.c.count a.c.reach a.c.low positive ready))
+    search_all a.s.now a.funcs.now a.c.froms a.c.ends a.c.blocks a.c.count a.p a.c.reach a.c.low a.sizes.at a.params.at positive ready a.k c.find_rounds.result (c.find_rounds.ensures.1.1 (a.c.reach - a.p) a.c.low c.grain-g.ensures.0 c.grain-round.ensures.0 (all_part a.s.now a.p a.sizes.at a.c.froms a.c.ends a.c.blocks a.c.count a.c.reach a.c.low positive ready c.grain-g.result c.grain-g.ensures.0) (all_above a.s.now a.p a.sizes.at a.c.froms a.c.ends a.c.blocks a.c.count a.c.reach a.c.low positive ready))

@@ -11,7 +11,7 @@ pub returns-then-b-w : goal.returns-then-b-w
 returns-then-b-w c = let a = c.args in let len = per_sum_length a.z _ c.well_formed.1.1.0 in
     let positive : (i : ℕ) → i < length a.z.at → 0 < get_or a.z.at i 0 = λ i h. (c.requires.1.1.0 i (omega arith)).0 in (
       (omega (arith, c.grain-b.ensures.0, product_pos (c.lowest.result - a.p) a.z.at positive), (omega arith, c.block_size-w.ensures.1)),
-      λ blocks some st.
+      λ blocks st.
           record {
             level = a.h;
             low = c.lowest.result;
@@ -22,6 +22,3 @@ returns-then-b-w c = let a = c.args in let len = per_sum_length a.z _ c.well_for
             unnamed = λ i k o. c.lowest.ensures st i k;
           },
     )
-
-pub returns : goal.returns
-returns c = let e = c.no_gap.ensures in ((omega arith, (omega arith, omega arith)), λ blocks some st. absurd (let z : ◌≡◌ {A = ℕ} 0 1 = cc in omega arith))

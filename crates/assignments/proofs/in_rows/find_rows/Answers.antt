@@ -8,14 +8,14 @@ use Rattle.assignments.specs.Places.{digits_of}
 use Rattle.assignments.specs.Conditions.{env}
 use Rattle.assignments.specs.Parting.{part_met}
 use Rattle.assignments.proofs.Passing.{going_start}
-use Rattle.assignments.proofs.InRows.{came_at, zero_room}
+use Rattle.assignments.proofs.InRows.{came_to, zero_room}
 use Rattle.assignments.proofs.in_rows.find_rows.Goals as goal
 
 pub returns-then-l-ge-MAX_VARIABLES : goal.returns-then-l-ge-MAX_VARIABLES
-returns-then-l-ge-MAX_VARIABLES c = let a = c.args in let acc : ℕ → Bool = λ i. part_met a.s.now a.funcs.now a.froms.now a.ends.now a.blocks.now a.n (env a.p a.params.at (digits_of a.z.at i)) in let f = c.gone_to.ensures in (λ z. absurd (let y : ◌≡◌ {A = ℕ} 0 1 = cc f.0 in omega arith), (λ z. omega (arith, f.1.0), (omega (arith, f.1.1), λ lv q part. came_at acc a.to a.from a.k c.gone_to.result a.from a.k f (going_start acc a.to a.from a.k))))
+returns-then-l-ge-MAX_VARIABLES c = let a = c.args in let acc : ℕ → Bool = λ i. part_met a.s.now a.funcs.now a.froms.now a.ends.now a.blocks.now a.n (env a.p a.params.at (digits_of a.z.at i)) in (tt, (omega arith, (omega arith, λ lv q part. came_to acc a.to a.from a.k (record { at = a.from; left = a.k }) (going_start acc a.to a.from a.k))))
 
 pub returns-then-l-u : goal.returns-then-l-u
-returns-then-l-u c = let a = c.args in let acc : ℕ → Bool = λ i. part_met a.s.now a.funcs.now a.froms.now a.ends.now a.blocks.now a.n (env a.p a.params.at (digits_of a.z.at i)) in let f = c.gone_to-then-l-u.ensures in (λ z. absurd (let y : ◌≡◌ {A = ℕ} 0 1 = cc f.0 in omega arith), (λ z. omega (arith, f.1.0), (omega (arith, f.1.1), λ lv q part. came_at acc a.to a.from a.k c.gone_to-then-l-u.result a.from a.k f (going_start acc a.to a.from a.k))))
+returns-then-l-u c = let a = c.args in let acc : ℕ → Bool = λ i. part_met a.s.now a.funcs.now a.froms.now a.ends.now a.blocks.now a.n (env a.p a.params.at (digits_of a.z.at i)) in (tt, (omega arith, (omega arith, λ lv q part. came_to acc a.to a.from a.k (record { at = a.from; left = a.k }) (going_start acc a.to a.from a.k))))
 
 pub by_strips-requires : goal.by_strips-requires
 by_strips-requires c = let a = c.args in let inside : c.row_level-l.result < 4 = omega (arith, c.if-l-ge-MAX_VARIABLES.false) in let before : c.row_level-u.result < c.row_level-l.result = omega (arith, c.if-l-u.false) in (

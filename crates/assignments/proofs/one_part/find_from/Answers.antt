@@ -10,7 +10,7 @@ use Rattle.assignments.specs.Places.{digits_of, places}
 use Rattle.assignments.specs.Conditions.{env, Finds}
 use Rattle.assignments.specs.Parting.{part_met}
 use Rattle.assignments.proofs.Counter.{per_sum_length, per_variable_length}
-use Rattle.assignments.proofs.Passing.{going_start, going_skip, going_on, going_found, going_end, finds_at, finds_none}
+use Rattle.assignments.proofs.Passing.{going_start, going_skip, going_on, going_found, none_left}
 use Rattle.assignments.proofs.Blocks.{blocked, accepted}
 use Rattle.assignments.proofs.InRows.{rows_found, rows_past}
 use Rattle.assignments.proofs.one_part.find_from.Goals as goal
@@ -21,19 +21,19 @@ first_row-start-requires c = let q = c.requires in (q.1.1.1.0, q.1.1.1.1)
 pub loop-j-init : goal.loop-j-init
 loop-j-init c = (omega arith, λ l e r. going_start _ _ _ _)
 
-pub find_rows-r-requires : goal.find_rows-r-requires
-find_rows-r-requires c = c.requires
+pub find_rows-requires : goal.find_rows-requires
+find_rows-requires c = c.requires
 
-pub returns-then-r : goal.returns-then-r
-returns-then-r c = let a = c.args in let l = c.loop-j in let acc : ℕ → Bool = λ i. part_met a.s.now a.funcs.now a.froms.now a.ends.now a.blocks.now a.n (env a.p a.params.at (digits_of a.z.at i)) in
-    let r = c.find_rows-r in (r.ensures.0 c.if-r.true, (omega (arith, r.ensures.1.1.0, l.invariant.0), λ lv e part. rows_found acc a.to a.from a.k l.j l.left (l.invariant.1 lv e part) r.result (r.ensures.1.1.1 lv e part) c.if-r.true))
+pub returns-in-Ok : goal.returns-in-Ok
+returns-in-Ok c = let a = c.args in let l = c.loop-j in let acc : ℕ → Bool = λ i. part_met a.s.now a.funcs.now a.froms.now a.ends.now a.blocks.now a.n (env a.p a.params.at (digits_of a.z.at i)) in
+    let r = c.in-Ok in (r.ensures.0, (tt, λ lv e part. rows_found acc a.to a.from a.k l.j l.left (l.invariant.1 lv e part) r.at (r.ensures.1.1.1 lv e part)))
 
 pub loop-j-smaller-then-start-j : goal.loop-j-smaller-then-start-j
-loop-j-smaller-then-start-j c = let u = c.find_rows-r.ensures.1.0 c.if-r.false in let v = c.loop-j-test.true in let w = c.if-start-j.true in omega arith
+loop-j-smaller-then-start-j c = let u = c.in-Err.ensures.1.0 in let v = c.loop-j-test.true in let w = c.if-start-j.true in omega arith
 
 pub loop-j-preserved-then-start-j : goal.loop-j-preserved-then-start-j
 loop-j-preserved-then-start-j c = let a = c.args in let l = c.loop-j in let acc : ℕ → Bool = λ i. part_met a.s.now a.funcs.now a.froms.now a.ends.now a.blocks.now a.n (env a.p a.params.at (digits_of a.z.at i)) in
-    let r = c.find_rows-r in (omega (arith, r.ensures.1.1.0, l.invariant.0), λ lv e part. rows_past acc a.to a.from a.k l.j l.left (l.invariant.1 lv e part) r.result (r.ensures.1.1.1 lv e part) c.if-r.false)
+    let r = c.in-Err in (omega (arith, r.ensures.1.1.0, l.invariant.0), λ lv e part. rows_past acc a.to a.from a.k l.j l.left (l.invariant.1 lv e part) r.r (r.ensures.1.1.1 lv e part))
 
 pub values-requires : goal.values-requires
 values-requires c = λ i h. (c.requires.1.1.1.0 i h).0
@@ -48,31 +48,31 @@ pub next-requires : goal.next-requires
 next-requires c = (c.requires.1.1.1.1.1.0, (omega (arith, c.requires.1.1.1.1.1.1), omega (arith, c.requires.1.1.1.1.0)))
 
 pub overflow_sub-m : goal.overflow_sub-m
-overflow_sub-m c = omega (arith, c.smaller-r.ensures, c.next.ensures.0)
+overflow_sub-m c = omega (arith, c.min-r.ensures, c.next.ensures.0)
 
-pub overflow_add-j : goal.overflow_add-j
-overflow_add-j c = omega (arith, c.smaller-r.ensures, c.requires.1.1.1.1.0)
+pub overflow_add-result : goal.overflow_add-result
+overflow_add-result c = omega (arith, c.min-r.ensures, c.requires.1.1.1.1.0)
 
 pub returns-then-left-m : goal.returns-then-left-m
 unfolding Finds
 returns-then-left-m c = let a = c.args in let l = c.loop-j in let acc : ℕ → Bool = λ i. part_met a.s.now a.funcs.now a.froms.now a.ends.now a.blocks.now a.n (env a.p a.params.at (digits_of a.z.at i)) in (
-  omega (arith, c.found_at.ensures.1.0, c.smaller-r.ensures, c.requires.1.1.1.1.0),
+  omega (arith, c.min-r.ensures, c.requires.1.1.1.1.0),
   (
-    omega (arith, c.found_at.ensures.1.1),
+    tt,
     λ lv e part. let len = per_sum_length a.z _ c.well_formed.1.1.1.1.0 in
         let positive : (i : ℕ) → i < length a.z.at → 0 < get_or a.z.at i 0 = λ i h. (c.requires.1.1.1.0 i (omega arith)).0 in
         let few : a.p ≤ length a.params.at = let u = per_variable_length a.params _ c.well_formed.1.1.0 in omega (arith, c.requires.0) in
         let alike : Alike c.environment-e.result.at (env a.p a.params.at (digits_of a.z.at l.j)) = λ v. c.environment-e.ensures v ∙ ap (λ (u : List ℕ). get_or (env a.p a.params.at u) v 0) c.values.ensures in
         let tested = c.test-d.ensures (λ i k. (part i k).standing) in
-        let taken : (i : ℕ) → l.j ≤ i → i < c.smaller-r.result → acc i ≡ true = λ i u v.
-        let same : i / a.g ≡ l.j / a.g = c.next.ensures.1 i u (omega (arith, c.smaller-r.ensures)) in
+        let taken : (i : ℕ) → l.j ≤ i → i < c.min-r.result → acc i ≡ true = λ i u v.
+        let same : i / a.g ≡ l.j / a.g = c.next.ensures.1 i u (omega (arith, c.min-r.ensures)) in
         accepted a.s.now a.funcs.now a.froms.now a.ends.now a.blocks.now a.n a.p a.g a.z.at a.params.at few positive part lv e c.environment-e.result.at l.j alike c.test-d.result tested c.if-d-eq0.true i same in
-        finds_at (places acc (a.to - a.from) a.from) a.k c.found_at.result (l.j + l.left) c.found_at.ensures (λ x. going_found acc a.to a.from a.k l.j l.left c.smaller-r.result (l.j + l.left) (omega (arith, c.next.ensures.0, c.smaller-r.ensures)) (omega (arith, c.smaller-r.ensures)) taken (omega arith) refl (l.invariant.1 lv e part)),
+        going_found acc a.to a.from a.k l.j l.left c.min-r.result (l.j + l.left) (omega (arith, c.next.ensures.0, c.min-r.ensures)) (omega (arith, c.min-r.ensures)) taken (omega arith) refl (l.invariant.1 lv e part),
   ),
 )
 
 pub loop-j-smaller-then-d-eq0 : goal.loop-j-smaller-then-d-eq0
-loop-j-smaller-then-d-eq0 c = omega (arith, c.smaller-r.ensures, c.next.ensures.0)
+loop-j-smaller-then-d-eq0 c = omega (arith, c.min-r.ensures, c.next.ensures.0)
 
 pub loop-j-preserved-then-d-eq0 : goal.loop-j-preserved-then-d-eq0
 loop-j-preserved-then-d-eq0 c = let a = c.args in let l = c.loop-j in let acc : ℕ → Bool = λ i. part_met a.s.now a.funcs.now a.froms.now a.ends.now a.blocks.now a.n (env a.p a.params.at (digits_of a.z.at i)) in (
@@ -82,10 +82,10 @@ loop-j-preserved-then-d-eq0 c = let a = c.args in let l = c.loop-j in let acc : 
       let few : a.p ≤ length a.params.at = let u = per_variable_length a.params _ c.well_formed.1.1.0 in omega (arith, c.requires.0) in
       let alike : Alike c.environment-e.result.at (env a.p a.params.at (digits_of a.z.at l.j)) = λ v. c.environment-e.ensures v ∙ ap (λ (u : List ℕ). get_or (env a.p a.params.at u) v 0) c.values.ensures in
       let tested = c.test-d.ensures (λ i k. (part i k).standing) in
-      let taken : (i : ℕ) → l.j ≤ i → i < c.smaller-r.result → acc i ≡ true = λ i u v.
-      let same : i / a.g ≡ l.j / a.g = c.next.ensures.1 i u (omega (arith, c.smaller-r.ensures)) in
+      let taken : (i : ℕ) → l.j ≤ i → i < c.min-r.result → acc i ≡ true = λ i u v.
+      let same : i / a.g ≡ l.j / a.g = c.next.ensures.1 i u (omega (arith, c.min-r.ensures)) in
       accepted a.s.now a.funcs.now a.froms.now a.ends.now a.blocks.now a.n a.p a.g a.z.at a.params.at few positive part lv e c.environment-e.result.at l.j alike c.test-d.result tested c.if-d-eq0.true i same in
-      going_on acc a.to a.from a.k l.j l.left c.smaller-r.result (l.left - (c.smaller-r.result - l.j)) (omega (arith, c.next.ensures.0, c.smaller-r.ensures)) (omega (arith, c.smaller-r.ensures)) taken (omega (arith, c.if-left-m.false)) refl (l.invariant.1 lv e part),
+      going_on acc a.to a.from a.k l.j l.left c.min-r.result (l.left - (c.min-r.result - l.j)) (omega (arith, c.next.ensures.0, c.min-r.ensures)) (omega (arith, c.min-r.ensures)) taken (omega (arith, c.if-left-m.false)) refl (l.invariant.1 lv e part),
 )
 
 pub next-j-requires : goal.next-j-requires
@@ -109,11 +109,7 @@ loop-j-preserved c = let a = c.args in let l = c.loop-j in let acc : ℕ → Boo
 )
 
 pub returns : goal.returns
-unfolding Finds
 returns c = let a = c.args in let l = c.loop-j in let acc : ℕ → Bool = λ i. part_met a.s.now a.funcs.now a.froms.now a.ends.now a.blocks.now a.n (env a.p a.params.at (digits_of a.z.at i)) in (
-  omega (arith, c.none_found.ensures.1.0),
-  (
-    omega (arith, c.none_found.ensures.1.1, l.invariant.0),
-    λ lv e part. finds_none (places acc (a.to - a.from) a.from) a.k c.none_found.result l.left c.none_found.ensures (λ x. going_end acc a.to a.from a.k l.j l.left c.loop-j-test.false (l.invariant.1 lv e part)),
-  ),
+  tt,
+  (l.invariant.0, λ lv e part. none_left acc a.to a.from a.k l.j l.left c.loop-j-test.false (l.invariant.1 lv e part)),
 )

@@ -1,16 +1,17 @@
 -- The lanes are made, sifted by the conditions, and searched.
 use native.Mathlib.Omega.{arith}
+use Rattle.std.specs.Prelude.{Ok, Err}
 use Prim.Native.Nat.{ℕ, ◌+◌, ◌*◌, ◌≤◌}
 use mathlib.Core.Path.{◌≡◌, refl, ◌∙◌}
 use Rattle.assignments.proofs.Passing.{going_start}
-use Rattle.assignments.proofs.InRows.{row_small, lent_again, met_lane, came_at, came_lanes}
+use Rattle.assignments.proofs.InRows.{row_small, lent_again, met_lane, came_to, came_lanes}
 use Rattle.assignments.proofs.strips.in_lanes.Goals as goal
 
 pub overflow_mul-lanes : goal.overflow_mul-lanes
 overflow_mul-lanes c = omega (arith, row_small c.args.lanes c.args.g (omega arith) (omega arith))
 
 pub returns-then-to-j : goal.returns-then-to-j
-returns-then-to-j c = let a = c.args in let f = c.gone_to.ensures in (λ z. absurd (let y : ◌≡◌ {A = ℕ} 0 1 = cc f.0 in omega arith), (λ z. omega (arith, f.1.0), (omega (arith, f.1.1), λ st h k w z. (w, (z, λ acc says. came_at acc a.to a.j a.k c.gone_to.result a.j a.k f (going_start acc a.to a.j a.k))))))
+returns-then-to-j c = let a = c.args in (tt, (omega arith, (omega arith, λ st h k w z. (w, (z, λ acc says. came_to acc a.to a.j a.k (record { at = a.j; left = a.k }) (going_start acc a.to a.j a.k))))))
 
 pub row_test-some-requires : goal.row_test-some-requires
 row_test-some-requires c = let a = c.args in let pre = c.requires in let k = c.strip.auto in (pre.1.1.0, (lent_again a.rows.now a.marks.now a.slow.now a.fast.now a.met.now _ _ _ _ _ refl refl k.slow k.fast k.met pre.1.1.1, pre.1.0.1.1))
@@ -31,38 +32,41 @@ pub shape_of-met-then-some : goal.shape_of-met-then-some
 shape_of-met-then-some c = c.row_test-some.auto.met ∙ c.strip.auto.met
 
 pub returns-then-some : goal.returns-then-some
-returns-then-some c = let a = c.args in let f = c.gone_to-then-some.ensures in (λ z. absurd (let y : ◌≡◌ {A = ℕ} 0 1 = cc f.0 in omega arith), (λ z. omega (arith, f.1.0), (omega (arith, f.1.1), λ st h k w z. let r = c.row_test-some.ensures st h k w z in (r.0, (r.1.0, λ acc says. came_at acc a.to a.j a.k c.gone_to-then-some.result a.j a.k f (going_start acc a.to a.j a.k))))))
+returns-then-some c = let a = c.args in (tt, (omega arith, (omega arith, λ st h k w z. let r = c.row_test-some.ensures st h k w z in (r.0, (r.1.0, λ acc says. came_to acc a.to a.j a.k (record { at = a.j; left = a.k }) (going_start acc a.to a.j a.k))))))
 
 pub in_row-requires : goal.in_row-requires
 in_row-requires c = let pre = c.requires in (pre.1.0.1.1, (omega (arith, c.row_test-some.auto.met, c.strip.auto.met, pre.1.1.1.met_long), (pre.0.1.1, omega (arith, pre.0.0, pre.0.1.0))))
 
-pub shape_of-rows : goal.shape_of-rows
-shape_of-rows c = c.row_test-some.auto.rows
-
-pub shape_of-marks : goal.shape_of-marks
-shape_of-marks c = c.row_test-some.auto.marks
-
-pub shape_of-slow : goal.shape_of-slow
-shape_of-slow c = c.strip.auto.slow
-
-pub shape_of-fast : goal.shape_of-fast
-shape_of-fast c = c.strip.auto.fast
-
-pub shape_of-met : goal.shape_of-met
-shape_of-met c = c.row_test-some.auto.met ∙ c.strip.auto.met
-
-pub returns : goal.returns
-returns c = let a = c.args in let q = c.in_row in let pre = c.requires in let fits : a.j + a.lanes * a.g ≤ a.to = omega (arith, c.if-to-j.false, pre.0.0) in (
-  λ z. omega (arith, q.ensures.0, fits),
+pub returns-in-Ok : goal.returns-in-Ok
+returns-in-Ok c = let a = c.args in let q = c.in-Ok in let pre = c.requires in let fits : a.j + a.lanes * a.g ≤ a.to = omega (arith, c.if-to-j.false, pre.0.0) in (
+  omega (arith, q.ensures.0, fits),
   (
-    λ z. omega (arith, q.ensures.1.1.0 z),
+    tt,
+    (
+      tt,
+      λ st h k w z. let t = c.strip.ensures in let r = c.row_test-some.ensures st h k w z in (
+        r.0,
+        (
+          r.1.0,
+          λ acc says. let known : (c.row_test-some.result ≡ 255 → ⊥) = λ o. c.if-some.false o in let e = r.1.1 t.all_kept known in came_lanes acc a.to a.j a.k (a.lanes * a.g) fits (Ok q.at) (q.ensures.1.1 acc (λ i x m o y. says _ _ _ t i x m o y ∙ met_lane _ _ (e.each i m))),
+        ),
+      ),
+    ),
+  ),
+)
+
+pub returns-in-Err : goal.returns-in-Err
+returns-in-Err c = let a = c.args in let q = c.in-Err in let pre = c.requires in let fits : a.j + a.lanes * a.g ≤ a.to = omega (arith, c.if-to-j.false, pre.0.0) in (
+  tt,
+  (
+    omega arith,
     (
       q.ensures.1.0,
       λ st h k w z. let t = c.strip.ensures in let r = c.row_test-some.ensures st h k w z in (
         r.0,
         (
           r.1.0,
-          λ acc says. let known : (c.row_test-some.result ≡ 255 → ⊥) = λ o. c.if-some.false o in let e = r.1.1 t.all_kept known in came_lanes acc a.to a.j a.k q.result (a.lanes * a.g) fits q.ensures.1.1.0 (q.ensures.1.1.1 acc (λ i x m o y. says _ _ _ t i x m o y ∙ met_lane _ _ (e.each i m))),
+          λ acc says. let known : (c.row_test-some.result ≡ 255 → ⊥) = λ o. c.if-some.false o in let e = r.1.1 t.all_kept known in came_lanes acc a.to a.j a.k (a.lanes * a.g) fits (Err q.left) (q.ensures.1.1 acc (λ i x m o y. says _ _ _ t i x m o y ∙ met_lane _ _ (e.each i m))),
         ),
       ),
     ),

@@ -12,14 +12,14 @@ use Rattle.assignments.specs.Parting.{Standing, part_met}
 use Rattle.assignments.proofs.Counter.{per_sum_length, per_variable_length}
 use Rattle.assignments.proofs.Blocks.{blocked}
 use Rattle.assignments.proofs.Passing.{going_start, going_skip}
-use Rattle.assignments.proofs.InRows.{row_says, came_at, all_positive, row_pos, strip_pos}
+use Rattle.assignments.proofs.InRows.{row_says, came_to, all_positive, row_pos, strip_pos}
 use Rattle.assignments.proofs.strips.in_strip.Goals as goal
 
 pub nonzero_rem-j : goal.nonzero_rem-j
 nonzero_rem-j c = let a = c.args in let pre = c.requires in let len = per_sum_length a.z _ c.well_formed.1.1.1.1.0 in row_pos a.z.at a.l a.u a.g a.w pre.1.1.0 len pre.0.1.1.1.0
 
 pub returns-then-j-w-ne0 : goal.returns-then-j-w-ne0
-returns-then-j-w-ne0 c = let a = c.args in let pre = c.requires in let len = per_sum_length a.z _ c.well_formed.1.1.1.1.0 in let acc : ℕ → Bool = λ i. part_met a.s.now a.funcs.now a.froms.now a.ends.now a.blocks.now a.n (env a.p a.params.at (digits_of a.z.at i)) in let f = c.gone_to.ensures in (λ z. absurd (let y : ◌≡◌ {A = ℕ} 0 1 = cc f.0 in omega arith), (λ z. omega (arith, f.1.0), (omega (arith, f.1.1), λ part w z. (w, (z, came_at acc a.to a.j a.k c.gone_to.result a.j a.k f (going_start acc a.to a.j a.k))))))
+returns-then-j-w-ne0 c = let a = c.args in let pre = c.requires in let len = per_sum_length a.z _ c.well_formed.1.1.1.1.0 in let acc : ℕ → Bool = λ i. part_met a.s.now a.funcs.now a.froms.now a.ends.now a.blocks.now a.n (env a.p a.params.at (digits_of a.z.at i)) in (tt, (omega arith, (omega arith, λ part w z. (w, (z, came_to acc a.to a.j a.k (record { at = a.j; left = a.k }) (going_start acc a.to a.j a.k))))))
 
 pub block_size-requires : goal.block_size-requires
 block_size-requires c = c.requires.0.1.1.1.0
@@ -39,23 +39,23 @@ overflow_sub-b c = let a = c.args in let pre = c.requires in let len = per_sum_l
 pub test-d-requires : goal.test-d-requires
 test-d-requires c = c.requires.0.1.1.0
 
-pub next-requires : goal.next-requires
-next-requires c = let a = c.args in let pre = c.requires in let len = per_sum_length a.z _ c.well_formed.1.1.1.1.0 in let is_b : c.narrow-b.result ≡ product (drop a.u a.z.at) = c.narrow-b.ensures ∙ c.block_size.ensures.0 in let pos = strip_pos a.z.at a.l a.u a.g a.w pre.1.1.0 len pre.0.1.1.1.0 c.narrow-b.result is_b in (omega (arith, pos, c.wide_block.ensures.0, c.if-b-d.true), (c.wide_block.ensures.1, omega (arith, pre.1.0, pre.0.1.1.1.1.0)))
+pub next-at-requires : goal.next-at-requires
+next-at-requires c = let a = c.args in let pre = c.requires in let len = per_sum_length a.z _ c.well_formed.1.1.1.1.0 in let is_b : c.narrow-b.result ≡ product (drop a.u a.z.at) = c.narrow-b.ensures ∙ c.block_size.ensures.0 in let pos = strip_pos a.z.at a.l a.u a.g a.w pre.1.1.0 len pre.0.1.1.1.0 c.narrow-b.result is_b in (omega (arith, pos, c.wide_block.ensures.0, c.if-b-d.true), (c.wide_block.ensures.1, omega (arith, pre.1.0, pre.0.1.1.1.1.0)))
 
 pub returns-then-b-d : goal.returns-then-b-d
-returns-then-b-d c = let a = c.args in let pre = c.requires in let len = per_sum_length a.z _ c.well_formed.1.1.1.1.0 in let is_b : c.narrow-b.result ≡ product (drop a.u a.z.at) = c.narrow-b.ensures ∙ c.block_size.ensures.0 in let pos = strip_pos a.z.at a.l a.u a.g a.w pre.1.1.0 len pre.0.1.1.1.0 c.narrow-b.result is_b in let e = c.environment-e in let d = c.test-d in let few : a.p ≤ length a.params.at = let o = per_variable_length a.params _ c.well_formed.1.1.0 in omega (arith, pre.0.0) in let alike : Alike e.result.at (env a.p a.params.at (digits_of a.z.at a.j)) = λ v. e.ensures v ∙ ap (λ (o : List ℕ). get_or (env a.p a.params.at o) v 0) c.values.ensures in let acc : ℕ → Bool = λ i. part_met a.s.now a.funcs.now a.froms.now a.ends.now a.blocks.now a.n (env a.p a.params.at (digits_of a.z.at i)) in let f = c.gone_to-then-b-d.ensures in let r = c.next in (
-  λ z. absurd (let y : ◌≡◌ {A = ℕ} 0 1 = cc f.0 in omega arith),
+returns-then-b-d c = let a = c.args in let pre = c.requires in let len = per_sum_length a.z _ c.well_formed.1.1.1.1.0 in let is_b : c.narrow-b.result ≡ product (drop a.u a.z.at) = c.narrow-b.ensures ∙ c.block_size.ensures.0 in let pos = strip_pos a.z.at a.l a.u a.g a.w pre.1.1.0 len pre.0.1.1.1.0 c.narrow-b.result is_b in let e = c.environment-e in let d = c.test-d in let few : a.p ≤ length a.params.at = let o = per_variable_length a.params _ c.well_formed.1.1.0 in omega (arith, pre.0.0) in let alike : Alike e.result.at (env a.p a.params.at (digits_of a.z.at a.j)) = λ v. e.ensures v ∙ ap (λ (o : List ℕ). get_or (env a.p a.params.at o) v 0) c.values.ensures in let acc : ℕ → Bool = λ i. part_met a.s.now a.funcs.now a.froms.now a.ends.now a.blocks.now a.n (env a.p a.params.at (digits_of a.z.at i)) in let r = c.next-at in (
+  tt,
   (
-    λ z. omega (arith, f.1.0, r.ensures.0),
+    omega (arith, r.ensures.0),
     (
-      omega (arith, f.1.1),
+      omega arith,
       λ part w z. (
         w,
         (
           z,
           let tested = d.ensures (λ i k. (part i k).standing) in
               let least : c.narrow-b.result - 1 < d.result = omega (arith, pos, c.if-b-d.true) in
-              came_at acc a.to a.j a.k c.gone_to-then-b-d.result r.result a.k f (going_skip acc a.to a.j a.k a.j a.k r.result (omega (arith, r.ensures.0)) (λ i h o. blocked a.s.now a.funcs.now a.froms.now a.ends.now a.blocks.now a.n a.p a.g a.z.at a.params.at few (all_positive a.z.at a.l a.u a.g a.w pre.1.1.0 len pre.0.1.1.1.0) part e.result.at a.j alike (c.narrow-b.result - 1) d.result tested least i (subst (λ (x : ℕ). i / x ≡ a.j / x) c.wide_block.ensures.0 (r.ensures.1 i h o))) (going_start acc a.to a.j a.k)),
+              came_to acc a.to a.j a.k (record { at = r.result; left = a.k }) (going_skip acc a.to a.j a.k a.j a.k r.result (omega (arith, r.ensures.0)) (λ i h o. blocked a.s.now a.funcs.now a.froms.now a.ends.now a.blocks.now a.n a.p a.g a.z.at a.params.at few (all_positive a.z.at a.l a.u a.g a.w pre.1.1.0 len pre.0.1.1.1.0) part e.result.at a.j alike (c.narrow-b.result - 1) d.result tested least i (subst (λ (x : ℕ). i / x ≡ a.j / x) c.wide_block.ensures.0 (r.ensures.1 i h o))) (going_start acc a.to a.j a.k)),
         ),
       ),
     ),
@@ -78,7 +78,7 @@ pub rows_in-m-requires : goal.rows_in-m-requires
 rows_in-m-requires c = let pre = c.requires in (pre.0.1.1.1.0 c.args.l pre.1.1.0.l_inside).0
 
 pub returns-then-m-eq0 : goal.returns-then-m-eq0
-returns-then-m-eq0 c = let a = c.args in let pre = c.requires in let len = per_sum_length a.z _ c.well_formed.1.1.1.1.0 in let acc : ℕ → Bool = λ i. part_met a.s.now a.funcs.now a.froms.now a.ends.now a.blocks.now a.n (env a.p a.params.at (digits_of a.z.at i)) in let f = c.gone_to-then-m-eq0.ensures in (λ z. absurd (let y : ◌≡◌ {A = ℕ} 0 1 = cc f.0 in omega arith), (λ z. omega (arith, f.1.0), (omega (arith, f.1.1), λ part w z. (w, (z, came_at acc a.to a.j a.k c.gone_to-then-m-eq0.result a.j a.k f (going_start acc a.to a.j a.k))))))
+returns-then-m-eq0 c = let a = c.args in let pre = c.requires in let len = per_sum_length a.z _ c.well_formed.1.1.1.1.0 in let acc : ℕ → Bool = λ i. part_met a.s.now a.funcs.now a.froms.now a.ends.now a.blocks.now a.n (env a.p a.params.at (digits_of a.z.at i)) in (tt, (omega arith, (omega arith, λ part w z. (w, (z, came_to acc a.to a.j a.k (record { at = a.j; left = a.k }) (going_start acc a.to a.j a.k))))))
 
 pub overflow_add-p : goal.overflow_add-p
 overflow_add-p c = let pre = c.requires in omega (arith, pre.0.0, pre.1.1.0.u_first, pre.1.1.0.l_inside)

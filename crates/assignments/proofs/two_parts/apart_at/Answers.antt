@@ -3,6 +3,7 @@ use native.Mathlib.Omega.{arith}
 use Prim.Native.Nat.{ℕ, ◌<◌}
 use mathlib.Core.Path.{◌≡◌}
 use lib.ListN.{length, get_or}
+use Rattle.std.proofs.lemmas.Option.{IfSome_then}
 use Rattle.assignments.proofs.Counter.{per_sum_length}
 use Rattle.assignments.proofs.Blocks.{product_pos}
 use Rattle.assignments.proofs.two_parts.apart_at.Goals as goal
@@ -22,10 +23,4 @@ parted-requires c = let a = c.args in let len = per_sum_length a.sizes _ c.well_
     (c.requires.0, (c.requires.1.0, (omega (arith, c.block_size-b.ensures.0, product_pos a.l a.sizes.at positive), (omega (arith, c.block_size.ensures.0, product_pos 0 a.sizes.at positive), (c.block_size.ensures.1, c.requires.1.1.1)))))
 
 pub returns-then-g-b : goal.returns-then-g-b
-returns-then-g-b c = let a = c.args in let len = per_sum_length a.sizes _ c.well_formed.1.1.0 in (c.parted.ensures.0, λ reach low apart ready. c.parted.ensures.1 a.sizes.at reach low apart c.requires.1.1.0 len c.block_size.ensures.0 c.block_size-b.ensures.0 ready)
-
-pub returns-else-g-b : goal.returns-else-g-b
-returns-else-g-b c = ((omega arith, omega arith), λ reach low apart ready. absurd (let z : ◌≡◌ {A = ℕ} 0 1 = cc in omega arith))
-
-pub returns-else-low-p : goal.returns-else-low-p
-returns-else-low-p c = ((omega arith, omega arith), λ reach low apart ready. absurd (let z : ◌≡◌ {A = ℕ} 0 1 = cc in omega arith))
+returns-then-g-b c = let a = c.args in let len = per_sum_length a.sizes _ c.well_formed.1.1.0 in IfSome_then c.parted.result c.parted.ensures (λ t h. (h.0, λ reach low ready. h.1 a.sizes.at reach low c.requires.1.1.0 len c.block_size.ensures.0 c.block_size-b.ensures.0 ready))

@@ -1,4 +1,4 @@
-use Prim.Native.Nat.{ℕ, ◌-◌, ◌≤◌, ◌<◌}
+use Prim.Native.Nat.{ℕ, ◌≤◌, ◌<◌}
 use mathlib.Core.Path.{◌≡◌}
 use mathlib.Core.List.{List}
 use lib.ListN.{length, drop}
@@ -9,7 +9,4 @@ use Rattle.assignments.proofs.Separating.{Parting}
 use Rattle.assignments.proofs.two_parts.parted.Given as goal
 
 abbrev pub invariant-loop-i : goal.invariant-loop-i
-invariant-loop-i l = (l.i ≤ l.n) × ((length l.early ≡ max_conditions) × ((length l.late ≡ max_conditions) × ((0 < l.grain) × ((l.grain ≤ 65536) × (Parting l.s l.p l.froms l.ends l.blocks l.n l.b l.early l.late l.grain l.low l.i × ((sizes : List ℕ) (reach lowest : ℕ) → l.total ≡ product sizes → ((m : ℕ) → m < l.n → Ready l.s l.p sizes l.froms l.ends l.blocks reach lowest m) → (level : ℕ) × (l.grain ≡ product (drop level sizes))))))))
-
-abbrev pub decreases-loop-i : goal.decreases-loop-i
-decreases-loop-i l = l.n - l.i
+invariant-loop-i l = (length l.early ≡ max_conditions) × ((length l.late ≡ max_conditions) × ((0 < l.grain) × ((l.grain ≤ 65536) × (Parting l.s l.p l.froms l.ends l.blocks l.n l.b l.early l.late l.grain l.low l.i × ((sizes : List ℕ) (reach lowest : ℕ) → l.total ≡ product sizes → ((m : ℕ) → m < l.n → Ready l.s l.p sizes l.froms l.ends l.blocks reach lowest m) → (level : ℕ) × (l.grain ≡ product (drop level sizes)))))))
