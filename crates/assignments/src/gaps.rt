@@ -133,9 +133,7 @@ fn find_around(
         let m = left - rest;
         if left / rounds < m {
             let i = left % m;
-            let at = find_from(
-                s, funcs, params, p, z, froms, ends, blocks, n, g, j, to, i,
-            )?;
+            let at = find_from(s, funcs, params, p, z, froms, ends, blocks, n, g, j, to, i)?;
             return Ok((left / m) as usize * b + at);
         }
         left -= m * rounds;

@@ -3,7 +3,7 @@ use mathlib.Core.Path.{◌≡◌, refl, ap, sym, subst, ◌∙◌}
 use mathlib.Core.List.{List, [], ◌∷◌, ◌++◌, map, append_assoc}
 use mathlib.Core.Bool.{Bool, true, false}
 use mathlib.Core.Option.{Option, none, some}
-use Rattle.std.specs.Prelude.{Ok, Err}
+use Rattle.std.specs.Prelude.{Result, Ok, Err}
 use Prim.Native.Nat.{ℕ, zero, suc, ◌+◌, ◌-◌, ◌<◌, ◌≤◌, min}
 use native.Mathlib.Omega.{arith}
 use native.Mathlib.Numerals.{add-one}
@@ -115,7 +115,7 @@ module _ (S : Sig) (Ps : List (List ℕ)) (s funcs acts params Δ vs : List ℕ)
     those : List ℕ
     those = places (passes S s funcs Δ vs h known few in_Δ sorts few_vars) (product sizes) 0
 
-    sought : Finds those k o.found o.at o.left × (drop o.end s ≡ rest_of)
+    sought : Finds those k o.found × (drop o.end s ≡ rest_of)
     unfolding Seeks those
     sought =
         seeks S (Δ ++ h.vars) rest_of h.conds (whole S s funcs Δ vs h known few in_Δ sorts few_vars) (passes S s funcs Δ vs h known few in_Δ sorts few_vars) (whole_valued S s funcs Δ vs h known few in_Δ sorts few_vars p first sizes e ez)
@@ -126,23 +126,23 @@ module _ (S : Sig) (Ps : List (List ℕ)) (s funcs acts params Δ vs : List ℕ)
     listed = fired_is S s funcs Δ vs h known few in_Δ sorts few_vars ∙ ap (λ (z : List ℕ). map gives (places (passes S s funcs Δ vs h known few in_Δ sorts few_vars) (product z) 0)) (sym ez)
 
     -- it is passed
-    pub passed : o.found ≡ false → k ≡ o.left + length (fired frame_width S vs h)
+    pub passed : (left : ℕ) → o.found ≡ Err left → k ≡ left + length (fired frame_width S vs h)
     unfolding Finds
-    passed q =
-        let a : Finds those k false o.at o.left = subst (λ (b : Bool). Finds those k b o.at o.left) q sought.0 in
+    passed left q =
+        let a : Finds those k (Err left) = subst (λ (x : Result ℕ ℕ). Finds those k x) q sought.0 in
         let l : length (fired frame_width S vs h) ≡ length those = ap length listed ∙ length-map those gives in
         omega arith
 
     -- or the step is found in it
-    pub hit : o.found ≡ true → get_elem? (fired frame_width S vs h) k ≡ some (outcome frame_width S (whole S s funcs Δ vs h known few in_Δ sorts few_vars o.at) h)
+    pub hit : (j : ℕ) → o.found ≡ Ok j → get_elem? (fired frame_width S vs h) k ≡ some (outcome frame_width S (whole S s funcs Δ vs h known few in_Δ sorts few_vars j) h)
     unfolding Finds gives
-    hit q =
-        let a : Finds those k true o.at o.left = subst (λ (b : Bool). Finds those k b o.at o.left) q sought.0 in
-        ap (λ (l : List (Label × List Frame)). get_elem? l k) listed ∙ some_map gives those k o.at a
+    hit j q =
+        let a : Finds those k (Ok j) = subst (λ (x : Result ℕ ℕ). Finds those k x) q sought.0 in
+        ap (λ (l : List (Label × List Frame)). get_elem? l k) listed ∙ some_map gives those k j a
 
-    pub valued : (f w : List ℕ) → w ≡ digits_of sizes o.at → Alike f (env p first w) → Valued S s funcs f (Δ ++ h.vars) (whole S s funcs Δ vs h known few in_Δ sorts few_vars o.at)
-    valued f w ew a =
-        let v = whole_valued S s funcs Δ vs h known few in_Δ sorts few_vars p first sizes e ez o.at in
+    pub valued : (j : ℕ) (f w : List ℕ) → w ≡ digits_of sizes j → Alike f (env p first w) → Valued S s funcs f (Δ ++ h.vars) (whole S s funcs Δ vs h known few in_Δ sorts few_vars j)
+    valued j f w ew a =
+        let v = whole_valued S s funcs Δ vs h known few in_Δ sorts few_vars p first sizes e ez j in
         record { known = known; short = v.short; in_sorts = v.in_sorts; alike = λ i. a i ∙ ap (λ (y : List ℕ). get_or (env p first y) i 0) ew ∙ v.alike i }
 
     -- where the summand ends
@@ -152,12 +152,12 @@ module _ (S : Sig) (Ps : List (List ℕ)) (s funcs acts params Δ vs : List ℕ)
     ends_behind r f = f S Ps (Δ ++ h.vars) h.act h.terms h.calls more known (short S s funcs Δ vs h known few in_Δ sorts few_vars) parts act_right terms_right calls_right few_calls sought.1
 
     -- what is answered
-    pub fires_here : (f w before after : List ℕ) (r : Fired) → w ≡ digits_of sizes o.at → Alike f (env p first w)
+    pub fires_here : (j : ℕ) (f w before after : List ℕ) (r : Fired) → w ≡ digits_of sizes j → Alike f (env p first w)
         → ((S : Sig) (Ps : List (List ℕ)) (Γ vs : List ℕ) (a : Act) (ts : List Data) (cs : List (ℕ × List Data)) (rest : List ℕ) → Valued S s funcs f Γ vs → KnownParts S Ps s acts params → IsAct S a → Each (RightTerm S Γ) (takes_of S a) ts → Every (RightCall S Ps Γ) cs → length cs ≤ max_calls → drop o.end s ≡ encode_act a ++ (all encode_data ts ++ (encode_list encode_call cs ++ rest)) → Gives S (label S a (map (eval S vs) ts)) (map (call_frame frame_width S vs) cs) r before after)
-        → (n : ℕ) → Fires S (some (outcome frame_width S (whole S s funcs Δ vs h known few in_Δ sorts few_vars o.at) h)) n (Ok r) before after
+        → (n : ℕ) → Fires S (some (outcome frame_width S (whole S s funcs Δ vs h known few in_Δ sorts few_vars j) h)) n (Ok r) before after
     unfolding Fires outcome
-    fires_here f w before after r ew a given n =
-        given S Ps (Δ ++ h.vars) (whole S s funcs Δ vs h known few in_Δ sorts few_vars o.at) h.act h.terms h.calls more (valued f w ew a) parts act_right terms_right calls_right few_calls sought.1
+    fires_here j f w before after r ew a given n =
+        given S Ps (Δ ++ h.vars) (whole S s funcs Δ vs h known few in_Δ sorts few_vars j) h.act h.terms h.calls more (valued j f w ew a) parts act_right terms_right calls_right few_calls sought.1
 
 -- ALL SUMMANDS: k is asked for, `left` of it is left before the i-th of n summands, which begins at a place
 
@@ -192,11 +192,11 @@ module _ (s funcs acts params first : List ℕ) (p row k n : ℕ) where
 
   module _ (at left i : ℕ) (below : i < n) (w : Rowing s funcs acts params first p row k n at left i) (sizes : List ℕ) (b : ℕ) (eb : b ≡ at + 1 + get_or s at 0)
       (sized : (S : Sig) (vars : List ℕ) → KnownTerms S s funcs → Stands s at (encode_numbers vars) → AreSorts S.sorts vars → length vars ≤ max_variables → sizes ≡ sizes_of S vars) (o : Sought) (seeks : Seeks s funcs first p sizes b left o) where
-    pub row_more : (end : ℕ) → o.found ≡ false
+    pub row_more : (end rest_left : ℕ) → o.found ≡ Err rest_left
         → ((S : Sig) (Ps : List (List ℕ)) (Γ : List ℕ) (a : Act) (ts : List Data) (cs : List (ℕ × List Data)) (rest : List ℕ) → KnownTerms S s funcs → length Γ ≤ variable_code → KnownParts S Ps s acts params → IsAct S a → Each (RightTerm S Γ) (takes_of S a) ts → Every (RightCall S Ps Γ) cs → length cs ≤ max_calls → drop o.end s ≡ encode_act a ++ (all encode_data ts ++ (encode_list encode_call cs ++ rest)) → drop end s ≡ rest)
-        → Rowing s funcs acts params first p row k n end o.left (i + 1)
+        → Rowing s funcs acts params first p row k n end rest_left (i + 1)
     unfolding Rowing
-    row_more end nf gone S Ps Δ vs hs rest there e here =
+    row_more end rest_left nf gone S Ps Δ vs hs rest there e here =
         let (en, (left_here, (g, m))) = w S Ps Δ vs hs rest there e here in
         let in_list : i < length hs = omega arith in
         let h : Summand = get_or hs i no_summand in
@@ -204,25 +204,25 @@ module _ (s funcs acts params first : List ℕ) (p row k n : ℕ) where
         let more : List ℕ = all encode_summand (drop (i + 1) hs) ++ rest in
         let this : drop at s ≡ encode_summand h ++ more = left_here ∙ all_first encode_summand hs i no_summand rest in_list in
         let ez : sizes ≡ sizes_of S h.vars = sized S h.vars there.known (vars_stand S Ps s funcs acts params Δ vs h there.known there.parts there.few there.in_sorts right at more this) (sorts S Ps s funcs acts params Δ vs h there.known there.parts there.few there.in_sorts right at more this) (few_vars S Ps s funcs acts params Δ vs h there.known there.parts there.few there.in_sorts right at more this) in
-        let gone_by : left ≡ o.left + length (fired frame_width S vs h) = passed S Ps s funcs acts params Δ vs h there.known there.parts there.few there.in_sorts right at more this p first e sizes ez b eb left o seeks nf in
+        let gone_by : left ≡ rest_left + length (fired frame_width S vs h) = passed S Ps s funcs acts params Δ vs h there.known there.parts there.few there.in_sorts right at more this p first e sizes ez b eb left o seeks rest_left nf in
         let split : all (fired frame_width S vs) (drop i hs) ≡ fired frame_width S vs h ++ all (fired frame_width S vs) (drop (i + 1) hs) = all_cons (fired frame_width S vs) hs i no_summand in_list in
         let len : length (all (fired frame_width S vs) (drop i hs)) ≡ length (fired frame_width S vs h) + length (all (fired frame_width S vs) (drop (i + 1) hs)) = ap length split ∙ length-append (fired frame_width S vs h) (all (fired frame_width S vs) (drop (i + 1) hs)) in (
           en,
           (
             ends_behind S Ps s funcs acts params Δ vs h there.known there.parts there.few there.in_sorts right at more this p first e sizes ez b eb left o seeks end gone,
             (
-              g ∙ ap (λ (l : List (Label × List Frame)). get_elem? l left) split ∙ past_first (fired frame_width S vs h) (all (fired frame_width S vs) (drop (i + 1) hs)) left o.left gone_by,
+              g ∙ ap (λ (l : List (Label × List Frame)). get_elem? l left) split ∙ past_first (fired frame_width S vs h) (all (fired frame_width S vs) (drop (i + 1) hs)) left rest_left gone_by,
               omega arith,
             ),
           ),
         )
 
-    pub row_found : (f v before after : List ℕ) (r : Fired) → o.found ≡ true → v ≡ digits_of sizes o.at → Alike f (env p first v)
+    pub row_found : (j : ℕ) (f v before after : List ℕ) (r : Fired) → o.found ≡ Ok j → v ≡ digits_of sizes j → Alike f (env p first v)
         → ((S : Sig) (Ps : List (List ℕ)) (Γ vs : List ℕ) (a : Act) (ts : List Data) (cs : List (ℕ × List Data)) (rest : List ℕ) → Valued S s funcs f Γ vs → KnownParts S Ps s acts params → IsAct S a → Each (RightTerm S Γ) (takes_of S a) ts → Every (RightCall S Ps Γ) cs → length cs ≤ max_calls → drop o.end s ≡ encode_act a ++ (all encode_data ts ++ (encode_list encode_call cs ++ rest)) → Gives S (label S a (map (eval S vs) ts)) (map (call_frame frame_width S vs) cs) r before after)
         → (S : Sig) (Ps : List (List ℕ)) (Δ vs : List ℕ) (hs : List Summand) (rest : List ℕ) → AtRow S Ps s funcs acts params Δ vs hs → take p first ≡ vs → drop row s ≡ encode_list encode_summand hs ++ rest
         → Fires S (get_elem? (all (fired frame_width S vs) hs) k) (length (all (fired frame_width S vs) hs)) (Ok r) before after
     unfolding Rowing
-    row_found f v before after r yes_found ev alike given S Ps Δ vs hs rest there e here =
+    row_found j f v before after r yes_found ev alike given S Ps Δ vs hs rest there e here =
         let (en, (left_here, (g, m))) = w S Ps Δ vs hs rest there e here in
         let in_list : i < length hs = omega arith in
         let h : Summand = get_or hs i no_summand in
@@ -230,8 +230,8 @@ module _ (s funcs acts params first : List ℕ) (p row k n : ℕ) where
         let more : List ℕ = all encode_summand (drop (i + 1) hs) ++ rest in
         let this : drop at s ≡ encode_summand h ++ more = left_here ∙ all_first encode_summand hs i no_summand rest in_list in
         let ez : sizes ≡ sizes_of S h.vars = sized S h.vars there.known (vars_stand S Ps s funcs acts params Δ vs h there.known there.parts there.few there.in_sorts right at more this) (sorts S Ps s funcs acts params Δ vs h there.known there.parts there.few there.in_sorts right at more this) (few_vars S Ps s funcs acts params Δ vs h there.known there.parts there.few there.in_sorts right at more this) in
-        let at_k = hit S Ps s funcs acts params Δ vs h there.known there.parts there.few there.in_sorts right at more this p first e sizes ez b eb left o seeks yes_found in
+        let at_k = hit S Ps s funcs acts params Δ vs h there.known there.parts there.few there.in_sorts right at more this p first e sizes ez b eb left o seeks j yes_found in
         let split : all (fired frame_width S vs) (drop i hs) ≡ fired frame_width S vs h ++ all (fired frame_width S vs) (drop (i + 1) hs) = all_cons (fired frame_width S vs) hs i no_summand in_list in
         let at_left = g ∙ ap (λ (l : List (Label × List Frame)). get_elem? l left) split ∙ some_append (fired frame_width S vs h) (all (fired frame_width S vs) (drop (i + 1) hs)) left _ at_k in
         subst (λ (x : Option (Label × List Frame)). Fires S x (length (all (fired frame_width S vs) hs)) (Ok r) before after) (sym at_left)
-        (fires_here S Ps s funcs acts params Δ vs h there.known there.parts there.few there.in_sorts right at more this p first e sizes ez b eb left o seeks f v before after r ev alike given (length (all (fired frame_width S vs) hs)))
+        (fires_here S Ps s funcs acts params Δ vs h there.known there.parts there.few there.in_sorts right at more this p first e sizes ez b eb left o seeks j f v before after r ev alike given (length (all (fired frame_width S vs) hs)))

@@ -90,18 +90,18 @@ true_said true s h = refl
 true_said false s h = absurd (s h)
 
 module _ (s funcs first sizes : List ℕ) (p at k : ℕ) (r : Sought) where
-  pub seeks_any : get_or s at 0 ≡ 0 → r.end ≡ at + 1 → ((acc : ℕ → Bool) → ((i : ℕ) → acc i ≡ true) → Finds (places acc (product sizes) 0) k r.found r.at r.left) → Seeks s funcs first p sizes at k r
+  pub seeks_any : get_or s at 0 ≡ 0 → r.end ≡ at + 1 → ((acc : ℕ → Bool) → ((i : ℕ) → acc i ≡ true) → Finds (places acc (product sizes) 0) k r.found) → Seeks s funcs first p sizes at k r
   unfolding Seeks Meets Every all
   seeks_any none e any S Γ rest [] whole acc valued said right few here = (any acc (λ j. true_said (acc j) (said j) tt), ap (λ (x : ℕ). drop x s) e ∙ (conds_start s at [] rest here).1)
   seeks_any none e any S Γ rest (x ∷ cs) whole acc valued said right few here = absurd (omega (arith, (conds_start s at (x ∷ cs) rest here).0))
 
   pub seeks_met : (c : Conditions) → r.end ≡ c.end
       → ((S : Sig) (Γ : List ℕ) (cs : List (ℕ × Data)) (rest : List ℕ) → KnownTerms S s funcs → length Γ ≤ variable_code → Every (RightCond S Γ) cs → length cs ≤ max_conditions → drop at s ≡ encode_list encode_cond cs ++ rest → Prepared s p sizes cs rest c)
-      → (((i : ℕ) → i < c.count → Ready s p sizes c.froms c.ends c.blocks c.reach c.low i) → Finds (places (λ j. met s funcs c.froms c.ends c.count (env p first (digits_of sizes j))) (product sizes) 0) k r.found r.at r.left)
+      → (((i : ℕ) → i < c.count → Ready s p sizes c.froms c.ends c.blocks c.reach c.low i) → Finds (places (λ j. met s funcs c.froms c.ends c.count (env p first (digits_of sizes j))) (product sizes) 0) k r.found)
       → Seeks s funcs first p sizes at k r
   unfolding Seeks
   seeks_met c e conds finds S Γ rest cs whole acc valued said right few here =
       let prepared : Prepared s p sizes cs rest c = conds S Γ cs rest (valued 0).known (valued 0).short right few here in (
-        subst (λ (t : ℕ → Bool). Finds (places t (product sizes) 0) k r.found r.at r.left) (fun_ext (λ j. met_is S s funcs (env p first (digits_of sizes j)) Γ (whole j) (valued j) cs right p sizes rest c prepared (acc j) (said j))) (finds (ready s p sizes rest cs c prepared)),
+        subst (λ (t : ℕ → Bool). Finds (places t (product sizes) 0) k r.found) (fun_ext (λ j. met_is S s funcs (env p first (digits_of sizes j)) Γ (whole j) (valued j) cs right p sizes rest c prepared (acc j) (said j))) (finds (ready s p sizes rest cs c prepared)),
         ap (λ (x : ℕ). drop x s) e ∙ prepared.ends_at,
       )

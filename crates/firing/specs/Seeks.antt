@@ -17,4 +17,4 @@ unfoldable pub Seeks : List ℕ → List ℕ → List ℕ → ℕ → List ℕ �
 Seeks s funcs first p sizes at k r =
     (S : Sig) (Γ rest : List ℕ) (cs : List (ℕ × Data)) (whole : ℕ → List ℕ) (acc : ℕ → Bool) → ((j : ℕ) → Valued S s funcs (env p first (digits_of sizes j)) Γ (whole j)) → ((j : ℕ) → Says (acc j) (Meets S (whole j) cs))
     → Every (RightCond S Γ) cs → length cs ≤ max_conditions → drop at s ≡ encode_list encode_cond cs ++ rest
-    → Finds (places acc (product sizes) 0) k r.found r.at r.left × (drop r.end s ≡ rest)
+    → Finds (places acc (product sizes) 0) k r.found × (drop r.end s ≡ rest)

@@ -170,9 +170,7 @@ fn fire_at(
 // An assignment by its number, or how much of k is left; and where the conditions end.
 #[derive(Clone, Copy)]
 struct Sought {
-    found: bool,
-    at: usize,
-    left: u64,
+    found: Result<usize, u64>,
     end: usize,
 }
 
@@ -190,21 +188,15 @@ fn seek(
     ensures { (result.end ≤ max_stream + max_stream + 16) × Seeks s.now funcs.now first.at p z.at at k result }
 {
     if peek(s, at) == 0 {
-        let f = assignments::find_any(z, k);
         Sought {
-            found: f.found,
-            at: f.at,
-            left: f.left,
+            found: assignments::find_any(z, k),
             end: at + 1,
         }
     } else {
         let c = opening::conditions(s, funcs, at, p, z);
         let end = c.end;
-        let f = assignments::find(s, funcs, first, p, z, c, k);
         Sought {
-            found: f.found,
-            at: f.at,
-            left: f.left,
+            found: assignments::find(s, funcs, first, p, z, c, k),
             end: end,
         }
     }
@@ -231,12 +223,14 @@ fn fire_rows(
     for i in 0..n {
         let z = opening::sizes(s, funcs, at);
         let f = seek(s, funcs, first, p, at + 1 + wide(peek(s, at)), z, left);
-        if f.found {
-            let e = assignments::environment(first, p, assignments::values(z, f.at));
-            let a = e.at;
-            return Ok(fire_at(s, funcs, acts, params, &a, f.end, made));
-        }
-        left = f.left;
+        left = match f.found {
+            Ok(j) => {
+                let e = assignments::environment(first, p, assignments::values(z, j));
+                let a = e.at;
+                return Ok(fire_at(s, funcs, acts, params, &a, f.end, made));
+            }
+            Err(rest) => rest,
+        };
         at = past(s, funcs, acts, params, f.end);
     }
     Err(k.saturating_sub(left))

@@ -39,16 +39,16 @@ environment-e-requires c = let q = c.requires in (q.1.0, q.1.1.0)
 pub fire_at-requires : goal.fire_at-requires
 fire_at-requires c = let q = c.requires in (q.0, (omega (arith, c.seek-f.ensures.0), omega (arith, q.1.1.1.1, ap length c.loop-i.invariant.1.1.0)))
 
-pub shape_of-made-then-f : goal.shape_of-made-then-f
-shape_of-made-then-f c = c.fire_at.ensures.0.as_long ∙ ap length c.loop-i.invariant.1.1.0
+pub shape_of-made-in-Ok : goal.shape_of-made-in-Ok
+shape_of-made-in-Ok c = c.fire_at.ensures.0.as_long ∙ ap length c.loop-i.invariant.1.1.0
 
-pub returns-then-f : goal.returns-then-f
-returns-then-f c = (
+pub returns-in-Ok : goal.returns-in-Ok
+returns-in-Ok c = (
   let b = c.fire_at.ensures.0 in record { few_calls = b.few_calls; few_values = b.few_values; as_long = b.as_long ∙ ap length c.loop-i.invariant.1.1.0 },
   λ S Ps Δ vs hs rest there e here. let a = c.args in let l = c.loop-i in let v = c.values in let f = c.fire_at in let o = c.seek-f in
       let eb : l.at + 1 + c.wide.result ≡ l.at + 1 + get_or a.s.now l.at 0 = ap (λ (x : ℕ). l.at + 1 + x) (c.wide.ensures.0 ∙ c.peek-in-loop-i.ensures) in
       subst (λ (m : List ℕ). Fires S (get_elem? (all (fired frame_width S vs) hs) a.k) (length (all (fired frame_width S vs) hs)) (Ok f.result) m f.new.made) l.invariant.1.1.0
-      (row_found a.s.now a.funcs.now a.acts.now a.params.now a.first.at a.p a.row a.k c.wide-n.result l.at l.left l.i c.loop-i-test.true l.invariant.1.1.1 c.sizes-z.result.at (l.at + 1 + c.wide.result) eb c.sizes-z.ensures.1 o.result o.ensures.1 c.environment-e.result.at v.result.at l.made f.new.made f.result c.if-f.true v.ensures c.environment-e.ensures f.ensures.1 S Ps Δ vs hs rest there e here),
+      (row_found a.s.now a.funcs.now a.acts.now a.params.now a.first.at a.p a.row a.k c.wide-n.result l.at l.left l.i c.loop-i-test.true l.invariant.1.1.1 c.sizes-z.result.at (l.at + 1 + c.wide.result) eb c.sizes-z.ensures.1 o.result o.ensures.1 c.in-Ok.j c.environment-e.result.at v.result.at l.made f.new.made f.result c.in-Ok.is v.ensures c.environment-e.ensures f.ensures.1 S Ps Δ vs hs rest there e here),
 )
 
 pub past-at-requires : goal.past-at-requires
@@ -57,7 +57,7 @@ past-at-requires c = (c.requires.0, omega (arith, c.seek-f.ensures.0))
 pub loop-i-preserved : goal.loop-i-preserved
 loop-i-preserved c = let a = c.args in let l = c.loop-i in let o = c.seek-f in
     let eb : l.at + 1 + c.wide.result ≡ l.at + 1 + get_or a.s.now l.at 0 = ap (λ (x : ℕ). l.at + 1 + x) (c.wide.ensures.0 ∙ c.peek-in-loop-i.ensures) in
-    (omega arith, (c.past-at.ensures.0, (l.invariant.1.1.0, row_more a.s.now a.funcs.now a.acts.now a.params.now a.first.at a.p a.row a.k c.wide-n.result l.at l.left l.i c.loop-i-test.true l.invariant.1.1.1 c.sizes-z.result.at (l.at + 1 + c.wide.result) eb c.sizes-z.ensures.1 o.result o.ensures.1 c.past-at.result c.if-f.false c.past-at.ensures.1)))
+    (omega arith, (c.past-at.ensures.0, (l.invariant.1.1.0, row_more a.s.now a.funcs.now a.acts.now a.params.now a.first.at a.p a.row a.k c.wide-n.result l.at l.left l.i c.loop-i-test.true l.invariant.1.1.1 c.sizes-z.result.at (l.at + 1 + c.wide.result) eb c.sizes-z.ensures.1 o.result o.ensures.1 c.past-at.result c.in-Err.rest c.in-Err.is c.past-at.ensures.1)))
 
 pub shape_of-made : goal.shape_of-made
 shape_of-made c = ap length c.loop-i.invariant.1.1.0

@@ -11,7 +11,6 @@ use Rattle.assignments.proofs.gaps.lowest.Goals as goal
 pub loop-i-init : goal.loop-i-init
 loop-i-init c = (omega arith, λ st m h. absurd (omega arith))
 
-
 pub loop-i-preserved : goal.loop-i-preserved
 loop-i-preserved c = let a = c.args in let here = c.loop-i in (
   omega arith,

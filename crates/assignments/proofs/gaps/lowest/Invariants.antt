@@ -7,4 +7,3 @@ use Rattle.assignments.proofs.gaps.lowest.Given as goal
 
 abbrev pub invariant-loop-i : goal.invariant-loop-i
 invariant-loop-i l = (l.i ≤ l.n) × (((m : ℕ) → m < l.n → Standing l.s l.froms l.ends m) → (m : ℕ) → m < l.i → l.low ≤ foot l.p (code l.s (get_or l.froms m 0) (get_or l.ends m 0)))
-

@@ -18,11 +18,11 @@ returns-then-left-m c = let a = c.args in let l = c.loop-i in let b = lane_below
 pub loop-i-preserved : goal.loop-i-preserved
 loop-i-preserved c = let a = c.args in let l = c.loop-i in
     elim c.if-lanes-i-ne0.branch [
-      then-lanes-i-ne0+else-left-m w ↦ (
+      | then-lanes-i-ne0+else-left-m w ↦ (
         (omega (arith, w.left-is, l.invariant.0.0), l.invariant.0.1),
         λ acc says. subst (λ (x : ℕ). Lane a.lanes.now a.size a.g a.j a.k acc says (l.i + 1) x) (let z : l.left - a.g ≡ c.if-lanes-i-ne0.left = omega (arith, w.left-is, l.invariant.0.1) in z) (lane_some a.lanes.now a.size a.g a.j a.k acc says l.i l.left c.loop-i-test.true (λ z. w.if-lanes-i-ne0.true z) (omega (arith, w.if-left-m.false, l.invariant.0.1)) (l.invariant.1 acc says)),
       )
-    | else-lanes-i-ne0 w ↦ (
+      | else-lanes-i-ne0 w ↦ (
         (omega (arith, w.left-is, l.invariant.0.0), l.invariant.0.1),
         λ acc says. subst (λ (x : ℕ). Lane a.lanes.now a.size a.g a.j a.k acc says (l.i + 1) x) (sym w.left-is) (lane_none a.lanes.now a.size a.g a.j a.k acc says l.i l.left c.loop-i-test.true w.if-lanes-i-ne0.false (l.invariant.1 acc says)),
       )

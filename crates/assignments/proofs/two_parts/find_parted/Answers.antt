@@ -35,7 +35,7 @@ find_in-requires-in-Ok-find_rounds c = (c.requires.0, (c.requires.1.0, (c.requir
 
 pub returns-in_err-at-in-Ok-find_rounds : goal.returns-in_err-at-in-Ok-find_rounds
 returns-in_err-at-in-Ok-find_rounds c = let p = err_from_is_err_and c.from_residual.result c.from_residual.ensures.1 in rw (p.1, p.2) (
-  λ blocks reach low ge re ready apart. let a = c.args in let len = per_sum_length a.z _ c.well_formed.1.1.1.1.0 in
+    λ blocks reach low ge re ready apart. let a = c.args in let len = per_sum_length a.z _ c.well_formed.1.1.1.1.0 in
     let positive : (i : ℕ) → i < length a.z.at → 0 < get_or a.z.at i 0 = λ i h. (c.requires.1.1.1.0 i (omega arith)).0 in
     let few : a.p ≤ length a.params.at = let w = per_variable_length a.params _ c.well_formed.1.1.0 in omega (arith, c.requires.0) in
     absurd (parts_found a.s.now a.funcs.now a.froms.now a.ends.now blocks a.n a.p reach low a.z.at a.params.at positive ready few a.t apart c.grain-b.result c.grain-b.ensures.0 a.k c.in-Err.left (c.in-Err.ensures.1.1 (reach - a.p) ge (late_part a.s.now a.p a.z.at a.froms.now a.ends.now blocks a.n reach low positive ready a.t apart a.g ge)) (c.grain-b.result - c.in-Err.left) refl (omega arith) c.min.result (c.min.ensures ∙ ap (λ (x : ℕ). min (a.k / (c.grain-b.result - c.in-Err.left)) x) c.block_size-total.ensures.0) c.in-Ok-find_rounds.first (c.in-Ok-find_rounds.ensures.1.1 apart.level low apart.grain_is re (early_part a.s.now a.p a.z.at a.froms.now a.ends.now blocks a.n reach low positive ready a.t apart) (early_above a.s.now a.p a.z.at a.froms.now a.ends.now blocks a.n reach low positive ready a.t apart)) (Err _) (c.in_err-at-in-Ok-find_rounds.ensures.1.1 (reach - a.p) ge (late_part a.s.now a.p a.z.at a.froms.now a.ends.now blocks a.n reach low positive ready a.t apart a.g ge))))

@@ -16,7 +16,7 @@ loop-i-init c = let a = c.args in (refl, (refl, (c.requires.1.1.1.0, (c.requires
 pub loop-i-preserved : goal.loop-i-preserved
 loop-i-preserved c = let a = c.args in let l = c.loop-i in let v = l.invariant in
     elim c.if-w-b.branch [
-      then-w-b w ↦ rw (w.early-is, w.late-is, w.grain-is, w.low-is) (
+      | then-w-b w ↦ rw (w.early-is, w.late-is, w.grain-is, w.low-is) (
         v.0,
         (
           simp length-set v.1.0,
@@ -32,7 +32,7 @@ loop-i-preserved c = let a = c.args in let l = c.loop-i in let v = l.invariant i
           ),
         ),
       )
-    | else-w-b w ↦ rw (w.early-is, w.late-is, w.grain-is, w.low-is) (
+      | else-w-b w ↦ rw (w.early-is, w.late-is, w.grain-is, w.low-is) (
         simp length-set v.0,
         (
           v.1.0,
