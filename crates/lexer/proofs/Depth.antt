@@ -6,8 +6,7 @@ use Prim.Native.Nat.{ℕ, suc, pred, ◌+◌, ◌<◌, ◌≤◌, max}
 use native.Mathlib.Numerals.{add-one}
 use native.Mathlib.Decide.{ℕ_discrete}
 use native.Mathlib.Omega.{arith}
-use lib.ListN.{length, take, drop, get_or, drop_of_length-le}
-use lib.Seq.{get_or-take, length-take-le}
+use lib.ListN.{length, drop, get_or, drop_of_length-le}
 use Rattle.pcrl.specs.Text.{byte}
 use Rattle.pcrl.specs.Limits.{max_open}
 use Rattle.pcrl.specs.Tests.{same?}
@@ -91,37 +90,37 @@ pub few_open : (ts : List Token) (k : ℕ) → most_open 0 ts ≤ k → k ≤ ma
 unfolding Shallow
 few_open ts k l h = omega arith
 
-module _ (f : ℕ → Token) (cells : List ℕ) (n : ℕ) (r : n ≤ length cells) where
-  next_cell : (i : ℕ) → i < n → drop i (take n cells) ≡ get_or cells i 0 ∷ drop (i + 1) (take n cells)
-  next_cell i h = drop_at (take n cells) i (omega (arith, length-take-le n cells r)) ∙ ap (λ (x : ℕ). x ∷ drop (i + 1) (take n cells)) (get_or-take n cells i 0 h)
+module _ (f : ℕ → Token) (cells : List ℕ) where
+  next_cell : (i : ℕ) → i < length cells → drop i cells ≡ get_or cells i 0 ∷ drop (i + 1) cells
+  next_cell i h = drop_at cells i h
 
-  pub open_step : (i m k : ℕ) → i < n → m ≤ max_open → k ≡ open_behind (f (get_or cells i 0)) m
-      → max max_open (most_open m (map f (drop i (take n cells)))) ≡ max max_open (most_open k (map f (drop (i + 1) (take n cells))))
+  pub open_step : (i m k : ℕ) → i < length cells → m ≤ max_open → k ≡ open_behind (f (get_or cells i 0)) m
+      → max max_open (most_open m (map f (drop i cells))) ≡ max max_open (most_open k (map f (drop (i + 1) cells)))
   unfolding most_open
   open_step i m k h l e =
       ap (λ (x : List ℕ). max max_open (most_open m (map f x))) (next_cell i h)
-      ∙ (let q : max max_open (max m (most_open (open_behind (f (get_or cells i 0)) m) (map f (drop (i + 1) (take n cells)))))
-      ≡ max max_open (most_open (open_behind (f (get_or cells i 0)) m) (map f (drop (i + 1) (take n cells)))) = omega arith in q)
-      ∙ ap (λ (x : ℕ). max max_open (most_open x (map f (drop (i + 1) (take n cells))))) (sym e)
+      ∙ (let q : max max_open (max m (most_open (open_behind (f (get_or cells i 0)) m) (map f (drop (i + 1) cells))))
+      ≡ max max_open (most_open (open_behind (f (get_or cells i 0)) m) (map f (drop (i + 1) cells))) = omega arith in q)
+      ∙ ap (λ (x : ℕ). max max_open (most_open x (map f (drop (i + 1) cells)))) (sym e)
 
-  pub too_deep : (i k : ℕ) → max max_open (most_open k (map f (drop i (take n cells)))) ≡ max max_open (most_open 0 (map f (take n cells))) → max_open < k → Shallow (map f (take n cells)) → ⊥
+  pub too_deep : (i k : ℕ) → max max_open (most_open k (map f (drop i cells))) ≡ max max_open (most_open 0 (map f cells)) → max_open < k → Shallow (map f cells) → ⊥
   unfolding Shallow
-  too_deep i k e h s = omega (arith, most_open_ge k (map f (drop i (take n cells))))
+  too_deep i k e h s = omega (arith, most_open_ge k (map f (drop i cells)))
 
-  pub open_end : (i k : ℕ) → n ≤ i → most_open k (map f (drop i (take n cells))) ≡ k
+  pub open_end : (i k : ℕ) → length cells ≤ i → most_open k (map f (drop i cells)) ≡ k
   unfolding most_open
-  open_end i k h = ap (λ (x : List ℕ). most_open k (map f x)) (drop_of_length-le (take n cells) {i = i} (omega (arith, length-take-le n cells r)))
+  open_end i k h = ap (λ (x : List ℕ). most_open k (map f x)) (drop_of_length-le cells {i = i} h)
 
-  pub never_deep : (i k : ℕ) → max max_open (most_open k (map f (drop i (take n cells)))) ≡ max max_open (most_open 0 (map f (take n cells))) → n ≤ i → k ≤ max_open → Shallow (map f (take n cells))
+  pub never_deep : (i k : ℕ) → max max_open (most_open k (map f (drop i cells))) ≡ max max_open (most_open 0 (map f cells)) → length cells ≤ i → k ≤ max_open → Shallow (map f cells)
   unfolding Shallow
   never_deep i k e h l = omega (arith, open_end i k h)
 
   -- with as many open as were opened, at a cell that opens k
-  pub opened_step : (i m k : ℕ) → i < n → open_behind (f (get_or cells i 0)) m ≤ m + k
-      → most_open m (map f (drop i (take n cells))) ≤ most_open (m + k) (map f (drop (i + 1) (take n cells)))
+  pub opened_step : (i m k : ℕ) → i < length cells → open_behind (f (get_or cells i 0)) m ≤ m + k
+      → most_open m (map f (drop i cells)) ≤ most_open (m + k) (map f (drop (i + 1) cells))
   unfolding most_open
   opened_step i m k h l =
-      let rest : List Token = map f (drop (i + 1) (take n cells)) in
+      let rest : List Token = map f (drop (i + 1) cells) in
       let q : max m (most_open (open_behind (f (get_or cells i 0)) m) rest) ≤ most_open (m + k) rest
       = omega (arith, most_open_ge (m + k) rest, most_open_mono rest (open_behind (f (get_or cells i 0)) m) (m + k) l) in
       subst⁻¹ (λ (x : List ℕ). most_open m (map f x) ≤ most_open (m + k) rest) (next_cell i h) q

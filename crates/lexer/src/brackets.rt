@@ -1,5 +1,5 @@
 // Question 4: round brackets that are open.
-ghost use Rattle.std.specs.Prelude.{◌≡◌, List, map, ℕ, ◌+◌, ◌≤◌, length, take};
+ghost use Rattle.std.specs.Prelude.{◌≡◌, List, map, ℕ, ◌+◌, ◌≤◌, length};
 ghost use Rattle.pcrl.specs.Limits.{max_bytes, max_open};
 ghost use Rattle.pcrl.specs.Tokens as T;
 ghost use Rattle.laws.specs.Says.{Says};
@@ -31,29 +31,29 @@ fn opens(c: u16) -> u16
     }
 }
 
-// How many the first n cells open: never are more open. The loop has one way out, so that the compiler tests many cells at once.
-fn opened(cells: &[u16], n: usize) -> u16
-    requires { (n ≤ length cells.now) × (n ≤ max_bytes) }
-    ensures { (s : List ℕ) → T.most_open 0 (map (cell_token s) (take n cells.now)) ≤ result }
+// How many the cells open: never are more open. The loop has one way out, so that the compiler tests many cells at once.
+fn opened(cells: &[u16]) -> u16
+    requires { length cells.now ≤ max_bytes }
+    ensures { (s : List ℕ) → T.most_open 0 (map (cell_token s) cells.now) ≤ result }
 {
     let mut count: u16 = 0;
-    for i in 0..n {
-        count += opens(cells[i]);
+    for c in cells {
+        count += opens(*c);
     }
     count
 }
 
-// Never more than 16 round brackets open behind the first n cells? One by one only where more are opened at all.
-pub fn shallow(cells: &[u16], n: usize) -> bool
-    requires { (n ≤ length cells.now) × (n ≤ max_bytes) }
-    ensures { (s : List ℕ) → Says result (T.Shallow (map (cell_token s) (take n cells.now))) }
+// Never more than 16 round brackets open behind the cells? One by one only where more are opened at all.
+pub fn shallow(cells: &[u16]) -> bool
+    requires { length cells.now ≤ max_bytes }
+    ensures { (s : List ℕ) → Says result (T.Shallow (map (cell_token s) cells.now)) }
 {
-    if wide(opened(cells, n)) <= MAX_OPEN {
+    if wide(opened(cells)) <= MAX_OPEN {
         return true;
     }
     let mut count: usize = 0;
-    for i in 0..n {
-        count = open_behind(cells[i], count);
+    for c in cells {
+        count = open_behind(*c, count);
         if MAX_OPEN < count {
             return false;
         }

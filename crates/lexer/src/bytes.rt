@@ -6,8 +6,6 @@ ghost use Rattle.pcrl.specs.Tokens as T;
 ghost use Rattle.laws.specs.Says.{Says};
 ghost use Rattle.lexer.specs.Classes.{class_of, in_classes};
 
-use elements::{both, smaller};
-
 // Classes: those of a name stand one after another.
 pub const SEPARATOR: u8 = 1;
 
@@ -53,19 +51,14 @@ pub fn run_within(s: &[u8], at: usize, most: usize, lo: u8, hi: u8) -> usize
     requires { at ≤ length s.now }
     ensures { result ≡ min most (T.run (in_classes lo hi) (drop at s.now)) }
 {
-    let end = at + smaller(s.len() - at, most);
-    let mut i = at;
-    while i < end {
+    let end = at + most.min(s.len() - at);
+    for i in at..end {
         let k = class(s[i]);
-        if k < lo {
+        if k < lo || hi < k {
             return i - at;
         }
-        if hi < k {
-            return i - at;
-        }
-        i += 1;
     }
-    i - at
+    end - at
 }
 
 // How many bytes from `at` on have a class from lo to hi, one after another.
@@ -88,14 +81,13 @@ fn separator(b: u8) -> bool
     }
 }
 
-// Is each of the n bytes from `at` on a separator? One way out, as in block_printable; where n is a constant the compiler leaves no loop.
-fn row_separates(s: &[u8], at: usize, n: usize) -> bool
-    requires { at + n ≤ length s.now }
-    ensures { Says result ((k : ℕ) → k < at + n → at ≤ k → B.separator (get_or s.now k 0) ≡ true) }
+// Is each byte a separator? One way out, as in block_printable; where there are so many as a constant says the compiler leaves no loop.
+fn row_separates(row: &[u8]) -> bool
+    ensures { Says result ((k : ℕ) → k < length row.now → B.separator (get_or row.now k 0) ≡ true) }
 {
     let mut good = true;
-    for i in 0..n {
-        good = both(good, separator(s[at + i]));
+    for b in row {
+        good = good & separator(*b);
     }
     good
 }
@@ -112,7 +104,7 @@ fn past_rows(s: &[u8], at: usize) -> usize
 {
     let mut i = at;
     while ROW <= s.len() - i {
-        if !row_separates(s, i, ROW) {
+        if !row_separates(&s[i..i + ROW]) {
             return i;
         }
         i += ROW;
@@ -186,14 +178,14 @@ fn printable(b: u8) -> bool
 // How many bytes are tested before the first answer.
 const BLOCK: usize = 256;
 
-// Is each byte from `at` on and before `end` printable? The loop has one way out, so that the compiler tests many bytes at once.
-fn block_printable(s: &[u8], at: usize, end: usize) -> bool
-    requires { (at ≤ end) × (end ≤ length s.now) }
-    ensures { Says result ((k : ℕ) → k < end → at ≤ k → B.printable (get_or s.now k 0) ≡ true) }
+// Is each byte printable? The loop has one way out, so that the compiler tests many bytes at once. It stands twice, here and in
+// row_separates, since the test of the calls (tools/no-recursion) reads no function that is handed over.
+fn block_printable(block: &[u8]) -> bool
+    ensures { Says result (B.Printable block.now) }
 {
     let mut good = true;
-    for i in at..end {
-        good = both(good, printable(s[i]));
+    for b in block {
+        good = good & printable(*b);
     }
     good
 }
@@ -202,13 +194,10 @@ fn block_printable(s: &[u8], at: usize, end: usize) -> bool
 pub fn all_printable(s: &[u8]) -> bool
     ensures { Says result (B.Printable s.now) }
 {
-    let mut i = 0;
-    while i < s.len() {
-        let end = i + smaller(s.len() - i, BLOCK);
-        if !block_printable(s, i, end) {
+    for block in s.chunks(BLOCK) {
+        if !block_printable(block) {
             return false;
         }
-        i = end;
     }
     true
 }

@@ -91,7 +91,7 @@ pub fn lex(sheet: &[u8], out: &mut [u16]) -> Result<usize, Refusal>
         return Err(Refusal::NotText);
     }
     let n = tokens(sheet, out)?;
-    if !shallow(out, n) {
+    if !shallow(&out[..n]) {
         return Err(Refusal::TooOpen);
     }
     Ok(n)

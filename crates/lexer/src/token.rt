@@ -102,8 +102,8 @@ fn value_of(t: &[u8]) -> Option<u16>
     ensures { result ≡ capped (T.value_of 0 t.now) }
 {
     let mut v: u16 = 0;
-    for i in 0..t.len() {
-        v = v * 10 + digit_value(t[i]);
+    for b in t {
+        v = v * 10 + digit_value(*b);
         if MAX_NUMERAL < v {
             return None;
         }

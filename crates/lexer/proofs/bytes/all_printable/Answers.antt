@@ -1,18 +1,32 @@
 -- `lexer::bytes::all_printable`: the bytes of the blocks passed are printable.
-use Prim.Native.Nat.{◌+◌}
+use mathlib.Core.Path.{◌≡◌, ap, ◌∙◌, subst, subst⁻¹}
 use native.Mathlib.Omega.{arith}
-use Rattle.laws.specs.Says.{said_yes, said_no}
-use Rattle.lexer.proofs.EachByte.{up_to, unprintable, all_printable}
+use Rattle.std.specs.Slice.Iter.{chunks_rest, chunks_size}
+use Rattle.pcrl.specs.Bytes.{Printable}
+use Rattle.lexer.proofs.EachByte.{none_printable, both_printable, front_printable, back_printable}
 use Rattle.lexer.proofs.bytes.all_printable.Goals as goal
 
-pub loop-i-init : goal.loop-i-init
-loop-i-init c = (omega arith, λ k h. absurd (omega arith))
+pub loop-block-init : goal.loop-block-init
+loop-block-init c =
+    let e : chunks_rest c.into_iter-block-iterator.result ≡ c.args.s.now = ap chunks_rest c.into_iter-block-iterator.ensures.into_iter_gives ∙ c.chunks-block-items.ensures.rest in
+    let n : chunks_size c.into_iter-block-iterator.result ≡ 256 = ap chunks_size c.into_iter-block-iterator.ensures.into_iter_gives ∙ c.chunks-block-items.ensures.size in
+    (omega arith, tt, λ p. subst Printable e p, λ p. subst⁻¹ Printable e p)
 
 pub returns-then-not-block_printable : goal.returns-then-not-block_printable
-returns-then-not-block_printable c = unprintable c.args.s.now c.loop-i.i (c.loop-i.i + c.smaller.result) (omega arith) (said_no c.block_printable.result c.block_printable.ensures c.if-not-block_printable.true)
+returns-then-not-block_printable c =
+    let e = c.in-Some.ensures.steps.1.0 in
+    λ p. c.if-not-block_printable.ensures (front_printable _ _ _ e (c.loop-block.invariant.3 p))
 
-pub loop-i-preserved : goal.loop-i-preserved
-loop-i-preserved c = (omega arith, up_to c.args.s.now c.loop-i.i (c.loop-i.i + c.smaller.result) c.loop-i.invariant.1 (said_yes c.block_printable.result c.block_printable.ensures c.if-not-block_printable.false))
+pub loop-block-preserved : goal.loop-block-preserved
+loop-block-preserved c =
+    let e = c.in-Some.ensures.steps.1.0 in
+    let n = c.in-Some.ensures.steps.0 in
+    let m = c.loop-block.invariant.0 in (
+      omega arith,
+      tt,
+      λ p. c.loop-block.invariant.2 (both_printable _ _ _ e c.if-not-block_printable.ensures p),
+      λ p. back_printable _ _ _ e (c.loop-block.invariant.3 p),
+    )
 
 pub returns : goal.returns
-returns c = all_printable c.args.s.now c.loop-i.i (omega arith) c.loop-i.invariant.1
+returns c = c.loop-block.invariant.2 (none_printable _ c.in-None.ensures.steps.1.0)

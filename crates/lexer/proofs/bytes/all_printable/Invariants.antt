@@ -1,12 +1,9 @@
-use mathlib.Core.Bool.{true}
-use mathlib.Core.Path.{◌≡◌}
-use Prim.Native.Nat.{ℕ, ◌-◌, ◌≤◌, ◌<◌}
-use lib.ListN.{length, get_or}
-use Rattle.pcrl.specs.Bytes.{printable}
+use Rattle.std.specs.Slice.Iter.{chunks_rest}
+use Rattle.pcrl.specs.Bytes.{Printable}
 use Rattle.lexer.proofs.bytes.all_printable.Given as goal
 
-abbrev pub invariant-loop-i : goal.invariant-loop-i
-invariant-loop-i l = (l.i ≤ length l.s) × ((k : ℕ) → k < l.i → printable (get_or l.s k 0) ≡ true)
-
-abbrev pub decreases-loop-i : goal.decreases-loop-i
-decreases-loop-i l = length l.s - l.i
+-- The blocks passed are printable: so are all bytes, if and only if those to come are.
+abbrev pub invariant-loop-block : goal.invariant-loop-block
+invariant-loop-block l =
+    (goal.iterator-loop-block).can_next l.block-iterator × (goal.iterator-loop-block).is_finite l.block-iterator
+    × (Printable (chunks_rest l.block-iterator) → Printable l.s) × (Printable l.s → Printable (chunks_rest l.block-iterator))

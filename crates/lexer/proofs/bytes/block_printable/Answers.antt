@@ -1,18 +1,15 @@
 -- `lexer::bytes::block_printable`: what is known so far is the answer for the bytes passed.
-use Prim.Native.Nat.{◌+◌}
 use native.Mathlib.Omega.{arith}
-use mathlib.Core.Bool.{Bool}
-use mathlib.Core.Path.{subst⁻¹}
 use Rattle.pcrl.specs.Bytes.{printable}
-use Rattle.laws.specs.Says.{Says, says_as}
-use Rattle.lexer.proofs.EachByte.{Between, says_more}
+use Rattle.laws.specs.Says.{says_as}
+use Rattle.lexer.proofs.EachByte.{says_more, all_printable, each_printable}
 use Rattle.lexer.proofs.bytes.block_printable.Goals as goal
 
-pub loop-i-init : goal.loop-i-init
-loop-i-init c = (omega arith, omega arith, λ k h l. absurd (omega arith))
+pub loop-b-init : goal.loop-b-init
+loop-b-init c = λ k h. absurd (omega arith)
 
-pub loop-i-preserved : goal.loop-i-preserved
-loop-i-preserved c = (omega arith, omega arith, subst⁻¹ (λ (t : Bool). Says t (Between printable c.args.s.now c.args.at (c.loop-i.i + 1))) c.both-good.ensures (says_more printable c.args.s.now c.args.at c.loop-i.i c.loop-i.good c.printable.result (omega arith) c.printable.ensures c.loop-i.invariant.2))
+pub loop-b-preserved : goal.loop-b-preserved
+loop-b-preserved c = says_more printable c.args.block.now c.loop-b.b-index c.loop-b.good c.printable-good.result c.printable-good.ensures c.loop-b.invariant
 
 pub returns : goal.returns
-returns c = says_as c.loop-i.good (λ f k h l. f k (omega arith) l) (λ f k h l. f k (omega arith) l) c.loop-i.invariant.2
+returns c = says_as c.loop-b.good (λ f. all_printable c.args.block.now c.loop-b.b-index (omega arith) f) (λ p. each_printable c.args.block.now c.loop-b.b-index (omega arith) p) c.loop-b.invariant

@@ -1,8 +1,7 @@
-use Prim.Native.Nat.{◌≤◌}
 use Rattle.pcrl.specs.Bytes.{printable}
 use Rattle.laws.specs.Says.{Says}
-use Rattle.lexer.proofs.EachByte.{Between}
+use Rattle.lexer.proofs.EachByte.{First}
 use Rattle.lexer.proofs.bytes.block_printable.Given as goal
 
-abbrev pub invariant-loop-i : goal.invariant-loop-i
-invariant-loop-i l = (l.at ≤ l.i) × (l.i ≤ l.end) × Says l.good (Between printable l.s l.at l.i)
+abbrev pub invariant-loop-b : goal.invariant-loop-b
+invariant-loop-b l = Says l.good (First printable l.block l.b-index)

@@ -1,8 +1,7 @@
-use Prim.Native.Nat.{◌+◌, ◌≤◌}
 use Rattle.pcrl.specs.Bytes.{separator}
 use Rattle.laws.specs.Says.{Says}
-use Rattle.lexer.proofs.EachByte.{Between}
+use Rattle.lexer.proofs.EachByte.{First}
 use Rattle.lexer.proofs.bytes.row_separates.Given as goal
 
-abbrev pub invariant-loop-i : goal.invariant-loop-i
-invariant-loop-i l = (l.i ≤ l.n) × Says l.good (Between separator l.s l.at (l.at + l.i))
+abbrev pub invariant-loop-b : goal.invariant-loop-b
+invariant-loop-b l = Says l.good (First separator l.row l.b-index)
