@@ -7,9 +7,11 @@ use lib.ListN.{length, get_or, take, drop}
 use lib.Seq.{take_all}
 use Rattle.pcrl.specs.Text.{bytes, decimal}
 use Rattle.pcrl.specs.Reader.{all}
-use Rattle.rendering.specs.Texts.{joined_text}
+use Rattle.rendering.specs.Texts.{joined_text, bracketed_text}
 use Rattle.rendering.specs.TextLaws.{joined_first}
+use Rattle.pcrl.specs.Walk.{values_text}
 use Rattle.texts.specs.Wrote.{Wrote}
+use Rattle.texts.specs.Pieces.{bracketed}
 use Rattle.texts.proofs.Writing.{wrote_more, wrote_fits}
 use Rattle.lettering.specs.Named.{sort_by}
 use Rattle.declarations.specs.Lines.{sort_line_by, colon_before}
@@ -20,6 +22,18 @@ empty_of (x ∷ l) e = absurd (omega arith)
 
 pub value_is : (n v : ℕ) → n ≡ v → n < 256 → decimal (n % 256) ≡ decimal v
 value_is n v e h = let z : n % 256 ≡ v = omega arith in ap decimal z
+
+-- values by commas, as the walk and as the printer prints them
+pub values_joined : (vs : List ℕ) → values_text vs ≡ joined_text (bytes ",") (map decimal vs)
+unfolding values_text joined_text
+values_joined [] = refl
+values_joined (v ∷ []) = refl
+values_joined (v ∷ (w ∷ vs)) = ap (λ (t : List ℕ). decimal v ++ (bytes "," ++ t)) (values_joined (w ∷ vs))
+
+pub values_bracketed : (vs : List ℕ) → bracketed vs ≡ bracketed_text (map decimal vs)
+unfolding bracketed bracketed_text
+values_bracketed [] = refl
+values_bracketed (v ∷ vs) = ap (λ (t : List ℕ). bytes "(" ++ (t ++ bytes ")")) (values_joined (v ∷ vs))
 
 pub no_colon : (n : ℕ) → n ≡ 0 → [] ≡ colon_before n
 unfolding colon_before

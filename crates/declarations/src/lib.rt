@@ -1,15 +1,14 @@
 #![tactic(auto)]
 // The lines of sorts, functions and actions as text, read from the stream.
-ghost use Rattle.std.specs.Prelude.{◌≡◌, List, map, ℕ, ◌+◌, ◌*◌, ◌≤◌, ◌<◌, length, get_or, drop};
+ghost use Rattle.std.specs.Prelude.{◌≡◌, List, ℕ, ◌+◌, ◌*◌, ◌≤◌, ◌<◌, length, get_or, drop};
 ghost use Rattle.pcrl.specs.Limits.{max_stream};
 ghost use Rattle.pcrl.specs.Tests.{Every};
-ghost use Rattle.pcrl.specs.Text.{bytes, decimal};
 ghost use Rattle.pcrl.specs.Reader.{all};
 ghost use Rattle.pcrl.specs.Sheet.{Func, Action, Sig};
 ghost use Rattle.pcrl.specs.Stream.{encode_func, encode_action};
 ghost use Rattle.pcrl.specs.Right.{RightFunc, RightAction};
 ghost use Rattle.pcrl.specs.Printer.{numbered};
-ghost use Rattle.rendering.specs.Texts.{joined_text, concat, sort_line_text, func_line_text, act_line_text};
+ghost use Rattle.rendering.specs.Texts.{concat, sort_line_text, func_line_text, act_line_text};
 ghost use Rattle.terms.specs.Stands.{Stands, size_in};
 ghost use Rattle.evaluation.specs.Known.{KnownTerms};
 ghost use Rattle.firing.specs.Known.{KnownParts};
@@ -17,9 +16,9 @@ ghost use Rattle.texts.specs.Wrote.{Wrote};
 ghost use Rattle.lettering.specs.Named.{Lettered};
 ghost use Rattle.declarations.specs.Lines.{sort_line_by, takes_by, func_head_by, colon_before};
 
-use elements::{cell, low, peek, smaller, wide};
+use elements::{cell, low, peek, wide};
 use lettering::{FUNCS, put_name, put_sort};
-use texts::{put_byte, put_bytes, put_decimal, put_value};
+use texts::{put_byte, put_bytes, put_decimal, put_values};
 
 // "`sort` name size"
 fn put_sort_line(out: &mut [u8], at: usize, l: &[u8], d: u8, size: u8) -> usize
@@ -40,11 +39,9 @@ pub fn put_sorts(funcs: &[u16], n: usize, l: &[u8], out: &mut [u8], at: usize) -
     ensures wrote { (S : Sig) (s : List ℕ) → KnownTerms S s funcs.now → Lettered S l.now → n ≡ length S.sorts → Wrote out.old at (concat (numbered (sort_line_text S) 1 (drop 1 S.sorts))) out.new result }
 {
     let mut p = at;
-    let mut i: usize = 0;
-    while i + 1 < n {
-        let d = low(i + 1);
+    for i in 1..n {
+        let d = low(i);
         p = put_sort_line(out, p, l, d, terms::size_of(funcs, d));
-        i += 1;
     }
     p
 }
@@ -61,22 +58,6 @@ fn put_takes(sorts: &[u8], l: &[u8], out: &mut [u8], at: usize) -> usize
     for i in 1..sorts.len() {
         let q = put_byte(out, p, b'#');
         p = put_sort(out, q, l, sorts[i]);
-    }
-    p
-}
-
-// "values by commas"
-pub fn put_values(vs: &[u8], out: &mut [u8], at: usize) -> usize
-    requires { at ≤ length out.old }
-    ensures { Wrote out.old at (joined_text (bytes ",") (map decimal vs.now)) out.new result }
-{
-    if vs.len() == 0 {
-        return at;
-    }
-    let mut p = put_value(out, at, vs[0]);
-    for i in 1..vs.len() {
-        let q = put_byte(out, p, b',');
-        p = put_value(out, q, vs[i]);
     }
     p
 }
@@ -111,8 +92,8 @@ pub fn bytes_at(s: &[u8], from: usize, n: usize) -> &[u8]
     requires { (length s.now ≤ max_stream) × (n < 65536) }
     ensures { (e : List ℕ) → Stands s.now from e → length e ≡ n → result.now ≡ e }
 {
-    let v = smaller(from, s.len());
-    let w = smaller(v + n, s.len());
+    let v = from.min(s.len());
+    let w = (v + n).min(s.len());
     &s[v..w]
 }
 
@@ -156,7 +137,7 @@ fn put_func(
     let a = put_func_head(takes, f, l, out, at);
     let b = put_sort(out, a, l, gives);
     let c = put_byte(out, b, b'=');
-    let d = put_values(values_at(s, funcs, from), out, c);
+    let d = put_values(out, c, values_at(s, funcs, from));
     put_byte(out, d, b';')
 }
 

@@ -1,7 +1,7 @@
 -- The size of one sort, or the product of two.
 use native.Mathlib.Omega.{arith}
 use mathlib.Core.Path.{ap₂, ◌∙◌}
-use Prim.Native.Nat.{ℕ, ◌-◌, ◌*◌}
+use Prim.Native.Nat.{ℕ, ◌*◌}
 use Rattle.declarations.proofs.Functions.{one_sort, two_sorts}
 use Rattle.declarations.proofs.many_values.Goals as goal
 

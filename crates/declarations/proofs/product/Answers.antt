@@ -1,7 +1,7 @@
 -- A product of two bytes.
 use native.Mathlib.Omega.{arith}
 use mathlib.Core.Path.{ap₂}
-use Prim.Native.Nat.{ℕ, ◌-◌, ◌*◌}
+use Prim.Native.Nat.{ℕ, ◌*◌}
 use Rattle.laws.specs.Places.{small_product}
 use Rattle.declarations.proofs.product.Goals as goal
 

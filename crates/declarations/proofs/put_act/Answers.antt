@@ -1,7 +1,7 @@
 -- Five pieces; the action's parts stand in the stream.
 use native.Mathlib.Omega.{arith}
 use mathlib.Core.Path.{◌≡◌, sym, ap, ◌∙◌}
-use Prim.Native.Nat.{ℕ, ◌+◌, ◌-◌}
+use Prim.Native.Nat.{ℕ, ◌+◌}
 use lib.ListN.{length, get_or}
 use Rattle.texts.proofs.Writing.{wrote_fits, wrote_as}
 use Rattle.pcrl.specs.Right.{RightAction}

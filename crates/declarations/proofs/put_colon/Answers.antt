@@ -1,7 +1,6 @@
 -- Nothing, or a colon.
 use mathlib.Core.List.{[]}
 use native.Mathlib.Omega.{arith}
-use Prim.Native.Nat.{◌-◌}
 use Rattle.texts.proofs.Writing.{wrote_nothing, wrote_as}
 use Rattle.declarations.proofs.Chains.{no_colon, some_colon}
 use Rattle.declarations.proofs.put_colon.Goals as goal

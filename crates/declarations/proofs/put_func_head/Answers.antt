@@ -1,6 +1,5 @@
 -- Five pieces, one behind another.
 use native.Mathlib.Omega.{arith}
-use Prim.Native.Nat.{◌-◌}
 use Rattle.declarations.proofs.Chains.{five}
 use Rattle.declarations.proofs.put_func_head.Goals as goal
 

@@ -1,5 +1,5 @@
 use mathlib.Core.Path.{◌≡◌}
-use Prim.Native.Nat.{◌-◌, ◌≤◌}
+use Prim.Native.Nat.{◌≤◌}
 use lib.ListN.{length, take}
 use Rattle.texts.specs.Wrote.{Wrote}
 use Rattle.pcrl.specs.Printer.{numbered}
@@ -11,4 +11,3 @@ use Rattle.declarations.proofs.put_funcs.Given as goal
 
 abbrev pub invariant-loop-f : goal.invariant-loop-f
 invariant-loop-f l = (l.f ≤ l.n) × (((l.p ≤ length l.out) × (length l.out ≡ length l.initial.out)) × ((S : Sig) → KnownTerms S l.s l.funcs → length S.funcs ≤ 256 → Lettered S l.l → l.n ≡ length S.funcs → Wrote l.initial.out l.at (concat (numbered (func_line_text S) 0 (take l.f S.funcs))) l.out l.p))
-

@@ -1,7 +1,6 @@
 -- Five pieces, one behind another.
 use native.Mathlib.Omega.{arith}
 use mathlib.Core.Path.{◌≡◌}
-use Prim.Native.Nat.{◌-◌}
 use Rattle.texts.proofs.Writing.{wrote_as}
 use Rattle.declarations.proofs.Chains.{five, size_is}
 use Rattle.declarations.proofs.put_sort_line.Goals as goal

@@ -11,7 +11,4 @@ use Rattle.lettering.specs.Named.{Lettered}
 use Rattle.declarations.proofs.put_sorts.Given as goal
 
 abbrev pub invariant-loop-i : goal.invariant-loop-i
-invariant-loop-i l = (l.i ≤ l.n - 1) × (((l.p ≤ length l.out) × (length l.out ≡ length l.initial.out)) × ((S : Sig) (s : List ℕ) → KnownTerms S s l.funcs → Lettered S l.l → l.n ≡ length S.sorts → Wrote l.initial.out l.at (concat (numbered (sort_line_text S) 1 (take l.i (drop 1 S.sorts)))) l.out l.p))
-
-abbrev pub decreases-loop-i : goal.decreases-loop-i
-decreases-loop-i l = l.n - l.i
+invariant-loop-i l = ((l.p ≤ length l.out) × (length l.out ≡ length l.initial.out)) × ((S : Sig) (s : List ℕ) → KnownTerms S s l.funcs → Lettered S l.l → l.n ≡ length S.sorts → Wrote l.initial.out l.at (concat (numbered (sort_line_text S) 1 (take (l.i - 1) (drop 1 S.sorts)))) l.out l.p)

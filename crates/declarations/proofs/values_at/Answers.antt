@@ -1,6 +1,6 @@
 -- The part of the stream behind the sorts and the result.
 use mathlib.Core.Path.{sym, ap, subst, ◌∙◌}
-use Prim.Native.Nat.{ℕ, ◌+◌, ◌-◌}
+use Prim.Native.Nat.{ℕ, ◌+◌}
 use lib.ListN.{length}
 use Rattle.terms.specs.Stands.{Stands}
 use Rattle.declarations.proofs.Functions.{takes_list, values_stand}
