@@ -1,7 +1,7 @@
 -- A node's share, a node written, and a term written node by node.
 use mathlib.Core.Path.{◌≡◌, refl, sym, ap, ap₂, ◌∙◌, subst}
 use mathlib.Core.List.{List, [], ◌∷◌, ◌++◌, append_assoc, append-nil}
-use mathlib.Core.Bool.{true, false}
+use Rattle.std.specs.Prelude.{Option, Some, None}
 use Prim.Native.Nat.{ℕ, ◌+◌, ◌-◌, ◌*◌, ◌%◌, ◌<◌, ◌≤◌}
 use native.Mathlib.Omega.{arith}
 use native.Mathlib.Decide.{dec_le}
@@ -14,7 +14,6 @@ use Rattle.pcrl.specs.Values.{put_data}
 use Rattle.pcrl.specs.Table.{nodes}
 use Rattle.pcrl.specs.Stream.{function_code, encode_data}
 use Rattle.pcrl.specs.Heads.{look}
-use Rattle.laws.specs.Booleans.{false_not_true}
 use Rattle.laws.specs.TermLength.{narrow_length, max_term}
 use Rattle.nodes.specs.declared.Datum.{Datum}
 use Rattle.nodes.specs.Layout.{byte_limit, value_tag, variable_tag, function_tag, enc_data, enc_datas}
@@ -177,14 +176,14 @@ module _ (cells : List ℕ) (at : ℕ) (slots : List ℕ) (n w : ℕ) (o : List 
   }
 
   module _ (p need k v : ℕ) (out : List ℕ) (left : PutLeft p need k v out) where
-    pub put_stuck : length cells ≤ p → 0 < need → (r : TermPut) (o' : List ℕ) → Puts cells at slots n w o r o'
+    pub put_stuck : length cells ≤ p → 0 < need → (r : Option TermPut) (o' : List ℕ) → Puts cells at slots n w o r o'
     put_stuck h j r o' d rest σ e s a =
         let u = left d rest σ e s a in
         absurd (omega (arith, u.many, datas_inside cells p u.terms rest u.place))
 
-    pub put_done : need ≡ 0 → k ≤ max_nodes → Puts cells at slots n w o (record { ok = true; nodes = k; w = v; next = p }) out
+    pub put_done : need ≡ 0 → k ≤ max_nodes → Puts cells at slots n w o (Some (record { nodes = k; w = v; next = p })) out
     unfolding enc_datas put_bytes put_nodes
-    put_done z few d rest σ e s a = (λ t. go (left d rest σ e s a).terms (left d rest σ e s a).many (left d rest σ e s a).place (left d rest σ e s a).bytes (left d rest σ e s a).nodes_are, λ t. false_not_true (sym t))
+    put_done z few d rest σ e s a = go (left d rest σ e s a).terms (left d rest σ e s a).many (left d rest σ e s a).place (left d rest σ e s a).bytes (left d rest σ e s a).nodes_are
       where
         go : (es : List Data) → length es ≡ need → drop p cells ≡ enc_datas es ++ rest → take v out ++ put_bytes σ es ≡ take w o ++ encode_data (put_data (look σ) d) → k + put_nodes σ es ≡ nodes (put_data (look σ) d)
             → (k ≡ nodes (put_data (look σ) d)) × (nodes (put_data (look σ) d) ≤ max_nodes) × Adds (encode_data (put_data (look σ) d)) w o v out × (drop p cells ≡ rest)
@@ -219,9 +218,9 @@ module _ (cells : List ℕ) (at : ℕ) (slots : List ℕ) (n w : ℕ) (o : List 
               }
 
       -- too many nodes
-      pub put_long : max_nodes + 1 < k + r.nodes + need → (q : ℕ) (o' : List ℕ) → Puts cells at slots n w o (record { ok = false; nodes = 0; w = q; next = at }) o'
+      pub put_long : max_nodes + 1 < k + r.nodes + need → (o' : List ℕ) → Puts cells at slots n w o None o'
       unfolding Every
-      put_long big q o' d rest σ e s a = (λ t. false_not_true t, λ t. go (left d rest σ e s a).terms (left d rest σ e s a).many (left d rest σ e s a).place (left d rest σ e s a).writable (left d rest σ e s a).nodes_are)
+      put_long big o' d rest σ e s a = go (left d rest σ e s a).terms (left d rest σ e s a).many (left d rest σ e s a).place (left d rest σ e s a).writable (left d rest σ e s a).nodes_are
         where
           go : (es : List Data) → length es ≡ need → drop p cells ≡ enc_datas es ++ rest → Every (Writable n) es → k + put_nodes σ es ≡ nodes (put_data (look σ) d) → max_nodes < nodes (put_data (look σ) d)
           go [] c f wr g = absurd (omega arith)
@@ -236,9 +235,9 @@ module _ (cells : List ℕ) (at : ℕ) (slots : List ℕ) (n w : ℕ) (o : List 
               pick (no large) h = let z : max_nodes < node_nodes σ x = h.1 (let y : r.nodes ≤ max_nodes → ⊥ = large in omega arith) in omega (arith, nodes_open σ x es)
 
       -- too many bytes, so too many nodes
-      pub put_wide : w ≤ length o → v ≤ length out → w + max_term < v + r.bytes → r.nodes ≤ max_nodes → (q : ℕ) (o' : List ℕ) → Puts cells at slots n w o (record { ok = false; nodes = 0; w = q; next = at }) o'
+      pub put_wide : w ≤ length o → v ≤ length out → w + max_term < v + r.bytes → r.nodes ≤ max_nodes → (o' : List ℕ) → Puts cells at slots n w o None o'
       unfolding Every
-      put_wide wo vo big small q o' d rest σ e s a = (λ t. false_not_true t, λ t. go (left d rest σ e s a).terms (left d rest σ e s a).many (left d rest σ e s a).place (left d rest σ e s a).writable (left d rest σ e s a).bytes)
+      put_wide wo vo big small o' d rest σ e s a = go (left d rest σ e s a).terms (left d rest σ e s a).many (left d rest σ e s a).place (left d rest σ e s a).writable (left d rest σ e s a).bytes
         where
           go : (es : List Data) → length es ≡ need → drop p cells ≡ enc_datas es ++ rest → Every (Writable n) es → take v out ++ put_bytes σ es ≡ take w o ++ encode_data (put_data (look σ) d) → max_nodes < nodes (put_data (look σ) d)
           go [] c f wr b = absurd (omega arith)

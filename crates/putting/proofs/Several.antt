@@ -1,7 +1,7 @@
 -- Several terms: one behind another, and in slots.
 use mathlib.Core.Path.{◌≡◌, refl, sym, ap, ap₂, ◌∙◌, subst}
 use mathlib.Core.List.{List, [], ◌∷◌, ◌++◌, map, append_assoc, append-nil}
-use mathlib.Core.Bool.{true, false}
+use Rattle.std.specs.Prelude.{Some, None}
 use Prim.Native.Nat.{ℕ, zero, suc, ◌+◌, ◌-◌, ◌*◌, ◌<◌, ◌≤◌}
 use native.Mathlib.Omega.{arith}
 use native.Mathlib.Decide.{ℕ_discrete}
@@ -16,7 +16,6 @@ use Rattle.pcrl.specs.Table.{nodes}
 use Rattle.pcrl.specs.Stream.{encode_data}
 use Rattle.pcrl.specs.Right.{Small}
 use Rattle.pcrl.specs.Heads.{look}
-use Rattle.laws.specs.Booleans.{false_not_true}
 use Rattle.laws.specs.Lists.{get_d_map}
 use Rattle.nodes.specs.Layout.{enc_data, enc_datas}
 use Rattle.nodes.specs.Views.{SkipsData}
@@ -54,9 +53,9 @@ module _ (cells : List ℕ) (at count : ℕ) (slots : List ℕ) (n w : ℕ) (o :
   terms_start ds rest σ l e s a = record { terms = ds; many = omega arith; place = e; writable = a; bytes = refl; small = λ h. h; small_left = λ h. h }
 
   module _ (p j v : ℕ) (out : List ℕ) (left : AllLeft p j v out) where
-    pub terms_done : count ≤ j → PutsAll cells at count slots n w o (record { ok = true; w = v }) out
+    pub terms_done : count ≤ j → PutsAll cells at count slots n w o (Some v) out
     unfolding all Every
-    terms_done h ds rest σ l e s a = (λ t. go (left ds rest σ l e s a).terms (left ds rest σ l e s a).many (left ds rest σ l e s a).bytes (left ds rest σ l e s a).small, λ t. false_not_true (sym t))
+    terms_done h ds rest σ l e s a = go (left ds rest σ l e s a).terms (left ds rest σ l e s a).many (left ds rest σ l e s a).bytes (left ds rest σ l e s a).small
       where
         go : (es : List Data) → length es + j ≡ count → take v out ++ all encode_data (map (put_data (look σ)) es) ≡ take w o ++ all encode_data (map (put_data (look σ)) ds)
             → (Every Small (map (put_data (look σ)) es) → Every Small (map (put_data (look σ)) ds))
@@ -64,10 +63,10 @@ module _ (cells : List ℕ) (at count : ℕ) (slots : List ℕ) (n w : ℕ) (o :
         go [] a g f = (f tt, sym (append-nil (take v out)) ∙ g)
         go (x ∷ es) a g f = absurd (omega arith)
 
-    module _ (k : j < count) (r : TermPut) (out' : List ℕ) (h : Puts cells p slots n v out r out') where
-      pub terms_on : r.ok ≡ true → AllLeft r.next (j + 1) r.w out'
+    module _ (k : j < count) (out' : List ℕ) where
+      pub terms_on : (r : TermPut) → Puts cells p slots n v out (Some r) out' → AllLeft r.next (j + 1) r.w out'
       unfolding all Every
-      terms_on ok ds rest σ l e s a = go (left ds rest σ l e s a).terms (left ds rest σ l e s a).many (left ds rest σ l e s a).place (left ds rest σ l e s a).writable (left ds rest σ l e s a).bytes (left ds rest σ l e s a).small (left ds rest σ l e s a).small_left
+      terms_on r h ds rest σ l e s a = go (left ds rest σ l e s a).terms (left ds rest σ l e s a).many (left ds rest σ l e s a).place (left ds rest σ l e s a).writable (left ds rest σ l e s a).bytes (left ds rest σ l e s a).small (left ds rest σ l e s a).small_left
         where
           go : (es : List Data) → length es + j ≡ count → drop p cells ≡ enc_datas es ++ rest → Every (Writable n) es
               → take v out ++ all encode_data (map (put_data (look σ)) es) ≡ take w o ++ all encode_data (map (put_data (look σ)) ds)
@@ -75,7 +74,7 @@ module _ (cells : List ℕ) (at count : ℕ) (slots : List ℕ) (n w : ℕ) (o :
               → TermsLeft ds rest σ r.next (j + 1) r.w out'
           go [] a f wr g i m = absurd (omega arith)
           go (x ∷ es) a f wr g i m =
-              let u = (h x (enc_datas es ++ rest) σ (one_first x es rest f) s wr.0).0 ok in
+              let u = h x (enc_datas es ++ rest) σ (one_first x es rest f) s wr.0 in
               record {
                 terms = es;
                 many = omega arith;
@@ -86,15 +85,15 @@ module _ (cells : List ℕ) (at count : ℕ) (slots : List ℕ) (n w : ℕ) (o :
                 small_left = λ z. (m z).1;
               }
 
-      pub terms_long : r.ok ≡ false → (q : ℕ) (o' : List ℕ) → PutsAll cells at count slots n w o (record { ok = false; w = q }) o'
+      pub terms_long : Puts cells p slots n v out None out' → (o' : List ℕ) → PutsAll cells at count slots n w o None o'
       unfolding all Every
-      terms_long bad q o' ds rest σ l e s a = (λ t. false_not_true t, λ t. go (left ds rest σ l e s a).terms (left ds rest σ l e s a).many (left ds rest σ l e s a).place (left ds rest σ l e s a).writable (left ds rest σ l e s a).small_left)
+      terms_long h o' ds rest σ l e s a = go (left ds rest σ l e s a).terms (left ds rest σ l e s a).many (left ds rest σ l e s a).place (left ds rest σ l e s a).writable (left ds rest σ l e s a).small_left
         where
           go : (es : List Data) → length es + j ≡ count → drop p cells ≡ enc_datas es ++ rest → Every (Writable n) es → (Every Small (map (put_data (look σ)) ds) → Every Small (map (put_data (look σ)) es)) → ¬ (Every Small (map (put_data (look σ)) ds))
           go [] a f wr m z = absurd (omega arith)
           go (x ∷ es) a f wr m z =
               let y = one_first x es rest f in
-              let u = (h x (enc_datas es ++ rest) σ y s wr.0).1 bad in
+              let u = h x (enc_datas es ++ rest) σ y s wr.0 in
               let v = (m z).0 in omega arith
 
 -- IN SLOTS
@@ -125,18 +124,18 @@ module _ (w : ℕ) (o o' : List ℕ) (e : take w o' ≡ take w o) where
             ap (λ (i : ℕ). take i (drop (b + 2) o')) (same_at (b + 1) (omega arith)) ∙ same_part (b + 2) (get_or o (b + 1) 0) (omega arith) ∙ y.2,
           )
 
-module _ (cells : List ℕ) (at : ℕ) (slots : List ℕ) (n b : ℕ) (o : List ℕ) (r : TermPut) (out : List ℕ) (room : b + slot_width ≤ length out) (put : Puts cells at slots n (b + 2) o r out) where
-  pub slot_long : r.ok ≡ false → (q : ℕ) → SkipsData cells at 1 q → SlotPut cells at slots n (set out b 255) b q
-  slot_long bad q sk d rest σ e s a = (marked, sk (d ∷ []) rest refl (e ∙ one_data d rest))
+module _ (cells : List ℕ) (at : ℕ) (slots : List ℕ) (n b : ℕ) (o out : List ℕ) (room : b + slot_width ≤ length out) where
+  pub slot_long : Puts cells at slots n (b + 2) o None out → (q : ℕ) → SkipsData cells at 1 q → SlotPut cells at slots n (set out b 255) b q
+  slot_long put q sk d rest σ e s a = (marked, sk (d ∷ []) rest refl (e ∙ one_data d rest))
     where
       marked : Slot (put_data (look σ) d) (set out b 255) b
-      marked = record { whole = λ k. absurd (omega (arith, get_or-set_same out b 255 0 (omega arith))); long = λ k. (put d rest σ e s a).1 bad; narrow = put_narrow σ slots n s d a }
+      marked = record { whole = λ k. absurd (omega (arith, get_or-set_same out b 255 0 (omega arith))); long = λ k. put d rest σ e s a; narrow = put_narrow σ slots n s d a }
 
-  pub slot_whole : r.ok ≡ true → b + 2 ≤ r.w → r.w ≤ b + slot_width → b + 2 ≤ length o → SlotPut cells at slots n (set (set out b r.nodes) (b + 1) (r.w - (b + 2))) b r.next
-  slot_whole ok past most inside d rest σ e s a = (held, u.3)
+  pub slot_whole : (r : TermPut) → Puts cells at slots n (b + 2) o (Some r) out → b + 2 ≤ r.w → r.w ≤ b + slot_width → b + 2 ≤ length o → SlotPut cells at slots n (set (set out b r.nodes) (b + 1) (r.w - (b + 2))) b r.next
+  slot_whole r put past most inside d rest σ e s a = (held, u.3)
     where
       u : (r.nodes ≡ nodes (put_data (look σ) d)) × (nodes (put_data (look σ) d) ≤ max_nodes) × Adds (encode_data (put_data (look σ) d)) (b + 2) o r.w out × (drop r.next cells ≡ rest)
-      u = (put d rest σ e s a).0 ok
+      u = put d rest σ e s a
 
       one : get_or (set out b r.nodes) b 0 ≡ r.nodes
       one = get_or-set_same out b r.nodes 0 (omega arith)

@@ -1,5 +1,5 @@
 -- What is written of data terms with terms put for their variables.
-use Rattle.std.specs.Prelude.{◌≡◌, List, [], ◌∷◌, ◌++◌, map, true, false, ℕ, ◌+◌, ◌≤◌, ◌<◌, length, drop}
+use Rattle.std.specs.Prelude.{◌≡◌, List, [], ◌∷◌, ◌++◌, map, Option, MatchOption, ℕ, ◌+◌, ◌≤◌, ◌<◌, length, drop}
 use Rattle.pcrl.specs.Limits.{max_nodes}
 use Rattle.pcrl.specs.Tests.{Every}
 use Rattle.pcrl.specs.Reader.{all}
@@ -13,7 +13,6 @@ use Rattle.nodes.specs.Layout.{enc_data, enc_datas}
 use Rattle.nodes.specs.Nodes.{data_tag, data_number}
 use Rattle.putting.specs.declared.Share.{Share}
 use Rattle.putting.specs.declared.TermPut.{TermPut}
-use Rattle.putting.specs.declared.Done.{Done}
 use Rattle.putting.specs.Slots.{Slot, Slots, Writable, Adds}
 
 -- what the first node of a term comes to: a variable is its term
@@ -38,16 +37,16 @@ NodePut slots n tag number l v o o' = (d : Data) (σ : List Data) → tag ≡ da
     → node_nodes σ d ≤ max_nodes → l ≡ length (node_bytes σ d) → Adds (node_bytes σ d) v o (v + l) o'
 
 -- Written, or the term itself has too many nodes.
-abbrev pub Puts : List ℕ → ℕ → List ℕ → ℕ → ℕ → List ℕ → TermPut → List ℕ → Type 0
+abbrev pub Puts : List ℕ → ℕ → List ℕ → ℕ → ℕ → List ℕ → Option TermPut → List ℕ → Type 0
 Puts cells at slots n w o r o' = (d : Data) (rest : List ℕ) (σ : List Data) → drop at cells ≡ enc_data d ++ rest → Slots σ slots n → Writable n d
-    → (r.ok ≡ true → (r.nodes ≡ nodes (put_data (look σ) d)) × (nodes (put_data (look σ) d) ≤ max_nodes) × Adds (encode_data (put_data (look σ) d)) w o r.w o' × (drop r.next cells ≡ rest))
-    × (r.ok ≡ false → max_nodes < nodes (put_data (look σ) d))
+    → MatchOption r (max_nodes < nodes (put_data (look σ) d))
+    (λ t. (t.nodes ≡ nodes (put_data (look σ) d)) × (nodes (put_data (look σ) d) ≤ max_nodes) × Adds (encode_data (put_data (look σ) d)) w o t.w o' × (drop t.next cells ≡ rest))
 
 -- Some terms, one behind another: written, or one of them has too many nodes.
-abbrev pub PutsAll : List ℕ → ℕ → ℕ → List ℕ → ℕ → ℕ → List ℕ → Done → List ℕ → Type 0
+abbrev pub PutsAll : List ℕ → ℕ → ℕ → List ℕ → ℕ → ℕ → List ℕ → Option ℕ → List ℕ → Type 0
 PutsAll cells at count slots n w o r o' = (ds : List Data) (rest : List ℕ) (σ : List Data) → length ds ≡ count → drop at cells ≡ enc_datas ds ++ rest → Slots σ slots n → Every (Writable n) ds
-    → (r.ok ≡ true → Every Small (map (put_data (look σ)) ds) × Adds (all encode_data (map (put_data (look σ)) ds)) w o r.w o')
-    × (r.ok ≡ false → ¬ (Every Small (map (put_data (look σ)) ds)))
+    → MatchOption r (¬ (Every Small (map (put_data (look σ)) ds)))
+    (λ v. Every Small (map (put_data (look σ)) ds) × Adds (all encode_data (map (put_data (look σ)) ds)) w o v o')
 
 -- A term in the slot at b; r is the place behind its cells.
 abbrev pub SlotPut : List ℕ → ℕ → List ℕ → ℕ → List ℕ → ℕ → ℕ → Type 0

@@ -1,6 +1,6 @@
 #![tactic(auto)]
 // Data terms of the cells written as stream bytes, with the terms in slots put for their variables.
-ghost use Rattle.std.specs.Prelude.{◌≡◌, true, ◌+◌, ◌*◌, ◌≤◌, ◌<◌, length, drop, take};
+ghost use Rattle.std.specs.Prelude.{◌≡◌, ◌+◌, ◌*◌, ◌≤◌, ◌<◌, length, drop, take, IfSome};
 ghost use Rattle.std.proofs.Math.Seq.{paste};
 ghost use Rattle.pcrl.specs.Limits.{max_nodes};
 ghost use Rattle.nodes.specs.Layout.{cell_limit, byte_limit};
@@ -30,17 +30,9 @@ pub struct Share {
 // A term written: its nodes, the place behind its bytes, and the one behind its cells.
 #[derive(Clone, Copy)]
 pub struct TermPut {
-    pub ok: bool,
     pub nodes: usize,
     pub w: usize,
     pub next: usize,
-}
-
-// The place behind what was written. Not ok: a limit is passed, or there is no room.
-#[derive(Clone, Copy)]
-pub struct Done {
-    pub ok: bool,
-    pub w: usize,
 }
 
 // So many bytes of one slice, from a place on, put into another.
@@ -104,7 +96,7 @@ fn put_node(slots: &[u8], n: usize, tag: usize, number: usize, l: usize, out: &m
     copy(slots, from, l, &mut *out, v);
 }
 
-// A data term written from w on: a loop over what is left of it. Not ok: it has too many nodes.
+// A data term written from w on: a loop over what is left of it. None: it has too many nodes.
 pub fn put_term(
     cells: &[u16],
     at: usize,
@@ -112,9 +104,9 @@ pub fn put_term(
     n: usize,
     out: &mut [u8],
     w: usize,
-) -> TermPut
+) -> Option<TermPut>
     requires { (w + max_term ≤ length out.old) × (slot_width * n ≤ length slots.now) }
-    ensures w_le_w { (w ≤ result.w) × (result.w ≤ w + max_term) × (result.nodes ≤ max_nodes) }
+    ensures w_le_w { IfSome result (λ r. (w ≤ r.w) × (r.w ≤ w + max_term) × (r.nodes ≤ max_nodes)) }
     ensures out_unchanged { take w out.new ≡ take w out.old }
     ensures puts { Puts cells.now at slots.now n w out.old result out.new }
 {
@@ -124,31 +116,16 @@ pub fn put_term(
     let mut v = w;
     while need > 0 {
         if p >= cells.len() {
-            return TermPut {
-                ok: false,
-                nodes: 0,
-                w: w,
-                next: at,
-            };
+            return None;
         }
         let d = nodes::data_at(cells, p);
         let s = share_of(slots, n, d.tag, d.number);
         if k + s.nodes + need > MAX_NODES + 1 {
-            return TermPut {
-                ok: false,
-                nodes: 0,
-                w: w,
-                next: at,
-            };
+            return None;
         }
         let end = v + s.bytes;
         if end > w + MAX_TERM {
-            return TermPut {
-                ok: false,
-                nodes: 0,
-                w: w,
-                next: at,
-            };
+            return None;
         }
         put_node(slots, n, d.tag, d.number, s.bytes, &mut *out, v);
         k += s.nodes;
@@ -156,15 +133,14 @@ pub fn put_term(
         need = need - 1 + d.kids;
         p = d.next;
     }
-    TermPut {
-        ok: true,
+    Some(TermPut {
         nodes: k,
         w: v,
         next: p,
-    }
+    })
 }
 
-// Some data terms, one behind another. Not ok: one has too many nodes.
+// Some data terms, one behind another: the place behind them. None: one has too many nodes.
 pub fn put_terms(
     cells: &[u16],
     at: usize,
@@ -173,23 +149,20 @@ pub fn put_terms(
     n: usize,
     out: &mut [u8],
     w: usize,
-) -> Done
+) -> Option<usize>
     requires { (w + max_term * count ≤ length out.old) × (slot_width * n ≤ length slots.now) }
-    ensures w_le_w { (w ≤ result.w) × (result.w ≤ w + max_term * count) }
+    ensures w_le_w { IfSome result (λ v. (w ≤ v) × (v ≤ w + max_term * count)) }
     ensures out_unchanged { take w out.new ≡ take w out.old }
     ensures puts_all { PutsAll cells.now at count slots.now n w out.old result out.new }
 {
     let mut p = at;
     let mut v = w;
     for j in 0..count {
-        let r = put_term(cells, p, slots, n, &mut *out, v);
-        if !r.ok {
-            return Done { ok: false, w: w };
-        }
+        let r = put_term(cells, p, slots, n, &mut *out, v)?;
         p = r.next;
         v = r.w;
     }
-    Done { ok: true, w: v }
+    Some(v)
 }
 
 // A term in slot j: the place behind its cells. A term with too many nodes is only marked.
@@ -199,11 +172,10 @@ fn put_slot(cells: &[u16], at: usize, slots: &[u8], n: usize, out: &mut [u8], j:
     ensures slot_put { SlotPut cells.now at slots.now n out.new (slot_width * j) result }
 {
     let b = SLOT * j;
-    let r = put_term(cells, at, slots, n, &mut *out, b + 2);
-    if !r.ok {
+    let Some(r) = put_term(cells, at, slots, n, &mut *out, b + 2) else {
         out[b] = LONG;
         return nodes::skip_data(cells, at, 1);
-    }
+    };
     out[b] = r.nodes as u8;
     out[b + 1] = (r.w - (b + 2)) as u8;
     r.next

@@ -1,6 +1,5 @@
 -- One term after another.
 use native.Mathlib.Omega.{arith}
-use borrow.Author.Tests.{not-true, not-false}
 use mathlib.Core.Path.{refl, ◌∙◌}
 use Rattle.putting.proofs.Bytes.{kept_front}
 use Rattle.putting.proofs.Several.{terms_start, terms_done, terms_on, terms_long}
@@ -10,26 +9,26 @@ pub loop-j-init : goal.loop-j-init
 loop-j-init c =
     ((omega arith, omega arith, omega arith, refl), refl, terms_start c.args.cells.now c.args.at c.args.count c.args.slots.now c.args.n c.args.w c.args.out.now)
 
-pub shape_of-out-then-not-r : goal.shape_of-out-then-not-r
-shape_of-out-then-not-r c =
-    c.put_term-r.auto.out ∙ c.loop-j.invariant.0.3
+pub shape_of-out-in_err-r : goal.shape_of-out-in_err-r
+shape_of-out-in_err-r c =
+    c.put_term.auto.out ∙ c.loop-j.invariant.0.3
 
-pub returns-then-not-r : goal.returns-then-not-r
-returns-then-not-r c =
-    let o = c.put_term-r.new.out in record {
-      w_le_w = omega arith;
-      out_unchanged = kept_front c.args.w c.loop-j.v c.loop-j.out o (omega arith) c.put_term-r.ensures.out_unchanged ∙ c.loop-j.invariant.1;
-      puts_all = terms_long c.args.cells.now c.args.at c.args.count c.args.slots.now c.args.n c.args.w c.args.out.now c.loop-j.p c.loop-j.j c.loop-j.v c.loop-j.out c.loop-j.invariant.2 (omega arith) c.put_term-r.result o c.put_term-r.ensures.puts (not-true _ c.if-not-r.true) c.args.w o;
+pub returns-in_err-r : goal.returns-in_err-r
+returns-in_err-r c =
+    let o = c.put_term.new.out in rw c.from_residual.ensures record {
+      w_le_w = tt;
+      out_unchanged = kept_front c.args.w c.loop-j.v c.loop-j.out o (omega arith) c.put_term.ensures.out_unchanged ∙ c.loop-j.invariant.1;
+      puts_all = terms_long c.args.cells.now c.args.at c.args.count c.args.slots.now c.args.n c.args.w c.args.out.now c.loop-j.p c.loop-j.j c.loop-j.v c.loop-j.out c.loop-j.invariant.2 (omega arith) o c.in_err-r.ensures.puts o;
     }
 
 pub loop-j-preserved : goal.loop-j-preserved
 loop-j-preserved c =
-    let o = c.put_term-r.new.out in
+    let o = c.put_term.new.out in
     let i = c.loop-j.invariant.0 in
-    let u = c.put_term-r.ensures.w_le_w in (
-      (omega arith, omega arith, omega arith, c.put_term-r.auto.out ∙ i.3),
-      kept_front c.args.w c.loop-j.v c.loop-j.out o (omega arith) c.put_term-r.ensures.out_unchanged ∙ c.loop-j.invariant.1,
-      terms_on c.args.cells.now c.args.at c.args.count c.args.slots.now c.args.n c.args.w c.args.out.now c.loop-j.p c.loop-j.j c.loop-j.v c.loop-j.out c.loop-j.invariant.2 (omega arith) c.put_term-r.result o c.put_term-r.ensures.puts (not-false _ c.if-not-r.false),
+    let u = c.in_ok-r.ensures.w_le_w in (
+      (omega arith, omega arith, omega arith, c.put_term.auto.out ∙ i.3),
+      kept_front c.args.w c.loop-j.v c.loop-j.out o (omega arith) c.put_term.ensures.out_unchanged ∙ c.loop-j.invariant.1,
+      terms_on c.args.cells.now c.args.at c.args.count c.args.slots.now c.args.n c.args.w c.args.out.now c.loop-j.p c.loop-j.j c.loop-j.v c.loop-j.out c.loop-j.invariant.2 (omega arith) o c.in_ok-r.r c.in_ok-r.ensures.puts,
     )
 
 pub shape_of-out : goal.shape_of-out
@@ -37,7 +36,7 @@ shape_of-out c = c.loop-j.invariant.0.3
 
 pub returns : goal.returns
 returns c = record {
-  w_le_w = omega arith;
+  w_le_w = (omega arith, omega arith);
   out_unchanged = c.loop-j.invariant.1;
   puts_all = terms_done c.args.cells.now c.args.at c.args.count c.args.slots.now c.args.n c.args.w c.args.out.now c.loop-j.p c.loop-j.j c.loop-j.v c.loop-j.out c.loop-j.invariant.2 (omega arith);
 }
