@@ -1,7 +1,7 @@
 -- The terms in the marked slots, one after another: the next one is found by the zeros below the lowest mark.
 use mathlib.Core.Path.{◌≡◌, refl, sym, ap, ap₂, ◌∙◌, subst}
 use mathlib.Core.List.{List, [], ◌∷◌, ◌++◌, append_assoc, append-nil}
-use mathlib.Core.Bool.{true, false}
+use Rattle.std.specs.Prelude.{Option, Some, None}
 use Prim.Native.Nat.{ℕ, zero, suc, ◌+◌, ◌-◌, ◌*◌, ◌/◌, ◌%◌, ◌^◌, ◌<◌, ◌≤◌}
 use native.Mathlib.Nat.{pow-suc, pow-succ', div-div-eq-div-mul, div-le_self, div-one}
 use native.Mathlib.Omega.{arith}
@@ -16,9 +16,7 @@ use Rattle.pcrl.specs.Parts.{marked}
 use Rattle.pcrl.specs.Stream.{encode_data}
 use Rattle.pcrl.specs.Right.{Small}
 use Rattle.pcrl.specs.Heads.{look}
-use Rattle.laws.specs.Booleans.{false_not_true}
 use Rattle.nodes.specs.Bits.{odd}
-use Rattle.putting.specs.declared.Done.{Done}
 use Rattle.laws.specs.TermLength.{max_term}
 use Rattle.putting.specs.Slots.{slot_width, Slots}
 use Rattle.marking.specs.Marks.{bits}
@@ -27,17 +25,17 @@ use Rattle.following.specs.Follows.{OnePut, MarkedPut}
 -- THE TERM OF A SLOT
 
 module _ (slots : List ℕ) (i w : ℕ) (o : List ℕ) where
-  pub one_long : max_nodes < get_or slots (slot_width * i) 0 → (v : ℕ) (o' : List ℕ) → OnePut slots i w o (record { ok = false; w = v }) o'
-  one_long h v o' d s = (λ t. false_not_true t, λ t small. let z = s.long h in omega arith)
+  pub one_long : max_nodes < get_or slots (slot_width * i) 0 → (o' : List ℕ) → OnePut slots i w o None o'
+  one_long h o' d s small = let z = s.long h in omega arith
 
-  pub one_wide : get_or slots (slot_width * i) 0 ≤ max_nodes → max_term < get_or slots (slot_width * i + 1) 0 → (r : Done) (o' : List ℕ) → OnePut slots i w o r o'
+  pub one_wide : get_or slots (slot_width * i) 0 ≤ max_nodes → max_term < get_or slots (slot_width * i + 1) 0 → (r : Option ℕ) (o' : List ℕ) → OnePut slots i w o r o'
   one_wide h k r o' d s = let y = s.whole h in absurd (omega (arith, y.0, y.1, s.narrow))
 
   pub one_put : get_or slots (slot_width * i) 0 ≤ max_nodes → (l : ℕ) → l ≡ get_or slots (slot_width * i + 1) 0 → slot_width * i + 2 + l ≤ length slots → w ≤ length o
-      → OnePut slots i w o (record { ok = true; w = w + l }) (paste o w (drop (slot_width * i + 2) slots) l)
+      → OnePut slots i w o (Some (w + l)) (paste o w (drop (slot_width * i + 2) slots) l)
   one_put h l e room inside d s =
       let y = s.whole h in
-      (λ t. (omega (arith, y.0), take-paste o w (drop (slot_width * i + 2) slots) l inside (omega (arith, length-drop (slot_width * i + 2) slots)) ∙ ap (λ (x : List ℕ). take w o ++ x) (ap (λ (k : ℕ). take k (drop (slot_width * i + 2) slots)) e ∙ y.2)), λ t. false_not_true (sym t))
+      (omega (arith, y.0), take-paste o w (drop (slot_width * i + 2) slots) l inside (omega (arith, length-drop (slot_width * i + 2) slots)) ∙ ap (λ (x : List ℕ). take w o ++ x) (ap (λ (k : ℕ). take k (drop (slot_width * i + 2) slots)) e ∙ y.2))
 
 -- THE NEXT MARK
 
@@ -118,16 +116,16 @@ module _ (m : ℕ) (slots : List ℕ) (n w : ℕ) (o : List ℕ) where
 
   module _ (rest at k v : ℕ) (out : List ℕ) (left : Left rest at k v out) where
     -- no mark is left
-    pub marked_end : k ≤ frame_width → ((σ : List Data) → Slots σ slots n → marked (bits (n - at) rest) (drop at σ) ≡ []) → MarkedPut m slots n w o (record { ok = true; w = v }) out
+    pub marked_end : k ≤ frame_width → ((σ : List Data) → Slots σ slots n → marked (bits (n - at) rest) (drop at σ) ≡ []) → MarkedPut m slots n w o (Some v) out
     unfolding all Every
     marked_end few h σ s =
-        (λ t. (((left σ s).small (subst (λ (l : List Data). Every Small l) (sym (h σ s)) tt), omega (arith, (left σ s).number, ap length (h σ s))), sym (append-nil (take v out)) ∙ ap (λ (l : List Data). take v out ++ all encode_data l) (sym (h σ s)) ∙ (left σ s).bytes), λ t. false_not_true (sym t))
+        (((left σ s).small (subst (λ (l : List Data). Every Small l) (sym (h σ s)) tt), omega (arith, (left σ s).number, ap length (h σ s))), sym (append-nil (take v out)) ∙ ap (λ (l : List Data). take v out ++ all encode_data l) (sym (h σ s)) ∙ (left σ s).bytes)
 
-    pub marked_done : k ≤ frame_width → rest ≡ 0 → MarkedPut m slots n w o (record { ok = true; w = v }) out
+    pub marked_done : k ≤ frame_width → rest ≡ 0 → MarkedPut m slots n w o (Some v) out
     marked_done few e = marked_end few (λ σ s. ap (λ (x : ℕ). marked (bits (n - at) x) (drop at σ)) e ∙ marked_none (n - at) (drop at σ))
 
     module _ (pos : 0 < rest) (small : rest < 2 ^ 32) (i : ℕ) (ei : i ≡ at + count_trailing_zeros 32 rest) where
-      pub marked_out : k ≤ frame_width → at ≤ n → n ≤ i → MarkedPut m slots n w o (record { ok = true; w = v }) out
+      pub marked_out : k ≤ frame_width → at ≤ n → n ≤ i → MarkedPut m slots n w o (Some v) out
       marked_out few a h = marked_end few (λ σ s. marked_past (val 0) 32 (n - at) rest (drop at σ) pos small (length-drop at σ ∙ ap (λ (k : ℕ). k - at) s.many) (omega arith))
 
       -- the next one
@@ -143,15 +141,15 @@ module _ (m : ℕ) (slots : List ℕ) (n w : ℕ) (o : List ℕ) where
           ∙ ap (λ (l : List Data). get_or σ i (val 0) ∷ marked (bits (n - (i + 1)) (rest / 2 ^ t / 2)) l) (drop-drop (t + 1) at σ ∙ ap (λ (k : ℕ). drop k σ) y)
 
       -- one more than a call may have
-      pub marked_many : frame_width ≤ k → at ≤ n → i < n → (q : ℕ) (o' : List ℕ) → MarkedPut m slots n w o (record { ok = false; w = q }) o'
-      marked_many most a h q o' σ s = (λ t. false_not_true t, λ t few. let l = few.1 in omega (arith, (left σ s).number, ap length (next σ s a h)))
+      pub marked_many : frame_width ≤ k → at ≤ n → i < n → (o' : List ℕ) → MarkedPut m slots n w o None o'
+      marked_many most a h o' σ s few = let l = few.1 in omega (arith, (left σ s).number, ap length (next σ s a h))
 
-      module _ (a : at ≤ n) (h : i < n) (r : Done) (out' : List ℕ) (put : OnePut slots i v out r out') where
-        pub marked_on : r.ok ≡ true → Left (rest / 2 ^ count_trailing_zeros 32 rest / 2) (i + 1) (k + 1) r.w out'
+      module _ (a : at ≤ n) (h : i < n) (out' : List ℕ) where
+        pub marked_on : (v' : ℕ) → OnePut slots i v out (Some v') out' → Left (rest / 2 ^ count_trailing_zeros 32 rest / 2) (i + 1) (k + 1) v' out'
         unfolding all Every
-        marked_on ok σ s =
+        marked_on v' put σ s =
             let e = next σ s a h in
-            let u = (put (look σ i) (s.each i h)).0 ok in
+            let u = put (look σ i) (s.each i h) in
             let M = marked (bits (n - (i + 1)) (rest / 2 ^ count_trailing_zeros 32 rest / 2)) (drop (i + 1) σ) in
             record {
               bytes = ap (λ (l : List ℕ). l ++ all encode_data M) u.1 ∙ append_assoc (take v out) (encode_data (look σ i)) (all encode_data M) ∙ ap (λ (l : List Data). take v out ++ all encode_data l) (sym e) ∙ (left σ s).bytes;
@@ -160,6 +158,6 @@ module _ (m : ℕ) (slots : List ℕ) (n w : ℕ) (o : List ℕ) where
               small_left = λ k. (subst (λ (l : List Data). Every Small l) e ((left σ s).small_left k)).1;
             }
 
-        pub marked_long : r.ok ≡ false → (q : ℕ) (o' : List ℕ) → MarkedPut m slots n w o (record { ok = false; w = q }) o'
+        pub marked_long : OnePut slots i v out None out' → (o' : List ℕ) → MarkedPut m slots n w o None o'
         unfolding Every
-        marked_long bad q o' σ s = (λ t. false_not_true t, λ t k. (put (look σ i) (s.each i h)).1 bad (subst (λ (l : List Data). Every Small l) (next σ s a h) ((left σ s).small_left k.0)).0)
+        marked_long put o' σ s k = put (look σ i) (s.each i h) (subst (λ (l : List Data). Every Small l) (next σ s a h) ((left σ s).small_left k.0)).0

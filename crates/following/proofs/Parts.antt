@@ -1,7 +1,8 @@
 -- The calls of all parts of a term that stands after a first part: a loop over the parts that are left.
 use mathlib.Core.Path.{◌≡◌, refl, sym, ap, ap₂, ◌∙◌, subst}
 use mathlib.Core.List.{List, [], ◌∷◌, ◌++◌, append_assoc, append-nil}
-use mathlib.Core.Bool.{true, false}
+use mathlib.Core.Bool.{true}
+use Rattle.std.specs.Prelude.{Option, Some, None, MatchOption}
 use Prim.Native.Nat.{ℕ, ◌+◌, ◌-◌, ◌<◌, ◌≤◌}
 use native.Mathlib.Omega.{arith}
 use lib.ListN.{length, drop, take, length-append}
@@ -13,7 +14,6 @@ use Rattle.pcrl.specs.Sheet.{Data, Proc, delta, atom, alt, cond, sum, seq, call,
 use Rattle.pcrl.specs.Parts.{new_count}
 use Rattle.pcrl.specs.Stream.{encode_call}
 use Rattle.pcrl.specs.Heads.{new_call, calls_of}
-use Rattle.laws.specs.Booleans.{false_not_true}
 use Rattle.laws.specs.Every.{every_append, every_left, every_right}
 use Rattle.nodes.specs.declared.Node.{Node}
 use Rattle.nodes.specs.declared.Skipped.{Skipped}
@@ -22,7 +22,6 @@ use Rattle.nodes.specs.Nodes.{kind_of, node_kids, node_own}
 use Rattle.nodes.specs.Views.{Opened, Views, Skips}
 use Rattle.nodes.proofs.Nodes.{one_item, items_end}
 use Rattle.nodes.proofs.NewParts.{new_all, new_open}
-use Rattle.putting.specs.declared.Done.{Done}
 use Rattle.putting.specs.Slots.{Slots, Adds}
 use Rattle.following.specs.declared.Calls.{Calls}
 use Rattle.following.specs.Fine.{Fine, Few}
@@ -122,19 +121,19 @@ module _ (cells : List ℕ) (at c₀ : ℕ) (slots : List ℕ) (n most : ℕ) (o
       }
 
   module _ (p need k c v : ℕ) (out : List ℕ) (left : Left p need k c v out) where
-    pub parts_stuck : length cells ≤ p → 0 < need → (r : Calls) (o' : List ℕ) → CallsPut cells at c₀ slots n most 0 o r o'
+    pub parts_stuck : length cells ≤ p → 0 < need → (r : Option Calls) (o' : List ℕ) → CallsPut cells at c₀ slots n most 0 o r o'
     unfolding parts_cells
     parts_stuck h pos r o' H q rest σ few e s f l = go (left H q rest σ few e s f l).parts (left H q rest σ few e s f l).many (left H q rest σ few e s f l).place
       where
         go : (ps : List Proc) → length ps ≡ need → drop p cells ≡ parts_cells ps ++ rest
-            → (r.ok ≡ true → (length (calls_of σ c₀ q) ≡ r.n) × Every CallSmall (calls_of σ c₀ q) × Adds (all encode_call (calls_of σ c₀ q)) 0 o r.w o')
-            × (r.ok ≡ false → length (calls_of σ c₀ q) ≤ most → ¬ (Every CallSmall (calls_of σ c₀ q)))
+            → MatchOption r (length (calls_of σ c₀ q) ≤ most → ¬ (Every CallSmall (calls_of σ c₀ q)))
+            (λ t. (length (calls_of σ c₀ q) ≡ t.n) × Every CallSmall (calls_of σ c₀ q) × Adds (all encode_call (calls_of σ c₀ q)) 0 o t.w o')
         go [] a b = absurd (omega arith)
         go (x ∷ ps) a b = absurd (items_end cells p h ((true, x) ∷ []) (parts_cells ps ++ rest) (omega arith) (b ∙ append_assoc (enc true x) (parts_cells ps) rest ∙ one_item true x (parts_cells ps ++ rest)))
 
-    pub parts_done : need ≡ 0 → CallsPut cells at c₀ slots n most 0 o (record { ok = true; w = v; n = k }) out
+    pub parts_done : need ≡ 0 → CallsPut cells at c₀ slots n most 0 o (Some (record { w = v; n = k })) out
     unfolding calls_all all Every
-    parts_done z H q rest σ few e s f l = (λ t. go (left H q rest σ few e s f l).parts (left H q rest σ few e s f l).many (left H q rest σ few e s f l).bytes (left H q rest σ few e s f l).number (left H q rest σ few e s f l).small, λ t. false_not_true (sym t))
+    parts_done z H q rest σ few e s f l = go (left H q rest σ few e s f l).parts (left H q rest σ few e s f l).many (left H q rest σ few e s f l).bytes (left H q rest σ few e s f l).number (left H q rest σ few e s f l).small
       where
         go : (ps : List Proc) → length ps ≡ need → take v out ++ all encode_call (calls_all σ c ps) ≡ take 0 o ++ all encode_call (calls_of σ c₀ q)
             → k + length (calls_all σ c ps) ≡ length (calls_of σ c₀ q) → (Every CallSmall (calls_all σ c ps) → Every CallSmall (calls_of σ c₀ q))
@@ -180,31 +179,31 @@ module _ (cells : List ℕ) (at c₀ : ℕ) (slots : List ℕ) (n most : ℕ) (o
 
       module _ (other : d.kind ≡ seq_kind → ⊥) where
         -- a part more than may be
-        pub parts_many : most ≤ k → (w m : ℕ) (o' : List ℕ) → CallsPut cells at c₀ slots n most 0 o (record { ok = false; w = w; n = m }) o'
+        pub parts_many : most ≤ k → (o' : List ℕ) → CallsPut cells at c₀ slots n most 0 o None o'
         unfolding calls_all
-        parts_many big w m o' H q rest σ few e s f l = (λ t. false_not_true t, λ t fits small. go (left H q rest σ few e s f l).parts (left H q rest σ few e s f l).many (left H q rest σ few e s f l).number fits)
+        parts_many big o' H q rest σ few e s f l = λ fits small. go (left H q rest σ few e s f l).parts (left H q rest σ few e s f l).many (left H q rest σ few e s f l).number fits
           where
             go : (ps : List Proc) → length ps ≡ need → k + length (calls_all σ c ps) ≡ length (calls_of σ c₀ q) → length (calls_of σ c₀ q) ≤ most → ⊥
             go [] a b h = omega arith
             go (x ∷ ps) a b h = omega (arith, length-append (calls_of σ c x) (calls_all σ (c + new_count true x) ps), some_part σ c x)
 
-        module _ (r : Done) (out' : List ℕ) (put : CallPut cells p c slots n v out r out') where
-          -- a part written
-          pub parts_on : r.ok ≡ true → (t : Skipped) → Skips cells p t → (c' : ℕ) → (c + t.own < byte_limit → c' ≡ c + t.own) → Left t.next (need - 1) (k + 1) c' r.w out'
+        -- a part written, up to v'
+        module _ (v' : ℕ) (out' : List ℕ) (put : CallPut cells p c slots n v out (Some v') out') where
+          pub parts_on : (t : Skipped) → Skips cells p t → (c' : ℕ) → (c + t.own < byte_limit → c' ≡ c + t.own) → Left t.next (need - 1) (k + 1) c' v' out'
           unfolding parts_cells news Every calls_all
-          parts_on ok t' sk c' ec H q rest σ few e s f l = go (left H q rest σ few e s f l).parts (left H q rest σ few e s f l).many (left H q rest σ few e s f l).place (left H q rest σ few e s f l).fine (left H q rest σ few e s f l).few_left (left H q rest σ few e s f l).bytes (left H q rest σ few e s f l).number (left H q rest σ few e s f l).small (left H q rest σ few e s f l).small_left
+          parts_on t' sk c' ec H q rest σ few e s f l = go (left H q rest σ few e s f l).parts (left H q rest σ few e s f l).many (left H q rest σ few e s f l).place (left H q rest σ few e s f l).fine (left H q rest σ few e s f l).few_left (left H q rest σ few e s f l).bytes (left H q rest σ few e s f l).number (left H q rest σ few e s f l).small (left H q rest σ few e s f l).small_left
             where
               go : (ps : List Proc) → length ps ≡ need → drop p cells ≡ parts_cells ps ++ rest → Every (Fine H n) ps → c + news ps < byte_limit
                   → take v out ++ all encode_call (calls_all σ c ps) ≡ take 0 o ++ all encode_call (calls_of σ c₀ q) → k + length (calls_all σ c ps) ≡ length (calls_of σ c₀ q)
                   → (Every CallSmall (calls_all σ c ps) → Every CallSmall (calls_of σ c₀ q)) → (Every CallSmall (calls_of σ c₀ q) → Every CallSmall (calls_all σ c ps))
-                  → PartsLeft H q rest σ t'.next (need - 1) (k + 1) c' r.w out'
+                  → PartsLeft H q rest σ t'.next (need - 1) (k + 1) c' v' out'
               go [] a b g h t m i j = absurd (omega arith)
               go (x ∷ ps) a b g h t m i j =
                   let nq : kind_of x ≡ seq_kind → ⊥ = λ z. other ((opened x ps rest b).kind_is ∙ z) in
                   let b' : drop p cells ≡ enc true x ++ (parts_cells ps ++ rest) = b ∙ append_assoc (enc true x) (parts_cells ps) rest in
                   let y = sk true x (parts_cells ps ++ rest) b' in
                   let z : c' ≡ c + new_count true x = ec (omega (arith, y.0)) ∙ ap (λ (w : ℕ). c + w) y.0 in
-                  let u = (put H true x (parts_cells ps ++ rest) σ few b' nq s g.0).0 ok in
+                  let u = put H true x (parts_cells ps ++ rest) σ few b' nq s g.0 in
                   let C = calls_of σ c x in
                   let M = calls_all σ (c + new_count true x) ps in
                   record {
@@ -214,7 +213,7 @@ module _ (cells : List ℕ) (at c₀ : ℕ) (slots : List ℕ) (n most : ℕ) (o
                     fine = g.1;
                     few_left = omega arith;
                     bytes =
-                        ap (λ (w : ℕ). take r.w out' ++ all encode_call (calls_all σ w ps)) z ∙ ap (λ (w : List ℕ). w ++ all encode_call M) u.1 ∙ append_assoc (take v out) (all encode_call C) (all encode_call M)
+                        ap (λ (w : ℕ). take v' out' ++ all encode_call (calls_all σ w ps)) z ∙ ap (λ (w : List ℕ). w ++ all encode_call M) u.1 ∙ append_assoc (take v out) (all encode_call C) (all encode_call M)
                         ∙ ap (λ (w : List ℕ). take v out ++ w) (sym (all_append encode_call C M)) ∙ t;
                     number = omega (arith, ap (λ (w : ℕ). length (calls_all σ w ps)) z, length-append C M, one_part σ c x nq);
                     small = λ w. i (every_append CallSmall C M u.0 (subst (λ (w : ℕ). Every CallSmall (calls_all σ w ps)) z w));
@@ -222,51 +221,48 @@ module _ (cells : List ℕ) (at c₀ : ℕ) (slots : List ℕ) (n most : ℕ) (o
                   }
 
           -- the last part written
-          pub parts_last : need ≡ 1 → r.ok ≡ true → CallsPut cells at c₀ slots n most 0 o (record { ok = true; w = r.w; n = k + 1 }) out'
+          pub parts_last : need ≡ 1 → CallsPut cells at c₀ slots n most 0 o (Some (record { w = v'; n = k + 1 })) out'
           unfolding parts_cells Every calls_all all
-          parts_last one ok H q rest σ few e s f l = (λ t. go (left H q rest σ few e s f l).parts (left H q rest σ few e s f l).many (left H q rest σ few e s f l).place (left H q rest σ few e s f l).fine (left H q rest σ few e s f l).bytes (left H q rest σ few e s f l).number (left H q rest σ few e s f l).small, λ t. false_not_true (sym t))
+          parts_last one H q rest σ few e s f l = go (left H q rest σ few e s f l).parts (left H q rest σ few e s f l).many (left H q rest σ few e s f l).place (left H q rest σ few e s f l).fine (left H q rest σ few e s f l).bytes (left H q rest σ few e s f l).number (left H q rest σ few e s f l).small
             where
               go : (ps : List Proc) → length ps ≡ need → drop p cells ≡ parts_cells ps ++ rest → Every (Fine H n) ps
                   → take v out ++ all encode_call (calls_all σ c ps) ≡ take 0 o ++ all encode_call (calls_of σ c₀ q) → k + length (calls_all σ c ps) ≡ length (calls_of σ c₀ q)
                   → (Every CallSmall (calls_all σ c ps) → Every CallSmall (calls_of σ c₀ q))
-                  → (length (calls_of σ c₀ q) ≡ k + 1) × Every CallSmall (calls_of σ c₀ q) × Adds (all encode_call (calls_of σ c₀ q)) 0 o r.w out'
+                  → (length (calls_of σ c₀ q) ≡ k + 1) × Every CallSmall (calls_of σ c₀ q) × Adds (all encode_call (calls_of σ c₀ q)) 0 o v' out'
               go [] a b g t m i = absurd (omega arith)
               go (x ∷ y ∷ ps) a b g t m i = absurd (omega arith)
               go (x ∷ []) a b g t m i =
                   let nq : kind_of x ≡ seq_kind → ⊥ = λ z. other ((opened x [] rest b).kind_is ∙ z) in
-                  let u = (put H true x rest σ few (b ∙ append_assoc (enc true x) [] rest) nq s g.0).0 ok in
+                  let u = put H true x rest σ few (b ∙ append_assoc (enc true x) [] rest) nq s g.0 in
                   let C = calls_of σ c x in
                   let y : C ++ [] ≡ C = append-nil C in
                   (omega (arith, ap length y, one_part σ c x nq), i (every_append CallSmall C [] u.0 tt), u.1 ∙ ap (λ (w : List (ℕ × List Data)). take v out ++ all encode_call w) (sym y) ∙ t)
 
-          -- a part with a term that is too long
-          pub parts_long : r.ok ≡ false → (w m : ℕ) (o' : List ℕ) → CallsPut cells at c₀ slots n most 0 o (record { ok = false; w = w; n = m }) o'
-          unfolding parts_cells news Every calls_all
-          parts_long bad w m' o' H q rest σ few e s f l = (λ t. false_not_true t, λ t fits. go (left H q rest σ few e s f l).parts (left H q rest σ few e s f l).many (left H q rest σ few e s f l).place (left H q rest σ few e s f l).fine (left H q rest σ few e s f l).small_left)
-            where
-              go : (ps : List Proc) → length ps ≡ need → drop p cells ≡ parts_cells ps ++ rest → Every (Fine H n) ps → (Every CallSmall (calls_of σ c₀ q) → Every CallSmall (calls_all σ c ps)) → ¬ (Every CallSmall (calls_of σ c₀ q))
-              go [] a b g j h = absurd (omega arith)
-              go (x ∷ ps) a b g j h =
-                  (put H true x (parts_cells ps ++ rest) σ few (b ∙ append_assoc (enc true x) (parts_cells ps) rest) (λ z. other ((opened x ps rest b).kind_is ∙ z)) s g.0).1 bad
-                  (every_left CallSmall (calls_of σ c x) (calls_all σ (c + new_count true x) ps) (j h))
+        -- a part with a term that is too long
+        pub parts_long : (out' : List ℕ) → CallPut cells p c slots n v out None out' → (o' : List ℕ) → CallsPut cells at c₀ slots n most 0 o None o'
+        unfolding parts_cells news Every calls_all
+        parts_long out' put o' H q rest σ few e s f l = λ fits. go (left H q rest σ few e s f l).parts (left H q rest σ few e s f l).many (left H q rest σ few e s f l).place (left H q rest σ few e s f l).fine (left H q rest σ few e s f l).small_left
+          where
+            go : (ps : List Proc) → length ps ≡ need → drop p cells ≡ parts_cells ps ++ rest → Every (Fine H n) ps → (Every CallSmall (calls_of σ c₀ q) → Every CallSmall (calls_all σ c ps)) → ¬ (Every CallSmall (calls_of σ c₀ q))
+            go [] a b g j h = absurd (omega arith)
+            go (x ∷ ps) a b g j h =
+                put H true x (parts_cells ps ++ rest) σ few (b ∙ append_assoc (enc true x) (parts_cells ps) rest) (λ z. other ((opened x ps rest b).kind_is ∙ z)) s g.0
+                (every_left CallSmall (calls_of σ c x) (calls_all σ (c + new_count true x) ps) (j h))
 
 -- PUSHED IN FRONT
 
-module _ (cells : List ℕ) (at c : ℕ) (slots : List ℕ) (n nk : ℕ) (o : List ℕ) (top : ℕ) (a a' : List ℕ) (r : Calls) (put : CallsPut cells at c slots n (max_calls - nk) 0 a r a') (few : nk ≤ max_calls) where
-  pub push_fail : r.ok ≡ false → (t m : ℕ) (o' : List ℕ) → Pushes cells at c slots n nk o top (record { ok = false; top = t; n = m }) o'
-  push_fail bad t m o' H q rest σ fw e s f l = (λ z. false_not_true z, λ z h. (put H q rest σ fw e s f l).1 bad (omega arith))
+module _ (cells : List ℕ) (at c : ℕ) (slots : List ℕ) (n nk : ℕ) (o : List ℕ) (top : ℕ) (a a' : List ℕ) (few : nk ≤ max_calls) where
+  pub push_fail : CallsPut cells at c slots n (max_calls - nk) 0 a None a' → (o' : List ℕ) → Pushes cells at c slots n nk o top None o'
+  push_fail put o' H q rest σ fw e s f l h = put H q rest σ fw e s f l (omega arith)
 
-  pub push_right : r.ok ≡ true → r.w ≤ top → top ≤ length o → r.w ≤ length a'
-      → Pushes cells at c slots n nk o top (record { ok = true; top = top - r.w; n = nk + r.n }) (paste o (top - r.w) (drop 0 a') r.w)
-  push_right ok h k j H q rest σ fw e s f l =
-      let u = (put H q rest σ fw e s f l).0 ok in
+  pub push_right : (r : Calls) → CallsPut cells at c slots n (max_calls - nk) 0 a (Some r) a' → r.w ≤ top → top ≤ length o → r.w ≤ length a'
+      → Pushes cells at c slots n nk o top (Some (record { top = top - r.w; n = nk + r.n })) (paste o (top - r.w) (drop 0 a') r.w)
+  push_right r put h k j H q rest σ fw e s f l =
+      let u = put H q rest σ fw e s f l in
       let z : top - r.w + r.w ≡ top = omega arith in
       let y : take r.w a' ≡ all encode_call (calls_of σ c q) = u.2 in (
-        λ t. (
-          omega (arith, u.0),
-          u.1,
-          ap (drop (top - r.w)) (append_assoc (take (top - r.w) o) (take r.w a') (drop (top - r.w + r.w) o)) ∙ drop_at (take (top - r.w) o) (take r.w a' ++ drop (top - r.w + r.w) o) (top - r.w) (length-take-le (top - r.w) o (omega arith))
-              ∙ ap₂ (λ (x : List ℕ) (i : ℕ). x ++ drop i o) y z,
-        ),
-        λ t. false_not_true (sym t),
+        omega (arith, u.0),
+        u.1,
+        ap (drop (top - r.w)) (append_assoc (take (top - r.w) o) (take r.w a') (drop (top - r.w + r.w) o)) ∙ drop_at (take (top - r.w) o) (take r.w a' ++ drop (top - r.w + r.w) o) (top - r.w) (length-take-le (top - r.w) o (omega arith))
+            ∙ ap₂ (λ (x : List ℕ) (i : ℕ). x ++ drop i o) y z,
       )

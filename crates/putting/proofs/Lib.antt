@@ -2,3 +2,4 @@ pub mod Bytes
 pub mod Opening
 pub mod PutLaws
 pub mod Several
+pub mod Options

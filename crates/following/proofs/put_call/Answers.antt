@@ -2,7 +2,8 @@
 use native.Mathlib.Omega.{arith}
 use Prim.Native.Nat.{◌+◌, ◌%◌}
 use mathlib.Core.Path.{refl, ◌∙◌}
-use mathlib.Core.Bool.{false}
+use Rattle.std.specs.Prelude.{None}
+use Rattle.std.proofs.lemmas.Option.{IfSome_then}
 use lib.ListN.{length-set}
 use lib.Seq.{take-set-le}
 use Rattle.putting.proofs.Bytes.{kept_front}
@@ -12,27 +13,27 @@ use Rattle.following.proofs.put_call.Goals as goal
 pub returns-then-count-gt-FRAME_WIDTH : goal.returns-then-count-gt-FRAME_WIDTH
 returns-then-count-gt-FRAME_WIDTH c =
     let q = c.requires in record {
-      w_le_w = omega arith;
+      w_le_w = tt;
       out_unchanged = refl;
-      call_put = call_wide c.args.cells.now c.args.at c.args.c c.args.slots.now c.args.n c.args.w c.args.out.now (omega arith) c.node_at-d.result c.node_at-d.ensures.views (omega arith) (omega arith) (record { ok = false; w = c.args.w }) c.args.out.now;
+      call_put = call_wide c.args.cells.now c.args.at c.args.c c.args.slots.now c.args.n c.args.w c.args.out.now (omega arith) c.node_at-d.result c.node_at-d.ensures.views (omega arith) (omega arith) None c.args.out.now;
     }
 
-pub put_terms-r-requires : goal.put_terms-r-requires
-put_terms-r-requires c =
+pub put_terms-requires : goal.put_terms-requires
+put_terms-requires c =
     let q = c.requires in omega (arith, length-set c.args.out.now c.args.w (c.node_at-d.result.number % 256))
 
 pub shape_of-out-then-d-eq-CALL : goal.shape_of-out-then-d-eq-CALL
 shape_of-out-then-d-eq-CALL c =
-    c.put_terms-r.auto.out ∙ length-set c.args.out.now c.args.w (c.node_at-d.result.number % 256)
+    c.put_terms.auto.out ∙ length-set c.args.out.now c.args.w (c.node_at-d.result.number % 256)
 
 pub returns-then-d-eq-CALL : goal.returns-then-d-eq-CALL
 returns-then-d-eq-CALL c =
     let q = c.requires in
-    let o = c.put_terms-r.new.out in
-    let u = c.put_terms-r.ensures.w_le_w in record {
-      w_le_w = omega arith;
-      out_unchanged = kept_front c.args.w (c.args.w + 1) _ o (omega arith) c.put_terms-r.ensures.out_unchanged ∙ take-set-le c.args.w c.args.out.now c.args.w _ (omega arith);
-      call_put = call_put c.args.cells.now c.args.at c.args.c c.args.slots.now c.args.n c.args.w c.args.out.now (omega arith) c.node_at-d.result c.node_at-d.ensures.views (omega arith) c.put_terms-r.result o c.put_terms-r.ensures.puts_all;
+    let o = c.put_terms.new.out in
+    record {
+      w_le_w = IfSome_then c.put_terms.result c.put_terms.ensures.w_le_w (λ v u. (omega arith, omega arith));
+      out_unchanged = kept_front c.args.w (c.args.w + 1) _ o (omega arith) c.put_terms.ensures.out_unchanged ∙ take-set-le c.args.w c.args.out.now c.args.w _ (omega arith);
+      call_put = call_put c.args.cells.now c.args.at c.args.c c.args.slots.now c.args.n c.args.w c.args.out.now (omega arith) c.node_at-d.result c.node_at-d.ensures.views (omega arith) c.put_terms.result o c.put_terms.ensures.puts_all;
     }
 
 pub put_marked-requires : goal.put_marked-requires
@@ -47,8 +48,8 @@ pub returns : goal.returns
 returns c =
     let q = c.requires in
     let o = c.put_marked.new.out in
-    let u = c.put_marked.ensures.w_le_w in record {
-      w_le_w = omega arith;
+    record {
+      w_le_w = IfSome_then c.put_marked.result c.put_marked.ensures.w_le_w (λ v u. (omega arith, omega arith));
       out_unchanged = kept_front c.args.w (c.args.w + 1) _ o (omega arith) c.put_marked.ensures.out_unchanged ∙ take-set-le c.args.w c.args.out.now c.args.w _ (omega arith);
       call_put = part_put c.args.cells.now c.args.at c.args.c c.args.slots.now c.args.n c.args.w c.args.out.now (omega arith) c.node_at-d.result c.node_at-d.ensures.views (omega arith) (λ z. omega arith) c.marks-m.result c.marks-m.ensures.marked c.put_marked.result o c.put_marked.ensures.marked_put;
     }

@@ -1,9 +1,7 @@
 -- One part after another, however the sequences are nested. The measure is what is left of the cells.
 use native.Mathlib.Omega.{arith}
 use mathlib.Core.Path.{refl, sym, ap, ◌∙◌, subst}
-use borrow.Author.Tests.{not-true, not-false}
-use Rattle.following.specs.declared.Calls.{Calls}
-use Rattle.following.specs.Follows.{CallsPut}
+use Rattle.std.specs.Prelude.{None}
 use Rattle.following.proofs.Parts.{parts_start, parts_stuck, parts_done, parts_seq, parts_many, parts_on, parts_last, parts_long}
 use Rattle.following.proofs.put_calls.Goals as goal
 
@@ -16,9 +14,9 @@ shape_of-out-then-p-cells c = c.loop-need.invariant.0.5
 
 pub returns-then-p-cells : goal.returns-then-p-cells
 returns-then-p-cells c =
-    let e = c.none.ensures in record {
-      n_le_most = omega (arith, ap (λ (x : Calls). x.n) e, ap (λ (x : Calls). x.w) e);
-      calls_put = parts_stuck c.args.cells.now c.args.at c.args.c c.args.slots.now c.args.n c.args.most c.args.out.now c.loop-need.p c.loop-need.need c.loop-need.k c.loop-need.e c.loop-need.v c.loop-need.out c.loop-need.invariant.1 (omega arith) (omega arith) c.none.result c.loop-need.out;
+    record {
+      n_le_most = tt;
+      calls_put = parts_stuck c.args.cells.now c.args.at c.args.c c.args.slots.now c.args.n c.args.most c.args.out.now c.loop-need.p c.loop-need.need c.loop-need.k c.loop-need.e c.loop-need.v c.loop-need.out c.loop-need.invariant.1 (omega arith) (omega arith) None c.loop-need.out;
     }
 
 pub loop-need-preserved-then-d-eq-SEQ : goal.loop-need-preserved-then-d-eq-SEQ
@@ -30,26 +28,24 @@ shape_of-out-then-k-most c = c.loop-need.invariant.0.5
 
 pub returns-then-k-most : goal.returns-then-k-most
 returns-then-k-most c =
-    let e = c.none-then-k-most.ensures in
-    let a = c.args in record {
-      n_le_most = omega (arith, ap (λ (x : Calls). x.n) e, ap (λ (x : Calls). x.w) e);
-      calls_put = subst (λ (x : Calls). CallsPut a.cells.now a.at a.c a.slots.now a.n a.most 0 a.out.now x c.loop-need.out) (sym e) (parts_many c.args.cells.now c.args.at c.args.c c.args.slots.now c.args.n c.args.most c.args.out.now c.loop-need.p c.loop-need.need c.loop-need.k c.loop-need.e c.loop-need.v c.loop-need.out c.loop-need.invariant.1 (omega arith) c.node_at-d.result c.node_at-d.ensures.views (λ z. omega arith) (omega arith) 0 0 c.loop-need.out);
+    record {
+      n_le_most = tt;
+      calls_put = parts_many c.args.cells.now c.args.at c.args.c c.args.slots.now c.args.n c.args.most c.args.out.now c.loop-need.p c.loop-need.need c.loop-need.k c.loop-need.e c.loop-need.v c.loop-need.out c.loop-need.invariant.1 (omega arith) c.node_at-d.result c.node_at-d.ensures.views (λ z. omega arith) (omega arith) c.loop-need.out;
     }
 
-pub put_call-r-requires : goal.put_call-r-requires
-put_call-r-requires c =
+pub put_call-requires : goal.put_call-requires
+put_call-requires c =
     let q = c.requires in let i = c.loop-need.invariant.0 in (omega arith, omega arith, omega arith, omega arith, omega arith)
 
-pub shape_of-out-then-not-r : goal.shape_of-out-then-not-r
-shape_of-out-then-not-r c =
-    c.put_call-r.auto.out ∙ c.loop-need.invariant.0.5
+pub shape_of-out-in_err-end : goal.shape_of-out-in_err-end
+shape_of-out-in_err-end c =
+    c.put_call.auto.out ∙ c.loop-need.invariant.0.5
 
-pub returns-then-not-r : goal.returns-then-not-r
-returns-then-not-r c =
-    let e = c.none-then-not-r.ensures in
-    let a = c.args in record {
-      n_le_most = omega (arith, ap (λ (x : Calls). x.n) e, ap (λ (x : Calls). x.w) e);
-      calls_put = subst (λ (x : Calls). CallsPut a.cells.now a.at a.c a.slots.now a.n a.most 0 a.out.now x c.put_call-r.new.out) (sym e) (parts_long c.args.cells.now c.args.at c.args.c c.args.slots.now c.args.n c.args.most c.args.out.now c.loop-need.p c.loop-need.need c.loop-need.k c.loop-need.e c.loop-need.v c.loop-need.out c.loop-need.invariant.1 (omega arith) c.node_at-d.result c.node_at-d.ensures.views (λ z. omega arith) c.put_call-r.result c.put_call-r.new.out c.put_call-r.ensures.call_put (not-true _ c.if-not-r.true) 0 0 c.put_call-r.new.out);
+pub returns-in_err-end : goal.returns-in_err-end
+returns-in_err-end c =
+    rw c.from_residual.ensures record {
+      n_le_most = tt;
+      calls_put = parts_long c.args.cells.now c.args.at c.args.c c.args.slots.now c.args.n c.args.most c.args.out.now c.loop-need.p c.loop-need.need c.loop-need.k c.loop-need.e c.loop-need.v c.loop-need.out c.loop-need.invariant.1 (omega arith) c.node_at-d.result c.node_at-d.ensures.views (λ z. omega arith) c.put_call.new.out c.in_err-end.ensures.call_put c.put_call.new.out;
     }
 
 pub overflow_add-result : goal.overflow_add-result
@@ -58,17 +54,17 @@ overflow_add-result c =
 
 pub shape_of-out-then-need-eq1 : goal.shape_of-out-then-need-eq1
 shape_of-out-then-need-eq1 c =
-    c.put_call-r.auto.out ∙ c.loop-need.invariant.0.5
+    c.put_call.auto.out ∙ c.loop-need.invariant.0.5
 
 pub returns-then-need-eq1 : goal.returns-then-need-eq1
 returns-then-need-eq1 c =
     let i = c.loop-need.invariant.0 in
-    let u = c.put_call-r.ensures.w_le_w in
+    let u = c.in_ok-end.ensures.w_le_w in
     let a = c.args in
     let here = c.loop-need in
-    let put = c.put_call-r in record {
+    let put = c.put_call in record {
       n_le_most = (omega arith, omega arith);
-      calls_put = parts_last a.cells.now a.at a.c a.slots.now a.n a.most a.out.now here.p here.need here.k here.e here.v here.out here.invariant.1 (omega arith) c.node_at-d.result c.node_at-d.ensures.views (λ z. omega arith) put.result put.new.out put.ensures.call_put (omega arith) (not-false _ c.if-not-r.false);
+      calls_put = parts_last a.cells.now a.at a.c a.slots.now a.n a.most a.out.now here.p here.need here.k here.e here.v here.out here.invariant.1 (omega arith) c.node_at-d.result c.node_at-d.ensures.views (λ z. omega arith) c.in_ok-end.end put.new.out c.in_ok-end.ensures.call_put (omega arith);
     }
 
 pub later-e-requires : goal.later-e-requires
@@ -85,9 +81,9 @@ loop-need-smaller c =
 
 pub loop-need-preserved : goal.loop-need-preserved
 loop-need-preserved c =
-    let q = c.requires in let i = c.loop-need.invariant.0 in let u = c.put_call-r.ensures.w_le_w in let sk = c.skip-s.ensures.at_le_next in (
-      (omega arith, omega arith, omega arith, omega arith, c.later-e.ensures.0, c.put_call-r.auto.out ∙ i.5),
-      parts_on c.args.cells.now c.args.at c.args.c c.args.slots.now c.args.n c.args.most c.args.out.now c.loop-need.p c.loop-need.need c.loop-need.k c.loop-need.e c.loop-need.v c.loop-need.out c.loop-need.invariant.1 (omega arith) c.node_at-d.result c.node_at-d.ensures.views (λ z. omega arith) c.put_call-r.result c.put_call-r.new.out c.put_call-r.ensures.call_put (not-false _ c.if-not-r.false) c.skip-s.result c.skip-s.ensures.skips c.later-e.result c.later-e.ensures.1,
+    let q = c.requires in let i = c.loop-need.invariant.0 in let u = c.in_ok-end.ensures.w_le_w in let sk = c.skip-s.ensures.at_le_next in (
+      (omega arith, omega arith, omega arith, omega arith, c.later-e.ensures.0, c.put_call.auto.out ∙ i.5),
+      parts_on c.args.cells.now c.args.at c.args.c c.args.slots.now c.args.n c.args.most c.args.out.now c.loop-need.p c.loop-need.need c.loop-need.k c.loop-need.e c.loop-need.v c.loop-need.out c.loop-need.invariant.1 (omega arith) c.node_at-d.result c.node_at-d.ensures.views (λ z. omega arith) c.in_ok-end.end c.put_call.new.out c.in_ok-end.ensures.call_put c.skip-s.result c.skip-s.ensures.skips c.later-e.result c.later-e.ensures.1,
     )
 
 pub shape_of-out : goal.shape_of-out

@@ -2,7 +2,6 @@
 use native.Mathlib.Omega.{arith}
 use Prim.Native.Nat.{◌+◌}
 use mathlib.Core.Path.{refl, ◌∙◌}
-use borrow.Author.Tests.{not-true, not-false}
 use lib.Count.{count_trailing_zeros, trailing_le}
 use Rattle.putting.proofs.Bytes.{kept_front}
 use Rattle.following.proofs.MarkedLaws.{marked_start, marked_done, marked_out, marked_many, marked_on, marked_long, rest_less}
@@ -24,7 +23,7 @@ shape_of-out-then-i-n c = c.loop-rest.invariant.0.5
 pub returns-then-i-n : goal.returns-then-i-n
 returns-then-i-n c = let a = c.args in
     let l = c.loop-rest in record {
-      w_le_w = omega arith;
+      w_le_w = (omega arith, omega arith);
       out_unchanged = l.invariant.1;
       marked_put = marked_out a.m a.slots.now a.n a.w a.out.now l.rest l.at l.k l.v l.out l.invariant.2 (omega arith) l.invariant.0.4 (l.at + count_trailing_zeros 32 l.rest) refl l.invariant.0.3 (omega arith) (omega arith);
     }
@@ -35,22 +34,22 @@ shape_of-out-then-k-ge-FRAME_WIDTH c = c.loop-rest.invariant.0.5
 pub returns-then-k-ge-FRAME_WIDTH : goal.returns-then-k-ge-FRAME_WIDTH
 returns-then-k-ge-FRAME_WIDTH c = let a = c.args in
     let l = c.loop-rest in record {
-      w_le_w = omega arith;
+      w_le_w = tt;
       out_unchanged = l.invariant.1;
-      marked_put = marked_many a.m a.slots.now a.n a.w a.out.now l.rest l.at l.k l.v l.out l.invariant.2 (omega arith) l.invariant.0.4 (l.at + count_trailing_zeros 32 l.rest) refl (omega arith) (omega arith) (omega arith) a.w l.out;
+      marked_put = marked_many a.m a.slots.now a.n a.w a.out.now l.rest l.at l.k l.v l.out l.invariant.2 (omega arith) l.invariant.0.4 (l.at + count_trailing_zeros 32 l.rest) refl (omega arith) (omega arith) (omega arith) l.out;
     }
 
-pub shape_of-out-then-not-r : goal.shape_of-out-then-not-r
-shape_of-out-then-not-r c = c.put_one-r.auto.out ∙ c.loop-rest.invariant.0.5
+pub shape_of-out-in_err-v : goal.shape_of-out-in_err-v
+shape_of-out-in_err-v c = c.put_one.auto.out ∙ c.loop-rest.invariant.0.5
 
-pub returns-then-not-r : goal.returns-then-not-r
-returns-then-not-r c = let a = c.args in
+pub returns-in_err-v : goal.returns-in_err-v
+returns-in_err-v c = let a = c.args in
     let l = c.loop-rest in
-    let x = c.put_one-r in
-    let o = x.new.out in record {
-      w_le_w = omega arith;
+    let x = c.put_one in
+    let o = x.new.out in rw c.from_residual.ensures record {
+      w_le_w = tt;
       out_unchanged = kept_front a.w l.v l.out o (omega arith) x.ensures.out_unchanged ∙ l.invariant.1;
-      marked_put = marked_long a.m a.slots.now a.n a.w a.out.now l.rest l.at l.k l.v l.out l.invariant.2 (omega arith) l.invariant.0.4 (l.at + count_trailing_zeros 32 l.rest) refl (omega arith) (omega arith) x.result o x.ensures.one_put (not-true _ c.if-not-r.true) a.w o;
+      marked_put = marked_long a.m a.slots.now a.n a.w a.out.now l.rest l.at l.k l.v l.out l.invariant.2 (omega arith) l.invariant.0.4 (l.at + count_trailing_zeros 32 l.rest) refl (omega arith) (omega arith) o c.in_err-v.ensures.one_put o;
     }
 
 pub overflow_shr-rest : goal.overflow_shr-rest
@@ -62,14 +61,14 @@ loop-rest-smaller c = rest_less c.loop-rest.rest (count_trailing_zeros 32 c.loop
 pub loop-rest-preserved : goal.loop-rest-preserved
 loop-rest-preserved c = let a = c.args in
     let l = c.loop-rest in
-    let x = c.put_one-r in
+    let x = c.put_one in
     let o = x.new.out in
     let i = l.invariant.0 in
-    let u = x.ensures.w_le_w in
+    let u = c.in_ok-v.ensures.w_le_w in
     let z = rest_less l.rest (count_trailing_zeros 32 l.rest) (omega arith) in (
       (omega arith, omega arith, omega arith, omega arith, omega (arith, i.4), x.auto.out ∙ i.5),
       kept_front a.w l.v l.out o (omega arith) x.ensures.out_unchanged ∙ l.invariant.1,
-      marked_on a.m a.slots.now a.n a.w a.out.now l.rest l.at l.k l.v l.out l.invariant.2 (omega arith) l.invariant.0.4 (l.at + count_trailing_zeros 32 l.rest) refl (omega arith) (omega arith) x.result o x.ensures.one_put (not-false _ c.if-not-r.false),
+      marked_on a.m a.slots.now a.n a.w a.out.now l.rest l.at l.k l.v l.out l.invariant.2 (omega arith) l.invariant.0.4 (l.at + count_trailing_zeros 32 l.rest) refl (omega arith) (omega arith) o c.in_ok-v.v c.in_ok-v.ensures.one_put,
     )
 
 pub shape_of-out : goal.shape_of-out
@@ -78,7 +77,7 @@ shape_of-out c = c.loop-rest.invariant.0.5
 pub returns : goal.returns
 returns c = let a = c.args in
     let l = c.loop-rest in record {
-      w_le_w = omega arith;
+      w_le_w = (omega arith, omega arith);
       out_unchanged = l.invariant.1;
       marked_put = marked_done a.m a.slots.now a.n a.w a.out.now l.rest l.at l.k l.v l.out l.invariant.2 l.invariant.0.3 (omega arith);
     }
