@@ -2,6 +2,8 @@
 use mathlib.Core.Path.{◌≡◌, refl, sym, ap, ap₂, ◌∙◌, subst}
 use mathlib.Core.List.{List, [], ◌∷◌, ◌++◌, map, append_assoc, append-nil}
 use mathlib.Core.Bool.{Bool, true, false}
+use Rattle.std.specs.Prelude.{Option, Some, None, MatchOption}
+use Rattle.std.proofs.lemmas.Option.{MatchOption-at_some, MatchOption-at_none}
 use Prim.Native.Nat.{ℕ, ◌+◌, ◌%◌, ◌<◌, ◌≤◌}
 use native.Mathlib.Numerals.{add-one}
 use native.Mathlib.Omega.{arith}
@@ -15,7 +17,6 @@ use Rattle.pcrl.specs.Sheet.{var, Proc, delta, atom, alt, cond, sum, seq, call, 
 use Rattle.pcrl.specs.Parts.{new_count}
 use Rattle.pcrl.specs.Table.{Summand}
 use Rattle.pcrl.specs.Stream.{encode_call}
-use Rattle.laws.specs.Booleans.{false_not_true}
 use Rattle.laws.specs.Every.{every_append, every_left}
 use Rattle.laws.specs.Lists.{map_twice}
 use Rattle.nodes.specs.declared.Node.{Node}
@@ -31,14 +32,14 @@ use Rattle.contexts.specs.declared.Side.{Side}
 use Rattle.contexts.specs.declared.Spot.{Spot}
 use Rattle.following.specs.declared.Pushed.{Pushed}
 use Rattle.contexts.specs.Spots.{Ready, Arrays, arrays, around, SpottedAt, Spotted, Kept, Beyond, Leads}
-use Rattle.contexts.specs.Steps.{VariablePut, failed, RestAt}
+use Rattle.contexts.specs.Steps.{VariablePut, RestAt}
 use Rattle.contexts.proofs.Unfold.{heads_delta, heads_sum, heads_seq, new_sum, new_seq, around_var, around_calls, within_vars, within_calls, small_calls}
-use Rattle.contexts.proofs.Spotting.{case_sum, case_seq, no_head, deeper_failed, failed_ok, opened, kind}
+use Rattle.contexts.proofs.Spotting.{case_sum, case_seq, no_head, opened, kind}
 
 -- a step that fails
 pub fails : (cells starts counts firsts : List ℕ) (s : Spot) (A : Arrays) → ((H : Sheet) (F : ℕ) (hs : List Summand) → Ready H F cells starts counts firsts → Spotted H F cells s A hs → Beyond hs)
-    → (r : Spot) → r ≡ failed s → (B : Arrays) → Kept s A B → Leads cells starts counts firsts s A r B
-fails cells starts counts firsts s A u r e B k = (deeper_failed s r e, k, λ H F hs rd sp. (λ t. false_not_true (sym (failed_ok s r e) ∙ t), λ t. u H F hs rd sp))
+    → (B : Arrays) → Kept s A B → Leads cells starts counts firsts s A None B
+fails cells starts counts firsts s A u B k = (tt, k, u)
 
 -- A SUM
 
@@ -51,7 +52,7 @@ module _ (H : Sheet) (F : ℕ) (cells : List ℕ) (s : Spot) (slots vars conds c
         ∙ ap (map (around c.vs c.cs c.ks)) (sym (heads_sum H c.σ s.m s.c s.fuel z D x)) ∙ sp.are
 
     sum_on : s.nv < length vars → (slots' : List ℕ) → VariablePut slots s.n s.m slots'
-        → Spotted H F cells (record { ok = true; at = d.next; fuel = s.fuel; n = s.n + 1; m = s.m + 1; c = s.c; nv = s.nv + 1; nc = s.nc; lc = s.lc; nk = s.nk; top = s.top }) (arrays slots' (set vars s.nv (d.number % byte_limit)) conds calls) hs
+        → Spotted H F cells (record { at = d.next; fuel = s.fuel; n = s.n + 1; m = s.m + 1; c = s.c; nv = s.nv + 1; nc = s.nc; lc = s.lc; nk = s.nk; top = s.top }) (arrays slots' (set vars s.nv (d.number % byte_limit)) conds calls) hs
     unfolding node_number node_kids encs Fine
     sum_on inside slots' put =
         let u = opened H F cells s (arrays slots vars conds calls) hs d vw (sum z D x) sp in
@@ -99,22 +100,20 @@ module _ (cells starts counts firsts : List ℕ) (s : Spot) (slots vars conds ca
 
   pub sum_down : s.nv < length vars → (slots' : List ℕ) → VariablePut slots s.n s.m slots'
       → Leads cells starts counts firsts s (arrays slots vars conds calls)
-      (record { ok = true; at = d.next; fuel = s.fuel; n = s.n + 1; m = s.m + 1; c = s.c; nv = s.nv + 1; nc = s.nc; lc = s.lc; nk = s.nk; top = s.top })
+      (Some (record { at = d.next; fuel = s.fuel; n = s.n + 1; m = s.m + 1; c = s.c; nv = s.nv + 1; nc = s.nc; lc = s.lc; nk = s.nk; top = s.top }))
       (arrays slots' (set vars s.nv (d.number % byte_limit)) conds calls)
   sum_down inside slots' put = (
     record { n_on = omega arith; nv_on = omega arith; lc_on = omega arith; top_on = omega arith },
     record { slots_kept = put.1; vars_kept = take-set-le s.nv vars s.nv (d.number % byte_limit) (omega arith); conds_kept = refl; calls_kept = refl },
-    λ H F hs rd sp. (
-      λ t. case_sum (SpottedAt H F cells s (arrays slots vars conds calls) hs) (Spotted H F cells (record { ok = true; at = d.next; fuel = s.fuel; n = s.n + 1; m = s.m + 1; c = s.c; nv = s.nv + 1; nc = s.nc; lc = s.lc; nk = s.nk; top = s.top }) (arrays slots' (set vars s.nv (d.number % byte_limit)) conds calls) hs)
+    λ H F hs rd sp.
+      case_sum (SpottedAt H F cells s (arrays slots vars conds calls) hs) (Spotted H F cells (record { at = d.next; fuel = s.fuel; n = s.n + 1; m = s.m + 1; c = s.c; nv = s.nv + 1; nc = s.nc; lc = s.lc; nk = s.nk; top = s.top }) (arrays slots' (set vars s.nv (d.number % byte_limit)) conds calls) hs)
           sp.0 sp.1 (kind H F cells s (arrays slots vars conds calls) hs d vw sum_kind is sp) λ z D x sp. sum_on H F cells s slots vars conds calls hs d vw z D x sp inside slots' put,
-      λ t. false_not_true (sym t),
-    ),
   )
 
 -- A SEQUENCE
 
 module _ (cells starts counts firsts : List ℕ) (s : Spot) (slots vars conds calls : List ℕ) (d : Node) (vw : Views cells s.at d) (is : d.kind ≡ seq_kind)
-    (e : Side) (ra : RestAt cells d.next s e) (r : Pushed) (calls' : List ℕ) (push : Pushes cells e.at e.c slots s.n s.nk calls s.top r calls') where
+    (e : Side) (ra : RestAt cells d.next s e) (r : Option Pushed) (calls' : List ℕ) (push : Pushes cells e.at e.c slots s.n s.nk calls s.top r calls') where
   module _ (H : Sheet) (F : ℕ) (hs : List Summand) (rd : Ready H F cells starts counts firsts) (x y : Proc) (sp : SpottedAt H F cells s (arrays slots vars conds calls) hs (seq x y)) where
     -- where the first part stands
     first_part : drop d.next cells ≡ enc false x ++ (enc true y ++ sp.rest)
@@ -122,12 +121,13 @@ module _ (cells starts counts firsts : List ℕ) (s : Spot) (slots vars conds ca
     first_part =
         subst (λ (b : Bool). drop d.next cells ≡ enc b x ++ (enc true y ++ sp.rest)) (sp.first refl) ((opened H F cells s (arrays slots vars conds calls) hs d vw (seq x y) sp).next_is ∙ simp (append_assoc, append-nil))
 
-    pushed : (r.ok ≡ true → (length (calls_of sp.ctx.σ (s.c + new_count false x) y) + s.nk ≡ r.n) × Every CallSmall (calls_of sp.ctx.σ (s.c + new_count false x) y) × (drop r.top calls' ≡ all encode_call (calls_of sp.ctx.σ (s.c + new_count false x) y) ++ drop s.top calls)) × (r.ok ≡ false → length (calls_of sp.ctx.σ (s.c + new_count false x) y) + s.nk ≤ max_calls → ¬ (Every CallSmall (calls_of sp.ctx.σ (s.c + new_count false x) y)))
+    pushed : MatchOption r (length (calls_of sp.ctx.σ (s.c + new_count false x) y) + s.nk ≤ max_calls → ¬ (Every CallSmall (calls_of sp.ctx.σ (s.c + new_count false x) y)))
+        (λ t. (length (calls_of sp.ctx.σ (s.c + new_count false x) y) + s.nk ≡ t.n) × Every CallSmall (calls_of sp.ctx.σ (s.c + new_count false x) y) × (drop t.top calls' ≡ all encode_call (calls_of sp.ctx.σ (s.c + new_count false x) y) ++ drop s.top calls))
     unfolding Fine
     pushed =
         let g = ra x (enc true y ++ sp.rest) first_part in
         let number : e.c ≡ s.c + new_count false x = g.0 (omega (arith, sp.equations_left, new_seq x y)) in
-        subst (λ (c : ℕ). (r.ok ≡ true → (length (calls_of sp.ctx.σ c y) + s.nk ≡ r.n) × Every CallSmall (calls_of sp.ctx.σ c y) × (drop r.top calls' ≡ all encode_call (calls_of sp.ctx.σ c y) ++ drop s.top calls)) × (r.ok ≡ false → length (calls_of sp.ctx.σ c y) + s.nk ≤ max_calls → ¬ (Every CallSmall (calls_of sp.ctx.σ c y)))) number
+        subst (λ (c : ℕ). MatchOption r (length (calls_of sp.ctx.σ c y) + s.nk ≤ max_calls → ¬ (Every CallSmall (calls_of sp.ctx.σ c y))) (λ t. (length (calls_of sp.ctx.σ c y) + s.nk ≡ t.n) × Every CallSmall (calls_of sp.ctx.σ c y) × (drop t.top calls' ≡ all encode_call (calls_of sp.ctx.σ c y) ++ drop s.top calls))) number
         (push H y sp.rest sp.ctx.σ rd.few g.1 sp.ctx.held sp.fine.1 (omega (arith, number, sp.equations_left, new_seq x y)))
 
     -- the heads with the calls of the rest
@@ -138,12 +138,12 @@ module _ (cells starts counts firsts : List ℕ) (s : Spot) (slots vars conds ca
         sym (map_twice (around c.vs c.cs c.ks) (with_calls es) (around c.vs c.cs (es ++ c.ks)) (around_calls c.vs c.cs c.ks es) (heads H s.fuel c.σ s.m s.c x))
         ∙ ap (map (around c.vs c.cs c.ks)) (sym (heads_seq H c.σ s.m s.c s.fuel x y)) ∙ sp.are
 
-    seq_on : r.ok ≡ true → Spotted H F cells (record { ok = true; at = d.next; fuel = s.fuel; n = s.n; m = s.m; c = s.c; nv = s.nv; nc = s.nc; lc = s.lc; nk = r.n; top = r.top }) (arrays slots vars conds calls') hs
+    seq_on : (t : Pushed) → r ≡ Some t → Spotted H F cells (record { at = d.next; fuel = s.fuel; n = s.n; m = s.m; c = s.c; nv = s.nv; nc = s.nc; lc = s.lc; nk = t.n; top = t.top }) (arrays slots vars conds calls') hs
     unfolding Fine
-    seq_on ok =
+    seq_on t ok =
         let c = sp.ctx in
         let es = calls_of c.σ (s.c + new_count false x) y in
-        let u = pushed.0 ok in (
+        let u = MatchOption-at_some _ _ t ok pushed in (
           x,
           record {
             ctx = record {
@@ -172,28 +172,26 @@ module _ (cells starts counts firsts : List ℕ) (s : Spot) (slots vars conds ca
           },
         )
 
-    seq_beyond : r.ok ≡ false → Beyond hs
+    seq_beyond : r ≡ None → Beyond hs
     seq_beyond bad =
         let c = sp.ctx in
         let es = calls_of c.σ (s.c + new_count false x) y in
         no_head (around c.vs c.cs (es ++ c.ks)) (heads H s.fuel c.σ s.m s.c x) hs seq_are (λ h w.
         let l = within_calls c.vs c.cs (es ++ c.ks) h w in
-        pushed.1 bad (omega (arith, length-append es c.ks, c.calls_many)) (every_left CallSmall es c.ks (small_calls c.vs c.cs (es ++ c.ks) h w)))
+        MatchOption-at_none _ _ bad pushed (omega (arith, length-append es c.ks, c.calls_many)) (every_left CallSmall es c.ks (small_calls c.vs c.cs (es ++ c.ks) h w)))
 
-  pub seq_long : r.ok ≡ false → (H : Sheet) (F : ℕ) (hs : List Summand) → Ready H F cells starts counts firsts → Spotted H F cells s (arrays slots vars conds calls) hs → Beyond hs
+  pub seq_long : r ≡ None → (H : Sheet) (F : ℕ) (hs : List Summand) → Ready H F cells starts counts firsts → Spotted H F cells s (arrays slots vars conds calls) hs → Beyond hs
   seq_long bad H F hs rd sp = case_seq (SpottedAt H F cells s (arrays slots vars conds calls) hs) (Beyond hs) sp.0 sp.1 (kind H F cells s (arrays slots vars conds calls) hs d vw seq_kind is sp) λ x y sp. seq_beyond H F hs rd x y sp bad
 
-  pub seq_down : r.ok ≡ true → r.top ≤ s.top → drop s.top calls' ≡ drop s.top calls
-      → Leads cells starts counts firsts s (arrays slots vars conds calls) (record { ok = true; at = d.next; fuel = s.fuel; n = s.n; m = s.m; c = s.c; nv = s.nv; nc = s.nc; lc = s.lc; nk = r.n; top = r.top }) (arrays slots vars conds calls')
-  seq_down ok lt same = (
+  pub seq_down : (t : Pushed) → r ≡ Some t → t.top ≤ s.top → drop s.top calls' ≡ drop s.top calls
+      → Leads cells starts counts firsts s (arrays slots vars conds calls) (Some (record { at = d.next; fuel = s.fuel; n = s.n; m = s.m; c = s.c; nv = s.nv; nc = s.nc; lc = s.lc; nk = t.n; top = t.top })) (arrays slots vars conds calls')
+  seq_down t ok lt same = (
     record { n_on = omega arith; nv_on = omega arith; lc_on = omega arith; top_on = lt },
     record { slots_kept = refl; vars_kept = refl; conds_kept = refl; calls_kept = same },
-    λ H F hs rd sp. (
-      λ t. case_seq (SpottedAt H F cells s (arrays slots vars conds calls) hs)
-          (Spotted H F cells (record { ok = true; at = d.next; fuel = s.fuel; n = s.n; m = s.m; c = s.c; nv = s.nv; nc = s.nc; lc = s.lc; nk = r.n; top = r.top }) (arrays slots vars conds calls') hs)
-          sp.0 sp.1 (kind H F cells s (arrays slots vars conds calls) hs d vw seq_kind is sp) λ x y sp. seq_on H F hs rd x y sp ok,
-      λ t. false_not_true (sym t),
-    ),
+    λ H F hs rd sp.
+      case_seq (SpottedAt H F cells s (arrays slots vars conds calls) hs)
+          (Spotted H F cells (record { at = d.next; fuel = s.fuel; n = s.n; m = s.m; c = s.c; nv = s.nv; nc = s.nc; lc = s.lc; nk = t.n; top = t.top }) (arrays slots vars conds calls') hs)
+          sp.0 sp.1 (kind H F cells s (arrays slots vars conds calls) hs d vw seq_kind is sp) λ x y sp. seq_on H F hs rd x y sp t ok,
   )
 
 -- NO STEP

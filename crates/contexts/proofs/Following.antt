@@ -36,10 +36,10 @@ module _ (cells starts counts firsts : List ℕ) (s : Spot) (slots vars conds ca
 
   pub call_down : (g : ℕ) → s.fuel ≡ suc g → (mine : List ℕ) → Fills cells d.terms d.datas slots s.n mine
       → (at' c' : ℕ) → at' ≡ get_or starts d.number 0 → c' ≡ get_or firsts d.number 0
-      → Spotted H F cells (record { ok = true; at = at'; fuel = g; n = d.datas; m = s.m; c = c'; nv = s.nv; nc = s.nc; lc = s.lc; nk = s.nk; top = s.top }) (arrays mine vars conds calls) hs
+      → Spotted H F cells (record { at = at'; fuel = g; n = d.datas; m = s.m; c = c'; nv = s.nv; nc = s.nc; lc = s.lc; nk = s.nk; top = s.top }) (arrays mine vars conds calls) hs
   unfolding node_datas node_number Fine
   call_down g eg mine fill at' c' ea ec = case_call (SpottedAt H F cells s (arrays slots vars conds calls) hs)
-      (Spotted H F cells (record { ok = true; at = at'; fuel = g; n = d.datas; m = s.m; c = c'; nv = s.nv; nc = s.nc; lc = s.lc; nk = s.nk; top = s.top }) (arrays mine vars conds calls) hs)
+      (Spotted H F cells (record { at = at'; fuel = g; n = d.datas; m = s.m; c = c'; nv = s.nv; nc = s.nc; lc = s.lc; nk = s.nk; top = s.top }) (arrays mine vars conds calls) hs)
       sp.0 sp.1 (kind H F cells s (arrays slots vars conds calls) hs d vw call_kind is sp) λ z ds sp.
       let u = opened H F cells s (arrays slots vars conds calls) hs d vw (call z ds) sp in
       let c = sp.ctx in

@@ -2,6 +2,7 @@
 use mathlib.Core.Path.{◌≡◌, refl, sym, ap, ◌∙◌}
 use mathlib.Core.List.{List, [], ◌∷◌, ◌++◌, map, append_assoc, append-nil, map-append}
 use mathlib.Core.Bool.{true, false}
+use Rattle.std.specs.Prelude.{Some, None}
 use Prim.Native.Nat.{ℕ, ◌+◌, ◌<◌, ◌≤◌}
 use native.Mathlib.Omega.{arith}
 use mathlib.Core.Logic.{◌⊎◌, inl, inr}
@@ -16,7 +17,6 @@ use Rattle.pcrl.specs.Values.{put_data}
 use Rattle.pcrl.specs.Parts.{new_count}
 use Rattle.pcrl.specs.Table.{Summand}
 use Rattle.pcrl.specs.Stream.{encode_data, encode_cond}
-use Rattle.laws.specs.Booleans.{false_not_true}
 use Rattle.laws.specs.Every.{every_append, every_right}
 use Rattle.laws.specs.Lists.{map_twice}
 use Rattle.nodes.specs.declared.Node.{Node}
@@ -32,9 +32,9 @@ use Rattle.putting.specs.declared.TermPut.{TermPut}
 use Rattle.putting.specs.Puts.{Puts}
 use Rattle.putting.proofs.Bytes.{kept_front}
 use Rattle.contexts.specs.Spots.{Arrays, arrays, wanted_of, CondSmall, around, SpottedAt, Spotted, Kept, OnSide}
-use Rattle.contexts.specs.Steps.{SideDown, failed}
+use Rattle.contexts.specs.Steps.{SideDown}
 use Rattle.contexts.proofs.Unfold.{heads_alt, heads_cond, new_alt, new_cond, around_cond, within_conds, small_conds}
-use Rattle.contexts.proofs.Spotting.{case_alt, case_cond, no_head, kept_same, deeper_failed, failed_ok, opened, kind}
+use Rattle.contexts.proofs.Spotting.{case_alt, case_cond, no_head, kept_same, opened, kind}
 
 -- the place after a term, and how many new equations it has, if they are few
 abbrev pub Passed : List ℕ → ℕ → ℕ → ℕ → Type 0
@@ -156,12 +156,12 @@ module _ (H : Sheet) (F : ℕ) (cells : List ℕ) (s : Spot) (A : Arrays) (hs : 
 -- INTO A SIDE
 
 module _ (cells : List ℕ) (d : Node) (s : Spot) (e : Side) (slots conds : List ℕ) where
-  pub side_plain : (d.kind ≡ cond_kind → ⊥) → SideDown cells d s e slots conds (record { ok = true; at = e.at; fuel = s.fuel; n = s.n; m = s.m; c = e.c; nv = s.nv; nc = s.nc; lc = s.lc; nk = s.nk; top = s.top }) conds
+  pub side_plain : (d.kind ≡ cond_kind → ⊥) → SideDown cells d s e slots conds (Some (record { at = e.at; fuel = s.fuel; n = s.n; m = s.m; c = e.c; nv = s.nv; nc = s.nc; lc = s.lc; nk = s.nk; top = s.top })) conds
   side_plain is vars calls = (
     record { n_on = omega arith; nv_on = omega arith; lc_on = omega arith; top_on = omega arith },
     record { slots_kept = refl; vars_kept = refl; conds_kept = refl; calls_kept = refl },
-    λ H F hs o. (
-      λ t. (
+    λ H F hs o.
+      (
         o.t,
         record {
           ctx = record {
@@ -189,8 +189,6 @@ module _ (cells : List ℕ) (d : Node) (s : Spot) (e : Side) (slots conds : List
           are = ap (λ (l : List (ℕ × Data)). map (around o.ctx.vs l o.ctx.ks) (heads H s.fuel o.ctx.σ s.m e.c o.t)) (sym (append-nil o.ctx.cs) ∙ ap (λ (l : List (ℕ × Data)). o.ctx.cs ++ l) (sym (o.none is))) ∙ o.are;
         },
       ),
-      λ t. false_not_true (sym t),
-    ),
   )
 
   module _ (is : d.kind ≡ cond_kind) where
@@ -199,21 +197,19 @@ module _ (cells : List ℕ) (d : Node) (s : Spot) (e : Side) (slots conds : List
       cond_are : map (around o.ctx.vs (o.ctx.cs ++ ((wanted_of e.second, put_data (look o.ctx.σ) (o.one is).z) ∷ [])) o.ctx.ks) (heads H s.fuel o.ctx.σ s.m e.c o.t) ≡ hs
       cond_are = ap (λ (l : List (ℕ × Data)). map (around o.ctx.vs (o.ctx.cs ++ l) o.ctx.ks) (heads H s.fuel o.ctx.σ s.m e.c o.t)) (sym (o.one is).is) ∙ o.are
 
-    pub side_many : max_conditions ≤ s.nc → (r : Spot) → r ≡ failed s → SideDown cells d s e slots conds r conds
-    side_many big r bad vars calls = (
-      deeper_failed s r bad,
+    pub side_many : max_conditions ≤ s.nc → SideDown cells d s e slots conds None conds
+    side_many big vars calls = (
+      tt,
       kept_same s (arrays slots vars conds calls),
       λ H F hs o.
           let c = o.ctx in
-          let es : List (ℕ × Data) = (wanted_of e.second, put_data (look c.σ) (o.one is).z) ∷ [] in (
-            λ t. false_not_true (sym (failed_ok s r bad) ∙ t),
-            λ t. no_head (around c.vs (c.cs ++ es) c.ks) (heads H s.fuel c.σ s.m e.c o.t) hs (cond_are vars calls H F hs o) (λ h w.
+          let es : List (ℕ × Data) = (wanted_of e.second, put_data (look c.σ) (o.one is).z) ∷ [] in
+            no_head (around c.vs (c.cs ++ es) c.ks) (heads H s.fuel c.σ s.m e.c o.t) hs (cond_are vars calls H F hs o) (λ h w.
                 let u = within_conds c.vs (c.cs ++ es) c.ks h w in
                 omega (arith, length-append c.cs es, c.conds_many)),
-          ),
     )
 
-    module _ (r : TermPut) (o' : List ℕ) (put : Puts cells d.terms slots s.n (s.lc + 1) (set conds s.lc (wanted_of e.second)) r o')
+    module _ (o' : List ℕ)
         (same : take (s.lc + 1) o' ≡ take (s.lc + 1) (set conds s.lc (wanted_of e.second))) where
       cond_kept : (vars calls : List ℕ) → Kept s (arrays slots vars conds calls) (arrays slots vars o' calls)
       cond_kept vars calls = record {
@@ -223,26 +219,24 @@ module _ (cells : List ℕ) (d : Node) (s : Spot) (e : Side) (slots conds : List
         calls_kept = refl;
       }
 
-      pub side_long : r.ok ≡ false → (q : Spot) → q ≡ failed s → SideDown cells d s e slots conds q o'
+      pub side_long : Puts cells d.terms slots s.n (s.lc + 1) (set conds s.lc (wanted_of e.second)) None o' → SideDown cells d s e slots conds None o'
       unfolding Every
-      side_long bad q qb vars calls = (
-        deeper_failed s q qb,
+      side_long put vars calls = (
+        tt,
         cond_kept vars calls,
         λ H F hs o.
             let c = o.ctx in
             let z = o.one is in
-            let es : List (ℕ × Data) = (wanted_of e.second, put_data (look c.σ) z.z) ∷ [] in (
-              λ t. false_not_true (sym (failed_ok s q qb) ∙ t),
-              λ t. no_head (around c.vs (c.cs ++ es) c.ks) (heads H s.fuel c.σ s.m e.c o.t) hs (cond_are vars calls H F hs o) (λ h w.
+            let es : List (ℕ × Data) = (wanted_of e.second, put_data (look c.σ) z.z) ∷ [] in
+              no_head (around c.vs (c.cs ++ es) c.ks) (heads H s.fuel c.σ s.m e.c o.t) hs (cond_are vars calls H F hs o) (λ h w.
                   let v = (every_right CondSmall c.cs es (small_conds c.vs (c.cs ++ es) c.ks h w)).0 in
-                  omega (arith, (put z.z z.rest c.σ z.terms c.held z.writable).1 bad)),
-            ),
+                  omega (arith, put z.z z.rest c.σ z.terms c.held z.writable)),
       )
 
-      pub side_cond : r.ok ≡ true → s.lc < length conds → s.lc + 1 ≤ r.w
-          → SideDown cells d s e slots conds (record { ok = true; at = e.at; fuel = s.fuel; n = s.n; m = s.m; c = e.c; nv = s.nv; nc = s.nc + 1; lc = r.w; nk = s.nk; top = s.top }) o'
+      pub side_cond : (r : TermPut) → Puts cells d.terms slots s.n (s.lc + 1) (set conds s.lc (wanted_of e.second)) (Some r) o' → s.lc < length conds → s.lc + 1 ≤ r.w
+          → SideDown cells d s e slots conds (Some (record { at = e.at; fuel = s.fuel; n = s.n; m = s.m; c = e.c; nv = s.nv; nc = s.nc + 1; lc = r.w; nk = s.nk; top = s.top })) o'
       unfolding Every all encode_cond
-      side_cond ok inside on vars calls = (
+      side_cond r put inside on vars calls = (
         record { n_on = omega arith; nv_on = omega arith; lc_on = omega arith; top_on = omega arith },
         cond_kept vars calls,
         λ H F hs o.
@@ -251,8 +245,8 @@ module _ (cells : List ℕ) (d : Node) (s : Spot) (e : Side) (slots conds : List
             let D = put_data (look c.σ) z.z in
             let w = wanted_of e.second in
             let es : List (ℕ × Data) = (w, D) ∷ [] in
-            let k = (put z.z z.rest c.σ z.terms c.held z.writable).0 ok in (
-              λ t. (
+            let k = put z.z z.rest c.σ z.terms c.held z.writable in
+              (
                 o.t,
                 record {
                   ctx = record {
@@ -284,6 +278,4 @@ module _ (cells : List ℕ) (d : Node) (s : Spot) (e : Side) (slots conds : List
                   are = cond_are vars calls H F hs o;
                 },
               ),
-              λ t. false_not_true (sym t),
-            ),
       )

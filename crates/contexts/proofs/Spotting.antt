@@ -21,7 +21,6 @@ use Rattle.putting.proofs.Several.{slot_kept}
 use Rattle.contexts.specs.declared.Spot.{Spot}
 use Rattle.contexts.specs.declared.Side.{Side}
 use Rattle.contexts.specs.Spots.{SummandFits, Bound, Arrays, Context, SpottedAt, Spotted, Deeper, Kept, Beyond, OnSide}
-use Rattle.contexts.specs.Steps.{failed}
 
 -- BY KIND
 
@@ -165,28 +164,6 @@ side_kept H F cells s A B d e hs k o = record {
   one = o.one;
   are = o.are;
 }
-
--- a spot that failed has the same bounds
-pub bound_failed : (lk ls : ℕ) (s : Spot) → Bound lk ls s → (r : Spot) → r ≡ failed s → Bound lk ls r
-bound_failed lk ls s b r e = subst (λ (x : Spot). Bound lk ls x) (sym e) (record {
-  fuel_small = b.fuel_small;
-  n_small = b.n_small;
-  n_room = b.n_room;
-  m_small = b.m_small;
-  c_small = b.c_small;
-  nv_few = b.nv_few;
-  nc_few = b.nc_few;
-  lc_few = b.lc_few;
-  nk_few = b.nk_few;
-  top_in = b.top_in;
-  top_room = b.top_room;
-})
-
-pub deeper_failed : (s r : Spot) → r ≡ failed s → Deeper s r
-deeper_failed s r e = subst (λ (x : Spot). Deeper s x) (sym e) (record { n_on = omega arith; nv_on = omega arith; lc_on = omega arith; top_on = omega arith })
-
-pub failed_ok : (s r : Spot) → r ≡ failed s → r.ok ≡ false
-failed_ok s r e = ap (λ (x : Spot). x.ok) e
 
 -- AT A NODE
 

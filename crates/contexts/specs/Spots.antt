@@ -1,5 +1,5 @@
 -- Where the walk over heads stands: at a term, in a context of sum variables, conditions and calls.
-use Rattle.std.specs.Prelude.{◌≡◌, List, [], ◌∷◌, ◌++◌, map, Bool, true, false, ℕ, ◌+◌, ◌*◌, ◌≤◌, ◌<◌, length, drop, take}
+use Rattle.std.specs.Prelude.{◌≡◌, List, [], ◌∷◌, ◌++◌, map, Bool, true, false, Option, MatchOption, IfSome, ℕ, ◌+◌, ◌*◌, ◌≤◌, ◌<◌, length, drop, take}
 use Rattle.pcrl.specs.Limits.{max_variables, max_conditions, max_calls, max_processes, frame_width}
 use Rattle.pcrl.specs.Tests.{Every}
 use Rattle.pcrl.specs.Reader.{all}
@@ -138,9 +138,9 @@ abbrev pub Beyond : List Summand → Type 0
 Beyond hs = Every SummandFits hs → hs ≡ []
 
 -- A step down: the heads are the same; or they have not the limits.
-abbrev pub Leads : List ℕ → List ℕ → List ℕ → List ℕ → Spot → Arrays → Spot → Arrays → Type 0
-Leads cells starts counts firsts s A r B = Deeper s r × Kept s A B
-    × ((H : Sheet) (F : ℕ) (hs : List Summand) → Ready H F cells starts counts firsts → Spotted H F cells s A hs → (r.ok ≡ true → Spotted H F cells r B hs) × (r.ok ≡ false → Beyond hs))
+abbrev pub Leads : List ℕ → List ℕ → List ℕ → List ℕ → Spot → Arrays → Option Spot → Arrays → Type 0
+Leads cells starts counts firsts s A r B = IfSome r (Deeper s) × Kept s A B
+    × ((H : Sheet) (F : ℕ) (hs : List Summand) → Ready H F cells starts counts firsts → Spotted H F cells s A hs → MatchOption r (Beyond hs) (λ t. Spotted H F cells t B hs))
 
 -- the condition that a side of a conditional puts first
 pub record CondOf (cells : List ℕ) (s : Spot) (d : Node) (second : Bool) (σ : List Data) (es : List (ℕ × Data)) : Type 0 where

@@ -1,6 +1,6 @@
 #![tactic(auto)]
 // A term whose heads are written, in its context; steps down into it, and the summand of an action in its context.
-ghost use Rattle.std.specs.Prelude.{◌≡◌, List, ◌∷◌, true, ℕ, ◌+◌, ◌*◌, ◌≤◌, ◌<◌, length, take, drop};
+ghost use Rattle.std.specs.Prelude.{◌≡◌, List, ◌∷◌, ℕ, ◌+◌, ◌*◌, ◌≤◌, ◌<◌, length, take, drop, IfSome, IfOk};
 ghost use Rattle.pcrl.specs.Limits.{max_variables, max_calls};
 ghost use Rattle.nodes.specs.Layout.{byte_limit, atom_kind, seq_kind};
 ghost use Rattle.nodes.specs.Scoped.{max_scope};
@@ -8,12 +8,13 @@ ghost use Rattle.nodes.specs.Views.{On, Views};
 ghost use Rattle.putting.specs.Slots.{slot_width, Adds};
 ghost use Rattle.following.specs.Follows.{call_bytes, calls_room};
 ghost use Rattle.contexts.specs.Spots.{cond_bytes, conds_room, variable_limit, arrays, Bound, wanted_of};
-ghost use Rattle.contexts.specs.Steps.{VariablePut, call_room, terms_room, act_code, failed, SumDown, RestAt, SeqDown, StepDown, SideDown, CallDown, Stays, Emits};
+ghost use Rattle.contexts.specs.Steps.{VariablePut, call_room, terms_room, act_code, SumDown, RestAt, SeqDown, StepDown, SideDown, CallDown, Stays, Emits};
 
 use elements::{BYTE_LIMIT, cell};
 use limits::{FRAME_WIDTH, MAX_ARITY, MAX_CONDITIONS, MAX_TERM, MAX_VARIABLES, TAU, VARIABLE_CODE};
 use nodes::Node;
-use putting::{Done, SLOT};
+use putting::SLOT;
+use refusals::Refusal;
 
 // Room for the conditions of a summand, for the terms of an action, and for the slots of a process that is called.
 pub const CONDITIONS: usize = MAX_CONDITIONS * (1 + MAX_TERM);
@@ -24,10 +25,9 @@ pub const MINE: usize = (FRAME_WIDTH + MAX_VARIABLES) * SLOT;
 
 // Where the walk stands: at which node, how many calls may be followed; how many slots there are, the numbers of the next variable
 // and of the first new equation; how many sum variables, conditions and calls stand around it, where the conditions end and the
-// calls begin. Not ok: its heads have not the limits.
+// calls begin.
 #[derive(Clone, Copy)]
 pub struct Spot {
-    pub ok: bool,
     pub at: usize,
     pub fuel: usize,
     pub n: usize,
@@ -48,25 +48,6 @@ pub struct Side {
     pub c: usize,
 }
 
-// At s a limit is passed.
-fn fail(s: Spot) -> Spot
-    ensures { result ≡ failed s }
-{
-    Spot {
-        ok: false,
-        at: s.at,
-        fuel: s.fuel,
-        n: s.n,
-        m: s.m,
-        c: s.c,
-        nv: s.nv,
-        nc: s.nc,
-        lc: s.lc,
-        nk: s.nk,
-        top: s.top,
-    }
-}
-
 // The variable m in slot n.
 fn put_variable(slots: &mut [u8], n: usize, m: usize)
     requires { (slot_width * n + slot_width ≤ length slots.old) × (m < 200) }
@@ -85,25 +66,24 @@ fn wanted(second: bool) -> u8
     if second { 0 } else { 1 }
 }
 
-// Under a sum: its variable gets a slot.
-fn down_sum(d: Node, s: Spot, slots: &mut [u8], vars: &mut [u8]) -> Spot
+// Under a sum: its variable gets a slot. Of this and the other steps down, None: no head there has the limits.
+fn down_sum(d: Node, s: Spot, slots: &mut [u8], vars: &mut [u8]) -> Option<Spot>
     requires { (slot_width * (s.n + max_variables) ≤ length slots.old + slot_width * s.nv) × (max_variables ≤ length vars.old) × (s.m ≤ variable_limit + s.nv) }
-    ensures stays { Stays s result }
-    ensures fuel_value { result.ok ≡ true → (result.fuel ≡ s.fuel) × (result.at ≡ d.next) }
+    ensures stays { IfSome result (Stays s) }
+    ensures fuel_value { IfSome result (λ r. (r.fuel ≡ s.fuel) × (r.at ≡ d.next)) }
     ensures sum_down { SumDown d s slots.old vars.old result slots.new vars.new }
 {
     let n = s.n;
     let nv = s.nv;
     if nv >= MAX_VARIABLES {
-        return fail(s);
+        return None;
     }
     if n >= nodes::MAX_SCOPE {
-        return fail(s);
+        return None;
     }
     put_variable(&mut *slots, n, s.m);
     vars[nv] = (d.number % BYTE_LIMIT) as u8;
-    Spot {
-        ok: true,
+    Some(Spot {
         at: d.next,
         fuel: s.fuel,
         n: n + 1,
@@ -114,20 +94,19 @@ fn down_sum(d: Node, s: Spot, slots: &mut [u8], vars: &mut [u8]) -> Spot
         lc: s.lc,
         nk: s.nk,
         top: s.top,
-    }
+    })
 }
 
 // Into a side of a choice: a condition is added.
-pub fn down_side(cells: &[u16], d: Node, s: Spot, e: Side, slots: &[u8], conds: &mut [u8]) -> Spot
+pub fn down_side(cells: &[u16], d: Node, s: Spot, e: Side, slots: &[u8], conds: &mut [u8]) -> Option<Spot>
     requires { (s.lc ≤ cond_bytes * s.nc) × (conds_room ≤ length conds.old) × (slot_width * s.n ≤ length slots.now) }
-    ensures stays { e.c < byte_limit → Stays s result }
-    ensures fuel_value { result.ok ≡ true → (result.fuel ≡ s.fuel) × (result.at ≡ e.at) }
+    ensures stays { IfSome result (λ r. e.c < byte_limit → Stays s r) }
+    ensures fuel_value { IfSome result (λ r. (r.fuel ≡ s.fuel) × (r.at ≡ e.at)) }
     ensures side_down { SideDown cells.now d s e slots.now conds.old result conds.new }
 {
     let lc = s.lc;
     if d.kind != nodes::COND {
-        return Spot {
-            ok: true,
+        return Some(Spot {
             at: e.at,
             fuel: s.fuel,
             n: s.n,
@@ -138,18 +117,14 @@ pub fn down_side(cells: &[u16], d: Node, s: Spot, e: Side, slots: &[u8], conds: 
             lc: lc,
             nk: s.nk,
             top: s.top,
-        };
+        });
     }
     if s.nc >= MAX_CONDITIONS {
-        return fail(s);
+        return None;
     }
     conds[lc] = wanted(e.second);
-    let r = putting::put_term(cells, d.terms, slots, s.n, &mut *conds, lc + 1);
-    if !r.ok {
-        return fail(s);
-    }
-    Spot {
-        ok: true,
+    let r = putting::put_term(cells, d.terms, slots, s.n, &mut *conds, lc + 1)?;
+    Some(Spot {
         at: e.at,
         fuel: s.fuel,
         n: s.n,
@@ -160,7 +135,7 @@ pub fn down_side(cells: &[u16], d: Node, s: Spot, e: Side, slots: &[u8], conds: 
         lc: r.w,
         nk: s.nk,
         top: s.top,
-    }
+    })
 }
 
 // Into the first part of a sequence: the calls of the rest, that stands at e, are added.
@@ -172,10 +147,10 @@ fn down_seq(
     slots: &[u8],
     after: &mut [u8],
     calls: &mut [u8],
-) -> Spot
+) -> Option<Spot>
     requires { (e.c < byte_limit) × (s.n ≤ max_scope) × (slot_width * s.n ≤ length slots.now) × (s.nk ≤ max_calls) × (calls_room ≤ length after.old) × (s.top ≤ length calls.old) × (calls_room ≤ s.top + call_bytes * s.nk) }
-    ensures bound { (ls : ℕ) → Bound (length calls.old) ls s → Bound (length calls.old) ls result }
-    ensures fuel_value { result.ok ≡ true → (result.fuel ≡ s.fuel) × (result.at ≡ d.next) }
+    ensures bound { IfSome result (λ r. (ls : ℕ) → Bound (length calls.old) ls s → Bound (length calls.old) ls r) }
+    ensures fuel_value { IfSome result (λ r. (r.fuel ≡ s.fuel) × (r.at ≡ d.next)) }
     ensures seq_down { SeqDown cells.now d s e slots.now calls.old result calls.new }
 {
     let r = following::push_calls(
@@ -188,12 +163,8 @@ fn down_seq(
         &mut *calls,
         s.top,
         s.nk,
-    );
-    if !r.ok {
-        return fail(s);
-    }
-    Spot {
-        ok: true,
+    )?;
+    Some(Spot {
         at: d.next,
         fuel: s.fuel,
         n: s.n,
@@ -204,7 +175,7 @@ fn down_seq(
         lc: s.lc,
         nk: r.n,
         top: r.top,
-    }
+    })
 }
 
 // Into the right side of a process: its arguments come into slots of their own.
@@ -216,23 +187,22 @@ pub fn down_call(
     s: Spot,
     slots: &[u8],
     mine: &mut [u8],
-) -> Spot
+) -> Option<Spot>
     requires { (slot_width * s.n ≤ length slots.now) × (call_room ≤ length mine.old) }
-    ensures fuel_value { result.ok ≡ true → (s.fuel ≡ result.fuel + 1) × ((lk ls : ℕ) → Bound lk ls s → Bound lk call_room result) }
+    ensures fuel_value { IfSome result (λ r. (s.fuel ≡ r.fuel + 1) × ((lk ls : ℕ) → Bound lk ls s → Bound lk call_room r)) }
     ensures call_down { CallDown cells.now starts.now firsts.now d s slots.now result mine.new }
 {
     let count = d.datas;
     if s.fuel == 0 {
-        return fail(s);
+        return None;
     }
     if count > FRAME_WIDTH {
-        return fail(s);
+        return None;
     }
     putting::put_slots(cells, d.terms, count, slots, s.n, &mut *mine);
     let at = cell(starts, d.number);
     let c = cell(firsts, d.number);
-    Spot {
-        ok: true,
+    Some(Spot {
         at: at,
         fuel: s.fuel - 1,
         n: count,
@@ -243,7 +213,7 @@ pub fn down_call(
         lc: s.lc,
         nk: s.nk,
         top: s.top,
-    }
+    })
 }
 
 // One step down from a node that is no action, no call and no choice; e is where the rest of a sequence stands.
@@ -256,11 +226,11 @@ pub fn step(
     vars: &mut [u8],
     after: &mut [u8],
     calls: &mut [u8],
-) -> Spot
+) -> Option<Spot>
     requires place { (s.at < length cells.now) × On s.at d × Views cells.now s.at d × Bound (length calls.old) (length slots.old) s }
     requires rooms { (max_variables ≤ length vars.old) × (calls_room ≤ length after.old) × (e.c < byte_limit) × (d.kind ≡ seq_kind → RestAt cells.now d.next s e) }
-    ensures bound { Bound (length calls.old) (length slots.old) result }
-    ensures fuel_value { result.ok ≡ true → (result.fuel ≡ s.fuel) × (s.at < result.at) }
+    ensures bound { IfSome result (Bound (length calls.old) (length slots.old)) }
+    ensures fuel_value { IfSome result (λ r. (r.fuel ≡ s.fuel) × (s.at < r.at)) }
     ensures step_down { (conds : List ℕ) → StepDown cells.now d s (arrays slots.old vars.old conds calls.old) result (arrays slots.new vars.new conds calls.new) }
 {
     if d.kind == nodes::SUM {
@@ -269,7 +239,7 @@ pub fn step(
     if d.kind == nodes::SEQ {
         return down_seq(cells, d, s, e, &*slots, &mut *after, &mut *calls);
     }
-    fail(s)
+    None
 }
 
 // A byte, and l bytes of a slice.
@@ -293,7 +263,7 @@ fn code_of(number: usize) -> u8
     ((number - 1) % BYTE_LIMIT) as u8
 }
 
-// The summand of an action's head in its context. If there is no room for it, w is the end of the lent bytes.
+// The summand of an action's head in its context: the place behind it.
 pub fn emit(
     cells: &[u16],
     d: Node,
@@ -305,34 +275,29 @@ pub fn emit(
     calls: &[u8],
     out: &mut [u8],
     w: usize,
-) -> Done
+) -> Result<usize, Refusal>
     requires bound { Bound (length calls.now) (length slots.now) s × (d.kind ≡ atom_kind) × Views cells.now s.at d }
     requires rooms { (max_variables ≤ length vars.now) × (conds_room ≤ length conds.now) × (terms_room ≤ length terms.old) × (length calls.now ≤ calls_room) × (w ≤ length out.old) }
-    ensures w_le_w { (w ≤ result.w) × (result.w ≤ length out.old) }
+    ensures w_le_w { IfOk result (λ v. (w ≤ v) × (v ≤ length out.old)) }
     ensures emits { Emits cells.now s (arrays slots.now vars.now conds.now calls.now) w out.old result out.new }
 {
     let count = d.datas;
     if count > MAX_ARITY {
-        return Done { ok: false, w: w };
+        return Err(Refusal::NotWithin);
     }
-    let r = putting::put_terms(cells, d.terms, count, slots, s.n, &mut *terms, 0);
-    if !r.ok {
-        return Done { ok: false, w: w };
-    }
+    let Some(la) = putting::put_terms(cells, d.terms, count, slots, s.n, &mut *terms, 0) else {
+        return Err(Refusal::NotWithin);
+    };
     let nv = s.nv;
     let lc = s.lc;
-    let la = r.w;
     let top = s.top;
     let lk = calls.len() - top;
     if out.len() - w < 4 + nv + lc + la + lk {
-        return Done {
-            ok: false,
-            w: out.len(),
-        };
+        return Err(Refusal::NoRoom);
     }
     let w1 = piece(nv as u8, vars, 0, nv, &mut *out, w);
     let w2 = piece(s.nc as u8, conds, 0, lc, &mut *out, w1);
     let w3 = piece(code_of(d.number), &*terms, 0, la, &mut *out, w2);
     let w4 = piece(s.nk as u8, calls, top, lk, &mut *out, w3);
-    Done { ok: true, w: w4 }
+    Ok(w4)
 }

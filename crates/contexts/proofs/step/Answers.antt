@@ -2,17 +2,17 @@
 use native.Mathlib.Omega.{arith}
 use mathlib.Core.Path.{sym, ◌∙◌}
 use lib.ListN.{length}
-use Rattle.laws.specs.Booleans.{false_not_true}
+use Rattle.std.proofs.lemmas.Option.{IfSome_then}
 use Rattle.contexts.specs.Spots.{arrays}
-use Rattle.contexts.proofs.Spotting.{bound_failed, failed_ok, kept_same}
+use Rattle.contexts.proofs.Spotting.{kept_same}
 use Rattle.contexts.proofs.Down.{fails, other_none}
 use Rattle.contexts.proofs.step.Goals as goal
 
 pub returns-then-d-eq-SUM : goal.returns-then-d-eq-SUM
 returns-then-d-eq-SUM c = let q = c.requires.place in
     let o = q.1 in record {
-      bound = c.down_sum.ensures.stays _ _ q.3;
-      fuel_value = λ t. let y = c.down_sum.ensures.fuel_value t in (y.0, omega (arith, y.1, o.on));
+      bound = IfSome_then c.down_sum.result c.down_sum.ensures.stays (λ r y. y _ _ q.3);
+      fuel_value = IfSome_then c.down_sum.result c.down_sum.ensures.fuel_value (λ r y. (y.0, omega (arith, y.1, o.on)));
       step_down = λ conds starts counts firsts n₁ n₂ n₃ n₄. c.down_sum.ensures.sum_down c.args.cells.now starts counts firsts conds c.args.calls.now q.2 (omega arith);
     }
 
@@ -20,8 +20,8 @@ pub returns-then-d-eq-SEQ : goal.returns-then-d-eq-SEQ
 returns-then-d-eq-SEQ c = let q = c.requires.place in
     let rest_at = c.requires.rooms.3 in
     let o = q.1 in record {
-      bound = c.down_seq.ensures.bound _ q.3;
-      fuel_value = λ t. let y = c.down_seq.ensures.fuel_value t in (y.0, omega (arith, y.1, o.on));
+      bound = IfSome_then c.down_seq.result c.down_seq.ensures.bound (λ r y. y _ q.3);
+      fuel_value = IfSome_then c.down_seq.result c.down_seq.ensures.fuel_value (λ r y. (y.0, omega (arith, y.1, o.on)));
       step_down = λ conds starts counts firsts n₁ n₂ n₃ n₄. c.down_seq.ensures.seq_down starts counts firsts c.args.vars.now conds q.2 (omega arith) (rest_at (omega arith));
     }
 
@@ -29,7 +29,7 @@ pub returns : goal.returns
 returns c = let q = c.requires.place in
     let i = c.if-d-eq-SUM.false in
     let j = c.if-d-eq-SEQ.false in record {
-      bound = bound_failed (length c.args.calls.now) (length c.args.slots.now) c.args.s q.3 _ c.fail.ensures;
-      fuel_value = λ t. false_not_true (sym (failed_ok c.args.s _ c.fail.ensures) ∙ t);
-      step_down = λ conds starts counts firsts n₁ n₂ n₃ n₄. fails c.args.cells.now starts counts firsts c.args.s (arrays c.args.slots.now c.args.vars.now conds c.args.calls.now) (other_none c.args.cells.now starts counts firsts c.args.s (arrays c.args.slots.now c.args.vars.now conds c.args.calls.now) c.args.d q.2 (λ z. i z) (λ z. j z) n₁ n₂ n₃ n₄) _ c.fail.ensures _ (kept_same c.args.s _);
+      bound = tt;
+      fuel_value = tt;
+      step_down = λ conds starts counts firsts n₁ n₂ n₃ n₄. fails c.args.cells.now starts counts firsts c.args.s (arrays c.args.slots.now c.args.vars.now conds c.args.calls.now) (other_none c.args.cells.now starts counts firsts c.args.s (arrays c.args.slots.now c.args.vars.now conds c.args.calls.now) c.args.d q.2 (λ z. i z) (λ z. j z) n₁ n₂ n₃ n₄) _ (kept_same c.args.s _);
     }
