@@ -106,8 +106,8 @@ module _ (cells starts counts firsts : List ℕ) (s : Spot) (slots vars conds ca
     record { n_on = omega arith; nv_on = omega arith; lc_on = omega arith; top_on = omega arith },
     record { slots_kept = put.1; vars_kept = take-set-le s.nv vars s.nv (d.number % byte_limit) (omega arith); conds_kept = refl; calls_kept = refl },
     λ H F hs rd sp.
-      case_sum (SpottedAt H F cells s (arrays slots vars conds calls) hs) (Spotted H F cells (record { at = d.next; fuel = s.fuel; n = s.n + 1; m = s.m + 1; c = s.c; nv = s.nv + 1; nc = s.nc; lc = s.lc; nk = s.nk; top = s.top }) (arrays slots' (set vars s.nv (d.number % byte_limit)) conds calls) hs)
-          sp.0 sp.1 (kind H F cells s (arrays slots vars conds calls) hs d vw sum_kind is sp) λ z D x sp. sum_on H F cells s slots vars conds calls hs d vw z D x sp inside slots' put,
+        case_sum (SpottedAt H F cells s (arrays slots vars conds calls) hs) (Spotted H F cells (record { at = d.next; fuel = s.fuel; n = s.n + 1; m = s.m + 1; c = s.c; nv = s.nv + 1; nc = s.nc; lc = s.lc; nk = s.nk; top = s.top }) (arrays slots' (set vars s.nv (d.number % byte_limit)) conds calls) hs)
+        sp.0 sp.1 (kind H F cells s (arrays slots vars conds calls) hs d vw sum_kind is sp) λ z D x sp. sum_on H F cells s slots vars conds calls hs d vw z D x sp inside slots' put,
   )
 
 -- A SEQUENCE
@@ -189,9 +189,9 @@ module _ (cells starts counts firsts : List ℕ) (s : Spot) (slots vars conds ca
     record { n_on = omega arith; nv_on = omega arith; lc_on = omega arith; top_on = lt },
     record { slots_kept = refl; vars_kept = refl; conds_kept = refl; calls_kept = same },
     λ H F hs rd sp.
-      case_seq (SpottedAt H F cells s (arrays slots vars conds calls) hs)
-          (Spotted H F cells (record { at = d.next; fuel = s.fuel; n = s.n; m = s.m; c = s.c; nv = s.nv; nc = s.nc; lc = s.lc; nk = t.n; top = t.top }) (arrays slots vars conds calls') hs)
-          sp.0 sp.1 (kind H F cells s (arrays slots vars conds calls) hs d vw seq_kind is sp) λ x y sp. seq_on H F hs rd x y sp t ok,
+        case_seq (SpottedAt H F cells s (arrays slots vars conds calls) hs)
+        (Spotted H F cells (record { at = d.next; fuel = s.fuel; n = s.n; m = s.m; c = s.c; nv = s.nv; nc = s.nc; lc = s.lc; nk = t.n; top = t.top }) (arrays slots vars conds calls') hs)
+        sp.0 sp.1 (kind H F cells s (arrays slots vars conds calls) hs d vw seq_kind is sp) λ x y sp. seq_on H F hs rd x y sp t ok,
   )
 
 -- NO STEP

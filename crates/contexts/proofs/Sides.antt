@@ -160,35 +160,34 @@ module _ (cells : List ℕ) (d : Node) (s : Spot) (e : Side) (slots conds : List
   side_plain is vars calls = (
     record { n_on = omega arith; nv_on = omega arith; lc_on = omega arith; top_on = omega arith },
     record { slots_kept = refl; vars_kept = refl; conds_kept = refl; calls_kept = refl },
-    λ H F hs o.
-      (
-        o.t,
-        record {
-          ctx = record {
-            σ = o.ctx.σ;
-            vs = o.ctx.vs;
-            cs = o.ctx.cs;
-            ks = o.ctx.ks;
-            held = o.ctx.held;
-            vars_are = o.ctx.vars_are;
-            vars_many = o.ctx.vars_many;
-            conds_are = o.ctx.conds_are;
-            conds_many = o.ctx.conds_many;
-            conds_small = o.ctx.conds_small;
-            calls_are = o.ctx.calls_are;
-            calls_many = o.ctx.calls_many;
-            calls_small = o.ctx.calls_small;
-          };
-          b = false;
-          rest = o.rest;
-          place = o.place;
-          first = λ q. refl;
-          fine = o.fine;
-          fuel_left = o.fuel_left;
-          equations_left = o.equations_left;
-          are = ap (λ (l : List (ℕ × Data)). map (around o.ctx.vs l o.ctx.ks) (heads H s.fuel o.ctx.σ s.m e.c o.t)) (sym (append-nil o.ctx.cs) ∙ ap (λ (l : List (ℕ × Data)). o.ctx.cs ++ l) (sym (o.none is))) ∙ o.are;
-        },
-      ),
+    λ H F hs o. (
+      o.t,
+      record {
+        ctx = record {
+          σ = o.ctx.σ;
+          vs = o.ctx.vs;
+          cs = o.ctx.cs;
+          ks = o.ctx.ks;
+          held = o.ctx.held;
+          vars_are = o.ctx.vars_are;
+          vars_many = o.ctx.vars_many;
+          conds_are = o.ctx.conds_are;
+          conds_many = o.ctx.conds_many;
+          conds_small = o.ctx.conds_small;
+          calls_are = o.ctx.calls_are;
+          calls_many = o.ctx.calls_many;
+          calls_small = o.ctx.calls_small;
+        };
+        b = false;
+        rest = o.rest;
+        place = o.place;
+        first = λ q. refl;
+        fine = o.fine;
+        fuel_left = o.fuel_left;
+        equations_left = o.equations_left;
+        are = ap (λ (l : List (ℕ × Data)). map (around o.ctx.vs l o.ctx.ks) (heads H s.fuel o.ctx.σ s.m e.c o.t)) (sym (append-nil o.ctx.cs) ∙ ap (λ (l : List (ℕ × Data)). o.ctx.cs ++ l) (sym (o.none is))) ∙ o.are;
+      },
+    ),
   )
 
   module _ (is : d.kind ≡ cond_kind) where
@@ -204,9 +203,9 @@ module _ (cells : List ℕ) (d : Node) (s : Spot) (e : Side) (slots conds : List
       λ H F hs o.
           let c = o.ctx in
           let es : List (ℕ × Data) = (wanted_of e.second, put_data (look c.σ) (o.one is).z) ∷ [] in
-            no_head (around c.vs (c.cs ++ es) c.ks) (heads H s.fuel c.σ s.m e.c o.t) hs (cond_are vars calls H F hs o) (λ h w.
-                let u = within_conds c.vs (c.cs ++ es) c.ks h w in
-                omega (arith, length-append c.cs es, c.conds_many)),
+          no_head (around c.vs (c.cs ++ es) c.ks) (heads H s.fuel c.σ s.m e.c o.t) hs (cond_are vars calls H F hs o) (λ h w.
+          let u = within_conds c.vs (c.cs ++ es) c.ks h w in
+          omega (arith, length-append c.cs es, c.conds_many)),
     )
 
     module _ (o' : List ℕ)
@@ -228,9 +227,9 @@ module _ (cells : List ℕ) (d : Node) (s : Spot) (e : Side) (slots conds : List
             let c = o.ctx in
             let z = o.one is in
             let es : List (ℕ × Data) = (wanted_of e.second, put_data (look c.σ) z.z) ∷ [] in
-              no_head (around c.vs (c.cs ++ es) c.ks) (heads H s.fuel c.σ s.m e.c o.t) hs (cond_are vars calls H F hs o) (λ h w.
-                  let v = (every_right CondSmall c.cs es (small_conds c.vs (c.cs ++ es) c.ks h w)).0 in
-                  omega (arith, put z.z z.rest c.σ z.terms c.held z.writable)),
+            no_head (around c.vs (c.cs ++ es) c.ks) (heads H s.fuel c.σ s.m e.c o.t) hs (cond_are vars calls H F hs o) (λ h w.
+            let v = (every_right CondSmall c.cs es (small_conds c.vs (c.cs ++ es) c.ks h w)).0 in
+            omega (arith, put z.z z.rest c.σ z.terms c.held z.writable)),
       )
 
       pub side_cond : (r : TermPut) → Puts cells d.terms slots s.n (s.lc + 1) (set conds s.lc (wanted_of e.second)) (Some r) o' → s.lc < length conds → s.lc + 1 ≤ r.w
@@ -245,37 +244,36 @@ module _ (cells : List ℕ) (d : Node) (s : Spot) (e : Side) (slots conds : List
             let D = put_data (look c.σ) z.z in
             let w = wanted_of e.second in
             let es : List (ℕ × Data) = (w, D) ∷ [] in
-            let k = put z.z z.rest c.σ z.terms c.held z.writable in
-              (
-                o.t,
-                record {
-                  ctx = record {
-                    σ = c.σ;
-                    vs = c.vs;
-                    cs = c.cs ++ es;
-                    ks = c.ks;
-                    held = c.held;
-                    vars_are = c.vars_are;
-                    vars_many = c.vars_many;
-                    conds_are =
-                        k.2 ∙ ap (λ (l : List ℕ). l ++ encode_data D) (cell_more conds s.lc w inside ∙ ap (λ (l : List ℕ). l ++ (w ∷ [])) c.conds_are)
-                        ∙ append_assoc (all encode_cond c.cs) (w ∷ []) (encode_data D)
-                        ∙ ap (λ (l : List ℕ). all encode_cond c.cs ++ l) (sym (append-nil ((w ∷ []) ++ encode_data D)))
-                        ∙ sym (all_append encode_cond c.cs es);
-                    conds_many = omega (arith, length-append c.cs es, c.conds_many);
-                    conds_small = every_append CondSmall c.cs es c.conds_small (k.1, tt);
-                    calls_are = c.calls_are;
-                    calls_many = c.calls_many;
-                    calls_small = c.calls_small;
-                  };
-                  b = false;
-                  rest = o.rest;
-                  place = o.place;
-                  first = λ q. refl;
-                  fine = o.fine;
-                  fuel_left = o.fuel_left;
-                  equations_left = o.equations_left;
-                  are = cond_are vars calls H F hs o;
-                },
-              ),
+            let k = put z.z z.rest c.σ z.terms c.held z.writable in (
+              o.t,
+              record {
+                ctx = record {
+                  σ = c.σ;
+                  vs = c.vs;
+                  cs = c.cs ++ es;
+                  ks = c.ks;
+                  held = c.held;
+                  vars_are = c.vars_are;
+                  vars_many = c.vars_many;
+                  conds_are =
+                      k.2 ∙ ap (λ (l : List ℕ). l ++ encode_data D) (cell_more conds s.lc w inside ∙ ap (λ (l : List ℕ). l ++ (w ∷ [])) c.conds_are)
+                      ∙ append_assoc (all encode_cond c.cs) (w ∷ []) (encode_data D)
+                      ∙ ap (λ (l : List ℕ). all encode_cond c.cs ++ l) (sym (append-nil ((w ∷ []) ++ encode_data D)))
+                      ∙ sym (all_append encode_cond c.cs es);
+                  conds_many = omega (arith, length-append c.cs es, c.conds_many);
+                  conds_small = every_append CondSmall c.cs es c.conds_small (k.1, tt);
+                  calls_are = c.calls_are;
+                  calls_many = c.calls_many;
+                  calls_small = c.calls_small;
+                };
+                b = false;
+                rest = o.rest;
+                place = o.place;
+                first = λ q. refl;
+                fine = o.fine;
+                fuel_left = o.fuel_left;
+                equations_left = o.equations_left;
+                are = cond_are vars calls H F hs o;
+              },
+            ),
       )

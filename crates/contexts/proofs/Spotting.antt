@@ -1,7 +1,6 @@
 -- Laws of contexts: what is kept, and heads that have not the limits.
 use mathlib.Core.Path.{◌≡◌, refl, sym, ap, ◌∙◌, subst}
 use mathlib.Core.List.{List, [], ◌∷◌, ◌++◌, map, append_assoc}
-use mathlib.Core.Bool.{false}
 use Prim.Native.Nat.{ℕ, ◌+◌, ◌-◌, ◌*◌, ◌≤◌}
 use native.Mathlib.Omega.{arith}
 use lib.ListN.{length, drop, take, set, length-set, length-drop}
@@ -20,7 +19,7 @@ use Rattle.putting.proofs.Bytes.{cell_more, kept_front}
 use Rattle.putting.proofs.Several.{slot_kept}
 use Rattle.contexts.specs.declared.Spot.{Spot}
 use Rattle.contexts.specs.declared.Side.{Side}
-use Rattle.contexts.specs.Spots.{SummandFits, Bound, Arrays, Context, SpottedAt, Spotted, Deeper, Kept, Beyond, OnSide}
+use Rattle.contexts.specs.Spots.{SummandFits, Arrays, Context, SpottedAt, Spotted, Deeper, Kept, Beyond, OnSide}
 
 -- BY KIND
 

@@ -1,5 +1,5 @@
 -- What the pieces of a step down say.
-use Rattle.std.specs.Prelude.{◌≡◌, List, [], ◌∷◌, ◌++◌, Option, Result, MatchOption, MatchResult, IfSome, OnOk, ℕ, zero, suc, ◌+◌, ◌*◌, ◌%◌, ◌<◌, length, take, drop}
+use Rattle.std.specs.Prelude.{◌≡◌, List, [], ◌∷◌, ◌++◌, false, Option, Result, MatchOption, MatchResult, IfSome, OnOk, ℕ, zero, suc, ◌+◌, ◌*◌, ◌%◌, ◌<◌, length, take, drop}
 use Rattle.pcrl.specs.Limits.{frame_width, max_arity, max_variables}
 use Rattle.pcrl.specs.Tests.{Every}
 use Rattle.pcrl.specs.Reader.{all}

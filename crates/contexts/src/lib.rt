@@ -98,7 +98,14 @@ fn down_sum(d: Node, s: Spot, slots: &mut [u8], vars: &mut [u8]) -> Option<Spot>
 }
 
 // Into a side of a choice: a condition is added.
-pub fn down_side(cells: &[u16], d: Node, s: Spot, e: Side, slots: &[u8], conds: &mut [u8]) -> Option<Spot>
+pub fn down_side(
+    cells: &[u16],
+    d: Node,
+    s: Spot,
+    e: Side,
+    slots: &[u8],
+    conds: &mut [u8],
+) -> Option<Spot>
     requires { (s.lc ≤ cond_bytes * s.nc) × (conds_room ≤ length conds.old) × (slot_width * s.n ≤ length slots.now) }
     ensures stays { IfSome result (λ r. e.c < byte_limit → Stays s r) }
     ensures fuel_value { IfSome result (λ r. (r.fuel ≡ s.fuel) × (r.at ≡ e.at)) }

@@ -1,8 +1,7 @@
 -- `contexts::down_seq` meets its contract: `seq-down`, `seq-long`.
 use native.Mathlib.Omega.{arith}
-use mathlib.Core.Path.{refl, sym, ◌∙◌}
+use mathlib.Core.Path.{refl}
 use Rattle.std.specs.Prelude.{Some, None}
-use lib.ListN.{length}
 use Rattle.contexts.specs.Spots.{arrays}
 use Rattle.contexts.proofs.Down.{fails, seq_long, seq_down}
 use Rattle.contexts.proofs.down_seq.Goals as goal

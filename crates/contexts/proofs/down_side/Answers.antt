@@ -1,7 +1,7 @@
 -- `contexts::down_side` meets its contract: a choice by `side-plain`, a conditional by `side-cond`.
 use native.Mathlib.Omega.{arith}
 use Prim.Native.Nat.{ℕ, ◌+◌}
-use mathlib.Core.Path.{refl, sym, ap, ◌∙◌, subst}
+use mathlib.Core.Path.{refl, ap, ◌∙◌, subst}
 use Rattle.std.specs.Prelude.{Some, None}
 use lib.ListN.{take, set, length-set}
 use Rattle.putting.specs.Puts.{Puts}

@@ -1,6 +1,6 @@
 -- `contexts::down_sum` meets its contract: a step by `sum-down`, failures by `sum-many` and `sum-deep`.
 use native.Mathlib.Omega.{arith}
-use mathlib.Core.Path.{refl, sym, ◌∙◌}
+use mathlib.Core.Path.{refl}
 use Rattle.contexts.specs.Spots.{arrays}
 use Rattle.contexts.proofs.Spotting.{kept_same}
 use Rattle.contexts.proofs.Down.{fails, sum_many, sum_deep, sum_down}

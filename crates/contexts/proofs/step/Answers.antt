@@ -1,7 +1,5 @@
 -- `contexts::step` meets its contract: what each step down says.
 use native.Mathlib.Omega.{arith}
-use mathlib.Core.Path.{sym, ◌∙◌}
-use lib.ListN.{length}
 use Rattle.std.proofs.lemmas.Option.{IfSome_then}
 use Rattle.contexts.specs.Spots.{arrays}
 use Rattle.contexts.proofs.Spotting.{kept_same}
