@@ -2,15 +2,15 @@
 use mathlib.Core.Path.{◌≡◌, refl, ap, subst}
 use mathlib.Core.List.{List}
 use mathlib.Core.Logic.{◌⊎◌, inl, inr}
-use mathlib.Core.Bool.{true, false}
+use Rattle.std.specs.Prelude.{Some, None, Result, Err}
+use Rattle.refusals.specs.declared.Refusal.{Refusal}
 use Prim.Native.Nat.{ℕ}
 use native.Mathlib.Omega.{arith}
 use lib.ListN.{length, take, drop}
-use Rattle.laws.specs.Booleans.{false_not_true}
+use Rattle.std.proofs.lemmas.Result.{on_ok_weaker}
 use Rattle.nodes.specs.declared.Node.{Node}
 use Rattle.nodes.specs.Layout.{alt_kind, atom_kind, cond_kind, call_kind}
 use Rattle.nodes.specs.Views.{Views}
-use Rattle.putting.specs.declared.Done.{Done}
 use Rattle.contexts.specs.declared.Spot.{Spot}
 use Rattle.contexts.specs.Spots.{arrays}
 use Rattle.contexts.specs.Steps.{CallDown}
@@ -26,28 +26,21 @@ pub is_call : (kind : ℕ) → Leaf kind → (kind ≡ atom_kind → ⊥) → ki
 is_call kind (inl h) n = absurd (n h)
 is_call kind (inr h) n = h
 
-module _ (cells starts counts firsts : List ℕ) (s : Spot) (d : Node) (vw : Views cells s.at d) (is : d.kind ≡ call_kind) (slots vars conds calls : List ℕ) (r : Spot) (mine : List ℕ) (cd : CallDown cells starts firsts d s slots r mine) (w : ℕ) (o : List ℕ) (heads q room : ℕ) where
-  pub call_fails : r.ok ≡ false → WrittenBy cells starts counts firsts (start s (arrays slots vars conds calls) w o heads q room) (record { ok = false; w = w }) (arrays slots vars conds calls) o
-  call_fails bad H F hs rd sp ro = (
-    (
-      λ t. false_not_true t,
-      λ t fit. let z = (cd counts vars conds calls vw is H F hs rd sp).1 bad fit in absurd (omega (arith, ap length z, ro.many, ro.some)),
-    ),
-    λ t. false_not_true t,
-  )
+module _ (cells starts counts firsts : List ℕ) (s : Spot) (d : Node) (vw : Views cells s.at d) (is : d.kind ≡ call_kind) (slots vars conds calls : List ℕ) (mine : List ℕ) (w : ℕ) (o : List ℕ) (heads q room : ℕ) where
+  pub call_fails : CallDown cells starts firsts d s slots None mine → (x : Refusal) → WrittenBy cells starts counts firsts (start s (arrays slots vars conds calls) w o heads q room) (Err x) (arrays slots vars conds calls) o
+  call_fails cd x H F hs rd sp ro = (λ fit. let z = cd counts vars conds calls vw is H F hs rd sp fit in absurd (omega (arith, ap length z, ro.many, ro.some)), tt)
 
-  pub call_out : r.ok ≡ true → (x : Done) (mine' vars' conds' calls' o' : List ℕ) → WrittenBy cells starts counts firsts (start r (arrays mine vars conds calls) w o heads q room) x (arrays mine' vars' conds' calls') o'
+  pub call_out : (r : Spot) → CallDown cells starts firsts d s slots (Some r) mine → (x : Result ℕ Refusal) (mine' vars' conds' calls' o' : List ℕ) → WrittenBy cells starts counts firsts (start r (arrays mine vars conds calls) w o heads q room) x (arrays mine' vars' conds' calls') o'
       → WrittenBy cells starts counts firsts (start s (arrays slots vars conds calls) w o heads q room) x (arrays slots vars' conds' calls') o'
-  call_out ok x mine' vars' conds' calls' o' wr H F hs rd sp ro =
-      let (u, e₁, e₂, e₃) = (cd counts vars conds calls vw is H F hs rd sp).0 ok in
+  call_out r cd x mine' vars' conds' calls' o' wr H F hs rd sp ro =
+      let (u, e₁, e₂, e₃) = cd counts vars conds calls vw is H F hs rd sp in
       let k = wr H F hs rd u (record { many = ro.many; some = ro.some; few = ro.few; room_for = ro.room_for }) in (
         k.0,
-        λ t.
-            let p = k.1 t in
+        on_ok_weaker x (λ p.
             record {
               slots_kept = refl;
               vars_kept = subst (λ (i : ℕ). take i vars' ≡ take i vars) e₁ p.vars_kept;
               conds_kept = subst (λ (i : ℕ). take i conds' ≡ take i conds) e₂ p.conds_kept;
               calls_kept = subst (λ (i : ℕ). drop i calls' ≡ drop i calls) e₃ p.calls_kept;
-            },
+            }) k.1,
       )

@@ -2,7 +2,10 @@
 use mathlib.Core.Path.{◌≡◌, refl, sym, ap, ◌∙◌, subst}
 use mathlib.Core.List.{List, [], ◌∷◌, ◌++◌}
 use mathlib.Core.Logic.{◌≢◌}
-use mathlib.Core.Bool.{true, false}
+use mathlib.Core.Bool.{false}
+use Rattle.std.specs.Prelude.{Result, Ok, Err, MatchResult}
+use Rattle.refusals.specs.declared.Refusal.{Refusal}
+use Rattle.refusals.specs.declared.Refusal.TheVariants.{NoRoom}
 use Prim.Native.Nat.{ℕ, zero, suc, ◌+◌, ◌%◌, ◌<◌, ◌≤◌}
 use native.Mathlib.Numerals.{add-one}
 use native.Mathlib.Omega.{arith}
@@ -17,14 +20,12 @@ use Rattle.pcrl.specs.Tests.{Every}
 use Rattle.pcrl.specs.Table.{Summand}
 use Rattle.pcrl.specs.Right.{SummandWithin}
 use Rattle.pcrl.specs.Heads.{heads}
-use Rattle.laws.specs.Booleans.{false_not_true}
 use Rattle.laws.specs.Every.{every_weaken}
 use Rattle.nodes.specs.declared.Skipped.{Skipped}
 use Rattle.nodes.specs.Layout.{byte_limit}
 use Rattle.nodes.specs.Views.{Skips}
 use Rattle.counting.specs.Limits.{cut}
 use Rattle.counting.specs.Counting.{Placed}
-use Rattle.putting.specs.declared.Done.{Done}
 use Rattle.putting.specs.Slots.{Adds}
 use Rattle.putting.proofs.Bytes.{cell_more, adds_then}
 use Rattle.contexts.specs.Spots.{SummandFits}
@@ -32,33 +33,37 @@ use Rattle.heads.specs.Writing.{HeadsWritten, HeadsCounted, SummandsWritten, Num
 use Rattle.heads.proofs.Accepted.{first_below}
 use Rattle.heads.proofs.Walking.{length_none}
 
+-- what holds of a `Result` in both cases, by what held
+on_result : {A E : Type 0} (r : Result A E) {P P' : A → Type 0} {Q Q' : E → Type 0} → MatchResult r P Q → ((x : A) → P x → P' x) → ((x : E) → Q x → Q' x) → MatchResult r P' Q'
+on_result (Ok x) m f g = f x m
+on_result (Err x) m f g = g x m
+
 -- THE COUNT IN FRONT
 
 module _ (cells starts counts firsts : List ℕ) (fuel at c : ℕ) (slots : List ℕ) (n m w : ℕ) (o : List ℕ) where
-  pub list_full : w ≡ length o → (o' : List ℕ) → SummandsWritten cells starts counts firsts fuel at c slots n m w o (record { ok = false; w = w }) o'
+  pub list_full : length o ≤ w → (o' : List ℕ) → SummandsWritten cells starts counts firsts fuel at c slots n m w o (Err NoRoom) o'
   unfolding encode_list
-  list_full h o' H σ b p rest rd e f s fn nw few = (λ t. false_not_true t, λ t within. omega arith)
+  list_full h o' H σ b p rest rd e f s fn nw few = λ within. (refl, omega arith)
 
-  pub list_right : (a : ℕ) → HeadsCounted cells counts fuel at a → w < length o → (r : Done) (o' : List ℕ) → (a ≡ 0 → ⊥) → HeadsWritten cells starts counts firsts fuel at c slots n m a (w + 1) (set o w (a % byte_limit)) r o'
+  pub list_right : (a : ℕ) → HeadsCounted cells counts fuel at a → w < length o → (r : Result ℕ Refusal) (o' : List ℕ) → (a ≡ 0 → ⊥) → HeadsWritten cells starts counts firsts fuel at c slots n m a (w + 1) (set o w (a % byte_limit)) r o'
       → SummandsWritten cells starts counts firsts fuel at c slots n m w o r o'
   unfolding encode_list cut
   list_right a ct inside r o' some put H σ b p rest rd e f s fn nw few =
       let hs = heads H fuel σ m c p in
       let z = ct H fuel b p rest σ m c rd.procs_few rd.tallied (omega arith) e in
       let y : a % byte_limit ≡ length hs = omega arith in
-      let u = put H σ b p rest rd e f s fn nw (omega arith) (omega arith) (omega arith) in (
-        λ t. (every_weaken SummandFits SummandWithin (λ h k. k.within) hs (u.0 t).0, adds_then (length hs ∷ []) (all encode_summand hs) w (w + 1) r.w o (set o w (a % byte_limit)) o' (cell_more o w (a % byte_limit) inside ∙ ap (λ (k : ℕ). take w o ++ (k ∷ [])) y) (u.0 t).1),
-        λ t within. let l = u.1 t within in omega (arith, length-set o w (a % byte_limit)),
-      )
+      on_result r (put H σ b p rest rd e f s fn nw (omega arith) (omega arith) (omega arith))
+      (λ v u. (every_weaken SummandFits SummandWithin (λ h k. k.within) hs u.0, adds_then (length hs ∷ []) (all encode_summand hs) w (w + 1) v o (set o w (a % byte_limit)) o' (cell_more o w (a % byte_limit) inside ∙ ap (λ (k : ℕ). take w o ++ (k ∷ [])) y) u.1))
+      (λ x u within. let l = u within in (l.0, omega (arith, length-set o w (a % byte_limit), l.1)))
 
   -- no heads
-  pub list_none : (a : ℕ) → HeadsCounted cells counts fuel at a → w < length o → a ≡ 0 → SummandsWritten cells starts counts firsts fuel at c slots n m w o (record { ok = true; w = w + 1 }) (set o w (a % byte_limit))
+  pub list_none : (a : ℕ) → HeadsCounted cells counts fuel at a → w < length o → a ≡ 0 → SummandsWritten cells starts counts firsts fuel at c slots n m w o (Ok (w + 1)) (set o w (a % byte_limit))
   unfolding encode_list cut all Every
   list_none a ct inside none H σ b p rest rd e f s fn nw few =
       let z = ct H fuel b p rest σ m c rd.procs_few rd.tallied (omega arith) e in
       let y : heads H fuel σ m c p ≡ [] = length_none (heads H fuel σ m c p) (omega arith) in
       let k : a % byte_limit ≡ 0 = omega arith in
-      (λ t. subst (λ (hs : List Summand). Every SummandWithin hs × Adds (encode_list encode_summand hs) w o (w + 1) (set o w (a % byte_limit))) (sym y) (tt, cell_more o w (a % byte_limit) inside ∙ ap (λ (j : ℕ). take w o ++ (j ∷ [])) k), λ t. false_not_true (sym t))
+      subst (λ (hs : List Summand). Every SummandWithin hs × Adds (encode_list encode_summand hs) w o (w + 1) (set o w (a % byte_limit))) (sym y) (tt, cell_more o w (a % byte_limit) inside ∙ ap (λ (j : ℕ). take w o ++ (j ∷ [])) k)
 
 -- THE FIRST NEW EQUATIONS
 

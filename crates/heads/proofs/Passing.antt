@@ -87,7 +87,7 @@ module _ (cells counts : List ℕ) (heads : ℕ) where
         top_in = b.top_in;
         top_room = b.top_room;
       };
-      spotted = λ H F A hs few t many sp. ((side_plain cells g.d g.s e A.slots A.conds (λ y. omega arith) A.vars A.calls).2 H F hs (side H F A hs few t many sp)).0 refl;
+      spotted = λ H F A hs few t many sp. (side_plain cells g.d g.s e A.slots A.conds (λ y. omega arith) A.vars A.calls).2 H F hs (side H F A hs few t many sp);
     }
 
     module _ (c : ℕ) (ec : g.s.c + g.a.own < byte_limit → c ≡ g.s.c + g.a.own) (H : Sheet) (F : ℕ) (A : Arrays) (hs : List Summand) (few : length H.procs ≤ row_width) (t : Tallied H F counts) (sp : Spotted H F cells g.s A hs) where

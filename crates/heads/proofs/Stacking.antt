@@ -36,7 +36,7 @@ slab_same l l' q n h e f f' =
 
 -- what an entry becomes
 abbrev pub later_spot : ℕ → Spot → ℕ → Spot
-later_spot fuel s c = record { ok = true; at = s.at; fuel = fuel; n = s.n; m = s.m; c = c; nv = s.nv; nc = s.nc; lc = s.lc; nk = s.nk; top = s.top }
+later_spot fuel s c = record { at = s.at; fuel = fuel; n = s.n; m = s.m; c = c; nv = s.nv; nc = s.nc; lc = s.lc; nk = s.nk; top = s.top }
 
 module _ (fuel lk ls : ℕ) (s : Spot) (e : Side) (heads : ℕ) (b : Bound lk ls s) (few : lk ≤ calls_room) (small : e.c < byte_limit) where
   pub unpacks : s.at < cell_limit → e.at < cell_limit → heads < byte_limit → unpacked fuel (packed s e heads) ≡ record { s = later_spot fuel s e.c; e = record { second = true; at = e.at; c = e.c }; heads = heads }

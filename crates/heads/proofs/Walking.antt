@@ -1,7 +1,9 @@
 -- The walk over the heads of a term: what is written so far, and what is still to be written.
 use mathlib.Core.Path.{◌≡◌, refl, sym, ap, ◌∙◌, subst}
 use mathlib.Core.List.{List, [], ◌∷◌, ◌++◌, map, append-nil}
-use mathlib.Core.Bool.{Bool, true, false}
+use mathlib.Core.Bool.{Bool, false}
+use Rattle.std.specs.Prelude.{Some, None, Result, Ok, Err}
+use Rattle.refusals.specs.declared.Refusal.{Refusal}
 use Prim.Native.Nat.{ℕ, ◌+◌, ◌*◌, ◌<◌, ◌≤◌}
 use native.Mathlib.Omega.{arith}
 use lib.ListN.{length, drop, take, length-append, length-map}
@@ -12,7 +14,6 @@ use Rattle.pcrl.specs.Sheet.{Data, Proc, Sheet}
 use Rattle.pcrl.specs.Table.{Summand}
 use Rattle.pcrl.specs.Stream.{encode_summand}
 use Rattle.pcrl.specs.Heads.{look, heads}
-use Rattle.laws.specs.Booleans.{false_not_true}
 use Rattle.laws.specs.Every.{every_append, every_left, every_right}
 use Rattle.nodes.specs.declared.Node.{Node}
 use Rattle.nodes.specs.Layout.{byte_limit, enc}
@@ -21,7 +22,6 @@ use Rattle.counting.specs.Limits.{row_width, cut, row}
 use Rattle.counting.specs.Counting.{Counts, Tallied}
 use Rattle.counting.specs.Heads.{count_of, count_heads}
 use Rattle.counting.proofs.Rows.{row_counts}
-use Rattle.putting.specs.declared.Done.{Done}
 use Rattle.putting.specs.Slots.{slot_width, Adds}
 use Rattle.putting.proofs.Bytes.{adds_then}
 use Rattle.putting.proofs.Several.{slot_kept}
@@ -34,14 +34,10 @@ use Rattle.contexts.proofs.Spotting.{kept_same, kept_then, kept_up, deeper_same,
 use Rattle.contexts.proofs.Sides.{Passed}
 use Rattle.heads.specs.Writing.{HeadsWritten}
 use Rattle.heads.specs.declared.walk.Turn.{Turn}
+use Rattle.heads.specs.declared.walk.Next.TheVariants.{Into}
 use Rattle.heads.specs.Stack.{later_cells, Queue}
 use Rattle.heads.specs.Progress.{Past, Start, start, Roomy, Moved, Onward, WrittenBy, Toward}
 use Rattle.heads.proofs.Stacking.{queue_many, queue_in, queue_kept, queue_same, queue_base}
-
--- after a step down to s: a term with heads for which it failed has not the limits
-abbrev pub Stands : (cells starts counts firsts : List ℕ) → Start → Spot → ℕ → ℕ → ℕ → ℕ → Arrays → List ℕ → List ℕ → Type 0
-Stands cells starts counts firsts S s heads left q v B l o' =
-    (s.ok ≡ true → Onward cells starts counts firsts S s heads left q v B l o') × (s.ok ≡ false → WrittenBy cells starts counts firsts S (record { ok = false; w = v }) B o')
 
 -- COUNTS
 
@@ -71,27 +67,18 @@ counted_side cells counts s A d e a ct H F hs few t q =
 
 -- SUMMANDS WRITTEN
 
-module _ (w v : ℕ) (o o' : List ℕ) (r : Done) (o'' : List ℕ) where
-  out_then : (xs ys : List Summand) → Every SummandFits xs → Adds (all encode_summand xs) w o v o' → w ≤ length o → v ≤ length o' → length o' ≡ length o → SummandsOut ys v o' r o'' → SummandsOut (xs ++ ys) w o r o''
-  out_then xs ys within e lw lv same k =
-      let split = all_append encode_summand xs ys in (
-        λ ok. (every_append SummandFits xs ys within (k.0 ok).0, adds_then (all encode_summand xs) (all encode_summand ys) w v r.w o o' o'' e (k.0 ok).1 ∙ ap (λ (l : List ℕ). take w o ++ l) (sym split)),
-        λ bad h.
-            let q = k.1 bad (every_right SummandFits xs ys h) in
-            omega (arith, ap length split, length-append (all encode_summand xs) (all encode_summand ys), length-take-le v o' lv, length-take-le w o lw, ap length e, length-append (take w o) (all encode_summand xs)),
-      )
+module _ (w v : ℕ) (o o' o'' : List ℕ) where
+  out_then : (r : Result ℕ Refusal) (xs ys : List Summand) → Every SummandFits xs → Adds (all encode_summand xs) w o v o' → w ≤ length o → v ≤ length o' → length o' ≡ length o → SummandsOut ys v o' r o'' → SummandsOut (xs ++ ys) w o r o''
+  out_then (Ok n) xs ys within e lw lv same k =
+      (every_append SummandFits xs ys within k.0, adds_then (all encode_summand xs) (all encode_summand ys) w v n o o' o'' e k.1 ∙ ap (λ (l : List ℕ). take w o ++ l) (sym (all_append encode_summand xs ys)))
+  out_then (Err x) xs ys within e lw lv same k = λ h.
+      let q = k (every_right SummandFits xs ys h) in
+      (q.0, omega (arith, ap length (all_append encode_summand xs ys), length-append (all encode_summand xs) (all encode_summand ys), length-take-le v o' lv, length-take-le w o lw, ap length e, length-append (take w o) (all encode_summand xs)))
 
-  out_short : (xs ys : List Summand) → r.ok ≡ false → SummandsOut xs w o r o' → SummandsOut (xs ++ ys) w o r o'
-  out_short xs ys bad k = (
-    λ ok. false_not_true (sym bad ∙ ok),
-    λ b h.
-        let q = k.1 bad (every_left SummandFits xs ys h) in
-        omega (arith, ap length (all_append encode_summand xs ys), length-append (all encode_summand xs) (all encode_summand ys)),
-  )
-
--- the same answer, told by its parts
-out_by : (hs : List Summand) (w : ℕ) (o : List ℕ) (x : Done) (o' : List ℕ) (b : Bool) → x.ok ≡ b → SummandsOut hs w o x o' → SummandsOut hs w o (record { ok = b; w = x.w }) o'
-out_by hs w o x o' b e k = subst (λ (c : Bool). SummandsOut hs w o (record { ok = c; w = x.w }) o') e k
+out_short : (w : ℕ) (o o' : List ℕ) (x : Refusal) (xs ys : List Summand) → SummandsOut xs w o (Err x) o' → SummandsOut (xs ++ ys) w o (Err x) o'
+out_short w o o' x xs ys k h =
+    let q = k (every_left SummandFits xs ys h) in
+    (q.0, omega (arith, ap length (all_append encode_summand xs ys), length-append (all encode_summand xs) (all encode_summand ys)))
 
 module _ (cells starts counts firsts : List ℕ) where
   -- AT A SPOT
@@ -121,17 +108,11 @@ module _ (cells starts counts firsts : List ℕ) where
   }
 
   -- heads that have not the limits
-  pub beyond_these : (S : Start) (o : List ℕ) (hs xs here ys : List Summand) → hs ≡ xs ++ (here ++ ys) → Beyond here → 0 < length here → (C : Arrays) (w : ℕ) → SummandsOut hs S.w S.o (record { ok = false; w = w }) o × (false ≡ true → Kept S.s S.A C)
-  beyond_these S o hs xs here ys e far some C w = (
-    (
-      λ t. false_not_true t,
-      λ t fit.
-          let u : Every SummandFits (xs ++ (here ++ ys)) = subst (λ (x : List Summand). Every SummandFits x) e fit in
-          let z = far (every_left SummandFits here ys (every_right SummandFits xs (here ++ ys) u)) in
-          absurd (omega (arith, ap length z)),
-    ),
-    λ t. false_not_true t,
-  )
+  pub beyond_these : (S : Start) (o : List ℕ) (hs xs here ys : List Summand) → hs ≡ xs ++ (here ++ ys) → Beyond here → 0 < length here → (x : Refusal) → SummandsOut hs S.w S.o (Err x) o
+  beyond_these S o hs xs here ys e far some x fit =
+      let u : Every SummandFits (xs ++ (here ++ ys)) = subst (λ (x : List Summand). Every SummandFits x) e fit in
+      let z = far (every_left SummandFits here ys (every_right SummandFits xs (here ++ ys) u)) in
+      absurd (omega (arith, ap length z))
 
   module _ (H : Sheet) (F : ℕ) (S : Start) (s : Spot) (heads left q v : ℕ) (B : Arrays) (l o : List ℕ) (hs : List Summand) (m : Moved cells starts counts firsts H F S s heads left q v B l o hs) where
     -- how many are left
@@ -168,24 +149,19 @@ module _ (cells starts counts firsts : List ℕ) where
     }
 
     -- the heads here have not the limits
-    pub beyond_out : Beyond m.here → (C : Arrays) (w : ℕ) → SummandsOut hs S.w S.o (record { ok = false; w = w }) o × (false ≡ true → Kept S.s S.A C)
-    beyond_out far C w = beyond_these S o hs m.done m.here m.waiting m.split far (omega (arith, m.many, m.some)) C w
+    pub beyond_out : Beyond m.here → (x : Refusal) → SummandsOut hs S.w S.o (Err x) o
+    beyond_out far x = beyond_these S o hs m.done m.here m.waiting m.split far (omega (arith, m.many, m.some)) x
 
-    -- a leaf's heads are written
-    module _ (x : Done) (C : Arrays) (o' : List ℕ) (k : SummandsOut m.here v o x o') (lx : x.w ≤ length o') (same : length o' ≡ length o) where
-      pub leaf_fails : x.ok ≡ false → (b : Arrays) → SummandsOut hs S.w S.o (record { ok = false; w = x.w }) o' × (false ≡ true → Kept S.s S.A b)
-      leaf_fails bad b = (
-        out_by hs S.w S.o x o' false bad
-            (subst (λ (y : List Summand). SummandsOut y S.w S.o x o') (sym m.split) (out_then S.w v S.o o x o' m.done (m.here ++ m.waiting) m.within m.bytes m.start_in m.inside m.same (out_short v v o o' x o' m.here m.waiting bad k))),
-        λ t. false_not_true t,
-      )
+    -- a leaf's heads are written, or they are not
+    pub leaf_fails : (x : Refusal) (o' : List ℕ) → SummandsOut m.here v o (Err x) o' → SummandsOut hs S.w S.o (Err x) o'
+    leaf_fails x o' k =
+        subst (λ (y : List Summand). SummandsOut y S.w S.o (Err x) o') (sym m.split) (out_then S.w v S.o o o' (Err x) m.done (m.here ++ m.waiting) m.within m.bytes m.start_in m.inside m.same (out_short v o o' x m.here m.waiting k))
 
-      pub leaf_last : x.ok ≡ true → left ≤ heads → SummandsOut hs S.w S.o (record { ok = true; w = x.w }) o'
-      leaf_last ok last =
-          let z : m.waiting ≡ [] = length_none m.waiting (omega (arith, m.both)) in
-          let e : m.here ≡ m.here ++ m.waiting = sym (append-nil m.here) ∙ ap (λ (y : List Summand). m.here ++ y) (sym z) in
-          out_by hs S.w S.o x o' true ok
-          (subst (λ (y : List Summand). SummandsOut y S.w S.o x o') (sym m.split) (out_then S.w v S.o o x o' m.done (m.here ++ m.waiting) m.within m.bytes m.start_in m.inside m.same (subst (λ (y : List Summand). SummandsOut y v o x o') e k)))
+    pub leaf_last : (n : ℕ) (o' : List ℕ) → SummandsOut m.here v o (Ok n) o' → left ≤ heads → SummandsOut hs S.w S.o (Ok n) o'
+    leaf_last n o' k last =
+        let z : m.waiting ≡ [] = length_none m.waiting (omega (arith, m.both)) in
+        let e : m.here ≡ m.here ++ m.waiting = sym (append-nil m.here) ∙ ap (λ (y : List Summand). m.here ++ y) (sym z) in
+        subst (λ (y : List Summand). SummandsOut y S.w S.o (Ok n) o') (sym m.split) (out_then S.w v S.o o o' (Ok n) m.done (m.here ++ m.waiting) m.within m.bytes m.start_in m.inside m.same (subst (λ (y : List Summand). SummandsOut y v o (Ok n) o') e k))
 
   -- ON
 
@@ -196,14 +172,15 @@ module _ (cells starts counts firsts : List ℕ) where
         moved_to H F S s heads left q v B l o hs m t B (pt.spotted H F B m.here rd.procs_few rd.tallied m.many m.spotted) pt.deeper (kept_same s B) pt.fuel_same
 
     -- a term that ends outside the cells: there is none
-    pub goes_stuck : length cells ≤ s.at → (x : Done) (C : Arrays) (o' : List ℕ) → WrittenBy cells starts counts firsts S x C o'
+    pub goes_stuck : length cells ≤ s.at → (x : Result ℕ Refusal) (C : Arrays) (o' : List ℕ) → WrittenBy cells starts counts firsts S x C o'
     goes_stuck out x C o' H F hs rd sp ro = let m = on H F hs rd sp ro in absurd (stuck H F cells s B m.here out m.spotted)
 
-    pub goes_step : (t : Spot) (C : Arrays) → Leads cells starts counts firsts s B t C → (t.ok ≡ true → t.fuel ≡ s.fuel) → Stands cells starts counts firsts S t heads left q v C l o
-    goes_step t C ld ef = (
-      λ ok H F hs rd sp ro. let m = on H F hs rd sp ro in moved_to H F S s heads left q v B l o hs m t C ((ld.2 H F m.here rd m.spotted).0 ok) ld.0 ld.1 (ef ok),
-      λ bad H F hs rd sp ro. let m = on H F hs rd sp ro in beyond_out H F S s heads left q v B l o hs m ((ld.2 H F m.here rd m.spotted).1 bad) C v,
-    )
+    pub goes_step : (t : Spot) (C : Arrays) → Leads cells starts counts firsts s B (Some t) C → t.fuel ≡ s.fuel → Onward cells starts counts firsts S t heads left q v C l o
+    goes_step t C ld ef H F hs rd sp ro = let m = on H F hs rd sp ro in moved_to H F S s heads left q v B l o hs m t C (ld.2 H F m.here rd m.spotted) ld.0 ld.1 ef
+
+    -- a step that fails
+    pub goes_nowhere : (C : Arrays) → Leads cells starts counts firsts s B None C → (x : Refusal) → WrittenBy cells starts counts firsts S (Err x) C o
+    goes_nowhere C ld x H F hs rd sp ro = let m = on H F hs rd sp ro in (beyond_out H F S s heads left q v B l o hs m (ld.2 H F m.here rd m.spotted) x, tt)
 
     -- a stack that is the same so far
     pub goes_later : (l' : List ℕ) → later_cells * q ≤ length l → length l' ≡ length l → take (later_cells * q) l' ≡ take (later_cells * q) l → Onward cells starts counts firsts S s heads left q v B l' o
@@ -233,44 +210,45 @@ module _ (cells starts counts firsts : List ℕ) where
         }
 
   -- down into the side
-  pub toward_down : (S : Start) (k : Turn) (slots vars conds calls l o : List ℕ) → Toward cells starts counts firsts S k (arrays slots vars conds calls) l o → k.over ≡ false → (r : Spot) (conds' : List ℕ) → SideDown cells k.d k.t k.e slots conds r conds' → (r.ok ≡ true → r.fuel ≡ k.t.fuel)
-      → Stands cells starts counts firsts S r k.heads k.left k.q k.done.w (arrays slots vars conds' calls) l o
-  toward_down S k slots vars conds calls l o tw still r conds' sd ef =
-      let B = arrays slots vars conds calls in
-      let C = arrays slots vars conds' calls in
-      let z = sd vars calls in (
-        λ ok H F hs rd sp ro.
-            let a = tw.0 still H F hs rd sp ro in
-            record {
-              done = a.done;
-              here = a.here;
-              waiting = a.waiting;
-              n = a.n;
-              split = a.split;
-              within = a.within;
-              bytes = a.bytes;
-              spotted = (z.2 H F a.here a.side).0 ok;
-              many = a.many;
-              some = a.some;
-              both = a.both;
-              deep = a.deep;
-              queue = queue_in H F cells S.s l S.s.fuel S.q a.n k.t r C a.waiting z.0 (queue_kept H F cells S.s l S.s.fuel S.q a.n k.t B C a.waiting z.1 a.queue);
-              kept = kept_then S.s S.A B C a.kept (kept_up S.s k.t B C (queue_base H F cells S.s l S.s.fuel S.q a.n k.t B a.waiting a.queue) z.1);
-              fuel_is = ef ok ∙ a.fuel_is;
-              start_in = a.start_in;
-              inside = a.inside;
-              same = a.same;
-              long = a.long;
-            },
-        λ bad H F hs rd sp ro.
-            let a = tw.0 still H F hs rd sp ro in
-            beyond_these S o hs a.done a.here a.waiting a.split ((z.2 H F a.here a.side).1 bad) (omega (arith, a.many, a.some)) C k.done.w,
-      )
+  module _ (S : Start) (k : Turn) (slots vars conds calls l o : List ℕ) (tw : Toward cells starts counts firsts S (Ok (Into k)) (arrays slots vars conds calls) l o) (conds' : List ℕ) where
+    pub toward_down : (r : Spot) → SideDown cells k.d k.t k.e slots conds (Some r) conds' → r.fuel ≡ k.t.fuel
+        → Onward cells starts counts firsts S r k.heads k.left k.q k.w (arrays slots vars conds' calls) l o
+    toward_down r sd ef H F hs rd sp ro =
+        let B = arrays slots vars conds calls in
+        let C = arrays slots vars conds' calls in
+        let z = sd vars calls in
+        let a = tw H F hs rd sp ro in
+        record {
+          done = a.done;
+          here = a.here;
+          waiting = a.waiting;
+          n = a.n;
+          split = a.split;
+          within = a.within;
+          bytes = a.bytes;
+          spotted = z.2 H F a.here a.side;
+          many = a.many;
+          some = a.some;
+          both = a.both;
+          deep = a.deep;
+          queue = queue_in H F cells S.s l S.s.fuel S.q a.n k.t r C a.waiting z.0 (queue_kept H F cells S.s l S.s.fuel S.q a.n k.t B C a.waiting z.1 a.queue);
+          kept = kept_then S.s S.A B C a.kept (kept_up S.s k.t B C (queue_base H F cells S.s l S.s.fuel S.q a.n k.t B a.waiting a.queue) z.1);
+          fuel_is = ef ∙ a.fuel_is;
+          start_in = a.start_in;
+          inside = a.inside;
+          same = a.same;
+          long = a.long;
+        }
+
+    pub toward_nowhere : SideDown cells k.d k.t k.e slots conds None conds' → (x : Refusal) → WrittenBy cells starts counts firsts S (Err x) (arrays slots vars conds' calls) o
+    toward_nowhere sd x H F hs rd sp ro =
+        let a = tw H F hs rd sp ro in
+        (beyond_these S o hs a.done a.here a.waiting a.split ((sd vars calls).2 H F a.here a.side) (omega (arith, a.many, a.some)) x, tt)
 
   -- THE WHOLE TERM
 
   abbrev pub spot : ℕ → ℕ → ℕ → ℕ → ℕ → ℕ → Spot
-  spot at fuel n m c top = record { ok = true; at = at; fuel = fuel; n = n; m = m; c = c; nv = 0; nc = 0; lc = 0; nk = 0; top = top }
+  spot at fuel n m c top = record { at = at; fuel = fuel; n = n; m = m; c = c; nv = 0; nc = 0; lc = 0; nk = 0; top = top }
 
   around_none : (x : Summand) → around [] [] [] x ≡ x
   unfolding around
@@ -280,7 +258,7 @@ module _ (cells starts counts firsts : List ℕ) where
   map_around [] = refl
   map_around (h ∷ hs) = ap (λ (x : Summand). x ∷ map (around [] [] []) hs) (around_none h) ∙ ap (λ (l : List Summand). h ∷ l) (map_around hs)
 
-  pub heads_out : (fuel at c : ℕ) (base : List ℕ) (n m many w : ℕ) (o work vars conds calls : List ℕ) (top room : ℕ) → top ≡ length calls → take (slot_width * n) work ≡ take (slot_width * n) base → (x : Done) (B : Arrays) (o' : List ℕ)
+  pub heads_out : (fuel at c : ℕ) (base : List ℕ) (n m many w : ℕ) (o work vars conds calls : List ℕ) (top room : ℕ) → top ≡ length calls → take (slot_width * n) work ≡ take (slot_width * n) base → (x : Result ℕ Refusal) (B : Arrays) (o' : List ℕ)
       → WrittenBy cells starts counts firsts (start (spot at fuel n m c top) (arrays work vars conds calls) w o many 0 room) x B o' → later_cells * byte_limit ≤ room + later_cells → HeadsWritten cells starts counts firsts fuel at c base n m many w o x o'
   unfolding all Every
   heads_out fuel at c base n m many w o work vars conds calls top room et kept x B o' wr big H σ b p rest rd e f s fn nw em some few = (wr H fuel (heads H fuel σ m c p) rd (

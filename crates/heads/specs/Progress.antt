@@ -1,5 +1,5 @@
 -- What the pieces of the walk over heads say.
-use Rattle.std.specs.Prelude.{◌≡◌, List, ◌++◌, ◌⊎◌, Bool, true, false, ℕ, ◌+◌, ◌*◌, ◌≤◌, ◌<◌, length, take}
+use Rattle.std.specs.Prelude.{◌≡◌, List, ◌++◌, ◌⊎◌, Bool, true, false, Result, Ok, Err, IfOk, OnOk, ℕ, ◌+◌, ◌*◌, ◌≤◌, ◌<◌, length, take}
 use Rattle.pcrl.specs.Limits.{max_variables}
 use Rattle.pcrl.specs.Tests.{Every}
 use Rattle.pcrl.specs.Reader.{all}
@@ -11,7 +11,7 @@ use Rattle.nodes.specs.Layout.{byte_limit, alt_kind, atom_kind, cond_kind, call_
 use Rattle.nodes.specs.Views.{On, Views}
 use Rattle.counting.specs.Limits.{row_width, row}
 use Rattle.counting.specs.Counting.{leaf_of, Counts, Tallied}
-use Rattle.putting.specs.declared.Done.{Done}
+use Rattle.refusals.specs.declared.Refusal.{Refusal}
 use Rattle.putting.specs.Slots.{Adds}
 use Rattle.following.specs.Follows.{calls_room}
 use Rattle.contexts.specs.declared.Spot.{Spot}
@@ -20,6 +20,8 @@ use Rattle.contexts.specs.Spots.{conds_room, Ready, SummandFits, Arrays, Bound, 
 use Rattle.contexts.specs.Steps.{Stays, SummandsOut}
 use Rattle.heads.specs.declared.alternatives.Ahead.{Ahead}
 use Rattle.heads.specs.declared.walk.Turn.{Turn}
+use Rattle.heads.specs.declared.walk.Next.{Next}
+use Rattle.heads.specs.declared.walk.Next.TheVariants.{Over, Into}
 use Rattle.heads.specs.Stack.{later_cells, Steady, Queue}
 
 -- rooms of the arrays of a walk: sum variables, conditions, calls after a first part, calls
@@ -63,7 +65,7 @@ SecondSide g e = (e ≡ record { second = true; at = g.a.next; c = e.c }) × (e.
 
 -- a side of `+`, in the context of s
 abbrev pub side_spot : Spot → Side → Spot
-side_spot s e = record { ok = true; at = e.at; fuel = s.fuel; n = s.n; m = s.m; c = e.c; nv = s.nv; nc = s.nc; lc = s.lc; nk = s.nk; top = s.top }
+side_spot s e = record { at = e.at; fuel = s.fuel; n = s.n; m = s.m; c = e.c; nv = s.nv; nc = s.nc; lc = s.lc; nk = s.nk; top = s.top }
 
 -- a node that has no subterm, no head and no new equation
 abbrev pub Idle : List ℕ → Node → Type 0
@@ -135,9 +137,9 @@ module _ (cells starts counts firsts : List ℕ) where
   Onward S s heads left q v B l o' = (H : Sheet) (F : ℕ) (hs : List Summand) → Ready H F cells starts counts firsts → Spotted H F cells S.s S.A hs → Roomy S hs → Moved H F S s heads left q v B l o' hs
 
   -- all heads are written, and the context is kept
-  abbrev pub WrittenBy : Start → Done → Arrays → List ℕ → Type 0
+  abbrev pub WrittenBy : Start → Result ℕ Refusal → Arrays → List ℕ → Type 0
   WrittenBy S x B o' = (H : Sheet) (F : ℕ) (hs : List Summand) → Ready H F cells starts counts firsts → Spotted H F cells S.s S.A hs → Roomy S hs
-      → SummandsOut hs S.w S.o x o' × (x.ok ≡ true → Kept S.s S.A B)
+      → SummandsOut hs S.w S.o x o' × OnOk x (Kept S.s S.A B)
 
   -- The same before the step down: others are those of the side e of the choice d at t.
   pub record Aside (H : Sheet) (F : ℕ) (S : Start) (t : Spot) (d : Node) (e : Side) (heads left q v : ℕ) (B : Arrays) (l o' : List ℕ) (hs : List Summand) : Type 0 where
@@ -162,23 +164,23 @@ module _ (cells starts counts firsts : List ℕ) where
     pub long : S.room ≤ length l
 
   -- on into a side, or the walk is over
-  abbrev pub Toward : Start → Turn → Arrays → List ℕ → List ℕ → Type 0
-  Toward S r B l o' =
-      (r.over ≡ false → (H : Sheet) (F : ℕ) (hs : List Summand) → Ready H F cells starts counts firsts → Spotted H F cells S.s S.A hs → Roomy S hs → Aside H F S r.t r.d r.e r.heads r.left r.q r.done.w B l o' hs)
-      × (r.over ≡ true → WrittenBy S r.done B o')
+  abbrev pub Toward : Start → Result Next Refusal → Arrays → List ℕ → List ℕ → Type 0
+  Toward S (Ok (Into k)) B l o' = (H : Sheet) (F : ℕ) (hs : List Summand) → Ready H F cells starts counts firsts → Spotted H F cells S.s S.A hs → Roomy S hs → Aside H F S k.t k.d k.e k.heads k.left k.q k.w B l o' hs
+  Toward S (Ok (Over v)) B l o' = WrittenBy S (Ok v) B o'
+  Toward S (Err e) B l o' = WrittenBy S (Err e) B o'
 
-  -- the heads at s were written, up to x
-  pub record AfterLeaf (S : Start) (s : Spot) (heads left q : ℕ) (x : Done) (B : Arrays) (l o' : List ℕ) : Type 0 where
+  -- the heads at s were written, up to n
+  pub record AfterLeaf (S : Start) (s : Spot) (heads left q n : ℕ) (B : Arrays) (l o' : List ℕ) : Type 0 where
     pub before : Arrays
     pub v : ℕ
     pub o : List ℕ
     pub onward : Onward S s heads left q v before l o
-    pub written : WrittenBy (start s before v o heads q (length l)) x B o'
-    pub inside : x.w ≤ length o'
+    pub written : WrittenBy (start s before v o heads q (length l)) (Ok n) B o'
+    pub inside : n ≤ length o'
     pub same : length o' ≡ length o
 
   -- from s, into a choice or past a leaf
-  abbrev pub Turned : ℕ → Spot → ℕ → ℕ → ℕ → ℕ → Arrays → List ℕ → List ℕ → Turn → Arrays → List ℕ → List ℕ → Type 0
+  abbrev pub Turned : ℕ → Spot → ℕ → ℕ → ℕ → ℕ → Arrays → List ℕ → List ℕ → Result Next Refusal → Arrays → List ℕ → List ℕ → Type 0
   Turned q₀ s heads left q w B l o r C l' o' = (S : Start) → S.q ≡ q₀ → Onward S s heads left q w B l o → Toward S r C l' o'
 
 -- less is left, or the side stands further on
@@ -191,15 +193,26 @@ Bounded s = (lk : ℕ) × (ls : ℕ) × (lk ≤ calls_room) × Bound lk ls s
 
 -- into a side of the choice at g
 abbrev pub aside_turn : Ahead → Side → ℕ → ℕ → ℕ → ℕ → Turn
-aside_turn g e heads left q w = record { over = false; t = g.s; d = g.d; e = e; heads = heads; left = left; q = q; done = record { ok = false; w = w } }
+aside_turn g e heads left q w = record { t = g.s; d = g.d; e = e; heads = heads; left = left; q = q; w = w }
 
-abbrev pub Chosen : Ahead → ℕ → ℕ → ℕ → ℕ → List ℕ → Turn → List ℕ → Type 0
-Chosen g heads left q w l r l' = ((r.done.w ≡ w) × (take (later_cells * q) l' ≡ take (later_cells * q) l)) × ((cells counts : List ℕ) → Looked cells counts g → Parting g.d.kind →
-    (r.over ≡ false → Nearer g.s left r) × ((lk ls fuel q₀ : ℕ) → lk ≤ calls_room → Steady lk ls fuel q₀ g.s q l → r.over ≡ false → Steady lk ls fuel q₀ r.t r.q l')
+-- how far is written
+abbrev pub place : Next → ℕ
+place (Over v) = v
+place (Into k) = k.w
+
+-- what holds of a turn, where the walk goes on
+abbrev pub IfInto : Result Next Refusal → (Turn → Type 0) → Type 0
+IfInto (Ok (Into k)) P = P k
+IfInto (Ok (Over v)) P = Unit {0}
+IfInto (Err e) P = Unit {0}
+
+abbrev pub Chosen : Ahead → ℕ → ℕ → ℕ → ℕ → List ℕ → Result Next Refusal → List ℕ → Type 0
+Chosen g heads left q w l r l' = (IfOk r (λ n. place n ≡ w) × (take (later_cells * q) l' ≡ take (later_cells * q) l)) × ((cells counts : List ℕ) → Looked cells counts g → Parting g.d.kind →
+    IfInto r (Nearer g.s left) × ((lk ls fuel q₀ : ℕ) → lk ≤ calls_room → Steady lk ls fuel q₀ g.s q l → IfInto r (λ k. Steady lk ls fuel q₀ k.t k.q l'))
     × ((starts firsts : List ℕ) (B : Arrays) (o : List ℕ) (S : Start) → Onward cells starts counts firsts S g.s heads left q w B l o → Toward cells starts counts firsts S r B l' o))
 
--- on after a leaf at s
-abbrev pub Resumed : List ℕ → Spot → ℕ → ℕ → ℕ → ℕ → Done → List ℕ → Turn → Type 0
-Resumed cells s heads left q₀ q x l r =
-    ((lk ls fuel : ℕ) → Steady lk ls fuel q₀ s q l → r.over ≡ false → Steady lk ls fuel q₀ r.t r.q l × Nearer s left r)
-    × ((starts counts firsts : List ℕ) (B : Arrays) (o : List ℕ) (S : Start) → S.q ≡ q₀ → AfterLeaf cells starts counts firsts S s heads left q x B l o → Toward cells starts counts firsts S r B l o)
+-- on after a leaf at s, written up to v
+abbrev pub Resumed : List ℕ → Spot → ℕ → ℕ → ℕ → ℕ → ℕ → List ℕ → Result Next Refusal → Type 0
+Resumed cells s heads left q₀ q v l r =
+    ((lk ls fuel : ℕ) → Steady lk ls fuel q₀ s q l → IfInto r (λ k. Steady lk ls fuel q₀ k.t k.q l × Nearer s left k))
+    × ((starts counts firsts : List ℕ) (B : Arrays) (o : List ℕ) (S : Start) → S.q ≡ q₀ → AfterLeaf cells starts counts firsts S s heads left q v B l o → Toward cells starts counts firsts S r B l o)

@@ -23,7 +23,6 @@ packed s e heads =
 unfoldable pub unpacked : ℕ → List ℕ → Later
 unpacked fuel l = record {
   s = record {
-    ok = true;
     at = get_or l 0 0;
     fuel = fuel;
     n = get_or l 1 0 / 64;

@@ -1,5 +1,5 @@
 -- What is written of the heads of a term.
-use Rattle.std.specs.Prelude.{◌≡◌, List, [], ◌∷◌, ◌++◌, Bool, true, false, ℕ, ◌+◌, ◌*◌, ◌≤◌, ◌<◌, length, drop}
+use Rattle.std.specs.Prelude.{◌≡◌, List, [], ◌∷◌, ◌++◌, Bool, true, false, Result, MatchResult, ℕ, ◌+◌, ◌*◌, ◌≤◌, ◌<◌, length, drop}
 use Rattle.pcrl.specs.Tests.{Every}
 use Rattle.pcrl.specs.Sheet.{Data, val, var, Proc, Sheet}
 use Rattle.pcrl.specs.Parts.{new_count, all_new_parts}
@@ -12,7 +12,8 @@ use Rattle.nodes.specs.Nodes.{kind_of}
 use Rattle.nodes.specs.Scoped.{max_scope}
 use Rattle.counting.specs.Limits.{row_width, cut}
 use Rattle.counting.specs.Counting.{Placed, Tallied, FirstNew}
-use Rattle.putting.specs.declared.Done.{Done}
+use Rattle.refusals.specs.declared.Refusal.{Refusal}
+use Rattle.refusals.specs.declared.Refusal.TheVariants.{NoRoom}
 use Rattle.putting.specs.Slots.{slot_width, Slots, Adds}
 use Rattle.following.specs.Fine.{Fine}
 use Rattle.contexts.specs.Spots.{Ready, SummandFits}
@@ -24,7 +25,7 @@ slots_room = max_scope * slot_width
 
 -- All heads of the term p, of which there are some, written as summands, one behind another; or not every one has the limits, or there is
 -- no room for them.
-abbrev pub HeadsWritten : List ℕ → List ℕ → List ℕ → List ℕ → ℕ → ℕ → ℕ → List ℕ → ℕ → ℕ → ℕ → ℕ → List ℕ → Done → List ℕ → Type 0
+abbrev pub HeadsWritten : List ℕ → List ℕ → List ℕ → List ℕ → ℕ → ℕ → ℕ → List ℕ → ℕ → ℕ → ℕ → ℕ → List ℕ → Result ℕ Refusal → List ℕ → Type 0
 HeadsWritten cells starts counts firsts fuel at c slots n m many w o r o' =
     (H : Sheet) (σ : List Data) (b : Bool) (p : Proc) (rest : List ℕ) → Ready H fuel cells starts counts firsts
     → drop at cells ≡ enc b p ++ rest → (kind_of p ≡ seq_kind → b ≡ false) → Slots σ slots n → Fine H n p → c + new_count false p < byte_limit
@@ -36,13 +37,13 @@ HeadsCounted cells counts fuel at r = (H : Sheet) (F : ℕ) (b : Bool) (p : Proc
     → drop at cells ≡ enc b p ++ rest → r ≡ cut (length (heads H fuel σ m c p))
 
 -- The summands of an equation, with their count, of which there are few enough for a byte; or they are not all within their limits, or
--- a call has more terms than an equation may have parameters, or there is no room for them: then none is left.
-abbrev pub SummandsWritten : List ℕ → List ℕ → List ℕ → List ℕ → ℕ → ℕ → ℕ → List ℕ → ℕ → ℕ → ℕ → List ℕ → Done → List ℕ → Type 0
+-- a call has more terms than an equation may have parameters, or there is no room for them: that is said where all have the limits.
+abbrev pub SummandsWritten : List ℕ → List ℕ → List ℕ → List ℕ → ℕ → ℕ → ℕ → List ℕ → ℕ → ℕ → ℕ → List ℕ → Result ℕ Refusal → List ℕ → Type 0
 SummandsWritten cells starts counts firsts fuel at c slots n m w o r o' =
     (H : Sheet) (σ : List Data) (b : Bool) (p : Proc) (rest : List ℕ) → Ready H fuel cells starts counts firsts
     → drop at cells ≡ enc b p ++ rest → (kind_of p ≡ seq_kind → b ≡ false) → Slots σ slots n → Fine H n p → c + new_count false p < byte_limit → length (heads H fuel σ m c p) < byte_limit
-    → (r.ok ≡ true → Every SummandWithin (heads H fuel σ m c p) × Adds (encode_list encode_summand (heads H fuel σ m c p)) w o r.w o')
-    × (r.ok ≡ false → Every SummandFits (heads H fuel σ m c p) → (r.w ≡ length o) × (length o < w + length (encode_list encode_summand (heads H fuel σ m c p))))
+    → MatchResult r (λ v. Every SummandWithin (heads H fuel σ m c p) × Adds (encode_list encode_summand (heads H fuel σ m c p)) w o v o')
+    (λ e. Every SummandFits (heads H fuel σ m c p) → (e ≡ NoRoom) × (length o < w + length (encode_list encode_summand (heads H fuel σ m c p))))
 
 -- The numbers of the first new equations of all processes.
 abbrev pub NumbersFirst : List ℕ → List ℕ → ℕ → List ℕ → Type 0

@@ -71,7 +71,6 @@ fn beside(s: Spot, e: Side) -> Spot
     ensures { result ≡ side_spot s e }
 {
     Spot {
-        ok: true,
         at: e.at,
         fuel: s.fuel,
         n: s.n,

@@ -1,6 +1,6 @@
 #![tactic(auto)]
 // The heads of a term written as summands, one after another.
-ghost use Rattle.std.specs.Prelude.{◌+◌, ◌*◌, ◌≤◌, ◌<◌, length};
+ghost use Rattle.std.specs.Prelude.{◌+◌, ◌*◌, ◌≤◌, ◌<◌, length, IfOk};
 ghost use Rattle.pcrl.specs.Limits.{max_variables};
 ghost use Rattle.nodes.specs.Layout.{byte_limit};
 ghost use Rattle.nodes.specs.Scoped.{max_scope};
@@ -20,7 +20,7 @@ use contexts::{CONDITIONS, Spot};
 use elements::BYTE_LIMIT;
 use following::CALLS;
 use limits::{MAX_SUMMANDS, MAX_VARIABLES};
-use putting::Done;
+use refusals::Refusal;
 use remembered::REMEMBERED;
 use waiting::LATER;
 use walk::walk;
@@ -29,7 +29,7 @@ use walk::walk;
 const LATERS: usize = MAX_SUMMANDS * LATER;
 
 // All heads of a term written as summands, one behind another; behind the slots of the variables in scope there is room for those that a
-// summand adds. Not ok: not every one has the limits, or there is no room for them.
+// summand adds. Not every one has the limits, or there is no room for them: an Err says which.
 pub fn write_heads(
     cells: &[u16],
     starts: &[u16],
@@ -44,9 +44,9 @@ pub fn write_heads(
     heads: usize,
     out: &mut [u8],
     w: usize,
-) -> Done
+) -> Result<usize, Refusal>
     requires { (fuel ≤ max_fuel) × (c < byte_limit) × (n ≤ max_scope) × (slot_width * (n + max_variables) ≤ length slots.old) × (m ≤ variable_limit) × (w ≤ length out.old) }
-    ensures w_le_w { (w ≤ result.w) × (result.w ≤ length out.old) }
+    ensures w_le_w { IfOk result (λ v. (w ≤ v) × (v ≤ length out.old)) }
     ensures heads_written { HeadsWritten cells.now starts.now counts.now firsts.now fuel at c slots.old n m heads w out.old result out.new }
 {
     let mut vars = [0u8; MAX_VARIABLES];
@@ -56,7 +56,6 @@ pub fn write_heads(
     let mut later = [0u16; LATERS];
     let mut remembered = [0u16; REMEMBERED];
     let s = Spot {
-        ok: true,
         at: at,
         fuel: fuel,
         n: n,
@@ -111,18 +110,18 @@ pub fn write_summands(
     m: usize,
     out: &mut [u8],
     w: usize,
-) -> Done
+) -> Result<usize, Refusal>
     requires { (fuel ≤ max_fuel) × (c < byte_limit) × (n ≤ max_scope) × (slot_width * (n + max_variables) ≤ length slots.old) × (m ≤ variable_limit) × (w ≤ length out.old) }
-    ensures w_le_w { (w ≤ result.w) × (result.w ≤ length out.old) }
+    ensures w_le_w { IfOk result (λ v. (w ≤ v) × (v ≤ length out.old)) }
     ensures summands_written { SummandsWritten cells.now starts.now counts.now firsts.now fuel at c slots.old n m w out.old result out.new }
 {
     let a = count_heads(cells, counts, fuel, at);
     if w >= out.len() {
-        return Done { ok: false, w: w };
+        return Err(Refusal::NoRoom);
     }
     out[w] = (a % BYTE_LIMIT) as u8;
     if a == 0 {
-        return Done { ok: true, w: w + 1 };
+        return Ok(w + 1);
     }
     write_heads(
         cells,

@@ -51,7 +51,6 @@ pub fn later_at(later: &[u16], q: usize, fuel: usize) -> Later
     let next = cell(later, i + 5);
     let z = cell(later, i + 6);
     let s = Spot {
-        ok: true,
         at: at,
         fuel: fuel,
         n: x / 64,

@@ -1,29 +1,34 @@
 // One walk over a term and the right sides that it calls at the head: each head is written as a summand. Only calls are walked by a
 // call of the walk itself; the second sides of choices wait on a stack.
-ghost use Rattle.std.specs.Prelude.{◌≡◌, true, false, ◌⊎◌, ◌*◌, ◌≤◌, length, take};
+ghost use Rattle.std.specs.Prelude.{◌≡◌, ◌⊎◌, ◌*◌, ◌≤◌, length, take, IfOk};
 ghost use Rattle.contexts.specs.Spots.{arrays, Bound};
 ghost use Rattle.heads.specs.Stack.{later_cells, Steady};
 ghost use Rattle.heads.specs.Memory.{Remembers};
-ghost use Rattle.heads.specs.Progress.{Rooms, Looked, Leaf, Parting, Inner, Bounded, start, WrittenBy, aside_turn, Chosen, Resumed, Nearer, Turned};
+ghost use Rattle.heads.specs.Progress.{Rooms, Looked, Leaf, Parting, Inner, Bounded, start, WrittenBy, aside_turn, place, IfInto, Chosen, Resumed, Nearer, Turned};
 
 use crate::alternatives::{Ahead, choice, look, second_side};
 use crate::waiting::{LATER, later_at, put_later};
 use contexts::{Side, Spot};
 use nodes::Node;
-use putting::Done;
+use refusals::Refusal;
 
 // The walk goes on in the side e of the choice d at t: how many heads it has, how many are left with those of the second sides that
-// wait, how many sides wait, with those of the walks around; how far is written. Or it is over.
+// wait, how many sides wait, with those of the walks around; how far is written.
 #[derive(Clone, Copy)]
 struct Turn {
-    over: bool,
     t: Spot,
     d: Node,
     e: Side,
     heads: usize,
     left: usize,
     q: usize,
-    done: Done,
+    w: usize,
+}
+
+// All heads are written, so far; or the walk goes on.
+enum Next {
+    Over(usize),
+    Into(Turn),
 }
 
 // Neither a leaf (an action or a call) nor a choice: the walk goes one step down.
@@ -42,55 +47,37 @@ fn inner(kind: usize) -> bool
     true
 }
 
-// The walk is over; where it stood says nothing.
-fn over(g: Ahead, ok: bool, w: usize) -> Turn
-    ensures { (result.over ≡ true) × (result.done ≡ record { ok = ok; w = w }) }
-{
-    let s = g.s;
-    let d = g.d;
-    Turn {
-        over: true,
-        t: s,
-        d: d,
-        e: Side {
-            second: false,
-            at: 0,
-            c: 0,
-        },
-        heads: 0,
-        left: 0,
-        q: 0,
-        done: Done { ok: ok, w: w },
-    }
-}
-
 // Into a side of the choice at g.
 fn aside(g: Ahead, e: Side, heads: usize, left: usize, q: usize, w: usize) -> Turn
     ensures { result ≡ aside_turn g e heads left q w }
 {
-    let s = g.s;
-    let d = g.d;
     Turn {
-        over: false,
-        t: s,
-        d: d,
+        t: g.s,
+        d: g.d,
         e: e,
         heads: heads,
         left: left,
         q: q,
-        done: Done { ok: false, w: w },
+        w: w,
     }
 }
 
 // Into the first side of a choice, if it has heads; the second one waits, if it has heads too.
-fn chosen(g: Ahead, heads: usize, left: usize, later: &mut [u16], q: usize, w: usize) -> Turn
+fn chosen(
+    g: Ahead,
+    heads: usize,
+    left: usize,
+    later: &mut [u16],
+    q: usize,
+    w: usize,
+) -> Result<Next, Refusal>
     requires { Bounded g.s × (later_cells * q ≤ length later.old) }
     ensures { Chosen g heads left q w later.old result later.new }
 {
     let first = g.a.heads;
     let e = second_side(g);
     if first == 0 {
-        return aside(g, e, heads, left, q, w);
+        return Ok(Next::Into(aside(g, e, heads, left, q, w)));
     }
     let f = Side {
         second: false,
@@ -98,16 +85,16 @@ fn chosen(g: Ahead, heads: usize, left: usize, later: &mut [u16], q: usize, w: u
         c: g.s.c,
     };
     if first >= heads {
-        return aside(g, f, heads, left, q, w);
+        return Ok(Next::Into(aside(g, f, heads, left, q, w)));
     }
     if later.len() - LATER * q < LATER {
-        return over(g, false, w);
+        return Err(Refusal::NotWithin);
     }
     put_later(&mut *later, q, g.s, e, heads - first);
-    aside(g, f, first, left, q + 1, w)
+    Ok(Next::Into(aside(g, f, first, left, q + 1, w)))
 }
 
-// After a leaf: on to the last of the second sides that wait.
+// After a leaf that is written up to v: on to the last of the second sides that wait.
 fn resumed(
     cells: &[u16],
     later: &[u16],
@@ -116,41 +103,36 @@ fn resumed(
     left: usize,
     q0: usize,
     q: usize,
-    x: Done,
-) -> Turn
+    v: usize,
+) -> Result<Next, Refusal>
     requires { later_cells * q ≤ length later.now }
-    ensures w_value { result.done.w ≡ x.w }
-    ensures resumed { Resumed cells.now g.s heads left q0 q x later.now result }
+    ensures w_value { IfOk result (λ n. place n ≡ v) }
+    ensures resumed { Resumed cells.now g.s heads left q0 q v later.now result }
 {
-    if !x.ok {
-        return over(g, false, x.w);
-    }
     if left <= heads {
-        return over(g, true, x.w);
+        return Ok(Next::Over(v));
     }
     if q <= q0 {
-        return over(g, false, x.w);
+        return Err(Refusal::NotWithin);
     }
     if heads == 0 {
-        return over(g, false, x.w);
+        return Err(Refusal::NotWithin);
     }
     let l = later_at(later, q - 1, g.s.fuel);
     let t = l.s;
     if t.at >= cells.len() {
-        return over(g, false, x.w);
+        return Err(Refusal::NotWithin);
     }
     let d = nodes::node_at(cells, t.at);
-    let e = l.e;
-    Turn {
-        over: false,
+    Ok(Next::Into(Turn {
         t: t,
         d: d,
-        e: e,
+        e: l.e,
         heads: l.heads,
         left: left - heads,
         q: q - 1,
-        done: x,
-    }
+        w: v,
+    }))
 }
 
 // The head of an action, or the heads of a call: those of the process's right side.
@@ -172,10 +154,10 @@ fn leaf(
     out: &mut [u8],
     w: usize,
     remembered: &mut [u16],
-) -> Done
+) -> Result<usize, Refusal>
     requires bound { Bound (length calls.old) (length slots.now) g.s × Rooms (length vars.old) (length conds.old) (length after.old) (length calls.old) × (w ≤ length out.old) × (later_cells * q ≤ length later.old) }
     requires looked { Looked cells.now counts.now g × Leaf g.d.kind × Remembers cells.now counts.now remembered.old }
-    ensures w_le_w { (w ≤ result.w) × (result.w ≤ length out.old) × (take (later_cells * q) later.new ≡ take (later_cells * q) later.old) }
+    ensures w_le_w { IfOk result (λ v. (w ≤ v) × (v ≤ length out.old)) × (take (later_cells * q) later.new ≡ take (later_cells * q) later.old) }
     ensures written_by { WrittenBy cells.now starts.now counts.now firsts.now (start g.s (arrays slots.now vars.old conds.old calls.old) w out.old heads q (length later.old)) result (arrays slots.now vars.new conds.new calls.new) out.new }
     ensures remembers { Remembers cells.now counts.now remembered.new }
 {
@@ -194,10 +176,9 @@ fn leaf(
         );
     }
     let mut mine = [0u8; contexts::MINE];
-    let r = contexts::down_call(cells, starts, firsts, g.d, g.s, slots, &mut mine);
-    if !r.ok {
-        return Done { ok: false, w: w };
-    }
+    let Some(r) = contexts::down_call(cells, starts, firsts, g.d, g.s, slots, &mut mine) else {
+        return Err(Refusal::NotWithin);
+    };
     walk(
         cells,
         starts,
@@ -239,18 +220,18 @@ fn next_turn(
     out: &mut [u8],
     w: usize,
     remembered: &mut [u16],
-) -> Turn
+) -> Result<Next, Refusal>
     requires steady { Steady (length calls.old) (length slots.now) g.s.fuel q0 g.s q later.old × Rooms (length vars.old) (length conds.old) (length after.old) (length calls.old) × (w ≤ length out.old) }
     requires looked { Looked cells.now counts.now g × (Leaf g.d.kind ⊎ Parting g.d.kind) × Remembers cells.now counts.now remembered.old }
-    ensures w_le_w { (w ≤ result.done.w) × (result.done.w ≤ length out.old) × (take (later_cells * q0) later.new ≡ take (later_cells * q0) later.old) }
-    ensures stays_steady { result.over ≡ false → Steady (length calls.old) (length slots.now) g.s.fuel q0 result.t result.q later.new × Nearer g.s left result }
+    ensures w_le_w { IfOk result (λ n. (w ≤ place n) × (place n ≤ length out.old)) × (take (later_cells * q0) later.new ≡ take (later_cells * q0) later.old) }
+    ensures stays_steady { IfInto result (λ k. Steady (length calls.old) (length slots.now) g.s.fuel q0 k.t k.q later.new × Nearer g.s left k) }
     ensures turned { Turned cells.now starts.now counts.now firsts.now q0 g.s heads left q w (arrays slots.now vars.old conds.old calls.old) later.old out.old result (arrays slots.now vars.new conds.new calls.new) later.new out.new }
     ensures remembers { Remembers cells.now counts.now remembered.new }
 {
     if choice(g.d.kind) {
         return chosen(g, heads, left, &mut *later, q, w);
     }
-    let x = leaf(
+    let v = leaf(
         cells,
         starts,
         counts,
@@ -267,11 +248,11 @@ fn next_turn(
         &mut *out,
         w,
         &mut *remembered,
-    );
-    resumed(cells, &*later, g, heads, left, q0, q, x)
+    )?;
+    resumed(cells, &*later, g, heads, left, q0, q, v)
 }
 
-// The heads of the term at s0 in its context, one after another.
+// The heads of the term at s0 in its context, one after another: the place behind them.
 #[cycle(leaf_next_turn_walk)]
 pub fn walk(
     cells: &[u16],
@@ -290,10 +271,10 @@ pub fn walk(
     out: &mut [u8],
     w: usize,
     remembered: &mut [u16],
-) -> Done
+) -> Result<usize, Refusal>
     requires { Bound (length calls.old) (length slots.old) s0 × Rooms (length vars.old) (length conds.old) (length after.old) (length calls.old) × (w ≤ length out.old) × (later_cells * q0 ≤ length later.old) × Remembers cells.now counts.now remembered.old }
-    ensures w_le_w { (w ≤ result.w) × (result.w ≤ length out.old) × (take (later_cells * q0) later.new ≡ take (later_cells * q0) later.old) }
-    ensures written_by { s0.ok ≡ true → WrittenBy cells.now starts.now counts.now firsts.now (start s0 (arrays slots.old vars.old conds.old calls.old) w out.old heads0 q0 (length later.old)) result (arrays slots.new vars.new conds.new calls.new) out.new }
+    ensures w_le_w { IfOk result (λ v. (w ≤ v) × (v ≤ length out.old)) × (take (later_cells * q0) later.new ≡ take (later_cells * q0) later.old) }
+    ensures written_by { WrittenBy cells.now starts.now counts.now firsts.now (start s0 (arrays slots.old vars.old conds.old calls.old) w out.old heads0 q0 (length later.old)) result (arrays slots.new vars.new conds.new calls.new) out.new }
     ensures remembers { Remembers cells.now counts.now remembered.new }
 {
     let mut s = s0;
@@ -301,13 +282,10 @@ pub fn walk(
     let mut left = heads0;
     let mut q = q0;
     let mut v = w;
-    while s.ok {
-        if s.at >= cells.len() {
-            return Done { ok: false, w: v };
-        }
+    while s.at < cells.len() {
         let g = look(cells, counts, s, heads, &mut *remembered);
         if inner(g.d.kind) {
-            s = contexts::step(
+            let Some(t) = contexts::step(
                 cells,
                 g.d,
                 g.s,
@@ -316,9 +294,12 @@ pub fn walk(
                 &mut *vars,
                 &mut *after,
                 &mut *calls,
-            );
+            ) else {
+                return Err(Refusal::NotWithin);
+            };
+            s = t;
         } else {
-            let k = next_turn(
+            let turn = next_turn(
                 cells,
                 starts,
                 counts,
@@ -337,17 +318,21 @@ pub fn walk(
                 &mut *out,
                 v,
                 &mut *remembered,
-            );
-            let done = k.done;
-            if k.over {
-                return done;
-            }
-            s = contexts::down_side(cells, k.d, k.t, k.e, &*slots, &mut *conds);
+            )?;
+            let k = match turn {
+                Next::Over(end) => return Ok(end),
+                Next::Into(k) => k,
+            };
+            let Some(side) = contexts::down_side(cells, k.d, k.t, k.e, &*slots, &mut *conds) else {
+                return Err(Refusal::NotWithin);
+            };
+            s = side;
             heads = k.heads;
             left = k.left;
             q = k.q;
-            v = done.w;
+            v = k.w;
         }
     }
-    Done { ok: false, w: v }
+    // no term stands behind the cells
+    Err(Refusal::NotWithin)
 }

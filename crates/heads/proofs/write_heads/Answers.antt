@@ -31,7 +31,7 @@ returns c =
     let a = c.args in
     let the-walk = c.walk in
     let bounds = the-walk.ensures.w_le_w in record {
-      w_le_w = (bounds.0, bounds.1);
+      w_le_w = bounds.0;
       heads_written = heads_out a.cells.now a.starts.now a.counts.now a.firsts.now a.fuel a.at a.c a.slots.now a.n a.m a.heads a.w a.out.now a.slots.now (replicate 4 0) (replicate conds_room 0) (replicate calls_room 0) calls_room (length {A = ℕ} (replicate 1785 0)) refl
-          refl the-walk.result (arrays the-walk.new.slots the-walk.new.vars the-walk.new.conds the-walk.new.calls) the-walk.new.out (the-walk.ensures.written_by refl) roomy;
+          refl the-walk.result (arrays the-walk.new.slots the-walk.new.vars the-walk.new.conds the-walk.new.calls) the-walk.new.out the-walk.ensures.written_by roomy;
     }

@@ -3,13 +3,14 @@ use native.Mathlib.Omega.{arith}
 use Prim.Native.Nat.{◌%◌}
 use mathlib.Core.Path.{◌∙◌}
 use lib.ListN.{length-set}
+use Rattle.std.proofs.lemmas.Result.{IfOk-weaker}
 use Rattle.heads.proofs.Numbers.{list_full, list_right, list_none}
 use Rattle.heads.proofs.write_summands.Goals as goal
 
 pub returns-then-w-out : goal.returns-then-w-out
 returns-then-w-out c =
     let args = c.args in record {
-      w_le_w = omega arith;
+      w_le_w = tt;
       summands_written = list_full args.cells.now args.starts.now args.counts.now args.firsts.now args.fuel args.at args.c args.slots.now args.n args.m args.w args.out.now (omega arith) args.out.now;
     }
 
@@ -40,7 +41,7 @@ returns c =
     let q = c.requires in
     let called = c.write_heads in
     let counted = c.count_heads-a in
-    let u = called.ensures.w_le_w in record {
-      w_le_w = omega (arith, length-set args.out.now args.w (counted.result % 256));
+    record {
+      w_le_w = IfOk-weaker called.result _ _ (λ v u. (omega (arith, u.0), omega (arith, u.1, length-set args.out.now args.w (counted.result % 256)))) called.ensures.w_le_w;
       summands_written = list_right args.cells.now args.starts.now args.counts.now args.firsts.now args.fuel args.at args.c args.slots.now args.n args.m args.w args.out.now counted.result counted.ensures (omega (arith, c.if-w-out.false)) called.result called.new.out c.if-a-eq0.false called.ensures.heads_written;
     }

@@ -56,7 +56,7 @@ read : (l : List ℕ) (q fuel a x y d t n z : ℕ)
     → n ≡ get_or l (later_cells * q + 5) 0
     → z ≡ get_or l (later_cells * q + 6) 0
     → ◌≡◌ {A = Later} (record {
-      s = record { ok = true; at = a; fuel = fuel; n = x / 64; m = x % 64; c = z / 256; nv = y / 256; nc = y / 16 % 16; lc = d; nk = y % 16; top = t };
+      s = record { at = a; fuel = fuel; n = x / 64; m = x % 64; c = z / 256; nv = y / 256; nc = y / 16 % 16; lc = d; nk = y % 16; top = t };
       e = record { second = true; at = n; c = z / 256 };
       heads = z % 256;
     }) (entry l q fuel)

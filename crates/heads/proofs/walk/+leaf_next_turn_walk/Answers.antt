@@ -2,23 +2,28 @@
 use native.Mathlib.Omega.{arith}
 use Prim.Native.Nat.{◌+◌, ◌*◌, ◌≤◌, ℕ, ◌<◌}
 use mathlib.Core.Path.{◌≡◌, refl, sym, ◌∙◌, subst}
-use mathlib.Core.Bool.{false}
+use Rattle.std.specs.Prelude.{Result, Ok, Err}
+use Rattle.std.proofs.lemmas.Result.{IfOk-weaker, err_from_is_err_and}
+use Rattle.refusals.specs.declared.Refusal.{Refusal}
+use Rattle.refusals.specs.declared.Refusal.TheVariants.{NotWithin}
+use Rattle.heads.specs.declared.walk.Turn.{Turn}
+use Rattle.heads.specs.declared.walk.Next.{Next}
+use Rattle.heads.specs.declared.walk.Next.TheVariants.{Over, Into}
 use mathlib.Core.Logic.{inr}
-use borrow.Author.Tests.{not-true, not-false}
 use lib.ListN.{length}
 use Rattle.pcrl.specs.Limits.{max_variables}
-use Rattle.laws.specs.Booleans.{false_not_true}
 use Rattle.putting.specs.Slots.{slot_width}
 use Rattle.following.specs.Follows.{calls_room}
 use Rattle.putting.proofs.Bytes.{kept_front}
 use Rattle.contexts.specs.Spots.{arrays, Bound}
 use Rattle.contexts.specs.Steps.{call_room, terms_room}
 use Rattle.heads.specs.Stack.{later_cells}
-use Rattle.heads.specs.Progress.{start, WrittenBy}
+use Rattle.heads.specs.Progress.{start, WrittenBy, IfInto}
 use Rattle.heads.proofs.Stacking.{steady_start, steady_to, steady_own, steady_lengths, steady_later, steady_back}
-use Rattle.heads.proofs.Walking.{goes_start, goes_stuck, goes_past, goes_step, goes_later, toward_down}
+use Rattle.heads.proofs.Walking.{goes_start, goes_stuck, goes_past, goes_step, goes_nowhere, goes_later, toward_down, toward_nowhere}
 use Rattle.heads.proofs.Standing.{weigh_less, nearer}
 use Rattle.heads.proofs.Remembering.{rest_at}
+use Rattle.heads.proofs.Resuming.{resume_fails}
 use Rattle.heads.proofs.Calling.{leaf_kind, is_call, call_fails, call_out}
 use Rattle.heads.proofs.walk.+leaf_next_turn_walk.Goals as goal
 
@@ -60,6 +65,11 @@ leaf-falls f {t} h = omega arith
 turn-falls : {f g t : ℕ} → 3 * f + 2 ≡ t → g ≡ f → 3 * g + 1 < t
 turn-falls {f} {g} {t} h e = omega arith
 
+into_both : (r : Result Next Refusal) (P Q : Turn → Type 0) → IfInto r P → IfInto r Q → IfInto r (λ k. P k × Q k)
+into_both (Ok (Into k)) P Q p q = (p, q)
+into_both (Ok (Over v)) P Q p q = tt
+into_both (Err e) P Q p q = tt
+
 pub leaf-emit-requires : goal.leaf-emit-requires
 leaf-emit-requires t c =
     let rooms = c.requires.bound.1 in
@@ -73,43 +83,42 @@ leaf-returns-then-g-eq-ATOM t c =
     let a = c.args in
     let em = c.emit.ensures in
     record {
-      w_le_w = (em.w_le_w.0, em.w_le_w.1, refl);
+      w_le_w = (em.w_le_w, refl);
       written_by = λ H F hs rd sp ro. em.emits a.starts.now a.counts.now a.firsts.now H F hs rd sp;
       remembers = c.requires.looked.2;
     }
 
-pub leaf-down_call-r-requires : goal.leaf-down_call-r-requires
-leaf-down_call-r-requires t c =
+pub leaf-down_call-requires : goal.leaf-down_call-requires
+leaf-down_call-requires t c =
     let bound = c.requires.bound.0 in
     let a = c.args in
     (slots-in a.g.s.n a.g.s.nv (length a.slots.now) bound.n_room bound.nv_few, itself)
 
-pub leaf-returns-then-not-r : goal.leaf-returns-then-not-r
-leaf-returns-then-not-r t c =
+pub leaf-returns-in_default : goal.leaf-returns-in_default
+leaf-returns-in_default t c =
     let a = c.args in
     let is = is_call a.g.d.kind c.requires.looked.1 c.if-g-eq-ATOM.false in
     record {
-      w_le_w = (itself, c.requires.bound.2, refl);
-      written_by = call_fails a.cells.now a.starts.now a.counts.now a.firsts.now a.g.s a.g.d c.requires.looked.0.views is a.slots.now a.vars.now a.conds.now a.calls.now c.down_call-r.result c.down_call-r.new.mine c.down_call-r.ensures.call_down a.w a.out.now a.heads a.q (length a.later.now) (not-true _ c.if-not-r.true);
+      w_le_w = (tt, refl);
+      written_by = call_fails a.cells.now a.starts.now a.counts.now a.firsts.now a.g.s a.g.d c.requires.looked.0.views is a.slots.now a.vars.now a.conds.now a.calls.now c.down_call.new.mine a.w a.out.now a.heads a.q (length a.later.now) c.in_default.ensures.call_down NotWithin;
       remembers = c.requires.looked.2;
     }
 
 pub leaf-walk-requires : goal.leaf-walk-requires
 leaf-walk-requires t c =
     let a = c.args in
-    let y = c.down_call-r.ensures.fuel_value (not-false _ c.if-not-r.false) in
-    let em : length c.down_call-r.new.mine ≡ call_room = c.down_call-r.auto.mine in
-    (call-falls a.g.s.fuel c.down_call-r.result.fuel c.decreases y.0, (subst (λ (x : ℕ). Bound (length a.calls.now) x c.down_call-r.result) (sym em) (y.1 (length a.calls.now) (length a.slots.now) c.requires.bound.0), c.requires.bound.1, c.requires.bound.2, c.requires.bound.3, c.requires.looked.2))
+    let y = c.in-Some.ensures.fuel_value in
+    let em : length c.down_call.new.mine ≡ call_room = c.down_call.auto.mine in
+    (call-falls a.g.s.fuel c.in-Some.r.fuel c.decreases y.0, (subst (λ (x : ℕ). Bound (length a.calls.now) x c.in-Some.r) (sym em) (y.1 (length a.calls.now) (length a.slots.now) c.requires.bound.0), c.requires.bound.1, c.requires.bound.2, c.requires.bound.3, c.requires.looked.2))
 
 pub leaf-returns : goal.leaf-returns
 leaf-returns t c =
     let a = c.args in
     let is = is_call a.g.d.kind c.requires.looked.1 c.if-g-eq-ATOM.false in
-    let ok = not-false _ c.if-not-r.false in
     let wk = c.walk.ensures in
     record {
       w_le_w = wk.w_le_w;
-      written_by = call_out a.cells.now a.starts.now a.counts.now a.firsts.now a.g.s a.g.d c.requires.looked.0.views is a.slots.now a.vars.now a.conds.now a.calls.now c.down_call-r.result c.down_call-r.new.mine c.down_call-r.ensures.call_down a.w a.out.now a.heads a.q (length a.later.now) ok c.walk.result c.walk.new.slots c.walk.new.vars c.walk.new.conds c.walk.new.calls c.walk.new.out (wk.written_by ok);
+      written_by = call_out a.cells.now a.starts.now a.counts.now a.firsts.now a.g.s a.g.d c.requires.looked.0.views is a.slots.now a.vars.now a.conds.now a.calls.now c.down_call.new.mine a.w a.out.now a.heads a.q (length a.later.now) c.in-Some.r c.in-Some.ensures.call_down c.walk.result c.walk.new.slots c.walk.new.vars c.walk.new.conds c.walk.new.calls c.walk.new.out wk.written_by;
       remembers = wk.remembers;
     }
 
@@ -134,20 +143,40 @@ next_turn-returns-then-choice t c =
     let ch = c.chosen.ensures in
     let z = ch.1 a.cells.now a.counts.now c.requires.looked.0 (c.choice.ensures.0 c.if-choice.true) in
     record {
-      w_le_w = (up_to {a = a.w} itself ch.0.0, under fits ch.0.0, kept_front (later_cells * a.q0) (later_cells * a.q) l c.chosen.new.later (front y.low) ch.0.1);
-      stays_steady = λ still. (z.1 lk ls a.g.s.fuel a.q0 rooms.calls_fit y still, z.0 still);
+      w_le_w = (IfOk-weaker c.chosen.result _ _ (λ n e. (up_to {a = a.w} itself e, under fits e)) ch.0.0, kept_front (later_cells * a.q0) (later_cells * a.q) l c.chosen.new.later (front y.low) ch.0.1);
+      stays_steady = into_both c.chosen.result _ _ (z.1 lk ls a.g.s.fuel a.q0 rooms.calls_fit y) z.0;
       turned = λ S eq on. z.2 a.starts.now a.firsts.now B o S on;
       remembers = c.requires.looked.2;
     }
 
-pub next_turn-leaf-x-requires : goal.next_turn-leaf-x-requires
-next_turn-leaf-x-requires t c =
+pub next_turn-leaf-requires : goal.next_turn-leaf-requires
+next_turn-leaf-requires t c =
     let a = c.args in
     let y = c.requires.steady.0 in
     (leaf-falls a.g.s.fuel c.decreases, ((y.bound, c.requires.steady.1, c.requires.steady.2, y.high), (c.requires.looked.0, leaf_kind a.g.d.kind c.requires.looked.1 (c.choice.ensures.1 c.if-choice.false), c.requires.looked.2)))
 
 pub next_turn-resumed-requires : goal.next_turn-resumed-requires
-next_turn-resumed-requires t c = up_to c.requires.steady.0.high c.leaf-x.auto.later
+next_turn-resumed-requires t c = up_to c.requires.steady.0.high c.leaf.auto.later
+
+pub next_turn-returns-in_err-v : goal.next_turn-returns-in_err-v
+next_turn-returns-in_err-v t c =
+    let a = c.args in
+    let y = c.requires.steady.0 in
+    let l = a.later.now in
+    let o = a.out.now in
+    let B = arrays a.slots.now a.vars.now a.conds.now a.calls.now in
+    let lf = c.in_err-v.ensures in
+    let l' = c.leaf.new.later in
+    let o' = c.leaf.new.out in
+    let el : length l' ≡ length l = c.leaf.auto.later in
+    let C = arrays a.slots.now c.leaf.new.vars c.leaf.new.conds c.leaf.new.calls in
+    let p = err_from_is_err_and c.from_residual.result c.from_residual.ensures.1 in
+    rw (p.1, p.2) record {
+      w_le_w = (tt, kept_front (later_cells * a.q0) (later_cells * a.q) l l' (front y.low) lf.w_le_w.1);
+      stays_steady = tt;
+      turned = λ S eq on. resume_fails a.cells.now a.starts.now a.counts.now a.firsts.now S a.g.s a.heads a.left a.q a.w B C l' o o' (length l) el (goes_later a.cells.now a.starts.now a.counts.now a.firsts.now S a.g.s a.heads a.left a.q a.w B l o on l' y.high el lf.w_le_w.1) _ lf.written_by;
+      remembers = lf.remembers;
+    }
 
 pub next_turn-returns : goal.next_turn-returns
 next_turn-returns t c =
@@ -158,24 +187,24 @@ next_turn-returns t c =
     let l = a.later.now in
     let o = a.out.now in
     let B = arrays a.slots.now a.vars.now a.conds.now a.calls.now in
-    let x = c.leaf-x.result in
-    let lf = c.leaf-x.ensures in
+    let v = c.in_ok-v.v in
+    let lf = c.in_ok-v.ensures in
     let rs = c.resumed.ensures in
-    let l' = c.leaf-x.new.later in
-    let o' = c.leaf-x.new.out in
-    let el : length l' ≡ length l = c.leaf-x.auto.later in
-    let eo : length o' ≡ length o = c.leaf-x.auto.out in
-    let C = arrays a.slots.now c.leaf-x.new.vars c.leaf-x.new.conds c.leaf-x.new.calls in
+    let l' = c.leaf.new.later in
+    let o' = c.leaf.new.out in
+    let el : length l' ≡ length l = c.leaf.auto.later in
+    let eo : length o' ≡ length o = c.leaf.auto.out in
+    let C = arrays a.slots.now c.leaf.new.vars c.leaf.new.conds c.leaf.new.calls in
     record {
-      w_le_w = (up_to lf.w_le_w.0 rs.w_value, under lf.w_le_w.1 rs.w_value, kept_front (later_cells * a.q0) (later_cells * a.q) l l' (front y.low) lf.w_le_w.2);
-      stays_steady = λ still. rs.resumed.0 lk ls a.g.s.fuel (steady_later lk ls a.g.s.fuel a.q0 a.g.s a.q l y l' el lf.w_le_w.2) still;
+      w_le_w = (IfOk-weaker c.resumed.result _ _ (λ n e. (up_to lf.w_le_w.0.0 e, under lf.w_le_w.0.1 e)) rs.w_value, kept_front (later_cells * a.q0) (later_cells * a.q) l l' (front y.low) lf.w_le_w.1);
+      stays_steady = rs.resumed.0 lk ls a.g.s.fuel (steady_later lk ls a.g.s.fuel a.q0 a.g.s a.q l y l' el lf.w_le_w.1);
       turned = λ S eq on. rs.resumed.1 a.starts.now a.counts.now a.firsts.now C o' S eq (record {
         before = B;
         v = a.w;
         o = o;
-        onward = goes_later a.cells.now a.starts.now a.counts.now a.firsts.now S a.g.s a.heads a.left a.q a.w B l o on l' y.high el lf.w_le_w.2;
-        written = subst (λ (n : ℕ). WrittenBy a.cells.now a.starts.now a.counts.now a.firsts.now (start a.g.s B a.w o a.heads a.q n) x C o') (sym el) lf.written_by;
-        inside = up_to lf.w_le_w.1 eo;
+        onward = goes_later a.cells.now a.starts.now a.counts.now a.firsts.now S a.g.s a.heads a.left a.q a.w B l o on l' y.high el lf.w_le_w.1;
+        written = subst (λ (n : ℕ). WrittenBy a.cells.now a.starts.now a.counts.now a.firsts.now (start a.g.s B a.w o a.heads a.q n) (Ok v) C o') (sym el) lf.written_by;
+        inside = up_to lf.w_le_w.0.1 eo;
         same = eo;
       });
       remembers = lf.remembers;
@@ -188,41 +217,27 @@ walk-loop-s-init t c =
     let pre = c.requires in (
       (refl, refl, refl, refl, refl, refl, refl, refl),
       (itself, pre.2, refl),
-      λ ok. steady_start (length a.calls.now) (length a.slots.now) a.s0.fuel a.q0 a.s0 a.q0 a.later.now pre.0 refl pre.3,
-      λ ok₀. (λ ok. goes_start a.cells.now a.starts.now a.counts.now a.firsts.now a.s0 B₀ a.w a.out.now a.heads0 a.q0 a.later.now pre.2, λ bad. false_not_true (sym bad ∙ ok₀)),
+      steady_start (length a.calls.now) (length a.slots.now) a.s0.fuel a.q0 a.s0 a.q0 a.later.now pre.0 refl pre.3,
+      goes_start a.cells.now a.starts.now a.counts.now a.firsts.now a.s0 B₀ a.w a.out.now a.heads0 a.q0 a.later.now pre.2,
       pre.4,
     )
-
-pub walk-returns-then-s-cells : goal.walk-returns-then-s-cells
-walk-returns-then-s-cells t c =
-    let a = c.args in
-    let B₀ = arrays a.slots.now a.vars.now a.conds.now a.calls.now in
-    let S = start a.s0 B₀ a.w a.out.now a.heads0 a.q0 (length a.later.now) in
-    let here = c.loop-s in
-    let i = here.invariant in
-    let B = arrays here.slots here.vars here.conds here.calls in
-    record {
-      w_le_w = i.1;
-      written_by = λ ok₀. goes_stuck a.cells.now a.starts.now a.counts.now a.firsts.now S here.s here.heads here.left here.q here.v B here.later here.out ((i.3 ok₀).0 c.loop-s-test.true) c.if-s-cells.true (record { ok = false; w = here.v }) B here.out;
-      remembers = i.4;
-    }
 
 pub walk-look-g-requires : goal.walk-look-g-requires
 walk-look-g-requires t c =
     let i = c.loop-s.invariant in
-    let y = i.2 c.loop-s-test.true in
-    (c.if-s-cells.false, y.bound.fuel_small, y.bound.c_small, i.4)
+    let y = i.2 in
+    (c.loop-s-test.true, y.bound.fuel_small, y.bound.c_small, i.4)
 
 pub walk-second_side-requires : goal.walk-second_side-requires
-walk-second_side-requires t c = c.look-g.ensures.past.small (c.loop-s.invariant.2 c.loop-s-test.true).bound.c_small
+walk-second_side-requires t c = c.look-g.ensures.past.small c.loop-s.invariant.2.bound.c_small
 
-pub walk-step-s-requires : goal.walk-step-s-requires
-walk-step-s-requires t c =
+pub walk-step-requires : goal.walk-step-requires
+walk-step-requires t c =
     let a = c.args in
     let rooms = c.requires.1 in
     let here = c.loop-s in
     let i = here.invariant in
-    let y = i.2 c.loop-s-test.true in
+    let y = i.2 in
     let g = c.look-g.result in
     let lo = c.look-g.ensures.looked in
     let past = c.look-g.ensures.past in
@@ -239,9 +254,9 @@ walk-loop-s-smaller-then-inner t c =
     let a = c.args in
     let here = c.loop-s in
     let past = c.look-g.ensures.past in
-    let s' = c.step-s.result in
-    let sp = c.step-s.ensures in
-    weigh_less (length a.cells.now) here.s.ok s'.ok here.left here.left here.s.at s'.at c.loop-s-test.true c.if-s-cells.false (λ on. inr (refl, on-from past.further (sp.fuel_value on).1))
+    let s' = c.in-Some.t in
+    let sp = c.in-Some.ensures in
+    weigh_less (length a.cells.now) here.left here.left here.s.at s'.at c.loop-s-test.true (inr (refl, on-from past.further sp.fuel_value.1))
 
 pub walk-loop-s-preserved-then-inner : goal.walk-loop-s-preserved-then-inner
 walk-loop-s-preserved-then-inner t c =
@@ -251,33 +266,32 @@ walk-loop-s-preserved-then-inner t c =
     let here = c.loop-s in
     let i = here.invariant in
     let B = arrays here.slots here.vars here.conds here.calls in
-    let ok = c.loop-s-test.true in
-    let y = i.2 ok in
+    let y = i.2 in
     let g = c.look-g.result in
     let past = c.look-g.ensures.past in
     let lk = length here.calls in
     let ls = length here.slots in
     let ys = steady_to lk ls a.s0.fuel a.q0 here.s here.q here.later y g.s (past.stays lk ls y.bound) past.fuel_same in
-    let s' = c.step-s.result in
-    let sp = c.step-s.ensures in
-    let new = c.step-s.new in
+    let s' = c.in-Some.t in
+    let sp = c.in-Some.ensures in
+    let new = c.step.new in
     let n = c.inner.ensures.0 c.if-inner.true in
-    let es : length new.slots ≡ ls = c.step-s.auto.slots in
-    let ec : length new.calls ≡ lk = c.step-s.auto.calls in (
-      (es ∙ i.0.0, c.step-s.auto.vars ∙ i.0.1, i.0.2, c.step-s.auto.after ∙ i.0.3, ec ∙ i.0.4, i.0.5, i.0.6, c.look-g.auto.remembered ∙ i.0.7),
+    let es : length new.slots ≡ ls = c.step.auto.slots in
+    let ec : length new.calls ≡ lk = c.step.auto.calls in (
+      (es ∙ i.0.0, c.step.auto.vars ∙ i.0.1, i.0.2, c.step.auto.after ∙ i.0.3, ec ∙ i.0.4, i.0.5, i.0.6, c.look-g.auto.remembered ∙ i.0.7),
       (i.1.0, i.1.1, i.1.2),
-      λ on. steady_lengths lk (length new.calls) ls (length new.slots) a.s0.fuel a.q0 s' here.q here.later (sym ec) (sym es) (steady_to lk ls a.s0.fuel a.q0 g.s here.q here.later ys s' sp.bound (sp.fuel_value on).0),
-      λ ok₀. goes_step a.cells.now a.starts.now a.counts.now a.firsts.now S g.s here.heads here.left here.q here.v B here.later here.out (goes_past a.cells.now a.starts.now a.counts.now a.firsts.now S here.s here.heads here.left here.q here.v B here.later here.out ((i.3 ok₀).0 ok) g.s past) s' (arrays new.slots new.vars here.conds new.calls) (sp.step_down here.conds a.starts.now a.counts.now a.firsts.now n.0 n.1 n.2 n.3) (λ u. (sp.fuel_value u).0),
+      steady_lengths lk (length new.calls) ls (length new.slots) a.s0.fuel a.q0 s' here.q here.later (sym ec) (sym es) (steady_to lk ls a.s0.fuel a.q0 g.s here.q here.later ys s' sp.bound sp.fuel_value.0),
+      goes_step a.cells.now a.starts.now a.counts.now a.firsts.now S g.s here.heads here.left here.q here.v B here.later here.out (goes_past a.cells.now a.starts.now a.counts.now a.firsts.now S here.s here.heads here.left here.q here.v B here.later here.out i.3 g.s past) s' (arrays new.slots new.vars here.conds new.calls) (sp.step_down here.conds a.starts.now a.counts.now a.firsts.now n.0 n.1 n.2 n.3) sp.fuel_value.0,
       c.look-g.ensures.remembers,
     )
 
-pub walk-next_turn-k-requires : goal.walk-next_turn-k-requires
-walk-next_turn-k-requires t c =
+pub walk-next_turn-requires : goal.walk-next_turn-requires
+walk-next_turn-requires t c =
     let a = c.args in
     let rooms = c.requires.1 in
     let here = c.loop-s in
     let i = here.invariant in
-    let y = i.2 c.loop-s-test.true in
+    let y = i.2 in
     let g = c.look-g.result in
     let lo = c.look-g.ensures.looked in
     let past = c.look-g.ensures.past in
@@ -291,33 +305,68 @@ walk-next_turn-k-requires t c =
       ),
     )
 
-pub walk-returns-then-k : goal.walk-returns-then-k
-walk-returns-then-k t c =
+pub walk-returns-in_default : goal.walk-returns-in_default
+walk-returns-in_default t c =
     let a = c.args in
     let B₀ = arrays a.slots.now a.vars.now a.conds.now a.calls.now in
     let S = start a.s0 B₀ a.w a.out.now a.heads0 a.q0 (length a.later.now) in
     let here = c.loop-s in
     let i = here.invariant in
     let B = arrays here.slots here.vars here.conds here.calls in
-    let ok = c.loop-s-test.true in
     let g = c.look-g.result in
     let past = c.look-g.ensures.past in
-    let nt = c.next_turn-k.ensures in
+    let new = c.step.new in
+    let n = c.inner.ensures.0 c.if-inner.true in
     record {
-      w_le_w = (then i.1.0 nt.w_le_w.0, over nt.w_le_w.1 i.0.6, nt.w_le_w.2 ∙ i.1.2);
-      written_by = λ ok₀. (nt.turned S refl (goes_past a.cells.now a.starts.now a.counts.now a.firsts.now S here.s here.heads here.left here.q here.v B here.later here.out ((i.3 ok₀).0 ok) g.s past)).1 c.if-k.true;
+      w_le_w = (tt, i.1.2);
+      written_by = goes_nowhere a.cells.now a.starts.now a.counts.now a.firsts.now S g.s here.heads here.left here.q here.v B here.later here.out (goes_past a.cells.now a.starts.now a.counts.now a.firsts.now S here.s here.heads here.left here.q here.v B here.later here.out i.3 g.s past) (arrays new.slots new.vars here.conds new.calls) (c.in_default.ensures.step_down here.conds a.starts.now a.counts.now a.firsts.now n.0 n.1 n.2 n.3) NotWithin;
+      remembers = c.look-g.ensures.remembers;
+    }
+
+pub walk-returns-in_err-turn : goal.walk-returns-in_err-turn
+walk-returns-in_err-turn t c =
+    let a = c.args in
+    let B₀ = arrays a.slots.now a.vars.now a.conds.now a.calls.now in
+    let S = start a.s0 B₀ a.w a.out.now a.heads0 a.q0 (length a.later.now) in
+    let here = c.loop-s in
+    let i = here.invariant in
+    let B = arrays here.slots here.vars here.conds here.calls in
+    let g = c.look-g.result in
+    let past = c.look-g.ensures.past in
+    let nt = c.in_err-turn.ensures in
+    let p = err_from_is_err_and c.from_residual.result c.from_residual.ensures.1 in
+    rw (p.1, p.2) record {
+      w_le_w = (tt, nt.w_le_w.1 ∙ i.1.2);
+      written_by = nt.turned S refl (goes_past a.cells.now a.starts.now a.counts.now a.firsts.now S here.s here.heads here.left here.q here.v B here.later here.out i.3 g.s past);
       remembers = nt.remembers;
     }
 
-pub walk-down_side-s-requires : goal.walk-down_side-s-requires
-walk-down_side-s-requires t c =
+pub walk-returns-in-Over : goal.walk-returns-in-Over
+walk-returns-in-Over t c =
+    let a = c.args in
+    let B₀ = arrays a.slots.now a.vars.now a.conds.now a.calls.now in
+    let S = start a.s0 B₀ a.w a.out.now a.heads0 a.q0 (length a.later.now) in
+    let here = c.loop-s in
+    let i = here.invariant in
+    let B = arrays here.slots here.vars here.conds here.calls in
+    let g = c.look-g.result in
+    let past = c.look-g.ensures.past in
+    let nt = rw c.in-Over.is at c.in_ok-turn.ensures in
+    record {
+      w_le_w = ((then i.1.0 nt.w_le_w.0.0, over nt.w_le_w.0.1 i.0.6), nt.w_le_w.1 ∙ i.1.2);
+      written_by = nt.turned S refl (goes_past a.cells.now a.starts.now a.counts.now a.firsts.now S here.s here.heads here.left here.q here.v B here.later here.out i.3 g.s past);
+      remembers = nt.remembers;
+    }
+
+pub walk-down_side-requires : goal.walk-down_side-requires
+walk-down_side-requires t c =
     let rooms = c.requires.1 in
     let here = c.loop-s in
     let i = here.invariant in
-    let nt = c.next_turn-k.ensures in
-    let k = c.next_turn-k.result in
-    let b = (nt.stays_steady c.if-k.false).0.bound in
-    (b.lc_few, up_to (up_to rooms.conds_fit i.0.2) c.next_turn-k.auto.conds, slots-in k.t.n k.t.nv (length here.slots) b.n_room b.nv_few)
+    let nt = rw c.in-Into.is at c.in_ok-turn.ensures in
+    let k = c.in-Into.k in
+    let b = nt.stays_steady.0.bound in
+    (b.lc_few, up_to (up_to rooms.conds_fit i.0.2) c.next_turn.auto.conds, slots-in k.t.n k.t.nv (length here.slots) b.n_room b.nv_few)
 
 pub walk-loop-s-smaller : goal.walk-loop-s-smaller
 walk-loop-s-smaller t c =
@@ -325,12 +374,12 @@ walk-loop-s-smaller t c =
     let here = c.loop-s in
     let g = c.look-g.result in
     let past = c.look-g.ensures.past in
-    let k = c.next_turn-k.result in
-    let nt = c.next_turn-k.ensures in
-    let s' = c.down_side-s.result in
-    let sd = c.down_side-s.ensures in
-    let near = (nt.stays_steady c.if-k.false).1 in
-    weigh_less (length a.cells.now) here.s.ok s'.ok here.left k.left here.s.at s'.at c.loop-s-test.true c.if-s-cells.false (λ on. nearer here.left k.left here.s.at g.s.at k.e.at s'.at past.further (sd.fuel_value on).1 near.1)
+    let k = c.in-Into.k in
+    let nt = rw c.in-Into.is at c.in_ok-turn.ensures in
+    let s' = c.in-Some-down_side.side in
+    let sd = c.in-Some-down_side.ensures in
+    let near = nt.stays_steady.1 in
+    weigh_less (length a.cells.now) here.left k.left here.s.at s'.at c.loop-s-test.true (nearer here.left k.left here.s.at g.s.at k.e.at s'.at past.further sd.fuel_value.1 near.1)
 
 pub walk-loop-s-preserved : goal.walk-loop-s-preserved
 walk-loop-s-preserved t c =
@@ -340,34 +389,55 @@ walk-loop-s-preserved t c =
     let here = c.loop-s in
     let i = here.invariant in
     let B = arrays here.slots here.vars here.conds here.calls in
-    let ok = c.loop-s-test.true in
-    let y = i.2 ok in
+    let y = i.2 in
     let g = c.look-g.result in
     let past = c.look-g.ensures.past in
     let lk = length here.calls in
     let ls = length here.slots in
     let ys = steady_to lk ls a.s0.fuel a.q0 here.s here.q here.later y g.s (past.stays lk ls y.bound) past.fuel_same in
-    let k = c.next_turn-k.result in
-    let nt = c.next_turn-k.ensures in
-    let new = c.next_turn-k.new in
-    let kept = c.next_turn-k.auto in
-    let s' = c.down_side-s.result in
-    let sd = c.down_side-s.ensures in
-    let still = c.if-k.false in
-    let z = nt.stays_steady still in
+    let k = c.in-Into.k in
+    let nt = rw c.in-Into.is at c.in_ok-turn.ensures in
+    let new = c.next_turn.new in
+    let kept = c.next_turn.auto in
+    let s' = c.in-Some-down_side.side in
+    let sd = c.in-Some-down_side.ensures in
+    let z = nt.stays_steady in
     let ec : length new.calls ≡ lk = kept.calls in (
-      (i.0.0, kept.vars ∙ i.0.1, c.down_side-s.auto.conds ∙ kept.conds ∙ i.0.2, kept.after ∙ i.0.3, ec ∙ i.0.4, kept.later ∙ i.0.5, kept.out ∙ i.0.6, kept.remembered ∙ c.look-g.auto.remembered ∙ i.0.7),
-      (then i.1.0 nt.w_le_w.0, over nt.w_le_w.1 i.0.6, nt.w_le_w.2 ∙ i.1.2),
-      λ on. steady_back (length new.calls) ls a.s0.fuel g.s.fuel a.q0 s' k.q new.later ys.fuel_is (steady_lengths lk (length new.calls) ls ls g.s.fuel a.q0 s' k.q new.later (sym ec) refl (steady_to lk ls g.s.fuel a.q0 k.t k.q new.later z.0 s' (sd.stays z.1.0 lk ls z.0.bound) (sd.fuel_value on).0)),
-      λ ok₀. toward_down a.cells.now a.starts.now a.counts.now a.firsts.now S k here.slots new.vars new.conds new.calls new.later new.out (nt.turned S refl (goes_past a.cells.now a.starts.now a.counts.now a.firsts.now S here.s here.heads here.left here.q here.v B here.later here.out ((i.3 ok₀).0 ok) g.s past)) still s' c.down_side-s.new.conds sd.side_down (λ u. (sd.fuel_value u).0),
+      (i.0.0, kept.vars ∙ i.0.1, c.down_side.auto.conds ∙ kept.conds ∙ i.0.2, kept.after ∙ i.0.3, ec ∙ i.0.4, kept.later ∙ i.0.5, kept.out ∙ i.0.6, kept.remembered ∙ c.look-g.auto.remembered ∙ i.0.7),
+      (then i.1.0 nt.w_le_w.0.0, over nt.w_le_w.0.1 i.0.6, nt.w_le_w.1 ∙ i.1.2),
+      steady_back (length new.calls) ls a.s0.fuel g.s.fuel a.q0 s' k.q new.later ys.fuel_is (steady_lengths lk (length new.calls) ls ls g.s.fuel a.q0 s' k.q new.later (sym ec) refl (steady_to lk ls g.s.fuel a.q0 k.t k.q new.later z.0 s' (sd.stays z.1.0 lk ls z.0.bound) sd.fuel_value.0)),
+      toward_down a.cells.now a.starts.now a.counts.now a.firsts.now S k here.slots new.vars new.conds new.calls new.later new.out (nt.turned S refl (goes_past a.cells.now a.starts.now a.counts.now a.firsts.now S here.s here.heads here.left here.q here.v B here.later here.out i.3 g.s past)) c.down_side.new.conds s' sd.side_down sd.fuel_value.0,
       nt.remembers,
     )
 
+pub walk-returns-in_default-down_side : goal.walk-returns-in_default-down_side
+walk-returns-in_default-down_side t c =
+    let a = c.args in
+    let B₀ = arrays a.slots.now a.vars.now a.conds.now a.calls.now in
+    let S = start a.s0 B₀ a.w a.out.now a.heads0 a.q0 (length a.later.now) in
+    let here = c.loop-s in
+    let i = here.invariant in
+    let B = arrays here.slots here.vars here.conds here.calls in
+    let g = c.look-g.result in
+    let past = c.look-g.ensures.past in
+    let k = c.in-Into.k in
+    let nt = rw c.in-Into.is at c.in_ok-turn.ensures in
+    let new = c.next_turn.new in
+    record {
+      w_le_w = (tt, nt.w_le_w.1 ∙ i.1.2);
+      written_by = toward_nowhere a.cells.now a.starts.now a.counts.now a.firsts.now S k here.slots new.vars new.conds new.calls new.later new.out (nt.turned S refl (goes_past a.cells.now a.starts.now a.counts.now a.firsts.now S here.s here.heads here.left here.q here.v B here.later here.out i.3 g.s past)) c.down_side.new.conds c.in_default-down_side.ensures.side_down NotWithin;
+      remembers = nt.remembers;
+    }
+
 pub walk-returns : goal.walk-returns
 walk-returns t c =
-    let i = c.loop-s.invariant in
+    let a = c.args in
+    let S = start a.s0 (arrays a.slots.now a.vars.now a.conds.now a.calls.now) a.w a.out.now a.heads0 a.q0 (length a.later.now) in
+    let here = c.loop-s in
+    let i = here.invariant in
+    let B = arrays here.slots here.vars here.conds here.calls in
     record {
-      w_le_w = i.1;
-      written_by = λ ok₀. (i.3 ok₀).1 c.loop-s-test.false;
+      w_le_w = (tt, i.1.2);
+      written_by = goes_stuck a.cells.now a.starts.now a.counts.now a.firsts.now S here.s here.heads here.left here.q here.v B here.later here.out i.3 c.loop-s-test.false (Err NotWithin) B here.out;
       remembers = i.4;
     }

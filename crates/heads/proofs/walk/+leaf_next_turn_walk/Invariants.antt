@@ -1,12 +1,10 @@
 use Prim.Native.Nat.{◌+◌, ◌*◌, ◌≤◌}
 use mathlib.Core.Path.{◌≡◌}
-use mathlib.Core.Bool.{true}
 use lib.ListN.{length, take}
 use Rattle.contexts.specs.Spots.{arrays}
 use Rattle.heads.specs.Stack.{later_cells, Steady}
-use Rattle.heads.specs.Progress.{start}
+use Rattle.heads.specs.Progress.{start, Onward}
 use Rattle.heads.specs.Memory.{Remembers}
-use Rattle.heads.proofs.Walking.{Stands}
 use Rattle.heads.proofs.Standing.{weigh}
 use Rattle.heads.proofs.walk.+leaf_next_turn_walk.Given as goal
 
@@ -24,9 +22,9 @@ abbrev pub invariant-walk-loop-s : goal.invariant-walk-loop-s
 invariant-walk-loop-s l =
     ((length l.slots ≡ length l.initial.slots) × (length l.vars ≡ length l.initial.vars) × (length l.conds ≡ length l.initial.conds) × (length l.after ≡ length l.initial.after) × (length l.calls ≡ length l.initial.calls) × (length l.later ≡ length l.initial.later) × (length l.out ≡ length l.initial.out) × (length l.remembered ≡ length l.initial.remembered))
     × ((l.w ≤ l.v) × (l.v ≤ length l.initial.out) × (take (later_cells * l.q0) l.later ≡ take (later_cells * l.q0) l.initial.later))
-    × (l.s.ok ≡ true → Steady (length l.calls) (length l.slots) l.initial.s.fuel l.q0 l.s l.q l.later)
-    × (l.initial.s.ok ≡ true → Stands l.cells l.starts l.counts l.firsts (start l.initial.s (arrays l.initial.slots l.initial.vars l.initial.conds l.initial.calls) l.w l.initial.out l.heads0 l.q0 (length l.initial.later)) l.s l.heads l.left l.q l.v (arrays l.slots l.vars l.conds l.calls) l.later l.out)
+    × Steady (length l.calls) (length l.slots) l.initial.s.fuel l.q0 l.s l.q l.later
+    × (Onward l.cells l.starts l.counts l.firsts (start l.initial.s (arrays l.initial.slots l.initial.vars l.initial.conds l.initial.calls) l.w l.initial.out l.heads0 l.q0 (length l.initial.later)) l.s l.heads l.left l.q l.v (arrays l.slots l.vars l.conds l.calls) l.later l.out)
     × Remembers l.cells l.counts l.remembered
 
 abbrev pub decreases-walk-loop-s : goal.decreases-walk-loop-s
-decreases-walk-loop-s l = weigh (length l.cells) l.s.ok l.left l.s.at
+decreases-walk-loop-s l = weigh (length l.cells) l.left l.s.at

@@ -1,11 +1,12 @@
 -- `heads::walk::chosen` meets its contract.
 use native.Mathlib.Omega.{arith}
 use Prim.Native.Nat.{◌+◌, ◌-◌, ◌*◌, ◌≤◌, ◌<◌}
-use mathlib.Core.Path.{◌≡◌, refl, sym, ap, ◌∙◌, subst}
+use mathlib.Core.Path.{◌≡◌, refl, sym, ap, subst}
 use mathlib.Core.Logic.{inl, inr}
 use lib.ListN.{length}
-use Rattle.laws.specs.Booleans.{false_not_true}
-use Rattle.putting.specs.declared.Done.{Done}
+use Rattle.std.specs.Prelude.{Ok, Err}
+use Rattle.refusals.specs.declared.Refusal.TheVariants.{NotWithin}
+use Rattle.heads.specs.declared.walk.Next.TheVariants.{Into}
 use Rattle.contexts.specs.declared.Side.{Side}
 use Rattle.heads.specs.declared.walk.Turn.{Turn}
 use Rattle.heads.specs.Stack.{later_cells}
@@ -22,12 +23,12 @@ returns-then-first-eq0 c =
     let a = c.args in
     let e = c.second_side-e.result in
     let se = c.second_side-e.ensures in
-    subst (λ (r : Turn). Chosen a.g a.heads a.left a.q a.w a.later.now r a.later.now) (sym c.aside.ensures)
+    subst (λ (r : Turn). Chosen a.g a.heads a.left a.q a.w a.later.now (Ok (Into r)) a.later.now) (sym c.aside.ensures)
     ((
       (refl, refl),
       λ cells counts lo is. (
-        λ still. (se.1, inr (refl, omega (arith, ap (λ (x : Side). x.at) se.0, (lo.counts_first (inl is)).0, lo.on.on))),
-        λ lk ls f q₀ few y still. y,
+        (se.1, inr (refl, omega (arith, ap (λ (x : Side). x.at) se.0, (lo.counts_first (inl is)).0, lo.on.on))),
+        λ lk ls f q₀ few y. y,
         λ starts firsts B o S on. second_goes cells starts counts firsts a.g lo is e se S a.heads a.left a.q a.w B a.later.now o on c.if-first-eq0.true,
       ),
     ))
@@ -35,12 +36,12 @@ returns-then-first-eq0 c =
 pub returns-then-first-heads : goal.returns-then-first-heads
 returns-then-first-heads c =
     let a = c.args in
-    subst (λ (r : Turn). Chosen a.g a.heads a.left a.q a.w a.later.now r a.later.now) (sym c.aside-then-first-heads.ensures)
+    subst (λ (r : Turn). Chosen a.g a.heads a.left a.q a.w a.later.now (Ok (Into r)) a.later.now) (sym c.aside-then-first-heads.ensures)
     ((
       (refl, refl),
       λ cells counts lo is. (
-        λ still. (c.requires.0.3.c_small, inr (refl, omega (arith, lo.on.on))),
-        λ lk ls f q₀ few y still. y,
+        (c.requires.0.3.c_small, inr (refl, omega (arith, lo.on.on))),
+        λ lk ls f q₀ few y. y,
         λ starts firsts B o S on. first_goes cells starts counts firsts a.g lo is c.second_side-e.result c.second_side-e.ensures S a.heads a.left a.q a.w B a.later.now o on (omega (arith, c.if-first-heads.true)),
       ),
     ))
@@ -55,15 +56,13 @@ pub returns-then-later-q-lt-LATER : goal.returns-then-later-q-lt-LATER
 returns-then-later-q-lt-LATER c =
     let a = c.args in
     let l = a.later.now in
-    let r = c.over.result in
-    let eo = c.over.ensures in
     let full : length l < later_cells * a.q + later_cells = omega (arith, c.if-later-q-lt-LATER.true, c.requires.1) in
     let less : a.g.a.heads < a.heads = omega (arith, c.if-first-heads.false) in (
-      (ap (λ (x : Done). x.w) eo.1, refl),
+      (tt, refl),
       λ cells counts lo is. (
-        λ still. false_not_true (sym still ∙ eo.0),
-        λ lk ls f q₀ few y still. false_not_true (sym still ∙ eo.0),
-        λ starts firsts B o S on. (λ still. false_not_true (sym still ∙ eo.0), λ z. has_room cells starts counts firsts a.g lo is c.second_side-e.result c.second_side-e.ensures S a.heads a.left a.q a.w B l o on c.if-first-eq0.false less full r.done B o),
+        tt,
+        λ lk ls f q₀ few y. tt,
+        λ starts firsts B o S on. has_room cells starts counts firsts a.g lo is c.second_side-e.result c.second_side-e.ensures S a.heads a.left a.q a.w B l o on c.if-first-eq0.false less full (Err NotWithin) B o,
       ),
     )
 
@@ -91,12 +90,12 @@ returns c =
     let first = a.g.a.heads in
     let room : later_cells * a.q + later_cells ≤ length l = omega (arith, c.if-later-q-lt-LATER.false, pre.1) in
     let less : first < a.heads = omega (arith, c.if-first-heads.false) in
-    subst (λ (r : Turn). Chosen a.g a.heads a.left a.q a.w a.later.now r l') (sym c.aside-2.ensures)
+    subst (λ (r : Turn). Chosen a.g a.heads a.left a.q a.w a.later.now (Ok (Into r)) l') (sym c.aside-2.ensures)
     ((
       (refl, put.0),
       λ cells counts lo is. (
-        λ still. (pre.0.3.c_small, inr (refl, omega (arith, lo.on.on))),
-        λ lk ls f q₀ few y still. steady_push lk ls f q₀ a.g.s a.q l y few e (a.heads - first) l' se.1 room el put a.g.s y.bound refl,
+        (pre.0.3.c_small, inr (refl, omega (arith, lo.on.on))),
+        λ lk ls f q₀ few y. steady_push lk ls f q₀ a.g.s a.q l y few e (a.heads - first) l' se.1 room el put a.g.s y.bound refl,
         λ starts firsts B o S on. both_go cells starts counts firsts a.g lo is e se S a.heads a.left a.q a.w B l o on c.if-first-eq0.false less pre.0.0 pre.0.1 pre.0.3 pre.0.2 l' room el put,
       ),
     ))
