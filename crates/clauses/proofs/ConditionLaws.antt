@@ -107,16 +107,16 @@ module _ (s funcs : List ℕ) (l : List ℕ) where
     unfolding Closing
     closing_start i e S Γ cs g right c_at = let en = c_at.count_is in wrote_by (sym (behind_none S cs i (omega arith))) (wrote_nothing out at room)
 
-    pub closing_more : (mid : List ℕ) (p i j : ℕ) (o₁ : List ℕ) (q : ℕ) (last : List ℕ) (z : ℕ) → i ≤ n → i ≡ j + 1 → Marks mid p (byte ")") i n o₁ q → CondPut s funcs l second_text (get_or froms j 0) o₁ q last z
+    pub closing_more : (mid : List ℕ) (p i j : ℕ) (o₁ : List ℕ) (q : ℕ) (last : List ℕ) (z : ℕ) → i ≤ n → i ≡ j + 1 → Marks mid p (byte ")") (j + 1) n o₁ q → CondPut s funcs l second_text (get_or froms j 0) o₁ q last z
         → Closing froms n out at mid p i → Closing froms n out at last z j
     unfolding Closing
     closing_more mid p i j o₁ q last z h ei mark cond old S Γ cs g right c_at =
         let en = c_at.count_is in
         let below : j < length cs = omega arith in
         let w = cond S Γ (get_or cs j no_cond) g (every_at (RightCond S Γ) cs no_cond j right below) (c_at.each_at j below) in
-        let e : behind_text S (drop i cs) ++ (mark_text (bytes ")") (drop i cs) ++ second_text S (get_or cs j no_cond)) ≡ behind_text S (drop j cs) =
-        ap (λ (k : ℕ). behind_text S (drop k cs) ++ (mark_text (bytes ")") (drop k cs) ++ second_text S (get_or cs j no_cond))) ei ∙ sym (behind_first S cs j below) in
-        wrote_by e (wrote_then room (old S Γ cs g right c_at) (λ h₁. wrote_then h₁ (marks_put cs no_cond mid p (byte ")") i n o₁ q en mark) (λ h₂. w)))
+        let e : behind_text S (drop i cs) ++ (mark_text (bytes ")") (drop (j + 1) cs) ++ second_text S (get_or cs j no_cond)) ≡ behind_text S (drop j cs) =
+        ap (λ (k : ℕ). behind_text S (drop k cs) ++ (mark_text (bytes ")") (drop (j + 1) cs) ++ second_text S (get_or cs j no_cond))) ei ∙ sym (behind_first S cs j below) in
+        wrote_by e (wrote_then room (old S Γ cs g right c_at) (λ h₁. wrote_then h₁ (marks_put cs no_cond mid p (byte ")") (j + 1) n o₁ q en mark) (λ h₂. w)))
 
     pub closing_all : (out' : List ℕ) (p i : ℕ) → i ≡ 0 → Closing froms n out at out' p i → CondsPut s funcs l behind_text froms n out at out' p
     unfolding Closing

@@ -2,10 +2,10 @@
 use mathlib.Core.Path.{◌≡◌, refl, sym, ap, ◌∙◌}
 use mathlib.Core.List.{List, [], ◌∷◌, ◌++◌, map, append-nil}
 use mathlib.Core.Bool.{Bool, true, false}
-use Prim.Native.Nat.{ℕ, zero, suc, ◌+◌, ◌-◌, ◌≤◌, ◌<◌}
+use Prim.Native.Nat.{ℕ, zero, suc, ◌+◌, ◌≤◌, ◌<◌}
 use native.Mathlib.Omega.{arith}
 use lib.Dec.{ltb}
-use lib.ListN.{length, get_or, drop, replicate, drop_of_length-le}
+use lib.ListN.{length, get_or, drop, drop_of_length-le}
 use borrow.Author.Tests.{ltb-true, ltb-false}
 use Rattle.pcrl.specs.Text.{bytes}
 use Rattle.pcrl.specs.Reader.{all}
@@ -28,16 +28,6 @@ all_here w xs i a h = ap (all w) (drop_next xs i a h)
 pub all_none : {A : Type 0} (w : A → List ℕ) (xs : List A) (i : ℕ) → length xs ≤ i → all w (drop i xs) ≡ []
 unfolding all
 all_none w xs i h = ap (all w) (drop_none xs i h)
-
--- one of the brackets that are left
-pub closing_first : (b n i : ℕ) → i < n → replicate (n - i) b ≡ (b ∷ []) ++ replicate (n - (i + 1)) b
-closing_first b n i h = let z : n - i ≡ suc (n - (i + 1)) = omega arith in ap (λ (k : ℕ). replicate k b) z
-
-pub closing_whole : (b n : ℕ) → replicate n b ≡ replicate (n - 0) b
-closing_whole b n = let z : n ≡ n - 0 = omega arith in ap (λ (k : ℕ). replicate k b) z
-
-pub closing_none : (b n i : ℕ) → n ≤ i → replicate (n - i) b ≡ []
-closing_none b n i h = let z : n - i ≡ 0 = omega arith in ap (λ (k : ℕ). replicate k b) z
 
 -- the mark before what is left, if anything is
 unfoldable pub mark_text : {A : Type 0} → List ℕ → List A → List ℕ

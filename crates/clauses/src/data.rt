@@ -16,7 +16,7 @@ ghost use Rattle.clauses.specs.Terms.{Within, Puts};
 use crate::operands::{
     ANY, After, COMMA, LIMIT, NEGATION, NONE, close, first_place, joint, marked,
 };
-use elements::{cell, peek, smaller, wide};
+use elements::{cell, peek, wide};
 use lettering::{FUNCS, VARS, put_name};
 use limits::{EQUAL_CODE, FUNCTION_CODE, NOT_CODE, VARIABLE_CODE};
 use texts::{put_byte, put_decimal};
@@ -114,7 +114,7 @@ fn next_node(n: usize, i: usize, b: u8) -> usize
     ensures { result ≡ min n (i + 1 + passed (sign b)) }
 {
     if wide(b) == EQUAL_CODE {
-        return smaller(n, i + 2);
+        return n.min(i + 2);
     }
     i + 1
 }

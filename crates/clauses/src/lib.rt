@@ -1,8 +1,7 @@
 #![tactic(auto)]
 // Summands and right sides as text, read from the stream.
-ghost use Rattle.std.specs.Prelude.{◌≡◌, List, ◌++◌, ℕ, ◌+◌, ◌*◌, ◌≤◌, ◌<◌, length, drop, replicate};
+ghost use Rattle.std.specs.Prelude.{◌≡◌, List, ◌++◌, ℕ, ◌+◌, ◌*◌, ◌≤◌, ◌<◌, length, drop};
 ghost use Rattle.pcrl.specs.Limits.{max_stream, max_conditions, frame_width};
-ghost use Rattle.pcrl.specs.Text.{byte};
 ghost use Rattle.pcrl.specs.Sheet.{Sig};
 ghost use Rattle.pcrl.specs.Table.{Summand};
 ghost use Rattle.pcrl.specs.Stream.{encode_list, encode_summand};
@@ -20,10 +19,10 @@ pub mod operands; // what is to be written behind operands
 
 use crate::data::{TextPut, put_term, put_terms};
 use assignments::Conditions;
-use elements::{cell, peek, smaller, wide};
+use elements::{cell, peek, wide};
 use lettering::{PROCS, VARS, put_name, put_sort};
 use limits::TAU;
-use texts::{put_byte, put_bytes};
+use texts::{put_byte, put_bytes, put_run};
 
 // The sum of variable i, whose sort is d, up to its comma.
 fn put_sum(out: &mut [u8], at: usize, l: &[u8], i: usize, d: u8) -> usize
@@ -51,18 +50,6 @@ fn put_sums(s: &[u8], l: &[u8], from: usize, n: usize, out: &mut [u8], at: usize
     p
 }
 
-// As many closing brackets.
-fn put_closing(out: &mut [u8], at: usize, n: usize) -> usize
-    requires { at ≤ length out.old }
-    ensures { Wrote out.old at (replicate n (byte ")")) out.new result }
-{
-    let mut p = at;
-    for i in 0..n {
-        p = put_byte(out, p, b')');
-    }
-    p
-}
-
 // A mark, if i is below n.
 fn put_mark(out: &mut [u8], at: usize, b: u8, i: usize, n: usize) -> usize
     requires { at ≤ length out.old }
@@ -81,7 +68,7 @@ fn put_condition(s: &[u8], funcs: &[u16], l: &[u8], from: usize, out: &mut [u8],
     ensures ends { Ends out.old result out.new }
     ensures cond_put { CondPut s.now funcs.now l.now (λ S c. condition_text S c.1) from out.old at out.new result }
 {
-    let b = smaller(from, s.len()) + 1;
+    let b = from.min(s.len()) + 1;
     let a = put_bytes(out, at, b"<|");
     let r = put_term(s, funcs, l, b, out, a);
     put_bytes(out, r.at, b"|>")
@@ -122,11 +109,9 @@ fn put_before(s: &[u8], funcs: &[u16], l: &[u8], c: Conditions, out: &mut [u8], 
     let froms = c.froms;
     let n = c.count;
     let mut p = at;
-    let mut i: usize = 0;
-    while i < n {
+    for i in 0..n {
         let q = put_first(s, funcs, l, froms[i], out, p);
-        i += 1;
-        p = put_mark(out, q, b'(', i, n);
+        p = put_mark(out, q, b'(', i + 1, n);
     }
     p
 }
@@ -140,10 +125,8 @@ fn put_behind(s: &[u8], funcs: &[u16], l: &[u8], c: Conditions, out: &mut [u8], 
     let froms = c.froms;
     let n = c.count;
     let mut p = at;
-    let mut i = n;
-    while 0 < i {
-        let q = put_mark(out, p, b')', i, n);
-        i -= 1;
+    for i in (0..n).rev() {
+        let q = put_mark(out, p, b')', i + 1, n);
         p = put_second(s, funcs, l, froms[i], out, q);
     }
     p
@@ -246,8 +229,8 @@ fn put_summand(
     let e = put_calls(s, funcs, params, l, d.from, out, d.at);
     let f = put_behind(s, funcs, l, c, out, e.at);
     TextPut {
-        from: smaller(e.from, s.len()),
-        at: put_closing(out, f, m),
+        from: e.from.min(s.len()),
+        at: put_run(out, f, b')', m),
     }
 }
 
@@ -273,12 +256,10 @@ pub fn put_right(
     }
     let mut from = row + 1;
     let mut p = at;
-    let mut i: usize = 0;
-    while i < m {
+    for i in 0..m {
         let r = put_summand(s, funcs, acts, params, l, from, n, out, p);
         from = r.from;
-        i += 1;
-        p = put_mark(out, r.at, b'+', i, m);
+        p = put_mark(out, r.at, b'+', i + 1, m);
     }
     p
 }

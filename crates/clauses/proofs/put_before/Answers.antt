@@ -17,14 +17,8 @@ bounds-froms-i c = omega (arith, c.requires.1.1, c.loop-i-test)
 pub put_first-q-requires : goal.put_first-q-requires
 put_first-q-requires c = let e = c.loop-i.invariant.1.0 in (omega (arith, e.fits, e.same), c.requires.1.0)
 
-pub overflow_add-i : goal.overflow_add-i
-overflow_add-i c = omega (arith, c.requires.1.1, c.loop-i-test)
-
 pub put_mark-p-requires : goal.put_mark-p-requires
 put_mark-p-requires c = let e = c.put_first-q.ensures.ends in omega (arith, e.fits, e.same)
-
-pub loop-i-smaller : goal.loop-i-smaller
-loop-i-smaller c = omega (arith, c.loop-i-test)
 
 pub loop-i-preserved : goal.loop-i-preserved
 loop-i-preserved c = let here = c.loop-i in let test = c.loop-i-test in let f = c.put_first-q.ensures in let m = c.put_mark-p.ensures in

@@ -11,9 +11,6 @@ loop-i-init c = let room = c.requires.0 in (omega arith, (ends_none room, closin
 pub put_mark-q-requires : goal.put_mark-q-requires
 put_mark-q-requires c = let e = c.loop-i.invariant.1.0 in omega (arith, e.fits, e.same)
 
-pub overflow_sub-i : goal.overflow_sub-i
-overflow_sub-i c = omega (arith, c.loop-i-test)
-
 pub offset_bounds-froms-i : goal.offset_bounds-froms-i
 offset_bounds-froms-i c = omega (arith, c.requires.1.1, c.loop-i-test, c.loop-i.invariant.0)
 
@@ -22,9 +19,6 @@ bounds-froms-i c = omega (arith, c.requires.1.1, c.loop-i-test, c.loop-i.invaria
 
 pub put_second-p-requires : goal.put_second-p-requires
 put_second-p-requires c = let e = c.put_mark-q.ensures.ends in (omega (arith, e.fits, e.same), c.requires.1.0)
-
-pub loop-i-smaller : goal.loop-i-smaller
-loop-i-smaller c = omega (arith, c.loop-i-test)
 
 pub loop-i-preserved : goal.loop-i-preserved
 loop-i-preserved c = let here = c.loop-i in let test = c.loop-i-test in let m = c.put_mark-q.ensures in let f = c.put_second-p.ensures in

@@ -5,6 +5,3 @@ use Rattle.clauses.proofs.put_behind.Given as goal
 
 abbrev pub invariant-loop-i : goal.invariant-loop-i
 invariant-loop-i l = (l.i ≤ l.n) × (Ends l.initial.out l.p l.out × Closing l.s l.funcs l.l l.froms l.n l.initial.out l.at l.out l.p l.i)
-
-abbrev pub decreases-loop-i : goal.decreases-loop-i
-decreases-loop-i l = l.i

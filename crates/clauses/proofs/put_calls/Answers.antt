@@ -14,8 +14,6 @@ loop-i-init c = let room = c.requires.0 in (omega arith, (omega (arith, c.requir
 pub put_call-r-requires : goal.put_call-r-requires
 put_call-r-requires c = let e = c.loop-i.invariant.1.1.0 in (omega (arith, e.fits, e.same), (c.requires.1.0, omega (arith, c.loop-i.invariant.1.0, c.loop-i-test, c.wide-n.ensures.1)))
 
-
-
 pub loop-i-preserved : goal.loop-i-preserved
 loop-i-preserved c = let here = c.loop-i in let test = c.loop-i-test in let d = c.put_call-r.ensures in
     (omega arith, (omega (arith, d.within.inside, here.invariant.1.0, c.requires.1.0), (ends_more here.invariant.1.1.0 (within_ends d.within), calling_more _ _ _ _ _ _ _ _ _ _ _ _ _ _ (omega arith) d.call_put here.invariant.1.1.1)))

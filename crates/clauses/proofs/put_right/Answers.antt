@@ -24,14 +24,8 @@ loop-i-init c = let test = c.if-m-eq0 in let room = c.requires.0 in (omega arith
 pub put_summand-r-requires : goal.put_summand-r-requires
 put_summand-r-requires c = let inv = c.loop-i.invariant in let pre = c.requires in (omega (arith, inv.1.1.0.fits, inv.1.1.0.same), (pre.1.0, (inv.1.0, pre.1.1.1)))
 
-pub overflow_add-i : goal.overflow_add-i
-overflow_add-i c = omega (arith, c.wide-m.ensures.1, c.loop-i-test)
-
 pub put_mark-p-requires : goal.put_mark-p-requires
 put_mark-p-requires c = let e = c.put_summand-r.ensures.ends.0 in omega (arith, e.fits, e.same)
-
-pub loop-i-smaller : goal.loop-i-smaller
-loop-i-smaller c = omega (arith, c.loop-i-test)
 
 pub loop-i-preserved : goal.loop-i-preserved
 loop-i-preserved c = let here = c.loop-i in let test = c.loop-i-test in let f = c.put_summand-r.ensures in let m = c.put_mark-p.ensures in

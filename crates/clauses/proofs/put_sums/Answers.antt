@@ -20,8 +20,6 @@ overflow_add-from-in-loop-i c = omega (arith, c.requires.1.0, c.wide-m.ensures.1
 pub put_sum-p-requires : goal.put_sum-p-requires
 put_sum-p-requires c = let e = c.loop-i.invariant.1.0 in omega (arith, e.fits, e.same)
 
-
-
 pub loop-i-preserved : goal.loop-i-preserved
 loop-i-preserved c = let here = c.loop-i in let test = c.loop-i-test in let w = c.put_sum-p.ensures in (omega arith, (ends_more here.invariant.1.0 (wrote_ends w), summing_more _ _ _ _ _ _ _ _ _ _ _ _ _ (omega arith) c.peek-in-loop-i.ensures w here.invariant.1.1))
 

@@ -9,7 +9,7 @@ pub returns-then-wide-eq-EQUAL_CODE : goal.returns-then-wide-eq-EQUAL_CODE
 returns-then-wide-eq-EQUAL_CODE c =
     let a = c.args in
     let z : passed (sign a.b) ≡ 1 = passed_sort a.b (omega (arith, c.wide.ensures.0, c.if-wide-eq-EQUAL_CODE.true)) in
-    omega (arith, z, c.smaller.ensures)
+    omega (arith, z, c.min.ensures)
 
 pub returns : goal.returns
 returns c =

@@ -40,8 +40,6 @@ put_byte-a-requires c = c.loop-i.invariant.1.0
 pub put_term-r-requires : goal.put_term-r-requires
 put_term-r-requires c = (wrote_fits _ _ _ _ _ c.put_byte-a.ensures, c.requires.1)
 
-
-
 pub loop-i-preserved : goal.loop-i-preserved
 loop-i-preserved c =
     let a = c.args in

@@ -1,6 +1,6 @@
 use mathlib.Core.Path.{◌≡◌}
 use mathlib.Core.List.{List, ◌++◌}
-use Prim.Native.Nat.{ℕ, ◌-◌, ◌≤◌, max}
+use Prim.Native.Nat.{ℕ, ◌≤◌, max}
 use lib.ListN.{length, drop}
 use Rattle.pcrl.specs.Tests.{Each}
 use Rattle.pcrl.specs.Reader.{all}
@@ -20,4 +20,3 @@ invariant-loop-i l = (l.i ≤ l.n)
     × ((l.r.from ≤ max l.from (length l.s))
     × ((S : Sig) (Γ Ds : List ℕ) (ds : List Data) (rest : List ℕ) → KnownTerms S l.s l.funcs → length Γ ≤ variable_code → Each (RightTerm S Γ) Ds ds → length ds ≡ l.n → Lettered S l.l → drop l.from l.s ≡ all encode_data ds ++ rest
     → Listing S Γ rest l.s l.initial.out l.at (given_text S ds) l.n l.i l.r.from l.out l.r.at))))
-
