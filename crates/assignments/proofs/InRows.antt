@@ -236,10 +236,10 @@ pick_none : (b : Bool) (x : ℕ) → x ≡ 0 → x ≡ pick b x 0
 pick_none true x e = refl
 pick_none false x e = e
 
-pub sift_none : (lanes : ℕ) (t : ℕ → Bool) (met : List ℕ) (left : ℕ) → ((i : ℕ) → i < lanes → get_or met i 0 ≡ 0) → Sifted lanes t met met left
+pub sift_none : (lanes : ℕ) (t : ℕ → Bool) (met : List ℕ) (left : Bool) → ((i : ℕ) → i < lanes → get_or met i 0 ≡ 0) → Sifted lanes t met met left
 sift_none lanes t met left h = record { sifted = λ i k. pick_none (t i) (get_or met i 0) (h i k); none = λ e i k. h i k }
 
-pub sift_all : (lanes : ℕ) (t : ℕ → Bool) (met : List ℕ) (left : ℕ) → ((i : ℕ) → t i ≡ true) → (left ≡ 0 → (i : ℕ) → i < lanes → get_or met i 0 ≡ 0) → Sifted lanes t met met left
+pub sift_all : (lanes : ℕ) (t : ℕ → Bool) (met : List ℕ) (left : Bool) → ((i : ℕ) → t i ≡ true) → (left ≡ false → (i : ℕ) → i < lanes → get_or met i 0 ≡ 0) → Sifted lanes t met met left
 sift_all lanes t met left h z = record { sifted = λ i k. sym (ap (λ (b : Bool). pick b (get_or met i 0) 0) (h i)); none = z }
 
 pub not_asked : (h : Bool) (block w : ℕ) → block ≡ 0 → pick (ltb block w) (pick (ltb 0 block) h true) true ≡ true
@@ -255,11 +255,11 @@ not_inner h block w e = rw (le-ltb block w e) refl
 pub is_inner : (h : Bool) (block w : ℕ) → 0 < block → block < w → h ≡ pick (ltb block w) (pick (ltb 0 block) h true) true
 is_inner h block w e k = rw (lt-ltb block w k, lt-ltb 0 block e) refl
 
-pub met_start : (lanes : ℕ) (t : ℕ → ℕ → Bool) (met : List ℕ) (left : ℕ) → ((i : ℕ) → i < lanes → get_or met i 0 ≡ 1) → 0 < left → RowMet lanes t 0 met left
+pub met_start : (lanes : ℕ) (t : ℕ → ℕ → Bool) (met : List ℕ) → ((i : ℕ) → i < lanes → get_or met i 0 ≡ 1) → RowMet lanes t 0 met true
 unfolding all_below
-met_start lanes t met left h k = record { each = h; none = λ e. absurd (omega arith) }
+met_start lanes t met h = record { each = h; none = λ e. absurd (let y : ◌≡◌ {A = ℕ} 0 1 = cc in omega arith) }
 
-pub met_more : (lanes : ℕ) (t : ℕ → ℕ → Bool) (n : ℕ) (met met' : List ℕ) (left left' : ℕ) → RowMet lanes t n met left → Sifted lanes (λ i. t i n) met met' left' → RowMet lanes t (n + 1) met' left'
+pub met_more : (lanes : ℕ) (t : ℕ → ℕ → Bool) (n : ℕ) (met met' : List ℕ) (left left' : Bool) → RowMet lanes t n met left → Sifted lanes (λ i. t i n) met met' left' → RowMet lanes t (n + 1) met' left'
 unfolding all_below
 met_more lanes t n met met' left left' r q = record { each = λ i h. rw (add-one n) (q.sifted i h ∙ ap (λ (x : ℕ). pick (t i n) x 0) (r.each i h) ∙ join (t i n) (all_below n (t i))); none = q.none }
   where

@@ -1,5 +1,5 @@
 -- A strip of blocks: lane i is the block for one pair of values of two variables.
-use Rattle.std.specs.Prelude.{◌≡◌, List, Bool, true, ℕ, ◌+◌, ◌-◌, ◌*◌, ◌≤◌, ◌<◌, ltb, length, get_or, drop, Result, Ok, Err}
+use Rattle.std.specs.Prelude.{◌≡◌, List, Bool, true, false, ℕ, ◌+◌, ◌-◌, ◌*◌, ◌≤◌, ◌<◌, ltb, length, get_or, drop, Result, Ok, Err}
 use Rattle.std.proofs.Math.Option.{some}
 use Rattle.std.proofs.Math.ListN.{get_elem?}
 use Rattle.pcrl.specs.Limits.{max_variables}
@@ -14,15 +14,15 @@ use Rattle.assignments.specs.declared.Reached.{Reached}
 abbrev pub inner : List ℕ → List ℕ → List ℕ → List ℕ → List ℕ → ℕ → List ℕ → ℕ → Bool
 inner s funcs froms ends blocks w e i = pick (ltb (get_or blocks i 0) w) (asked s funcs froms ends blocks e i) true
 
--- of the lanes that are kept, those that pass; `left` is 0 only if there are none
-pub record Sifted (lanes : ℕ) (t : ℕ → Bool) (met met' : List ℕ) (left : ℕ) : Type 0 where
+-- of the lanes that are kept, those that pass; `left` is false only if there are none
+pub record Sifted (lanes : ℕ) (t : ℕ → Bool) (met met' : List ℕ) (left : Bool) : Type 0 where
   pub sifted : (i : ℕ) → i < lanes → get_or met' i 0 ≡ pick (t i) (get_or met i 0) 0
-  pub none : left ≡ 0 → (i : ℕ) → i < lanes → get_or met' i 0 ≡ 0
+  pub none : left ≡ false → (i : ℕ) → i < lanes → get_or met' i 0 ≡ 0
 
 -- the lanes in which n conditions hold: 1, and 0 for the others
-pub record RowMet (lanes : ℕ) (t : ℕ → ℕ → Bool) (n : ℕ) (met : List ℕ) (left : ℕ) : Type 0 where
+pub record RowMet (lanes : ℕ) (t : ℕ → ℕ → Bool) (n : ℕ) (met : List ℕ) (left : Bool) : Type 0 where
   pub each : (i : ℕ) → i < lanes → get_or met i 0 ≡ pick (all_below n (t i)) 1 0
-  pub none : left ≡ 0 → (i : ℕ) → i < lanes → get_or met i 0 ≡ 0
+  pub none : left ≡ false → (i : ℕ) → i < lanes → get_or met i 0 ≡ 0
 
 -- n lanes, in rows of so many: what each has for the slow and for the fast variable; all are kept
 pub record Strip (size first n : ℕ) (slow fast met : List ℕ) : Type 0 where

@@ -8,7 +8,6 @@ ghost use Rattle.assignments.specs.Parting.{Standing, part_met, Part, Gapped};
 
 use crate::one_part::{find_from, find_in};
 use crate::{Gap, PerSum, PerVariable, block_size, grain};
-use elements::smaller;
 use limits::{MAX_CONDITIONS, VARIABLES};
 
 // Assignments of a variable before a gap, one in it and one behind it, at the fewest: two values each.
@@ -38,7 +37,7 @@ fn lowest(
 {
     let mut low: usize = VARIABLES;
     for i in 0..n {
-        low = smaller(low, term_low(s, froms[i], ends[i], p));
+        low = low.min(term_low(s, froms[i], ends[i], p));
     }
     low
 }

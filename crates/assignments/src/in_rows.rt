@@ -1,5 +1,5 @@
 // Where the search by rows of blocks pays: one block for each value of the last variable that the conditions name. Rows that differ in one more variable are searched together, in strips.
-ghost use Rattle.std.specs.Prelude.{◌≡◌, true, ℕ, ◌+◌, ◌≤◌, ◌<◌, get_or, drop, IfOk, IfErr};
+ghost use Rattle.std.specs.Prelude.{◌≡◌, true, ℕ, ◌+◌, ◌≤◌, ◌<◌, get_or, drop, IfSome, IfOk, IfErr};
 ghost use Rattle.pcrl.specs.Limits.{frame_width, max_variables, max_conditions};
 ghost use Rattle.assignments.specs.Places.{product, digits_of, Sizes};
 ghost use Rattle.assignments.specs.Conditions.{env};
@@ -29,24 +29,17 @@ fn varies(z: PerSum, g: usize, l: usize) -> bool
     false
 }
 
-// The level of the last variable on which blocks of g hang, MAX_VARIABLES if there is none.
-fn row_level(z: PerSum, g: usize) -> usize
+// The level of the last variable on which blocks of g hang.
+fn row_level(z: PerSum, g: usize) -> Option<usize>
     requires { Sizes z.at }
-    ensures { result < max_variables → g ≡ product (drop (result + 1) z.at) }
+    ensures { IfSome result (λ l. (l < max_variables) × (g ≡ product (drop (l + 1) z.at))) }
 {
-    if varies(z, g, 3) {
-        return 3;
+    for l in (0..MAX_VARIABLES).rev() {
+        if varies(z, g, l) {
+            return Some(l);
+        }
     }
-    if varies(z, g, 2) {
-        return 2;
-    }
-    if varies(z, g, 1) {
-        return 1;
-    }
-    if varies(z, g, 0) {
-        return 0;
-    }
-    MAX_VARIABLES
+    None
 }
 
 // Where rows begin to pay: behind the first one, if there are more.
@@ -59,10 +52,9 @@ pub fn first_row(z: PerSum, g: usize, from: usize, to: usize) -> usize
     if to - from <= MANY * g {
         return to;
     }
-    let l = row_level(z, g);
-    if MAX_VARIABLES <= l {
+    let Some(l) = row_level(z, g) else {
         return to;
-    }
+    };
     let a = z.at;
     if a[l] < FEW {
         return to;
@@ -96,14 +88,16 @@ pub fn find_rows(
     requires { (p ≤ frame_width) × (((i : ℕ) → p ≤ i → get_or params.at i 0 ≡ 0) × ((n ≤ max_conditions) × (Sizes z.at × ((to ≤ 131072) × ((0 < g) × (g ≤ 65536)))))) }
     ensures { IfOk result (λ at. at ≤ to) × (IfErr result (λ r. from ≤ r.at) × (IfErr result (λ r. r.left ≤ k) × ((l : ℕ) → g ≡ product (drop l z.at) → ((i : ℕ) → i < n → Part s.now p z.at froms.now ends.now blocks.now g i) → Came (λ j. part_met s.now funcs.now froms.now ends.now blocks.now n (env p params.at (digits_of z.at j))) to from k result))) }
 {
-    let l = row_level(z, g);
-    if MAX_VARIABLES <= l {
-        return Err(Reached { at: from, left: k });
-    }
+    let here = Reached { at: from, left: k };
+    let Some(l) = row_level(z, g) else {
+        return Err(here);
+    };
     let w = block_size(z, l);
-    let u = row_level(z, w);
+    let Some(u) = row_level(z, w) else {
+        return Err(here);
+    };
     if l <= u {
-        return Err(Reached { at: from, left: k });
+        return Err(here);
     }
     let mut rows = [0u8; ROW_ROOM];
     let mut marks = [0u8; MARK_ROOM];

@@ -1,5 +1,5 @@
 // The search in a strip of rows: blocks for pairs of values of two variables, evaluated at once as lanes. Lane i is the block of g assignments from j + i * g on.
-ghost use Rattle.std.specs.Prelude.{◌≡◌, List, Bool, true, ℕ, ◌+◌, ◌*◌, ◌≤◌, ◌<◌, ltb, length, get_or, IfOk, IfErr};
+ghost use Rattle.std.specs.Prelude.{◌≡◌, List, Bool, true, false, ℕ, ◌+◌, ◌*◌, ◌≤◌, ◌<◌, ltb, length, get_or, IfSome, IfOk, IfErr};
 ghost use Rattle.pcrl.specs.Limits.{frame_width, max_conditions};
 ghost use Rattle.evaluation.specs.Run.{pick};
 ghost use Rattle.evaluation.specs.Rows.{lane_count, lane_env, Marked, Zeros};
@@ -11,12 +11,11 @@ ghost use Rattle.assignments.specs.Lanes.{inner, Sifted, RowMet, Strip, Lent, Ro
 use crate::in_rows::narrow;
 use crate::one_part::{next, test};
 use crate::{PerSum, PerVariable, Reached, block_size, environment, values, wide_block};
-use elements::{smaller, wide};
+use elements::wide;
 use evaluation::lanes::LANES;
-use evaluation::rows::UNKNOWN;
 use limits::MAX_CONDITIONS;
 
-// Of the lanes that are kept, those in which a condition holds, if it is asked and its block is less than w; 0 only if there are none.
+// Of the lanes that are kept, those in which a condition holds, if it is asked and its block is less than w: false only if there are none; or they are not known.
 fn row_tried(
     s: &[u8],
     funcs: &[u16],
@@ -30,28 +29,25 @@ fn row_tried(
     end: usize,
     block: u32,
     w: u32,
-    some: u8,
+    some: bool,
     rows: &mut [u8],
     marks: &mut [u8],
     met: &mut [u8],
-) -> u8
+) -> Option<bool>
     requires { Lent rows.old marks.old slow.now fast.now met.old × (lanes ≤ lane_count) }
-    ensures { from + 1 ≤ end → end ≤ length s.now → u < length e.now → v < length e.now → Marked rows.old marks.old → Zeros rows.old → Marked rows.new marks.new × (Zeros rows.new × ((result ≡ 255 → ⊥) → (some ≡ 255 → ⊥) × ((some ≡ 0 → (i : ℕ) → i < lanes → get_or met.old i 0 ≡ 0) → Sifted lanes (λ i. pick (ltb block w) (pick (ltb 0 block) (holds s.now funcs.now (lane_env e.now u v slow.now fast.now i) from end) true) true) met.old met.new result))) }
+    ensures { from + 1 ≤ end → end ≤ length s.now → u < length e.now → v < length e.now → Marked rows.old marks.old → Zeros rows.old → Marked rows.new marks.new × (Zeros rows.new × IfSome result (λ left. (some ≡ false → (i : ℕ) → i < lanes → get_or met.old i 0 ≡ 0) → Sifted lanes (λ i. pick (ltb block w) (pick (ltb 0 block) (holds s.now funcs.now (lane_env e.now u v slow.now fast.now i) from end) true) true) met.old met.new left)) }
 {
-    if some == 0 {
-        return some;
-    }
-    if some == UNKNOWN {
-        return UNKNOWN;
+    if !some {
+        return Some(some);
     }
     if block == 0 {
-        return some;
+        return Some(some);
     }
     if w <= block {
-        return some;
+        return Some(some);
     }
     if s.len() <= from {
-        return UNKNOWN;
+        return None;
     }
     evaluation::rows::row_holds(
         s,
@@ -71,7 +67,7 @@ fn row_tried(
     )
 }
 
-// Of all lanes, those in which all conditions hold that are asked and whose blocks are less than w; 0 only if there are none.
+// Of all lanes, those in which all conditions hold that are asked and whose blocks are less than w: false only if there are none; or they are not known.
 fn row_test(
     s: &[u8],
     funcs: &[u16],
@@ -89,18 +85,18 @@ fn row_test(
     rows: &mut [u8],
     marks: &mut [u8],
     met: &mut [u8],
-) -> u8
+) -> Option<bool>
     requires { (n ≤ max_conditions) × (Lent rows.old marks.old slow.now fast.now met.old × (lanes ≤ lane_count)) }
-    ensures { ((i : ℕ) → i < n → Standing s.now froms.now ends.now i) → u < length e.now → v < length e.now → Marked rows.old marks.old → Zeros rows.old → Marked rows.new marks.new × (Zeros rows.new × (((i : ℕ) → i < lanes → get_or met.old i 0 ≡ 1) → (result ≡ 255 → ⊥) → RowMet lanes (λ i. inner s.now funcs.now froms.now ends.now blocks.now w (lane_env e.now u v slow.now fast.now i)) n met.new result)) }
+    ensures { ((i : ℕ) → i < n → Standing s.now froms.now ends.now i) → u < length e.now → v < length e.now → Marked rows.old marks.old → Zeros rows.old → Marked rows.new marks.new × (Zeros rows.new × (((i : ℕ) → i < lanes → get_or met.old i 0 ≡ 1) → IfSome result (λ left. RowMet lanes (λ i. inner s.now funcs.now froms.now ends.now blocks.now w (lane_env e.now u v slow.now fast.now i)) n met.new left))) }
 {
-    let mut some: u8 = 1;
+    let mut some = true;
     for i in 0..n {
         some = row_tried(
             s, funcs, e, u, v, slow, fast, lanes, froms[i], ends[i], blocks[i], w, some, rows,
             marks, met,
-        );
+        )?;
     }
-    some
+    Some(some)
 }
 
 // The k-th of the assignments in a row of blocks of g from j on: those of the lanes that are kept.
@@ -128,12 +124,10 @@ fn strip(slow: &mut [u8], fast: &mut [u8], met: &mut [u8], size: u8, first: u8, 
 {
     let mut x = first;
     let mut y: u8 = 0;
-    let mut i: usize = 0;
-    while i < n {
+    for i in 0..n {
         slow[i] = x;
         fast[i] = y;
         met[i] = 1;
-        i += 1;
         if y + 1 < size {
             y += 1;
         } else {
@@ -151,7 +145,7 @@ fn rows_in(size: u8, count: u8, first: u8) -> usize
     if count <= first {
         return 0;
     }
-    smaller(LANES / wide(size), wide(count - first))
+    (LANES / wide(size)).min(wide(count - first))
 }
 
 // The search goes on for the lanes of a strip from j on: what is found, or how far it came and how much of k is left there. It goes no further where rows do not serve.
@@ -189,7 +183,7 @@ fn in_lanes(
     let some = row_test(
         s, funcs, e, u, v, slow, fast, lanes, froms, ends, blocks, n, b, rows, marks, met,
     );
-    if some == UNKNOWN {
+    if some.is_none() {
         return Err(Reached { at: j, left: k });
     }
     match in_row(met, lanes, g, j, k) {

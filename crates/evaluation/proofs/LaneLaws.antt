@@ -207,11 +207,11 @@ keep_more f wanted met k met' some w some' h e s z p =
         let y : i ≡ k = omega arith in
         rw y (omega (arith, last))
 
-pub keep_all : (n : ℕ) (f : ℕ → ℕ) (wanted : ℕ) (met : List ℕ) (k : ℕ) (met' : List ℕ) (some : ℕ) → n ≤ k → Keeping f wanted met k met' some → LanesKept n f wanted met met' some
-keep_all n f wanted met k met' some e p = record { kept_lanes = λ i h. p.tested i (omega arith); none_left = λ z i h. omega (arith, p.at_most i (omega arith)) }
+pub keep_all : (n : ℕ) (f : ℕ → ℕ) (wanted : ℕ) (met : List ℕ) (k : ℕ) (met' : List ℕ) (some : ℕ) (left : Bool) → n ≤ k → (left ≡ false → some ≡ 0) → Keeping f wanted met k met' some → LanesKept n f wanted met met' left
+keep_all n f wanted met k met' some left e q p = record { kept_lanes = λ i h. p.tested i (omega arith); none_left = λ z i h. omega (arith, q z, p.at_most i (omega arith)) }
 
 -- the same lanes by other words
-pub kept_as : (n : ℕ) (f g : ℕ → ℕ) (wanted : ℕ) (met met' : List ℕ) (some : ℕ) → ((i : ℕ) → i < n → f i ≡ g i) → LanesKept n f wanted met met' some → LanesKept n g wanted met met' some
+pub kept_as : (n : ℕ) (f g : ℕ → ℕ) (wanted : ℕ) (met met' : List ℕ) (some : Bool) → ((i : ℕ) → i < n → f i ≡ g i) → LanesKept n f wanted met met' some → LanesKept n g wanted met met' some
 kept_as n f g wanted met met' some h p = record { kept_lanes = λ i k. p.kept_lanes i k ∙ ap (λ (x : ℕ). pick (eqb x wanted) (get_or met i 0) 0) (h i k); none_left = p.none_left }
 
 -- ALL PLACES IN THE STREAM

@@ -1,5 +1,5 @@
 -- Rows of up to 128 values, one behind another in a list: lane i of a row is its value for one pair of values of two variables.
-use Rattle.std.specs.Prelude.{◌≡◌, List, ℕ, ◌+◌, ◌*◌, ◌<◌, ◌≤◌, eqb, get_or, set}
+use Rattle.std.specs.Prelude.{◌≡◌, List, Bool, false, ℕ, ◌+◌, ◌*◌, ◌<◌, ◌≤◌, eqb, get_or, set}
 use Rattle.evaluation.specs.Run.{pick}
 
 -- the most lanes of a row
@@ -42,7 +42,7 @@ Marked rows marks = (r : ℕ) → r < mark_room → get_or marks r 0 ≡ 0 → (
 abbrev pub Zeros : List ℕ → Type 0
 Zeros rows = (x : ℕ) → row_count * lane_count ≤ x → get_or rows x 0 ≡ 0
 
--- of the lanes that are kept, those in which f is what is wanted; `some` is 0 only if none is left
-pub record LanesKept (n : ℕ) (f : ℕ → ℕ) (wanted : ℕ) (met met' : List ℕ) (some : ℕ) : Type 0 where
+-- of the lanes that are kept, those in which f is what is wanted; `some` is false only if none is left
+pub record LanesKept (n : ℕ) (f : ℕ → ℕ) (wanted : ℕ) (met met' : List ℕ) (some : Bool) : Type 0 where
   pub kept_lanes : (i : ℕ) → i < n → get_or met' i 0 ≡ pick (eqb (f i) wanted) (get_or met i 0) 0
-  pub none_left : some ≡ 0 → (i : ℕ) → i < n → get_or met' i 0 ≡ 0
+  pub none_left : some ≡ false → (i : ℕ) → i < n → get_or met' i 0 ≡ 0

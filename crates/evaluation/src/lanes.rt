@@ -42,12 +42,6 @@ pub fn copy(from: &[u8], rows: &mut [u8], d: usize)
     }
 }
 
-pub fn higher(a: u8, b: u8) -> u8
-    ensures { (a ≤ result) × (b ≤ result) }
-{
-    if a < b { b } else { a }
-}
-
 // No lane of row t is higher.
 fn highest(rows: &[u8], t: usize) -> u8
     requires { (t ≤ 19) × (row_room ≤ length rows.now) }
@@ -56,7 +50,7 @@ fn highest(rows: &[u8], t: usize) -> u8
     let x = t * LANES;
     let mut m: u8 = 0;
     for i in 0..LANES {
-        m = higher(m, rows[x + i]);
+        m = m.max(rows[x + i]);
     }
     m
 }

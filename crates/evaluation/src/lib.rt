@@ -9,7 +9,7 @@ ghost use Rattle.evaluation.specs.Run.{pick, operator_code, operator_count, oper
 pub mod lanes; // one row of values
 pub mod rows; // terms for all values of two variables at once
 
-use elements::{cell, larger, peek, smaller, wide};
+use elements::{cell, peek, wide};
 use limits::{MAX_TERM, VARIABLES};
 use terms::{AND, EQUAL, FUNCTION, NOT, VARIABLE, size_of};
 
@@ -112,15 +112,13 @@ pub fn skip(s: &[u8], funcs: &[u16], at: usize, n: u8) -> usize
     ensures { (result ≡ at + extent s.now funcs.now (drop at s.now) n) × ((at ≤ result) × (result ≤ max at (length s.now))) }
 {
     let mut need = wide(n);
-    let mut i = at;
-    while i < s.len() {
+    for i in at..s.len() {
         if need == 0 {
             return i;
         }
         need = need - 1 + arguments(s, funcs, s[i]);
-        i += 1;
     }
-    i
+    at.max(s.len())
 }
 
 // One more than the variable that a byte names, 0 if none.
@@ -142,7 +140,7 @@ fn lower(p: usize, n: usize, m: usize) -> usize
     ensures { result ≡ lowered p n m }
 {
     if p < n {
-        return smaller(n - 1, m);
+        return (n - 1).min(m);
     }
     m
 }
@@ -160,11 +158,9 @@ pub fn variables(s: &[u8], at: usize, end: usize, p: usize) -> Span
 {
     let mut high: usize = 0;
     let mut low: usize = VARIABLES;
-    let mut i = smaller(end, s.len());
-    while at < i {
-        i -= 1;
+    for i in (at..end.min(s.len())).rev() {
         let n = variable(s[i]);
-        high = larger(n, high);
+        high = n.max(high);
         low = lower(p, n, low);
     }
     Span {
@@ -178,7 +174,7 @@ fn taken(t: usize, k: usize) -> usize
     requires { (0 < t) × ((t ≤ 48) × (k ≤ 3)) }
     ensures { result ≡ min (t - 1 + k) 48 }
 {
-    smaller(t - 1 + k, 48)
+    (t - 1 + k).min(48)
 }
 
 // The value of the term that stands from at to end, from the right: the value last found is x, those before it stand on a stack that grows downwards.
@@ -197,9 +193,7 @@ pub fn value(s: &[u8], funcs: &[u16], e: &[u8], at: usize, end: usize) -> u8
     if MAX_TERM < end - at {
         return 0;
     }
-    let mut i = end;
-    while at < i {
-        i -= 1;
+    for i in (at..end).rev() {
         let b = s[i];
         let v = worth(s, funcs, e, &stack, t, b, x);
         stack[t - 1] = x;

@@ -1,26 +1,20 @@
 // Data terms for many values of two variables at once: rows of up to 128 values, one for each pair of theirs.
-ghost use Rattle.std.specs.Prelude.{◌≡◌, ℕ, ◌+◌, ◌-◌, ◌*◌, ◌≤◌, ◌<◌, min, eqb, length, take, drop};
+ghost use Rattle.std.specs.Prelude.{◌≡◌, ℕ, ◌+◌, ◌-◌, ◌*◌, ◌≤◌, ◌<◌, min, eqb, length, take, drop, IfSome};
 ghost use Rattle.pcrl.specs.Decode.{node_of};
 ghost use Rattle.evaluation.specs.Run.{pick, argument_count, worth_of, run, top};
 ghost use Rattle.evaluation.specs.Rows.{lane_count, row_count, row_room, mark_room, lane, RowPut, Marked, Zeros, lane_env, LanesKept};
 
-use crate::lanes::{LANES, ROWS, binary, copy, fill, higher, operator, unary};
+use crate::lanes::{LANES, ROWS, binary, copy, fill, operator, unary};
 use crate::operator_arguments;
-use elements::{cell, peek, smaller, wide};
+use elements::{cell, peek, wide};
 use terms::{FUNCTION, NOT, VARIABLE, size_of};
-
-// A term needs more rows.
-const TOO_DEEP: usize = ROWS + 1;
-
-// It is not known which lanes are kept.
-pub const UNKNOWN: u8 = 255;
 
 // The row for a node that takes the first k rows from t on.
 fn onto(t: usize, k: usize) -> usize
     requires { (0 < t) × ((t ≤ row_count) × (k ≤ 3)) }
     ensures { (result ≡ min (t + k) row_count - 1) × (result < row_count) }
 {
-    smaller(t + k, ROWS) - 1
+    (t + k).min(ROWS) - 1
 }
 
 // A byte's row is put in the place of the rows that it takes; where it stands.
@@ -97,20 +91,18 @@ fn term(
     end: usize,
     rows: &mut [u8],
     marks: &mut [u8],
-) -> usize
+) -> Option<usize>
     requires { (at ≤ end) × ((end ≤ length s.now) × ((row_room ≤ length rows.old) × ((mark_room ≤ length marks.old) × ((n ≤ lane_count) × ((lane_count ≤ length slow.now) × (lane_count ≤ length fast.now)))))) }
-    ensures { u < length e.now → v < length e.now → Marked rows.old marks.old → Zeros rows.old → Marked rows.new marks.new × (Zeros rows.new × (result ≤ row_count → (i : ℕ) → i < n → lane rows.new result i ≡ top (run s.now funcs.now (lane_env e.now u v slow.now fast.now i) (take (end - at) (drop at s.now))))) }
+    ensures { IfSome result (λ t. t ≤ row_count) × (u < length e.now → v < length e.now → Marked rows.old marks.old → Zeros rows.old → Marked rows.new marks.new × (Zeros rows.new × IfSome result (λ t. (i : ℕ) → i < n → lane rows.new t i ≡ top (run s.now funcs.now (lane_env e.now u v slow.now fast.now i) (take (end - at) (drop at s.now)))))) }
 {
     let mut t: usize = ROWS;
-    let mut j = end;
-    while at < j {
+    for j in (at..end).rev() {
         if t == 0 {
-            return TOO_DEEP;
+            return None;
         }
-        j -= 1;
         t = node(s, funcs, e, u, v, slow, fast, n, rows, marks, t, s[j]);
     }
-    t
+    Some(t)
 }
 
 fn same(x: u8, wanted: u8, m: u8) -> u8
@@ -119,8 +111,8 @@ fn same(x: u8, wanted: u8, m: u8) -> u8
     if x == wanted { m } else { 0 }
 }
 
-// Of the lanes that are kept, those in which row t is what is wanted; 0 only if there are none.
-fn keep(rows: &[u8], t: usize, wanted: u8, met: &mut [u8], n: usize) -> u8
+// Of the lanes that are kept, those in which row t is what is wanted; false only if there are none.
+fn keep(rows: &[u8], t: usize, wanted: u8, met: &mut [u8], n: usize) -> bool
     requires { (t ≤ row_count) × ((row_room ≤ length rows.now) × ((n ≤ lane_count) × (lane_count ≤ length met.old))) }
     ensures { LanesKept n (lane rows.now t) wanted met.old met.new result }
 {
@@ -129,12 +121,12 @@ fn keep(rows: &[u8], t: usize, wanted: u8, met: &mut [u8], n: usize) -> u8
     for i in 0..n {
         let m = same(rows[r + i], wanted, met[i]);
         met[i] = m;
-        some = higher(some, m);
+        some = some.max(m);
     }
-    some
+    some != 0
 }
 
-// Of the lanes that are kept, those in which the term that stands from at to end is worth what is wanted: 0 only if there are none.
+// Of the lanes that are kept, those in which the term that stands from at to end is worth what is wanted: false only if there are none; or they are not known.
 // Lane i, of n, has value i of `slow` and of `fast` for variables u and v. The rows and marks are left for the next term.
 pub fn row_holds(
     s: &[u8],
@@ -151,19 +143,16 @@ pub fn row_holds(
     rows: &mut [u8],
     marks: &mut [u8],
     met: &mut [u8],
-) -> u8
+) -> Option<bool>
     requires { (row_room ≤ length rows.old) × ((mark_room ≤ length marks.old) × ((n ≤ lane_count) × ((lane_count ≤ length slow.now) × ((lane_count ≤ length fast.now) × (lane_count ≤ length met.old))))) }
-    ensures { at ≤ end → end ≤ length s.now → u < length e.now → v < length e.now → Marked rows.old marks.old → Zeros rows.old → Marked rows.new marks.new × (Zeros rows.new × ((result ≡ 255 → ⊥) → LanesKept n (λ i. top (run s.now funcs.now (lane_env e.now u v slow.now fast.now i) (take (end - at) (drop at s.now)))) wanted met.old met.new result)) }
+    ensures { at ≤ end → end ≤ length s.now → u < length e.now → v < length e.now → Marked rows.old marks.old → Zeros rows.old → Marked rows.new marks.new × (Zeros rows.new × IfSome result (λ some. LanesKept n (λ i. top (run s.now funcs.now (lane_env e.now u v slow.now fast.now i) (take (end - at) (drop at s.now)))) wanted met.old met.new some)) }
 {
     if end < at {
-        return UNKNOWN;
+        return None;
     }
     if s.len() < end {
-        return UNKNOWN;
+        return None;
     }
-    let t = term(s, funcs, e, u, v, slow, fast, n, at, end, rows, marks);
-    if ROWS < t {
-        return UNKNOWN;
-    }
-    keep(rows, t, wanted, met, n)
+    let t = term(s, funcs, e, u, v, slow, fast, n, at, end, rows, marks)?;
+    Some(keep(rows, t, wanted, met, n))
 }

@@ -12,7 +12,7 @@ ghost use Rattle.assignments.specs.Places.{Sizes};
 ghost use Rattle.opening.specs.Opened.{sizes_of, Prepared};
 
 use assignments::{Conditions, PerSum};
-use elements::{larger, peek, smaller, wide};
+use elements::{peek, wide};
 use limits::{MAX_CONDITIONS, VARIABLES};
 use terms::size_of;
 
@@ -62,7 +62,7 @@ pub fn conditions(s: &[u8], funcs: &[u16], at: usize, p: usize, z: PerSum) -> Co
     requires { (length s.now ≤ max_stream) × ((at ≤ max_stream + max_stream) × Sizes z.at) }
     ensures { (result.count ≤ max_conditions) × ((result.end ≤ max_stream + max_stream + 16) × ((S : Sig) (Γ : List ℕ) (cs : List (ℕ × Data)) (rest : List ℕ) → KnownTerms S s.now funcs.now → length Γ ≤ variable_code → Every (RightCond S Γ) cs → length cs ≤ max_conditions → drop at s.now ≡ encode_list encode_cond cs ++ rest → Prepared s.now p z.at cs rest result)) }
 {
-    let n = smaller(wide(peek(s, at)), MAX_CONDITIONS);
+    let n = wide(peek(s, at)).min(MAX_CONDITIONS);
     let mut froms = [0usize; MAX_CONDITIONS];
     let mut ends = [0usize; MAX_CONDITIONS];
     let mut blocks = [0u32; MAX_CONDITIONS];
@@ -76,8 +76,8 @@ pub fn conditions(s: &[u8], funcs: &[u16], at: usize, p: usize, z: PerSum) -> Co
         froms[i] = a;
         ends[i] = end;
         blocks[i] = narrow(assignments::grain(z, v.high, p));
-        reach = larger(reach, v.high);
-        low = smaller(low, v.low);
+        reach = reach.max(v.high);
+        low = low.min(v.low);
         a = end;
     }
     Conditions {

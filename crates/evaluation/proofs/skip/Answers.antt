@@ -26,4 +26,4 @@ loop-i-preserved c = let i = c.loop-i.i in let n = c.loop-i.need in let s = c.ar
     (omega arith, (omega arith, (omega (arith, c.arguments.ensures.1), omega arith)))
 
 pub returns : goal.returns
-returns c = let z = extent_end c.args.s.now c.args.funcs.now c.args.s.now c.loop-i.i c.loop-i.need c.loop-i-test.false in let v = c.loop-i.invariant in (omega arith, (omega arith, omega arith))
+returns c = let z = extent_end c.args.s.now c.args.funcs.now c.args.s.now c.loop-i.i c.loop-i.need c.loop-i-test.false in let v = c.loop-i.invariant in (omega (arith, c.max.ensures), (omega (arith, c.max.ensures), omega (arith, c.max.ensures)))

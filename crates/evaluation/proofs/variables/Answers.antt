@@ -8,7 +8,7 @@ use Rattle.evaluation.proofs.Bytes.{peak_none, peak_more, foot_none, foot_more}
 use Rattle.evaluation.proofs.variables.Goals as goal
 
 pub loop-i-init : goal.loop-i-init
-loop-i-init c = let a = c.args in let e = c.smaller-i.ensures in (omega (arith, e), (omega (arith, e), λ h k. (omega (arith, e), (peak_none a.s.now c.smaller-i.result (a.end - c.smaller-i.result) (omega (arith, e)), foot_none a.p a.s.now c.smaller-i.result (a.end - c.smaller-i.result) (omega (arith, e))))))
+loop-i-init c = let a = c.args in let e = c.min-i.ensures in (omega (arith, e), (omega (arith, e), λ h k. (omega (arith, e), (peak_none a.s.now c.min-i.result (a.end - c.min-i.result) (omega (arith, e)), foot_none a.p a.s.now c.min-i.result (a.end - c.min-i.result) (omega (arith, e))))))
 
 pub loop-i-preserved : goal.loop-i-preserved
 loop-i-preserved c = let q = c.args.p in let i = c.loop-i.i in let s = c.args.s.now in let end = c.args.end in (
@@ -23,7 +23,7 @@ loop-i-preserved c = let q = c.args.p in let i = c.loop-i.i in let s = c.args.s.
         let down = rw j at (foot_more q s (i - 1) (end - i) (omega arith)) in (
           omega arith,
           (
-            c.larger-high.ensures ∙ ap₂ max c.variable-n.ensures v.1.0 ∙ sym up ∙ ap (λ (x : ℕ). peak (take x (drop (i - 1) s))) (sym m),
+            c.max-high.ensures ∙ ap₂ max c.variable-n.ensures v.1.0 ∙ sym up ∙ ap (λ (x : ℕ). peak (take x (drop (i - 1) s))) (sym m),
             c.lower-low.ensures ∙ ap₂ (lowered q) c.variable-n.ensures v.1.1 ∙ sym down ∙ ap (λ (x : ℕ). foot q (take x (drop (i - 1) s))) (sym m),
           ),
         ),

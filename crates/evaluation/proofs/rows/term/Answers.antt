@@ -19,7 +19,7 @@ pub shape_of-marks-then-t-eq0 : goal.shape_of-marks-then-t-eq0
 shape_of-marks-then-t-eq0 c = c.loop-j.invariant.1.0.1
 
 pub returns-then-t-eq0 : goal.returns-then-t-eq0
-returns-then-t-eq0 c = let l = c.loop-j in λ h k w z. let r = l.invariant.1.1 h k w z in (r.0, (r.1.0, λ few. absurd (omega arith)))
+returns-then-t-eq0 c = let l = c.loop-j in (tt, λ h k w z. let r = l.invariant.1.1 h k w z in (r.0, (r.1.0, tt)))
 
 pub node-t-requires : goal.node-t-requires
 node-t-requires c = (omega arith, (omega arith, (omega arith, (omega arith, (omega arith, (omega arith, omega arith))))))
@@ -43,4 +43,4 @@ pub shape_of-marks : goal.shape_of-marks
 shape_of-marks c = c.loop-j.invariant.1.0.1
 
 pub returns : goal.returns
-returns c = let a = c.args in let l = c.loop-j in λ h k w z. let r = l.invariant.1.1 h k w z in (r.0, (r.1.0, λ few i o. let e : l.j ≡ a.at = omega arith in let y : l.t ≡ l.t + 0 = omega arith in ap (λ (x : ℕ). lane l.rows x i) y ∙ r.1.1 i o 0 ∙ ap (λ (y : ℕ). top (run a.s.now a.funcs.now (lane_env a.e.now a.u a.v a.slow.now a.fast.now i) (take (a.end - y) (drop y a.s.now)))) e))
+returns c = let a = c.args in let l = c.loop-j in (omega arith, λ h k w z. let r = l.invariant.1.1 h k w z in (r.0, (r.1.0, λ i o. let e : l.j ≡ a.at = omega arith in let y : l.t ≡ l.t + 0 = omega arith in ap (λ (x : ℕ). lane l.rows x i) y ∙ r.1.1 i o 0 ∙ ap (λ (y : ℕ). top (run a.s.now a.funcs.now (lane_env a.e.now a.u a.v a.slow.now a.fast.now i) (take (a.end - y) (drop y a.s.now)))) e)))
