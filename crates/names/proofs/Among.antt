@@ -1,7 +1,7 @@
 -- A name among others, and names that are distinct, found by going through the list.
 use mathlib.Core.Path.{◌≡◌, refl, sym, ◌∙◌, ap}
 use mathlib.Core.List.{List, [], ◌∷◌}
-use mathlib.Core.Bool.{Bool, true, false}
+use mathlib.Core.Bool.{Bool, true, false, not}
 use mathlib.Core.Option.{Option, none, some}
 use Prim.Native.Nat.{ℕ, suc, ◌≤◌, ◌<◌}
 use native.Mathlib.Omega.{arith}
@@ -14,8 +14,9 @@ use Rattle.pcrl.specs.Tree.{Name}
 use Rattle.pcrl.specs.Names.{number_of}
 use Rattle.pcrl.specs.Maybe.{◌>>=◌}
 use Rattle.laws.specs.Booleans.{and_false}
-use Rattle.names.specs.NameCells.{or_count}
-use Rattle.names.proofs.Numbers.{found_some, found_none}
+use Rattle.std.specs.Prelude.{Option as Given}
+use Rattle.std.specs.Option.{is_some as given}
+use Rattle.names.specs.NameCells.{found}
 
 pub among_first : (x y : Name) (l : List Name) → x ≡ y → among x (y ∷ l) ≡ true
 unfolding among
@@ -53,11 +54,12 @@ among_number x (y ∷ l) = by (same? x y) (among_number x l)
     by (no q) h = h ∙ sym (some_suc (number_of x l))
 
 -- a search that finds the name, and one that does not
-pub number_among : (x : Name) (l : List Name) (i n : ℕ) → i ≡ or_count n (number_of x l) → i < n → among x l ≡ true
-number_among x l i n e h = among_number x l ∙ ap is_some (found_some n (number_of x l) i e h)
-
-pub number_not : (x : Name) (l : List Name) (i n : ℕ) → length l ≤ n → i ≡ or_count n (number_of x l) → n ≤ i → among x l ≡ false
-number_not x l i n m e h = among_number x l ∙ ap is_some (found_none n x l i m e h)
+pub number_among : (x : Name) (l : List Name) (r : Given ℕ) → r ≡ found (number_of x l) → among x l ≡ given r
+number_among x l r e = among_number x l ∙ rw e (go (number_of x l))
+  where
+    go : (o : Option ℕ) → is_some o ≡ given (found o)
+    go none = refl
+    go (some i) = refl
 
 -- n stands before l; the next name is n,
 pub taken_twice : (b : Bool) (n y : Name) (l m : List Name) → b ≡ distinct (n ∷ l) → l ≡ y ∷ m → y ≡ n → false ≡ b
@@ -85,10 +87,7 @@ new_scope : (n x : Name) (l m : List Name) → (x ≡ n → ⊥) → among x l �
 new_scope n x l m e a b h = rw (among_later x n l e, a, h)
 
 -- the scope is searched last
-pub new_last : (n x : Name) (l m : List Name) → (x ≡ n → ⊥) → among x l ≡ false → (i k : ℕ) → i ≤ k → length m ≤ k → i ≡ or_count k (number_of x m)
-    → eqb i k ≡ and (negated (among x (n ∷ l))) (negated (among x m))
-new_last n x l m e a i k h many found = by (dec_lt i k)
-  where
-    by : Dec (i < k) → eqb i k ≡ and (negated (among x (n ∷ l))) (negated (among x m))
-    by (yes q) = ne_eqb i k (λ z. omega arith) ∙ new_scope n x l m e a true (number_among x m i k found q)
-    by (no q) = eq-eqb i k (omega arith) ∙ new_scope n x l m e a false (number_not x m i k many found (omega arith))
+pub new_last : (n x : Name) (l m : List Name) → (x ≡ n → ⊥) → among x l ≡ false → (r : Given ℕ) → r ≡ found (number_of x m)
+    → (b : Bool) → given r ≡ not b → b ≡ and (negated (among x (n ∷ l))) (negated (among x m))
+new_last n x l m e a r h true k = new_scope n x l m e a false (number_among x m r h ∙ k)
+new_last n x l m e a r h false k = new_scope n x l m e a true (number_among x m r h ∙ k)

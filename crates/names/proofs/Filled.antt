@@ -2,6 +2,7 @@
 use mathlib.Core.Path.{◌≡◌, refl, sym, ◌∙◌, ap}
 use mathlib.Core.List.{List, [], ◌∷◌, ◌++◌, append-nil, append_assoc}
 use mathlib.Core.Bool.{Bool, true, false}
+use Rattle.std.specs.Prelude.{Some}
 use mathlib.Core.Option.{Option, none, some}
 use mathlib.Core.Logic.{⊎_elim}
 use Prim.Native.Nat.{ℕ, ◌+◌, ◌≤◌, ◌<◌}
@@ -10,7 +11,7 @@ use native.Mathlib.Omega.{arith}
 use lib.ListN.{length, drop, get_or, length-append, drop_of_length-le, get_or-append}
 use lib.Seq.{get_or_at}
 use Rattle.pcrl.specs.Maybe.{◌>>=◌, for_each}
-use Rattle.names.specs.Rows.{Answers}
+use Rattle.names.specs.Rows.{Answers, Gives}
 
 -- values before those that may be missing
 abbrev pub glue : {B : Type 0} → List B → Option (List B) → Option (List B)
@@ -37,9 +38,8 @@ module _ {A B : Type 0} where
     missing done a m e = rw e
 
     -- a value that is missing
-    pub gone_stops : (P : B → ℕ → Type 0) (X : List B → Type 0) (ls m : List A) (i : ℕ) (a : A) (ok : Bool) → Gone P ls i → drop i ls ≡ a ∷ m → f a ≡ none → ok ≡ false
-        → Answers X (for_each f ls) ok
-    gone_stops P X ls m i a ok g e n o = rw (g.whole, e, missing g.done a m n) o
+    pub gone_stops : (P : B → ℕ → Type 0) (ls m : List A) (i : ℕ) (a : A) → Gone P ls i → drop i ls ≡ a ∷ m → f a ≡ none → for_each f ls ≡ none
+    gone_stops P ls m i a g e n = rw (g.whole, e, missing g.done a m n)
 
     next : (done : List B) (a : A) (m : List A) (b : B) → f a ≡ some b → glue done (for_each f (a ∷ m)) ≡ glue (done ++ (b ∷ [])) (for_each f m)
     unfolding for_each
@@ -69,6 +69,11 @@ module _ {A B : Type 0} where
     all_there : (done : List B) (m : List A) → m ≡ [] → glue done (for_each f m) ≡ some done
     unfolding for_each
     all_there done m e = rw (e, append-nil done)
+
+    -- all of them, and what is given for them
+    pub gone_gives : {C : Type 0} (P : B → ℕ → Type 0) (X : List B → C → Type 0) (ls : List A) (i : ℕ) (c : C) → Gone P ls i → length ls ≤ i
+        → ((bs : List B) → length bs ≡ i → ((j : ℕ) → j < i → P (get_or bs j d) j) → X bs c) → Gives X (for_each f ls) (Some c)
+    gone_gives P X ls i c g h x = rw (g.whole, all_there g.done (drop i ls) (drop_of_length-le ls {i = i} h)) (x g.done g.many g.held)
 
     -- all of them
     pub gone_ends : (P : B → ℕ → Type 0) (X : List B → Type 0) (ls : List A) (i : ℕ) (ok : Bool) → Gone P ls i → length ls ≤ i → ok ≡ true

@@ -1,7 +1,7 @@
 -- A function's row: the sorts that it takes, then the one that it gives; its values stand behind.
 use mathlib.Core.Path.{◌≡◌, refl, sym, ◌∙◌, ap}
 use mathlib.Core.List.{List, [], ◌∷◌, ◌++◌, append_assoc}
-use mathlib.Core.Bool.{Bool, true, false}
+use Rattle.std.specs.Prelude.{Option, Some, None}
 use mathlib.Core.Option.{none, some}
 use Prim.Native.Nat.{ℕ, ◌+◌, ◌*◌, ◌≤◌, ◌<◌}
 use native.Mathlib.Omega.{arith}
@@ -14,21 +14,19 @@ use Rattle.grammar.specs.Formed.{FormedFunc}
 use Rattle.laws.specs.Numbers.{sorts_declared}
 use Rattle.parser.specs.Cells.{Symbol, tag, token, func_tag, enc_func, enc_items, enc_name, enc_numeral}
 use Rattle.nodes.specs.Held.{SortsAt}
-use Rattle.names.specs.declared.Row.{Row}
 use Rattle.names.specs.NameCells.{name_at}
 use Rattle.names.specs.Standing.{symbols}
 use Rattle.names.specs.Items.{item_count, item_names}
-use Rattle.names.specs.Rows.{Answers, sorts_at, numbered, FuncRead}
+use Rattle.names.specs.Rows.{Gives, sorts_at, numbered, FuncRead}
 use Rattle.names.proofs.Symbols.{name_is, symbols_behind}
 use Rattle.names.proofs.Items.{behind, items_behind}
-use Rattle.names.proofs.Kept.{answered_no, answered_yes}
-use Rattle.names.proofs.Numbers.{number_in, found_some, found_none}
+use Rattle.names.proofs.Kept.{gives_none, gives_some}
 use Rattle.names.proofs.ActLines.{sorts_read}
 
 module _ (s cells sorts : List ℕ) (at p : ℕ) where
   -- what the row of the sorts that it takes answers
-  abbrev pub TakesRead : (List ℕ → Type 0) → Bool → Type 0
-  TakesRead X ok = Answers X (numbered (sorts_at s cells sorts) (item_names s cells (at + 2) (item_count cells 2 (at + 2) 2))) ok
+  abbrev pub TakesRead : (List ℕ → ℕ → Type 0) → Option ℕ → Type 0
+  TakesRead X r = Gives X (numbered (sorts_at s cells sorts) (item_names s cells (at + 2) (item_count cells 2 (at + 2) 2))) r
 
   module _ (N : Names) (l : FuncLine) (rest : List Symbol) (n : N.sorts ≡ sorts_at s cells sorts) (e : drop at (symbols s cells) ≡ enc_func l ++ rest) (f : FormedFunc l) where
     gives_rest : List Symbol
@@ -61,41 +59,38 @@ module _ (s cells sorts : List ℕ) (at p : ℕ) where
   both_known N l Ds D e k = rw (e, k)
 
   -- a name that it takes is no sort
-  pub takes_unknown : (X : List ℕ → Type 0) (rows : List ℕ) (r : Row) → TakesRead X r.ok → r.ok ≡ false → FuncRead s cells sorts at rows p r
-  takes_unknown X rows r a o N l rest n e f =
-      rw (no_takes N l (sym (takes_are N l rest n e f) ∙ answered_no X (numbered (sorts_at s cells sorts) (item_names s cells (at + 2) (item_count cells 2 (at + 2) 2))) r.ok a o)) o
+  pub takes_unknown : (X : List ℕ → ℕ → Type 0) (rows : List ℕ) → TakesRead X None → FuncRead s cells sorts at rows p None
+  takes_unknown X rows a N l rest n e f =
+      rw (no_takes N l (sym (takes_are N l rest n e f) ∙ gives_none X (numbered (sorts_at s cells sorts) (item_names s cells (at + 2) (item_count cells 2 (at + 2) 2))) a)) tt
 
-  module _ (rows : List ℕ) (q m D : ℕ) (ok : Bool) (few : length (sorts_at s cells sorts) ≤ m)
-      (a : TakesRead (λ Ds. (q ≡ at + 2 + 2 * length Ds + 1) × SortsAt Ds rows p) ok) (o : ok ≡ true) (d : D ≡ number_in m (name_at s (get_or cells q 0)) (sorts_at s cells sorts)) where
+  module _ (rows : List ℕ) (q : ℕ) (a : TakesRead (λ Ds q. (q ≡ at + 2 + 2 * length Ds + 1) × SortsAt Ds rows p) (Some q)) where
     -- the one that it gives is none
-    pub gives_unknown : (rows' : List ℕ) (x : ℕ) → m ≤ D → FuncRead s cells sorts at rows' p (record { ok = false; at = x })
-    gives_unknown rows' x h N l rest n e f =
-        let (Ds, k, w) = answered_yes (λ Ds. (q ≡ at + 2 + 2 * length Ds + 1) × SortsAt Ds rows p) (numbered (sorts_at s cells sorts) (item_names s cells (at + 2) (item_count cells 2 (at + 2) 2))) ok a o in
+    pub gives_unknown : (rows' : List ℕ) → number_of (name_at s (get_or cells q 0)) (sorts_at s cells sorts) ≡ none → FuncRead s cells sorts at rows' p None
+    gives_unknown rows' h N l rest n e f =
+        let (Ds, k, w) = gives_some (λ Ds q. (q ≡ at + 2 + 2 * length Ds + 1) × SortsAt Ds rows p) (numbered (sorts_at s cells sorts) (item_names s cells (at + 2) (item_count cells 2 (at + 2) 2))) q a in
         let t = sym (takes_are N l rest n e f) ∙ k in
         let g = name_is s cells q l.gives (gives_rest N l rest n e f) (gives_stands N l rest n e f Ds q t w.0) in
-        rw (no_gives N l Ds t (rw (n, ← g) (found_none m (name_at s (get_or cells q 0)) (sorts_at s cells sorts) D few d h))) refl
+        rw (no_gives N l Ds t (rw (n, ← g) h)) tt
 
     -- all are known
-    pub func_known : D < m → p + 3 < length rows → FuncRead s cells sorts at (set rows (p + 3) D) p (record { ok = true; at = q + 1 })
+    pub func_known : (D : ℕ) → number_of (name_at s (get_or cells q 0)) (sorts_at s cells sorts) ≡ some D → p + 3 < length rows
+        → FuncRead s cells sorts at (set rows (p + 3) D) p (Some (q + 1))
     unfolding FormedFunc gives_rest
-    func_known h room N l rest n e f =
-        let (Ds, k, w) = answered_yes (λ Ds. (q ≡ at + 2 + 2 * length Ds + 1) × SortsAt Ds rows p) (numbered (sorts_at s cells sorts) (item_names s cells (at + 2) (item_count cells 2 (at + 2) 2))) ok a o in
+    func_known D h room N l rest n e f =
+        let (Ds, k, w) = gives_some (λ Ds q. (q ≡ at + 2 + 2 * length Ds + 1) × SortsAt Ds rows p) (numbered (sorts_at s cells sorts) (item_names s cells (at + 2) (item_count cells 2 (at + 2) 2))) q a in
         let t = sym (takes_are N l rest n e f) ∙ k in
         let st = gives_stands N l rest n e f Ds q t w.0 in
         let g = name_is s cells q l.gives (gives_rest N l rest n e f) st in
         let c = (sorts_declared N l.takes Ds t).0 in
         let r = w.1 in
         let v = f.0.1 in
-        rw (both_known N l Ds D t (rw (n, ← g) (found_some m (number_of (name_at s (get_or cells q 0)) (sorts_at s cells sorts)) D d h))) (
-          refl,
-          record {
-            takes = record {
-              many = get_or-set_other rows (p + 3) p D 0 (λ z. omega arith) ∙ r.many;
-              each = λ i u. get_or-set_other rows (p + 3) (p + 1 + i) D 0 (λ z. omega arith) ∙ r.each i u;
-            };
-            gives = get_or-set_same rows (p + 3) D 0 room;
-            values = refl;
-            arity = sym c;
-            next = symbols_behind s cells q (q + 1) (token (name l.gives)) (gives_rest N l rest n e f) refl st;
-          },
-        )
+        rw (both_known N l Ds D t (rw (n, ← g) h)) (record {
+          takes = record {
+            many = get_or-set_other rows (p + 3) p D 0 (λ z. omega arith) ∙ r.many;
+            each = λ i u. get_or-set_other rows (p + 3) (p + 1 + i) D 0 (λ z. omega arith) ∙ r.each i u;
+          };
+          gives = get_or-set_same rows (p + 3) D 0 room;
+          values = refl;
+          arity = sym c;
+          next = symbols_behind s cells q (q + 1) (token (name l.gives)) (gives_rest N l rest n e f) refl st;
+        })

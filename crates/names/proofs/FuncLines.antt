@@ -16,13 +16,13 @@ use Rattle.grammar.specs.Formed.{FormedFunc}
 use Rattle.laws.specs.Each.{each_length}
 use Rattle.parser.specs.Cells.{enc_func, enc_numeral}
 use Rattle.nodes.specs.Held.{func_width, FuncAt}
-use Rattle.names.specs.declared.Row.{Row}
+use Rattle.std.specs.Prelude.{Some, None}
 use Rattle.names.specs.NameCells.{byte_of}
 use Rattle.names.specs.Standing.{symbols, At, LinesAt}
 use Rattle.names.specs.Items.{item_count, item_values}
 use Rattle.names.specs.Rows.{Kept, InRows, sorts_at, FuncRow, FuncRead, FuncRows, SmallValues}
 use Rattle.names.proofs.Items.{count_is, values_are}
-use Rattle.names.proofs.Kept.{kept_at, sorts_kept, answered_no, answered_yes, each_next, every_at}
+use Rattle.names.proofs.Kept.{kept_at, sorts_kept, gives_none, gives_some, each_next, every_at}
 use Rattle.names.proofs.Filled.{Gone, gone_none, gone_stops, gone_goes, gone_ends}
 
 -- PARTS OF LISTS
@@ -83,13 +83,13 @@ module _ (s cells sorts lines : List ℕ) where
   pub funcs_start : (rows values places : List ℕ) → FuncsGone rows values places 0 0
   funcs_start rows values places N ls n l f v b = record { gone = gone_none (resolve_func N) no_func (λ g j. FuncBefore g rows values places 0 j) ls; room = omega arith }
 
-  pub funcs_stop : (rows values places rows' values' places' : List ℕ) (w i : ℕ) (r : Row) → i < length lines → length values' ≡ length values → FuncsGone rows values places w i
-      → FuncRead s cells sorts (get_or lines i 0) rows' (4 * i) r → r.ok ≡ false → FuncRows s cells sorts lines rows' values' places' false
-  funcs_stop rows values places rows' values' places' w i r h z g a o N ls n l f v b =
+  pub funcs_stop : (rows values places rows' values' places' : List ℕ) (w i : ℕ) → i < length lines → length values' ≡ length values → FuncsGone rows values places w i
+      → FuncRead s cells sorts (get_or lines i 0) rows' (4 * i) None → FuncRows s cells sorts lines rows' values' places' false
+  funcs_stop rows values places rows' values' places' w i h z g a N ls n l f v b =
       let (x, d, at) = each_next (λ p l. At s cells (enc_func l) p) lines ls i l h in
       let few = every_at FormedFunc ls i x (drop (i + 1) ls) f d in
-      gone_stops (resolve_func N) no_func (λ g j. FuncBefore g rows values places w j) (InRows no_func (λ g i. FuncAt g rows' values' places' i)) ls (drop (i + 1) ls) i x false
-      (g N ls n l f v (omega arith)).gone d (answered_no _ (resolve_func N x) r.ok (a N x at.0 n at.1 few) o) refl
+      rw (gone_stops (resolve_func N) no_func (λ g j. FuncBefore g rows values places w j) ls (drop (i + 1) ls) i x
+      (g N ls n l f v (omega arith)).gone d (gives_none _ (resolve_func N x) (a N x at.0 n at.1 few))) refl
 
   pub funcs_end : (rows values places : List ℕ) (w i : ℕ) → length lines ≤ i → FuncsGone rows values places w i → FuncRows s cells sorts lines rows values places true
   funcs_end rows values places w i h g N ls n l f v b =
@@ -97,26 +97,26 @@ module _ (s cells sorts lines : List ℕ) where
       (omega (arith, each_length (λ p l. At s cells (enc_func l) p) lines ls l)) refl (λ bs m x j o. (x j (omega arith)).row)
 
   -- one more function: its row at 4 * i, its n values behind w, and where they end
-  module _ (rows values places rows' values' : List ℕ) (w i n x : ℕ) (r : Row) (h : i < length lines) (within : w ≤ length values) (here : get_or places i 0 ≡ w) (fits : i + 1 < length places)
-      (g : FuncsGone rows values places w i) (k : Kept (4 * i) rows rows') (a : FuncRead s cells sorts (get_or lines i 0) rows' (4 * i) r) (o : r.ok ≡ true)
-      (many : n ≡ item_count cells 2 r.at (length values - w)) (kv : Kept w values values') (wrote : take (w + n) values' ≡ take w values ++ map byte_of (item_values cells r.at n))
+  module _ (rows values places rows' values' : List ℕ) (w i n x q : ℕ) (h : i < length lines) (within : w ≤ length values) (here : get_or places i 0 ≡ w) (fits : i + 1 < length places)
+      (g : FuncsGone rows values places w i) (k : Kept (4 * i) rows rows') (a : FuncRead s cells sorts (get_or lines i 0) rows' (4 * i) (Some q))
+      (many : n ≡ item_count cells 2 q (length values - w)) (kv : Kept w values values') (wrote : take (w + n) values' ≡ take w values ++ map byte_of (item_values cells q n))
       (end : x ≡ w + n) where
     -- those before keep their rows and values
     before_kept : (y : Func) (j : ℕ) → j < i → FuncBefore y rows values places w j → FuncBefore y rows' values' (set places (i + 1) x) (w + n) j
     before_kept y j l b =
-        let q = b.row in
+        let had = b.row in
         let p₀ : get_or (set places (i + 1) x) j 0 ≡ get_or places j 0 = get_or-set_other places (i + 1) j x 0 (λ z. omega arith) in
         let p₁ : get_or (set places (i + 1) x) (j + 1) 0 ≡ get_or places (j + 1) 0 = get_or-set_other places (i + 1) (j + 1) x 0 (λ z. omega arith) in
-        let few = q.few in
-        let last = q.values_end in
+        let few = had.few in
+        let last = had.values_end in
         let ends = b.ends in
         record {
           row = record {
-            some_sort = q.some_sort;
+            some_sort = had.some_sort;
             few = few;
-            takes = sorts_kept (4 * i) rows rows' y.takes (func_width * j) k (omega arith) q.takes;
-            gives = kept_at (4 * i) rows rows' (func_width * j + 3) k (omega arith) ∙ q.gives;
-            values_are = (drop (length y.values) (drop (get_or places j 0) values'), rw p₀ (part_kept w values values' (get_or places j 0) y.values q.values_are.0 kv q.values_are.1 (omega arith)));
+            takes = sorts_kept (4 * i) rows rows' y.takes (func_width * j) k (omega arith) had.takes;
+            gives = kept_at (4 * i) rows rows' (func_width * j + 3) k (omega arith) ∙ had.gives;
+            values_are = (drop (length y.values) (drop (get_or places j 0) values'), rw p₀ (part_kept w values values' (get_or places j 0) y.values had.values_are.0 kv had.values_are.1 (omega arith)));
             values_end = p₁ ∙ (last ∙ ap (λ (m : ℕ). m + length y.values) (sym p₀));
           };
           ends = omega arith;
@@ -130,13 +130,13 @@ module _ (s cells sorts lines : List ℕ) where
         let small = every_at SmallValues ls i y (drop (i + 1) ls) v d in
         let size = kv.same in
         let G = g N ls ns l f v (omega arith) in
-        let (z, e, t) = answered_yes (λ z. FuncRow z y (symbols s cells) at.0 rows' (4 * i) r.at) (resolve_func N y) r.ok (a N y at.0 ns at.1 formed) o in
+        let (z, e, t) = gives_some (λ z q. FuncRow z y (symbols s cells) at.0 rows' (4 * i) q) (resolve_func N y) q (a N y at.0 ns at.1 formed) in
         let left : length (all_values (drop i ls)) ≡ length y.values + length (all_values (drop (i + 1) ls)) = ap (λ (m : List FuncLine). length (all_values m)) d ∙ length-append y.values (all_values (drop (i + 1) ls)) in
         let room = G.room in
-        let count = count_is s cells enc_numeral 1 (λ u. refl) y.values r.at (length values - w) at.0 t.next in
+        let count = count_is s cells enc_numeral 1 (λ u. refl) y.values q (length values - w) at.0 t.next in
         let n_is : n ≡ length y.values = omega arith in
-        let vals : map byte_of (item_values cells r.at n) ≡ z.values
-        = ap (λ (m : ℕ). map byte_of (item_values cells r.at m)) n_is ∙ (ap (map byte_of) (values_are s cells y.values r.at at.0 t.next) ∙ (bytes_small y.values small ∙ sym t.values)) in
+        let vals : map byte_of (item_values cells q n) ≡ z.values
+        = ap (λ (m : ℕ). map byte_of (item_values cells q m)) n_is ∙ (ap (map byte_of) (values_are s cells y.values q at.0 t.next) ∙ (bytes_small y.values small ∙ sym t.values)) in
         let p₀ : get_or (set places (i + 1) x) i 0 ≡ w = get_or-set_other places (i + 1) i x 0 (λ u. omega arith) ∙ here in
         let p₁ : get_or (set places (i + 1) x) (i + 1) 0 ≡ x = get_or-set_same places (i + 1) x 0 fits in
         let arity = t.arity in

@@ -2,6 +2,7 @@
 use mathlib.Core.Path.{◌≡◌, refl, sym, ◌∙◌, ap}
 use mathlib.Core.List.{List, [], ◌∷◌}
 use mathlib.Core.Bool.{Bool, true, false}
+use Rattle.std.specs.Prelude.{Some, None}
 use mathlib.Core.Option.{Option, none, some}
 use Prim.Native.Nat.{ℕ, zero, suc, ◌+◌, ◌<◌}
 use native.Mathlib.Numerals.{add-one}
@@ -10,7 +11,7 @@ use lib.ListN.{length, drop, get_or}
 use lib.Seq.{get_or-take}
 use Rattle.pcrl.specs.Tests.{Every, Each}
 use Rattle.nodes.specs.Held.{SortsAt}
-use Rattle.names.specs.Rows.{Kept, Answers}
+use Rattle.names.specs.Rows.{Kept, Answers, Gives}
 
 pub kept_at : (p : ℕ) (l l' : List ℕ) (q : ℕ) → Kept p l l' → q < p → get_or l' q 0 ≡ get_or l q 0
 kept_at p l l' q k h = sym (get_or-take p l' q 0 h) ∙ (ap (λ (m : List ℕ). get_or m q 0) k.before ∙ get_or-take p l q 0 h)
@@ -29,6 +30,15 @@ answered_no X (some x) ok a e = let h = a.0 in absurd (let z : ◌≡◌ {A = �
 pub answered_yes : {A : Type 0} (X : A → Type 0) (o : Option A) (ok : Bool) → Answers X o ok → ok ≡ true → (x : A) × (o ≡ some x) × X x
 answered_yes X none ok a e = absurd (let z : ◌≡◌ {A = ℕ} 0 1 = cc in omega arith)
 answered_yes X (some x) ok a e = (x, refl, a.1)
+
+-- and one that is a value, or none
+pub gives_none : {A B : Type 0} (X : A → B → Type 0) (o : Option A) → Gives X o None → o ≡ none
+gives_none X none g = refl
+gives_none X (some x) g = absurd g
+
+pub gives_some : {A B : Type 0} (X : A → B → Type 0) (o : Option A) (b : B) → Gives X o (Some b) → (x : A) × (o ≡ some x) × X x b
+gives_some X none b g = absurd g
+gives_some X (some x) b g = (x, refl, g)
 
 -- the line at the i-th place, and those behind it
 pub each_next : {B : Type 0} (R : ℕ → B → Type 0) (l : List ℕ) (m : List B) (i : ℕ) → Each R l m → i < length l

@@ -1,4 +1,5 @@
 -- A name's key, byte by byte of its run; names that are looked up by their keys; what is left of a list of names.
+use Rattle.std.specs.Prelude.{Some, None}
 use mathlib.Core.Path.{◌≡◌, refl, sym, ◌∙◌, ap}
 use mathlib.Core.List.{List, [], ◌∷◌, map}
 use mathlib.Core.Logic.{⊎_elim}
@@ -11,7 +12,7 @@ use Rattle.pcrl.specs.Tree.{Name}
 use Rattle.pcrl.specs.Names.{number_of}
 use Rattle.laws.specs.Places.{take_none}
 use Rattle.lexer.specs.Cells.{first_name}
-use Rattle.names.specs.NameCells.{name_at, scope_at, or_count, shown}
+use Rattle.names.specs.NameCells.{name_at, scope_at, found, shown}
 use Rattle.names.specs.NameKeys.{key_count, mix, key_on, key_of, FirstFrom, Keyed, names_from}
 use Rattle.names.proofs.Runs.{run_at, run_ends, run_from}
 use Rattle.names.proofs.Numbers.{Searched, search_starts, search_finds, search_goes, search_ends}
@@ -90,13 +91,13 @@ module _ (s names : List ℕ) where
         along_goes j f d =
             along_from (i + 1) j (rw (f, ← A.own less) (K.next_of i less)) λ m l b e. ⊎_elim (λ h. d (omega arith, e ∙ ap (λ (n : ℕ). name_at s (get_or names n 0)) h)) (λ h. A.others m l h e) (eq-or-lt_of_le {n = lo + m} {m = i} (omega arith))
 
-        pub along_finds : (lo ≤ i) × (x ≡ name_at s (get_or names i 0)) → i - lo ≡ or_count count (number_of x (names_from s names lo count))
+        pub along_finds : (lo ≤ i) × (x ≡ name_at s (get_or names i 0)) → Some (i - lo) ≡ found (number_of x (names_from s names lo count))
         unfolding scope_at
         along_finds f =
             let z : lo + (i - lo) ≡ i = let h = f.0 in omega arith in
             search_finds (name_at s) (drop lo names) count room_from x (i - lo) (let h = f.0 in omega arith) (others_passed (i - lo) (omega arith) (rw z A.others)) (f.1 ∙ ap (name_at s) (ap (λ (n : ℕ). get_or names n 0) (sym z) ∙ sym (get_or-drop lo names (i - lo) 0)))
 
-      pub along_ends : (i : ℕ) → lo + count ≤ i → Along lo count x i → count ≡ or_count count (number_of x (names_from s names lo count))
+      pub along_ends : (i : ℕ) → lo + count ≤ i → Along lo count x i → None ≡ found (number_of x (names_from s names lo count))
       unfolding scope_at
       along_ends i h A = search_ends (name_at s) (drop lo names) count room_from x count (omega arith) (omega arith) (others_passed count (omega arith) (λ j l b. A.others j l (omega arith)))
 

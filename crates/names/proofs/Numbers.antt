@@ -1,6 +1,7 @@
 -- The place of a name in a list, found by going through the list: the first i elements are others.
 use mathlib.Core.Path.{◌≡◌, refl, sym, ◌∙◌, ap}
 use mathlib.Core.List.{List, [], ◌∷◌, ◌++◌, map}
+use Rattle.std.specs.Prelude.{Option as Given, Some, None}
 use mathlib.Core.Option.{Option, none, some}
 use mathlib.Core.Logic.{◌⊎◌, inl, inr, ⊎_elim}
 use Prim.Native.Nat.{ℕ, suc, ◌+◌, ◌-◌, ◌≤◌, ◌<◌}
@@ -13,7 +14,7 @@ use Rattle.pcrl.specs.Tree.{Name}
 use Rattle.pcrl.specs.Names.{number_of}
 use Rattle.pcrl.specs.Maybe.{◌>>=◌}
 use Rattle.laws.specs.Numbers.{number_below}
-use Rattle.names.specs.NameCells.{or_count}
+use Rattle.names.specs.NameCells.{or_count, found}
 use Rattle.names.proofs.Lists.{mapped_length, mapped_at}
 
 -- the number of x among n names, or n
@@ -41,8 +42,13 @@ elsewhere n x y l d = go (same? x y)
     go (no h) = counted_on n (number_of x l)
 
 -- the name at the front
-pub found_first : (n : ℕ) (x y : Name) (l : List Name) → x ≡ y → 0 ≡ number_in n x (y ∷ l)
-found_first n x y l e = sym (here n x y l e)
+pub found_first : (x y : Name) (l : List Name) → x ≡ y → Some 0 ≡ found (number_of x (y ∷ l))
+unfolding number_of
+found_first x y l e = go (same? x y)
+  where
+    go : (t : Dec (x ≡ y)) → ◌≡◌ {A = Given ℕ} (Some 0) (found (elim t [ yes e ↦ some 0 | no h ↦ ◌>>=◌ (number_of x l) (λ n. some (suc n)) ]))
+    go (yes z) = refl
+    go (no h) = absurd (h e)
 
 -- i names were passed; what is left says where x is
 abbrev pub Passed : ℕ → Name → List Name → ℕ → Type 0
@@ -70,24 +76,6 @@ module _ (n : ℕ) (x : Name) (l : List Name) (many : length l ≡ n) where
       let f : number_in (n - i) x (drop i l) ≡ n - i = rw (drop_of_length-le l {i = i} (omega arith)) in
       omega arith
 
--- a name among those of the first n cells
-module _ (f : ℕ → Name) (cells : List ℕ) (n : ℕ) (room : n ≤ length cells) where
-  module _ (x : Name) where
-    abbrev pub Searched : ℕ → Type 0
-    Searched i = Passed n x (map f (take n cells)) i
-
-    pub search_starts : Searched 0
-    search_starts = passed_none n x (map f (take n cells)) (mapped_length f cells n room)
-
-    pub search_finds : (i : ℕ) → i < n → Searched i → x ≡ f (get_or cells i 0) → i ≡ number_in n x (map f (take n cells))
-    search_finds i h p e = passed_here n x (map f (take n cells)) (mapped_length f cells n room) i h p (e ∙ sym (mapped_at f cells n room i [] h))
-
-    pub search_goes : (i : ℕ) → i < n → Searched i → (x ≡ f (get_or cells i 0) → ⊥) → Searched (i + 1)
-    search_goes i h p d = passed_on n x (map f (take n cells)) (mapped_length f cells n room) i h p (λ e. d (e ∙ mapped_at f cells n room i [] h))
-
-    pub search_ends : (i : ℕ) → n ≤ i → i ≤ n → Searched i → n ≡ number_in n x (map f (take n cells))
-    search_ends i h k p = passed_all n x (map f (take n cells)) (mapped_length f cells n room) i h k p
-
 -- a number below n was found
 pub found_some : (n : ℕ) (o : Option ℕ) (i : ℕ) → i ≡ or_count n o → i < n → o ≡ some i
 found_some n none i e h = absurd (omega arith)
@@ -100,6 +88,57 @@ found_none n x l i h e k = go (number_of x l) refl
     go : (o : Option ℕ) → number_of x l ≡ o → number_of x l ≡ none
     go none z = z
     go (some j) z = let b = number_below x l j z in let w : number_in n x l ≡ j = rw z in absurd (omega arith)
+
+-- what code gives for a number below n, and for none
+pub some_found : (n : ℕ) (o : Option ℕ) (i : ℕ) → i ≡ or_count n o → i < n → Some i ≡ found o
+some_found n o i e h = ap found (sym (found_some n o i e h))
+
+pub none_found : (n : ℕ) (x : Name) (l : List Name) (i : ℕ) → length l ≤ n → i ≡ number_in n x l → n ≤ i → None ≡ found (number_of x l)
+none_found n x l i h e k = ap found (sym (found_none n x l i h e k))
+
+-- what is there, where code gives a number, and where it gives none
+pub is_found : (o : Option ℕ) (i : ℕ) → Some i ≡ found o → o ≡ some i
+is_found none i e = absurd (cc)
+is_found (some j) i e = let z : i ≡ j = cc in ap some (sym z)
+
+pub not_found : (o : Option ℕ) → None ≡ found o → o ≡ none
+not_found none e = refl
+not_found (some j) e = absurd (cc)
+
+-- one more than the number among those behind the first
+pub found_next : (x y : Name) (l : List Name) (i : ℕ) → (x ≡ y → ⊥) → Some i ≡ found (number_of x l) → Some (i + 1) ≡ found (number_of x (y ∷ l))
+unfolding number_of
+found_next x y l i d e = go (same? x y)
+  where
+    go : (t : Dec (x ≡ y)) → ◌≡◌ {A = Given ℕ} (Some (i + 1)) (found (elim t [ yes e ↦ some 0 | no h ↦ ◌>>=◌ (number_of x l) (λ n. some (suc n)) ]))
+    go (yes z) = absurd (d z)
+    go (no h) = rw (is_found (number_of x l) i e) (rw (add-one i) refl)
+
+pub found_nowhere : (x y : Name) (l : List Name) → (x ≡ y → ⊥) → None ≡ found (number_of x l) → None ≡ found (number_of x (y ∷ l))
+unfolding number_of
+found_nowhere x y l d e = go (same? x y)
+  where
+    go : (t : Dec (x ≡ y)) → ◌≡◌ {A = Given ℕ} None (found (elim t [ yes e ↦ some 0 | no h ↦ ◌>>=◌ (number_of x l) (λ n. some (suc n)) ]))
+    go (yes z) = absurd (d z)
+    go (no h) = rw (not_found (number_of x l) e)
+
+-- a name among those of the first n cells
+module _ (f : ℕ → Name) (cells : List ℕ) (n : ℕ) (room : n ≤ length cells) where
+  module _ (x : Name) where
+    abbrev pub Searched : ℕ → Type 0
+    Searched i = Passed n x (map f (take n cells)) i
+
+    pub search_starts : Searched 0
+    search_starts = passed_none n x (map f (take n cells)) (mapped_length f cells n room)
+
+    pub search_finds : (i : ℕ) → i < n → Searched i → x ≡ f (get_or cells i 0) → Some i ≡ found (number_of x (map f (take n cells)))
+    search_finds i h p e = some_found n _ i (passed_here n x (map f (take n cells)) (mapped_length f cells n room) i h p (e ∙ sym (mapped_at f cells n room i [] h))) h
+
+    pub search_goes : (i : ℕ) → i < n → Searched i → (x ≡ f (get_or cells i 0) → ⊥) → Searched (i + 1)
+    search_goes i h p d = passed_on n x (map f (take n cells)) (mapped_length f cells n room) i h p (λ e. d (e ∙ mapped_at f cells n room i [] h))
+
+    pub search_ends : (i : ℕ) → n ≤ i → i ≤ n → Searched i → None ≡ found (number_of x (map f (take n cells)))
+    search_ends i h k p = let many = mapped_length f cells n room in none_found n x (map f (take n cells)) n (omega arith) (passed_all n x (map f (take n cells)) many i h k p) (omega arith)
 
 -- A name among some and those behind them: it is one of the first, or its number there is counted on.
 abbrev Joined : ℕ → Name → List Name → List Name → Type 0

@@ -2,6 +2,7 @@
 use mathlib.Core.Path.{◌≡◌, refl, sym, ◌∙◌, ap}
 use mathlib.Core.List.{List, [], ◌∷◌, ◌++◌, append-nil, append_assoc, map-append}
 use mathlib.Core.Bool.{Bool, true, false}
+use Rattle.std.specs.Prelude.{Some, None}
 use mathlib.Core.Option.{Option, none, some}
 use mathlib.Core.Logic.{⊎_elim}
 use Prim.Native.Nat.{ℕ, zero, suc, ◌+◌, ◌*◌, ◌≤◌, ◌<◌}
@@ -27,7 +28,6 @@ use Rattle.names.specs.NameKinds.{total_of, sorts_in}
 use Rattle.names.specs.Rows.{ParamsRead}
 use Rattle.names.proofs.Symbols.{name_is, symbols_behind}
 use Rattle.names.proofs.Items.{count_is, item_first, items_later, items_behind}
-use Rattle.names.proofs.Numbers.{number_in, found_some, found_none}
 use Rattle.names.proofs.SortRow.{Numbered}
 
 -- the sorts before those of the parameters left
@@ -118,36 +118,36 @@ module _ (s cells names : List ℕ) (kinds : Kinds) (at : ℕ) where
   module _ (rows scope : List ℕ) (m k v : ℕ) (t : Bool) (g : ParamsGone rows scope k) (many : m ≡ item_count cells 3 at frame_width) (less : k < m) (there : v ≡ get_or cells (at + 3 * k + 1) 0)
       (new : t ≡ and (negated (among (name_at s v) (bytes "Bool" ∷ scope_at s names (total_of kinds)))) (negated (among (name_at s v) (scope_at s scope k)))) where
     -- the name is not new
-    pub params_old : (rows' scope' : List ℕ) (r : Params) → t ≡ false → r.ok ≡ false → ParamsRead s cells names kinds at rows' scope' r
-    params_old rows' scope' r f o N ps rest e d a h =
+    pub params_old : (rows' scope' : List ℕ) → t ≡ false → ParamsRead s cells names kinds at rows' scope' None
+    params_old rows' scope' f N ps rest e d a h =
         let l = params_many ps m rest many h a in
         let b = param_at ps k rest (omega arith) a in
         let G = g N ps rest e d a h in
         let w = is_new N (scope_at s scope k) v b.param.0 t d (ap (name_at s) there ∙ b.name_there) new ∙ f in
         let z : resolve_params N [] ps ≡ none = G.whole ∙ ap (before G.done) (ap (resolve_params N (scope_at s scope k)) b.next ∙ old_name N (scope_at s scope k) b.param (drop (k + 1) ps) w) in
-        rw z o
+        rw z tt
 
-    module _ (q D : ℕ) (few : length (sorts_in s names kinds) ≤ q) (f : t ≡ true) (number : D ≡ number_in q (name_at s (get_or cells (at + 3 * k + 2) 0)) (sorts_in s names kinds)) where
+    module _ (f : t ≡ true) where
       -- its sort is none
-      pub params_no_sort : (rows' scope' : List ℕ) (r : Params) → q ≤ D → r.ok ≡ false → ParamsRead s cells names kinds at rows' scope' r
-      params_no_sort rows' scope' r u o N ps rest e d a h =
+      pub params_no_sort : (rows' scope' : List ℕ) → number_of (name_at s (get_or cells (at + 3 * k + 2) 0)) (sorts_in s names kinds) ≡ none → ParamsRead s cells names kinds at rows' scope' None
+      params_no_sort rows' scope' number N ps rest e d a h =
           let l = params_many ps m rest many h a in
           let b = param_at ps k rest (omega arith) a in
           let G = g N ps rest e d a h in
           let w = is_new N (scope_at s scope k) v b.param.0 t d (ap (name_at s) there ∙ b.name_there) new ∙ f in
-          let x : number_of b.param.1 N.sorts ≡ none = rw (e, ← b.sort_there) (found_none q (name_at s (get_or cells (at + 3 * k + 2) 0)) (sorts_in s names kinds) D few number u) in
+          let x : number_of b.param.1 N.sorts ≡ none = rw (e, ← b.sort_there) number in
           let z : resolve_params N [] ps ≡ none = G.whole ∙ ap (before G.done) (ap (resolve_params N (scope_at s scope k)) b.next ∙ no_sort N (scope_at s scope k) b.param (drop (k + 1) ps) w x) in
-          rw z o
+          rw z tt
 
       -- one more
-      pub params_go : (j : ℕ) → D < q → k < length scope → j ≡ 1 + k → j < length rows → ParamsGone (set rows j D) (set scope k v) (k + 1)
-      params_go j u c hj room N ps rest e d a h =
+      pub params_go : (j D : ℕ) → number_of (name_at s (get_or cells (at + 3 * k + 2) 0)) (sorts_in s names kinds) ≡ some D → k < length scope → j ≡ 1 + k → j < length rows → ParamsGone (set rows j D) (set scope k v) (k + 1)
+      params_go j D number c hj room N ps rest e d a h =
           let l = params_many ps m rest many h a in
           let b = param_at ps k rest (omega arith) a in
           let G = g N ps rest e d a h in
           let vx = ap (name_at s) there ∙ b.name_there in
           let w = is_new N (scope_at s scope k) v b.param.0 t d vx new ∙ f in
-          let x : number_of b.param.1 N.sorts ≡ some D = rw (e, ← b.sort_there) (found_some q (number_of (name_at s (get_or cells (at + 3 * k + 2) 0)) (sorts_in s names kinds)) D number u) in
+          let x : number_of b.param.1 N.sorts ≡ some D = rw (e, ← b.sort_there) number in
           let sc : scope_at s scope k ++ (b.param.0 ∷ []) ≡ scope_at s (set scope k v) (k + 1) = ap (λ (y : Name). scope_at s scope k ++ (y ∷ [])) (sym vx) ∙ sym (scope_more s scope k v c) in
           record {
             done = G.done ++ (D ∷ []);
@@ -165,10 +165,10 @@ module _ (s cells names : List ℕ) (kinds : Kinds) (at : ℕ) where
               (eq-or-lt_of_le {n = i} {m = k} (omega arith))
 
   -- all of them
-  pub params_end : (rows scope : List ℕ) (k m : ℕ) (r : Params) → m ≡ item_count cells 3 at frame_width → k ≡ m → 0 < length rows → ParamsGone rows scope k → r.ok ≡ true → r.count ≡ m → r.at ≡ at + 3 * m + 1
-      → ParamsRead s cells names kinds at (set rows 0 m) scope r
+  pub params_end : (rows scope : List ℕ) (k m : ℕ) (r : Params) → m ≡ item_count cells 3 at frame_width → k ≡ m → 0 < length rows → ParamsGone rows scope k → r.count ≡ m → r.at ≡ at + 3 * m + 1
+      → ParamsRead s cells names kinds at (set rows 0 m) scope (Some r)
   unfolding resolve_params
-  params_end rows scope k m r many km room g o c i N ps rest e d a h =
+  params_end rows scope k m r many km room g c i N ps rest e d a h =
       let l = params_many ps m rest many h a in
       let G = g N ps rest e d a h in
       let z : drop k ps ≡ [] = drop_of_length-le ps {i = k} (omega arith) in
@@ -176,15 +176,12 @@ module _ (s cells names : List ℕ) (kinds : Kinds) (at : ℕ) where
       let dn = append-nil G.done in
       let gm = G.many in
       let u : resolve_params N [] ps ≡ some (scope_at s scope k, G.done) = w ∙ ap (λ (y : List ℕ). some (scope_at s scope k, y)) dn in
-      rw u (
-        o,
-        record {
-          many = c ∙ (sym km ∙ sym gm);
-          scoped = ap (scope_at s scope) (c ∙ sym km);
-          sorts = record {
-            many = get_or-set_same rows 0 m 0 room ∙ (sym km ∙ sym gm);
-            each = λ i t. get_or-set_other rows 0 (1 + i) m 0 (λ x. omega arith) ∙ G.held i (omega arith);
-          };
-          next = items_behind s cells enc_param 2 (λ x. refl) ps at r.at rest (omega arith) a;
-        },
-      )
+      rw u (record {
+        many = c ∙ (sym km ∙ sym gm);
+        scoped = ap (scope_at s scope) (c ∙ sym km);
+        sorts = record {
+          many = get_or-set_same rows 0 m 0 room ∙ (sym km ∙ sym gm);
+          each = λ i t. get_or-set_other rows 0 (1 + i) m 0 (λ x. omega arith) ∙ G.held i (omega arith);
+        };
+        next = items_behind s cells enc_param 2 (λ x. refl) ps at r.at rest (omega arith) a;
+      })

@@ -1,7 +1,8 @@
 -- A row of sorts' numbers: each is written behind those before it, and their count at the front at last.
 use mathlib.Core.Path.{◌≡◌, refl, sym, ◌∙◌}
 use mathlib.Core.List.{List, ◌∷◌}
-use mathlib.Core.Bool.{true, false}
+use mathlib.Core.Option.{none, some}
+use Rattle.std.specs.Prelude.{Some, None}
 use Prim.Native.Nat.{ℕ, ◌+◌, ◌≤◌, ◌<◌}
 use native.Mathlib.Omega.{arith}
 use lib.ListN.{length, drop, get_or, set, length-set}
@@ -10,10 +11,9 @@ use Rattle.pcrl.specs.Tree.{Name}
 use Rattle.pcrl.specs.Names.{number_of}
 use Rattle.nodes.specs.Held.{SortsAt}
 use Rattle.names.specs.NameCells.{declared_at, names_at}
-use Rattle.names.specs.Rows.{Kept, Answers, sorts_at, numbered}
+use Rattle.names.specs.Rows.{Kept, Gives, sorts_at, numbered}
 use Rattle.names.proofs.Lists.{mapped_length}
-use Rattle.names.proofs.Numbers.{number_in, found_some, found_none}
-use Rattle.names.proofs.Filled.{Gone, gone_none, gone_stops, gone_goes, gone_ends}
+use Rattle.names.proofs.Filled.{Gone, gone_none, gone_stops, gone_goes, gone_gives}
 
 pub kept_all : (p : ℕ) (l : List ℕ) → Kept p l l
 kept_all p l = record { same = refl; before = refl }
@@ -33,22 +33,21 @@ module _ (sorts : List Name) where
   pub row_starts : (rows : List ℕ) (p : ℕ) (xs : List Name) → RowGone rows p xs 0
   row_starts rows p xs = gone_none (λ x. number_of x sorts) 0 (Numbered rows p) xs
 
-  pub row_stops : (X : List ℕ → Type 0) (rows : List ℕ) (p : ℕ) (xs m : List Name) (k : ℕ) (x : Name) (n i : ℕ) → length sorts ≤ n → RowGone rows p xs k → drop k xs ≡ x ∷ m
-      → i ≡ number_in n x sorts → n ≤ i → Answers X (numbered sorts xs) false
-  row_stops X rows p xs m k x n i l g e h o =
-      gone_stops (λ x. number_of x sorts) 0 (Numbered rows p) X xs m k x false g e (found_none n x sorts i l h o) refl
+  pub row_stops : (X : List ℕ → ℕ → Type 0) (rows : List ℕ) (p : ℕ) (xs m : List Name) (k : ℕ) (x : Name) → RowGone rows p xs k → drop k xs ≡ x ∷ m
+      → number_of x sorts ≡ none → Gives X (numbered sorts xs) None
+  row_stops X rows p xs m k x g e h = rw (gone_stops (λ x. number_of x sorts) 0 (Numbered rows p) xs m k x g e h) tt
 
-  pub row_goes : (rows : List ℕ) (p : ℕ) (xs : List Name) (k q : ℕ) (x : Name) (n i : ℕ) → q ≡ p + 1 + k → q < length rows → RowGone rows p xs k → drop k xs ≡ x ∷ drop (k + 1) xs
-      → i ≡ number_in n x sorts → i < n → RowGone (set rows q i) p xs (k + 1)
-  row_goes rows p xs k q x n i hq room g e h o =
-      gone_goes (λ x. number_of x sorts) 0 (Numbered rows p) (Numbered (set rows q i) p) xs k x i g e (found_some n (number_of x sorts) i h o)
+  pub row_goes : (rows : List ℕ) (p : ℕ) (xs : List Name) (k q : ℕ) (x : Name) (i : ℕ) → q ≡ p + 1 + k → q < length rows → RowGone rows p xs k → drop k xs ≡ x ∷ drop (k + 1) xs
+      → number_of x sorts ≡ some i → RowGone (set rows q i) p xs (k + 1)
+  row_goes rows p xs k q x i hq room g e h =
+      gone_goes (λ x. number_of x sorts) 0 (Numbered rows p) (Numbered (set rows q i) p) xs k x i g e h
       (λ D j l z. get_or-set_other rows q (p + 1 + j) i 0 (λ w. omega arith) ∙ z)
       (rw (← hq) (get_or-set_same rows q i 0 room))
 
-  pub row_ends : (X : List ℕ → Type 0) (rows : List ℕ) (p : ℕ) (xs : List Name) (k : ℕ) → p < length rows → RowGone rows p xs k → length xs ≤ k
-      → ((Ds : List ℕ) → length Ds ≡ k → SortsAt Ds (set rows p k) p → X Ds) → Answers X (numbered sorts xs) true
-  row_ends X rows p xs k room g l x =
-      gone_ends (λ x. number_of x sorts) 0 (Numbered rows p) X xs k true g l refl
+  pub row_ends : (X : List ℕ → ℕ → Type 0) (rows : List ℕ) (p : ℕ) (xs : List Name) (k q : ℕ) → p < length rows → RowGone rows p xs k → length xs ≤ k
+      → ((Ds : List ℕ) → length Ds ≡ k → SortsAt Ds (set rows p k) p → X Ds q) → Gives X (numbered sorts xs) (Some q)
+  row_ends X rows p xs k q room g l x =
+      gone_gives (λ x. number_of x sorts) 0 (Numbered rows p) X xs k q g l
       (λ Ds n h. x Ds n (record {
         many = get_or-set_same rows p k 0 room ∙ sym n;
         each = λ i o. get_or-set_other rows p (p + 1 + i) k 0 (λ w. omega arith) ∙ h i (omega arith);

@@ -1,6 +1,6 @@
 -- A name's cell stands for the run of name bytes at its place in the sheet. Declared names are found through the places of their lines.
-use Rattle.std.specs.Prelude.{List, map, true, false, ℕ, ◌+◌, ◌-◌, min, take, drop, get_or}
-use Rattle.std.proofs.Math.Option.{Option, none, some}
+use Rattle.std.specs.Prelude.{List, map, true, false, ℕ, ◌+◌, ◌-◌, min, Option, Some, None, take, drop, get_or}
+use Rattle.std.proofs.Math.Option as O
 use Rattle.pcrl.specs.Limits.{max_numeral}
 use Rattle.pcrl.specs.Bytes.{name_byte}
 use Rattle.pcrl.specs.Tokens.{front}
@@ -27,9 +27,14 @@ unfoldable pub scope_at : List ℕ → List ℕ → ℕ → List Name
 scope_at s scope n = map (name_at s) (take n scope)
 
 -- a number that was found, or n
-abbrev pub or_count : ℕ → Option ℕ → ℕ
-or_count n none = n
-or_count n (some i) = i
+abbrev pub or_count : ℕ → O.Option ℕ → ℕ
+or_count n O.none = n
+or_count n (O.some i) = i
+
+-- a value that was found, as code has it
+abbrev pub found : {A : Type 0} → O.Option A → Option A
+found O.none = None
+found (O.some a) = Some a
 
 -- a byte that names have, or 0
 unfoldable pub shown : ℕ → ℕ

@@ -1,6 +1,6 @@
 -- The signature's rows: what is written for a list of sorts, for the lines of a kind, and for a process's parameters.
-use Rattle.std.specs.Prelude.{◌≡◌, List, [], ◌∷◌, ◌++◌, Bool, true, false, ℕ, ◌+◌, ◌≤◌, ◌<◌, length, take, drop, get_or}
-use Rattle.std.proofs.Math.Option.{Option, none, some}
+use Rattle.std.specs.Prelude.{◌≡◌, List, [], ◌∷◌, ◌++◌, Bool, true, false, ℕ, ◌+◌, ◌≤◌, ◌<◌, Option, Some, None, length, take, drop, get_or}
+use Rattle.std.proofs.Math.Option as O
 use Rattle.pcrl.specs.Text.{bytes}
 use Rattle.pcrl.specs.Limits.{max_numeral, frame_width}
 use Rattle.pcrl.specs.Tests.{Every}
@@ -16,7 +16,6 @@ use Rattle.names.specs.NameCells.{names_at, scope_at}
 use Rattle.names.specs.NameKinds.{total_of, sorts_in}
 use Rattle.names.specs.Standing.{symbols, LinesAt}
 use Rattle.names.specs.declared.Kinds.{Kinds}
-use Rattle.names.specs.declared.Row.{Row}
 use Rattle.names.specs.declared.Params.{Params}
 
 -- the names of the sorts, Bool first
@@ -29,16 +28,23 @@ pub record Kept (p : ℕ) (l l' : List ℕ) : Type 0 where
   pub before : take p l' ≡ take p l
 
 -- the answer to whether there are values, and what holds of them
-abbrev pub Answers : {A : Type 0} → (A → Type 0) → Option A → Bool → Type 0
-Answers P none ok = ok ≡ false
-Answers P (some a) ok = (ok ≡ true) × P a
+abbrev pub Answers : {A : Type 0} → (A → Type 0) → O.Option A → Bool → Type 0
+Answers P O.none ok = ok ≡ false
+Answers P (O.some a) ok = (ok ≡ true) × P a
+
+-- the same where the answer is itself a value: none is given, or P holds of both
+abbrev pub Gives : {A B : Type 0} → (A → B → Type 0) → O.Option A → Option B → Type 0
+Gives P O.none None = Unit {0}
+Gives P (O.some a) (Some b) = P a b
+Gives P O.none (Some b) = ⊥
+Gives P (O.some a) None = ⊥
 
 -- each value has its row
 abbrev pub InRows : {A : Type 0} → A → (A → ℕ → Type 0) → List A → Type 0
 InRows d P as' = (i : ℕ) → i < length as' → P (get_or as' i d) i
 
 -- the sorts that some names have
-abbrev pub numbered : List Name → List Name → Option (List ℕ)
+abbrev pub numbered : List Name → List Name → O.Option (List ℕ)
 numbered sorts xs = for_each (λ x. number_of x sorts) xs
 
 -- what is written of an action's line
@@ -54,9 +60,9 @@ pub record FuncRow (g : Func) (l : FuncLine) (m rest : List Symbol) (rows : List
   pub arity : length g.takes ≡ length l.takes
   pub next : drop at m ≡ enc_items enc_numeral l.values ++ rest
 
-abbrev pub FuncRead : (s cells sorts : List ℕ) (at : ℕ) (rows : List ℕ) (p : ℕ) → Row → Type 0
+abbrev pub FuncRead : (s cells sorts : List ℕ) (at : ℕ) (rows : List ℕ) (p : ℕ) → Option ℕ → Type 0
 FuncRead s cells sorts at rows p r = (N : Names) (l : FuncLine) (rest : List Symbol) → N.sorts ≡ sorts_at s cells sorts → drop at (symbols s cells) ≡ enc_func l ++ rest → FormedFunc l
-    → Answers (λ g. FuncRow g l (symbols s cells) rest rows p r.at) (resolve_func N l) r.ok
+    → Gives (λ g q. FuncRow g l (symbols s cells) rest rows p q) (resolve_func N l) r
 
 -- numerals as a lexer reads them
 abbrev pub SmallValues : FuncLine → Type 0
@@ -75,8 +81,8 @@ pub record ParamRow (s : List ℕ) (x : List Name × List ℕ) (m rest : List Sy
   pub sorts : SortsAt x.1 row 0
   pub next : drop r.at m ≡ rest
 
-abbrev pub ParamsRead : (s cells names : List ℕ) (kinds : Kinds) (at : ℕ) (row scope : List ℕ) → Params → Type 0
+abbrev pub ParamsRead : (s cells names : List ℕ) (kinds : Kinds) (at : ℕ) (row scope : List ℕ) → Option Params → Type 0
 ParamsRead s cells names kinds at row scope r =
     (N : Names) (ps : List (Name × Name)) (rest : List Symbol) → N.sorts ≡ sorts_in s names kinds → declared N ≡ bytes "Bool" ∷ scope_at s names (total_of kinds)
     → drop at (symbols s cells) ≡ enc_items enc_param ps ++ rest → length ps ≤ frame_width
-    → Answers (λ x. ParamRow s x (symbols s cells) rest row scope r) (resolve_params N [] ps) r.ok
+    → Gives (λ x p. ParamRow s x (symbols s cells) rest row scope p) (resolve_params N [] ps) r

@@ -1,11 +1,11 @@
 // Names by their cells: compared byte by byte, and looked up among those that lines declare.
-ghost use Rattle.std.specs.Prelude.{◌≡◌, ◌∷◌, suc, ◌+◌, ◌-◌, ◌≤◌, ◌<◌, length, get_or};
+ghost use Rattle.std.specs.Prelude.{◌≡◌, ◌∷◌, ◌+◌, ◌-◌, ◌≤◌, ◌<◌, IfSome, length, get_or};
 ghost use Rattle.pcrl.specs.Text.{bytes};
 ghost use Rattle.pcrl.specs.Names.{number_of};
 ghost use Rattle.laws.specs.Says.{Says};
 ghost use Rattle.lexer.specs.Cells.{first_name};
 ghost use Rattle.nodes.specs.Layout.{cell_limit};
-ghost use Rattle.names.specs.NameCells.{name_at, names_at, scope_at, or_count, shown};
+ghost use Rattle.names.specs.NameCells.{name_at, names_at, scope_at, found, shown};
 
 use elements::{peek, wide};
 use lexer::FIRST_NAME;
@@ -93,31 +93,44 @@ pub fn is_bool(s: &[u8], a: u16) -> bool
     true
 }
 
-// The first of the lines at these places that declares the name of cell c, or how many there are.
-pub fn number_of(s: &[u8], cells: &[u16], places: &[u16], count: usize, c: u16) -> usize
+// The first of the lines at these places that declares the name of cell c.
+pub fn number_of(
+    s: &[u8],
+    cells: &[u16],
+    places: &[u16],
+    count: usize,
+    c: u16,
+) -> Option<usize>
     requires { count ≤ length places.now }
-    ensures most { result ≤ count }
-    ensures number { result ≡ or_count count (number_of (name_at s.now c) (names_at s.now cells.now places.now count)) }
+    ensures most { IfSome result (λ i. i < count) }
+    ensures number { result ≡ found (number_of (name_at s.now c) (names_at s.now cells.now places.now count)) }
 {
     for i in 0..count {
         let p = wide(places[i]);
         if same_name(s, c, peek(cells, p + 1)) {
-            return i;
+            return Some(i);
         }
     }
-    count
+    None
 }
 
-// The sort's number: Bool is 0, the first line 1; or how many sorts there are.
-pub fn sort_number(s: &[u8], cells: &[u16], places: &[u16], count: usize, c: u16) -> usize
+// The sort's number: Bool is 0, the first line 1.
+pub fn sort_number(
+    s: &[u8],
+    cells: &[u16],
+    places: &[u16],
+    count: usize,
+    c: u16,
+) -> Option<usize>
     requires { count ≤ length places.now }
-    ensures most { result ≤ count + 1 }
-    ensures number { result ≡ or_count (suc count) (number_of (name_at s.now c) (bytes "Bool" ∷ names_at s.now cells.now places.now count)) }
+    ensures most { IfSome result (λ d. d ≤ count) }
+    ensures number { result ≡ found (number_of (name_at s.now c) (bytes "Bool" ∷ names_at s.now cells.now places.now count)) }
 {
     if is_bool(s, c) {
-        return 0;
+        return Some(0);
     }
-    number_of(s, cells, places, count, c) + 1
+    let i = number_of(s, cells, places, count, c)?;
+    Some(i + 1)
 }
 
 // How many bytes the name of cell c has.
@@ -153,17 +166,17 @@ pub fn same_run(s: &[u8], c: u16, l: usize, d: u16) -> bool
     letter(peek(s, q + l)) == 0
 }
 
-// The first of n names in scope that is the name of cell c, or n.
-pub fn scope_number(s: &[u8], scope: &[u16], n: usize, c: u16) -> usize
+// The first of n names in scope that is the name of cell c.
+pub fn scope_number(s: &[u8], scope: &[u16], n: usize, c: u16) -> Option<usize>
     requires { n ≤ length scope.now }
-    ensures most { result ≤ n }
-    ensures number { result ≡ or_count n (number_of (name_at s.now c) (scope_at s.now scope.now n)) }
+    ensures most { IfSome result (λ i. i < n) }
+    ensures number { result ≡ found (number_of (name_at s.now c) (scope_at s.now scope.now n)) }
 {
     let l = name_length(s, c);
     for i in 0..n {
         if same_run(s, c, l, scope[i]) {
-            return i;
+            return Some(i);
         }
     }
-    n
+    None
 }

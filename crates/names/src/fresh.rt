@@ -59,7 +59,7 @@ pub fn all_new(s: &[u8], declared: &[u16]) -> bool
             return false;
         }
         let left = n - i - 1;
-        if number_in(s, declared, i + 1, left, c) < left {
+        if number_in(s, declared, i + 1, left, c).is_some() {
             return false;
         }
     }
@@ -76,8 +76,8 @@ pub fn new_variable(s: &[u8], declared: &[u16], scope: &[u16], k: usize, c: u16)
         return false;
     }
     let n = total(declared);
-    if number_in(s, declared, 0, n, c) < n {
+    if number_in(s, declared, 0, n, c).is_some() {
         return false;
     }
-    scope_number(s, scope, k, c) == k
+    scope_number(s, scope, k, c).is_none()
 }

@@ -1,8 +1,8 @@
 // Names with their keys: a name is looked up by its key, and compared byte by byte only with those that have it.
-ghost use Rattle.std.specs.Prelude.{◌≡◌, ◌++◌, suc, ◌+◌, ◌≤◌, ◌<◌, length, take, get_or};
+ghost use Rattle.std.specs.Prelude.{◌≡◌, ◌++◌, ◌+◌, ◌≤◌, ◌<◌, IfSome, length, take, get_or};
 ghost use Rattle.pcrl.specs.Names.{number_of};
 ghost use Rattle.laws.specs.Says.{Says};
-ghost use Rattle.names.specs.NameCells.{name_at, or_count};
+ghost use Rattle.names.specs.NameCells.{name_at, found};
 ghost use Rattle.names.specs.NameKeys.{mix, key_of, Keyed, names_from};
 ghost use Rattle.names.specs.NameKinds.{total_of, sorts_in, funcs_in, acts_in, procs_in};
 ghost use Rattle.names.specs.NameList.{max_names, list_cells, names_in, nexts_in, firsts_in, kinds_in, KeyedNames};
@@ -89,11 +89,11 @@ fn found_at(s: &[u8], declared: &[u16], lo: usize, i: usize, c: u16, l: usize) -
     same_run(s, c, l, declared[i])
 }
 
-// Which of the names from lo on is that of cell c, counted from 0; or how many there are. Those with its key are gone through.
-pub fn number_in(s: &[u8], declared: &[u16], lo: usize, count: usize, c: u16) -> usize
+// Which of the names from lo on is that of cell c, counted from 0. Those with its key are gone through.
+pub fn number_in(s: &[u8], declared: &[u16], lo: usize, count: usize, c: u16) -> Option<usize>
     requires { Keyed s.now (names_in declared.now) (nexts_in declared.now) (firsts_in declared.now) (lo + count) }
-    ensures most { result ≤ count }
-    ensures number { result ≡ or_count count (number_of (name_at s.now c) (names_from s.now (names_in declared.now) lo count)) }
+    ensures most { IfSome result (λ i. i < count) }
+    ensures number { result ≡ found (number_of (name_at s.now c) (names_from s.now (names_in declared.now) lo count)) }
 {
     let end = lo + count;
     let d = key(s, c);
@@ -101,51 +101,52 @@ pub fn number_in(s: &[u8], declared: &[u16], lo: usize, count: usize, c: u16) ->
     let mut i = cell(declared, FIRST_PLACE + wide(d.key));
     while i < end {
         if found_at(s, declared, lo, i, c, l) {
-            return i - lo;
+            return Some(i - lo);
         }
         i = wide(declared[FIRST_NEXT + i]);
     }
-    count
+    None
 }
 
-// The number of the sort, Bool's is 0; or how many sorts there are.
-pub fn sort_in(s: &[u8], declared: &[u16], c: u16) -> usize
+// The number of the sort, Bool's is 0.
+pub fn sort_in(s: &[u8], declared: &[u16], c: u16) -> Option<usize>
     requires { KeyedNames s.now declared.now }
-    ensures most { result ≤ (kinds_in declared.now).sorts + 1 }
-    ensures number { result ≡ or_count (suc (kinds_in declared.now).sorts) (number_of (name_at s.now c) (sorts_in s.now (names_in declared.now) (kinds_in declared.now))) }
+    ensures most { IfSome result (λ d. d ≤ (kinds_in declared.now).sorts) }
+    ensures number { result ≡ found (number_of (name_at s.now c) (sorts_in s.now (names_in declared.now) (kinds_in declared.now))) }
 {
     if is_bool(s, c) {
-        return 0;
+        return Some(0);
     }
-    number_in(s, declared, 0, cell(declared, SORT_COUNT), c) + 1
+    let i = number_in(s, declared, 0, cell(declared, SORT_COUNT), c)?;
+    Some(i + 1)
 }
 
-// The number of the function, or how many there are.
-pub fn func_in(s: &[u8], declared: &[u16], c: u16) -> usize
+// The number of the function.
+pub fn func_in(s: &[u8], declared: &[u16], c: u16) -> Option<usize>
     requires { KeyedNames s.now declared.now }
-    ensures most { result ≤ (kinds_in declared.now).funcs }
-    ensures number { result ≡ or_count (kinds_in declared.now).funcs (number_of (name_at s.now c) (funcs_in s.now (names_in declared.now) (kinds_in declared.now))) }
+    ensures most { IfSome result (λ f. f < (kinds_in declared.now).funcs) }
+    ensures number { result ≡ found (number_of (name_at s.now c) (funcs_in s.now (names_in declared.now) (kinds_in declared.now))) }
 {
     let lo = cell(declared, SORT_COUNT);
     number_in(s, declared, lo, cell(declared, FUNC_COUNT), c)
 }
 
-// The number of the action, or of the process behind all actions; or how many there are of both.
-pub fn part_in(s: &[u8], declared: &[u16], c: u16) -> usize
+// The number of the action, or of the process behind all actions.
+pub fn part_in(s: &[u8], declared: &[u16], c: u16) -> Option<usize>
     requires { KeyedNames s.now declared.now }
-    ensures most { result ≤ (kinds_in declared.now).acts + (kinds_in declared.now).procs }
-    ensures number { result ≡ or_count ((kinds_in declared.now).acts + (kinds_in declared.now).procs) (number_of (name_at s.now c) (acts_in s.now (names_in declared.now) (kinds_in declared.now) ++ procs_in s.now (names_in declared.now) (kinds_in declared.now))) }
+    ensures most { IfSome result (λ i. i < (kinds_in declared.now).acts + (kinds_in declared.now).procs) }
+    ensures number { result ≡ found (number_of (name_at s.now c) (acts_in s.now (names_in declared.now) (kinds_in declared.now) ++ procs_in s.now (names_in declared.now) (kinds_in declared.now))) }
 {
     let lo = cell(declared, SORT_COUNT) + cell(declared, FUNC_COUNT);
     let many = cell(declared, ACT_COUNT) + cell(declared, PROC_COUNT);
     number_in(s, declared, lo, many, c)
 }
 
-// The number of the process, or how many there are.
-pub fn proc_in(s: &[u8], declared: &[u16], c: u16) -> usize
+// The number of the process.
+pub fn proc_in(s: &[u8], declared: &[u16], c: u16) -> Option<usize>
     requires { KeyedNames s.now declared.now }
-    ensures most { result ≤ (kinds_in declared.now).procs }
-    ensures number { result ≡ or_count (kinds_in declared.now).procs (number_of (name_at s.now c) (procs_in s.now (names_in declared.now) (kinds_in declared.now))) }
+    ensures most { IfSome result (λ k. k < (kinds_in declared.now).procs) }
+    ensures number { result ≡ found (number_of (name_at s.now c) (procs_in s.now (names_in declared.now) (kinds_in declared.now))) }
 {
     let lo = cell(declared, SORT_COUNT) + cell(declared, FUNC_COUNT) + cell(declared, ACT_COUNT);
     number_in(s, declared, lo, cell(declared, PROC_COUNT), c)

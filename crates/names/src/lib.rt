@@ -45,17 +45,9 @@ pub struct Kinds {
     pub procs: usize,
 }
 
-// Whether every name is known, and the place behind what was read.
-#[derive(Clone, Copy)]
-pub struct Row {
-    pub ok: bool,
-    pub at: usize,
-}
-
-// Whether every name of a process's parameters is as it must be, how many they are, and the place behind them.
+// How many parameters a process has, and the place behind them.
 #[derive(Clone, Copy)]
 pub struct Params {
-    pub ok: bool,
     pub count: usize,
     pub at: usize,
 }

@@ -1,5 +1,5 @@
 // The signature in rows of bytes (crate nodes, Held): sizes, functions with their values, actions, parameters.
-ghost use Rattle.std.specs.Prelude.{◌≡◌, ◌∷◌, ◌++◌, map, ◌+◌, ◌*◌, ◌-◌, ◌≤◌, ◌<◌, length, take};
+ghost use Rattle.std.specs.Prelude.{◌≡◌, ◌∷◌, ◌++◌, map, ◌+◌, ◌*◌, ◌-◌, ◌≤◌, ◌<◌, IfSome, length, take};
 ghost use Rattle.lexer.specs.Cells.{first_numeral};
 ghost use Rattle.pcrl.specs.Limits.{max_sorts, max_arity, frame_width};
 ghost use Rattle.nodes.specs.Layout.{cell_limit};
@@ -7,14 +7,14 @@ ghost use Rattle.nodes.specs.Held.{func_width, act_width, SortsAt};
 ghost use Rattle.names.specs.NameCells.{byte_of};
 ghost use Rattle.names.specs.NameList.{names_in, kinds_in, KeyedNames};
 ghost use Rattle.names.specs.Items.{far, name_step, item_count, item_names, numeral_at, item_values};
-ghost use Rattle.names.specs.Rows.{Kept, Answers, ActRows, FuncRead, FuncRows, ParamsRead, sorts_at, numbered};
+ghost use Rattle.names.specs.Rows.{Kept, Gives, ActRows, FuncRead, FuncRows, ParamsRead, sorts_at, numbered};
 
 use crate::counts::{NAME_STEP, PARAM_STEP, items};
 use crate::find::sort_number;
 use crate::fresh::new_variable;
 use crate::keys::sort_in;
-use crate::{Params, Row, SORT_COUNT};
-use elements::{cell, peek, short, wide};
+use crate::Params;
+use elements::{peek, short, wide};
 use lexer::FIRST_NUMERAL;
 use limits::{FRAME_WIDTH, MAX_ARITY};
 use nodes::{ACT_ROW, FUNC_ROW, GIVES};
@@ -50,13 +50,20 @@ pub fn sizes(cells: &[u16], sorts: &[u16], out: &mut [u8])
     }
 }
 
-// At p: how many sorts a list of names has, then their numbers.
-fn sort_row(s: &[u8], cells: &[u16], sorts: &[u16], at: usize, rows: &mut [u8], p: usize) -> Row
+// At p: how many sorts a list of names has, then their numbers. The place behind the list, if every name in it is a sort.
+fn sort_row(
+    s: &[u8],
+    cells: &[u16],
+    sorts: &[u16],
+    at: usize,
+    rows: &mut [u8],
+    p: usize,
+) -> Option<usize>
     requires { (length sorts.now < max_sorts) × (at < far) × (p + max_arity < length rows.old) }
     ensures kept { Kept p rows.old rows.new }
-    ensures near { result.at ≤ at + 5 }
-    ensures row { Answers (λ Ds. (result.at ≡ at + name_step * length Ds + 1) × SortsAt Ds rows.new p)
-        (numbered (sorts_at s.now cells.now sorts.now) (item_names s.now cells.now at (item_count cells.now name_step at max_arity))) result.ok }
+    ensures near { IfSome result (λ q. q ≤ at + 5) }
+    ensures row { Gives (λ Ds q. (q ≡ at + name_step * length Ds + 1) × SortsAt Ds rows.new p)
+        (numbered (sorts_at s.now cells.now sorts.now) (item_names s.now cells.now at (item_count cells.now name_step at max_arity))) result }
 {
     let n = items(cells, NAME_STEP, at, MAX_ARITY);
     for k in 0..n {
@@ -66,17 +73,11 @@ fn sort_row(s: &[u8], cells: &[u16], sorts: &[u16], at: usize, rows: &mut [u8], 
             sorts,
             sorts.len(),
             peek(cells, at + NAME_STEP * k + 1),
-        );
-        if d > sorts.len() {
-            return Row { ok: false, at: at };
-        }
+        )?;
         rows[p + 1 + k] = d as u8;
     }
     rows[p] = n as u8;
-    Row {
-        ok: true,
-        at: at + NAME_STEP * n + 1,
-    }
+    Some(at + NAME_STEP * n + 1)
 }
 
 // The rows of all actions. False: some sort is not known.
@@ -85,34 +86,31 @@ pub fn act_rows(s: &[u8], cells: &[u16], sorts: &[u16], acts: &[u16], rows: &mut
     ensures { ActRows s.now cells.now sorts.now acts.now rows.new result }
 {
     for i in 0..acts.len() {
-        let a = sort_row(s, cells, sorts, wide(acts[i]) + 2, rows, ACT_ROW * i);
-        if !a.ok {
+        let Some(_) = sort_row(s, cells, sorts, wide(acts[i]) + 2, rows, ACT_ROW * i) else {
             return false;
-        }
+        };
     }
     true
 }
 
-// At p: the row of the function whose line stands at `at`.
-fn func_row(s: &[u8], cells: &[u16], sorts: &[u16], at: usize, rows: &mut [u8], p: usize) -> Row
+// At p: the row of the function whose line stands at `at`. The place of its values, if every name before them is a sort.
+fn func_row(
+    s: &[u8],
+    cells: &[u16],
+    sorts: &[u16],
+    at: usize,
+    rows: &mut [u8],
+    p: usize,
+) -> Option<usize>
     requires { (length sorts.now < max_sorts) × (at < cell_limit) × (p + func_width ≤ length rows.old) }
     ensures kept { Kept p rows.old rows.new }
-    ensures near { result.at < far }
+    ensures near { IfSome result (λ q. q < far) }
     ensures row { FuncRead s.now cells.now sorts.now at rows.new p result }
 {
-    let a = sort_row(s, cells, sorts, at + 2, rows, p);
-    if !a.ok {
-        return a;
-    }
-    let d = sort_number(s, cells, sorts, sorts.len(), peek(cells, a.at));
-    if d > sorts.len() {
-        return Row { ok: false, at: at };
-    }
+    let q = sort_row(s, cells, sorts, at + 2, rows, p)?;
+    let d = sort_number(s, cells, sorts, sorts.len(), peek(cells, q))?;
     rows[p + GIVES] = d as u8;
-    Row {
-        ok: true,
-        at: a.at + 1,
-    }
+    Some(q + 1)
 }
 
 // The values of n items, behind w.
@@ -142,19 +140,18 @@ pub fn func_rows(
     places[0] = 0;
     let mut w: usize = 0;
     for i in 0..lines.len() {
-        let f = func_row(s, cells, sorts, wide(lines[i]), rows, FUNC_ROW * i);
-        if !f.ok {
+        let Some(q) = func_row(s, cells, sorts, wide(lines[i]), rows, FUNC_ROW * i) else {
             return false;
-        }
-        let n = items(cells, NAME_STEP, f.at, values.len() - w);
-        copy_values(cells, f.at, n, values, w);
+        };
+        let n = items(cells, NAME_STEP, q, values.len() - w);
+        copy_values(cells, q, n, values, w);
         w += n;
         places[i + 1] = short(w);
     }
     true
 }
 
-// A process's row: how many parameters, then their sorts' numbers; their names' cells in scope.
+// A process's row: how many parameters, then their sorts' numbers; their names' cells in scope. None: some name is not as it must be.
 pub fn param_row(
     s: &[u8],
     cells: &[u16],
@@ -162,37 +159,24 @@ pub fn param_row(
     at: usize,
     row: &mut [u8],
     scope: &mut [u16],
-) -> Params
+) -> Option<Params>
     requires { KeyedNames s.now declared.now × (at < far) × (frame_width < length row.old) × (frame_width ≤ length scope.old) }
-    ensures few { result.count ≤ frame_width }
+    ensures few { IfSome result (λ r. r.count ≤ frame_width) }
     ensures params { ParamsRead s.now cells.now (names_in declared.now) (kinds_in declared.now) at row.new scope.new result }
 {
-    let sorts = cell(declared, SORT_COUNT);
     let m = items(cells, PARAM_STEP, at, FRAME_WIDTH);
     for k in 0..m {
         let v = peek(cells, at + PARAM_STEP * k + 1);
         if !new_variable(s, declared, scope, k, v) {
-            return Params {
-                ok: false,
-                count: k,
-                at: at,
-            };
+            return None;
         }
-        let d = sort_in(s, declared, peek(cells, at + PARAM_STEP * k + 2));
-        if d > sorts {
-            return Params {
-                ok: false,
-                count: k,
-                at: at,
-            };
-        }
+        let d = sort_in(s, declared, peek(cells, at + PARAM_STEP * k + 2))?;
         scope[k] = v;
         row[1 + k] = d as u8;
     }
     row[0] = m as u8;
-    Params {
-        ok: true,
+    Some(Params {
         count: m,
         at: at + PARAM_STEP * m + 1,
-    }
+    })
 }

@@ -10,8 +10,8 @@ use Rattle.laws.specs.Says.{said_yes, said_no}
 use Rattle.names.specs.NameCells.{name_at, scope_at}
 use Rattle.names.specs.NameList.{names_in, nexts_in, firsts_in}
 use Rattle.names.proofs.Lists.{mapped_length}
-use Rattle.names.proofs.Among.{taken_twice, there_twice, new_passed, number_among, number_not}
-use Rattle.names.proofs.KeyLaws.{keyed_fewer, scope_most, names_left}
+use Rattle.names.proofs.Among.{taken_twice, there_twice, new_passed, number_among}
+use Rattle.names.proofs.KeyLaws.{keyed_fewer, names_left}
 use Rattle.names.proofs.ListLaws.{names_few, next_listed}
 use Rattle.names.proofs.fresh.all_new.Goals as goal
 
@@ -32,13 +32,13 @@ returns-then-is_bool c = rw (← c.total-n.ensures) (taken_twice (distinct (byte
 pub number_in-requires : goal.number_in-requires
 number_in-requires c = keyed_fewer c.args.s.now (names_in c.args.declared.now) (nexts_in c.args.declared.now) (firsts_in c.args.declared.now) _ _ (omega (arith, c.total-n.ensures)) c.requires
 
-pub returns-then-number_in-left : goal.returns-then-number_in-left
+pub returns-then-is_some : goal.returns-then-is_some
 unfolding scope_at
-returns-then-number_in-left c = rw (← c.total-n.ensures) (there_twice (distinct (bytes "Bool" ∷ scope_at c.args.s.now (names_in c.args.declared.now) c.total-n.result)) (bytes "Bool") (name_at c.args.s.now (get_or c.args.declared.now c.loop-i.i 0)) (drop c.loop-i.i (scope_at c.args.s.now (names_in c.args.declared.now) c.total-n.result)) (drop (c.loop-i.i + 1) (scope_at c.args.s.now (names_in c.args.declared.now) c.total-n.result)) c.loop-i.invariant (next_listed c.args.s.now c.args.declared.now c.total-n.result c.loop-i.i (keyed_fewer c.args.s.now (names_in c.args.declared.now) (nexts_in c.args.declared.now) (firsts_in c.args.declared.now) c.total-n.result _ (omega (arith, c.total-n.ensures)) c.requires) c.loop-i-test.true) (ap (among (name_at c.args.s.now (get_or c.args.declared.now c.loop-i.i 0))) (names_left c.args.s.now (names_in c.args.declared.now) (c.loop-i.i + 1) c.total-n.result (c.total-n.result - c.loop-i.i - 1) (omega arith)) ∙ number_among _ _ c.number_in.result (c.total-n.result - c.loop-i.i - 1) c.number_in.ensures.number (omega arith)))
+returns-then-is_some c = rw (← c.total-n.ensures) (there_twice (distinct (bytes "Bool" ∷ scope_at c.args.s.now (names_in c.args.declared.now) c.total-n.result)) (bytes "Bool") (name_at c.args.s.now (get_or c.args.declared.now c.loop-i.i 0)) (drop c.loop-i.i (scope_at c.args.s.now (names_in c.args.declared.now) c.total-n.result)) (drop (c.loop-i.i + 1) (scope_at c.args.s.now (names_in c.args.declared.now) c.total-n.result)) c.loop-i.invariant (next_listed c.args.s.now c.args.declared.now c.total-n.result c.loop-i.i (keyed_fewer c.args.s.now (names_in c.args.declared.now) (nexts_in c.args.declared.now) (firsts_in c.args.declared.now) c.total-n.result _ (omega (arith, c.total-n.ensures)) c.requires) c.loop-i-test.true) (ap (among (name_at c.args.s.now (get_or c.args.declared.now c.loop-i.i 0))) (names_left c.args.s.now (names_in c.args.declared.now) (c.loop-i.i + 1) c.total-n.result (c.total-n.result - c.loop-i.i - 1) (omega arith)) ∙ (number_among _ _ c.number_in.result c.number_in.ensures.number ∙ (sym c.is_some.ensures ∙ c.if-is_some.true))))
 
 pub loop-i-preserved : goal.loop-i-preserved
 unfolding scope_at
-loop-i-preserved c = new_passed (distinct (bytes "Bool" ∷ scope_at c.args.s.now (names_in c.args.declared.now) c.total-n.result)) (bytes "Bool") (name_at c.args.s.now (get_or c.args.declared.now c.loop-i.i 0)) (drop c.loop-i.i (scope_at c.args.s.now (names_in c.args.declared.now) c.total-n.result)) (drop (c.loop-i.i + 1) (scope_at c.args.s.now (names_in c.args.declared.now) c.total-n.result)) c.loop-i.invariant (next_listed c.args.s.now c.args.declared.now c.total-n.result c.loop-i.i (keyed_fewer c.args.s.now (names_in c.args.declared.now) (nexts_in c.args.declared.now) (firsts_in c.args.declared.now) c.total-n.result _ (omega (arith, c.total-n.ensures)) c.requires) c.loop-i-test.true) (said_no _ c.is_bool.ensures c.if-is_bool.false) (ap (among (name_at c.args.s.now (get_or c.args.declared.now c.loop-i.i 0))) (names_left c.args.s.now (names_in c.args.declared.now) (c.loop-i.i + 1) c.total-n.result (c.total-n.result - c.loop-i.i - 1) (omega arith)) ∙ number_not _ _ c.number_in.result (c.total-n.result - c.loop-i.i - 1) (scope_most c.args.s.now (drop (c.loop-i.i + 1) (names_in c.args.declared.now)) (c.total-n.result - c.loop-i.i - 1)) c.number_in.ensures.number (omega arith))
+loop-i-preserved c = new_passed (distinct (bytes "Bool" ∷ scope_at c.args.s.now (names_in c.args.declared.now) c.total-n.result)) (bytes "Bool") (name_at c.args.s.now (get_or c.args.declared.now c.loop-i.i 0)) (drop c.loop-i.i (scope_at c.args.s.now (names_in c.args.declared.now) c.total-n.result)) (drop (c.loop-i.i + 1) (scope_at c.args.s.now (names_in c.args.declared.now) c.total-n.result)) c.loop-i.invariant (next_listed c.args.s.now c.args.declared.now c.total-n.result c.loop-i.i (keyed_fewer c.args.s.now (names_in c.args.declared.now) (nexts_in c.args.declared.now) (firsts_in c.args.declared.now) c.total-n.result _ (omega (arith, c.total-n.ensures)) c.requires) c.loop-i-test.true) (said_no _ c.is_bool.ensures c.if-is_bool.false) (ap (among (name_at c.args.s.now (get_or c.args.declared.now c.loop-i.i 0))) (names_left c.args.s.now (names_in c.args.declared.now) (c.loop-i.i + 1) c.total-n.result (c.total-n.result - c.loop-i.i - 1) (omega arith)) ∙ (number_among _ _ c.number_in.result c.number_in.ensures.number ∙ (sym c.is_some.ensures ∙ c.if-is_some.false)))
 
 pub returns : goal.returns
 unfolding scope_at among distinct

@@ -1,5 +1,5 @@
 -- Each action gets its row, behind those before it; a name that is no sort ends it.
-use borrow.Author.Tests.{not-true, not-false}
+use Rattle.std.specs.Prelude.{Some, None}
 use mathlib.Core.Path.{◌≡◌, ◌∙◌, refl, subst}
 use Prim.Native.Nat.{ℕ, ◌+◌, ◌*◌}
 use native.Mathlib.Omega.{arith}
@@ -7,7 +7,7 @@ use lib.ListN.{length, get_or}
 use Rattle.pcrl.specs.Sheet.{no_action}
 use Rattle.nodes.specs.Held.{SortsAt, ActAt}
 use Rattle.names.specs.Items.{item_count, item_names}
-use Rattle.names.specs.Rows.{Answers, InRows, sorts_at, numbered}
+use Rattle.names.specs.Rows.{Gives, InRows, sorts_at, numbered}
 use Rattle.names.proofs.ActLines.{acts_start, acts_stop, acts_go, acts_end}
 use Rattle.names.proofs.rows.act_rows.Goals as goal
 
@@ -20,22 +20,26 @@ overflow_add-wide c = omega (arith, c.wide.ensures)
 pub overflow_mul-i : goal.overflow_mul-i
 overflow_mul-i c = omega (arith, c.requires)
 
-pub sort_row-a-requires : goal.sort_row-a-requires
-sort_row-a-requires c = (omega (arith, c.requires), omega (arith, c.wide.ensures), omega (arith, c.requires, c.loop-i.invariant.0))
+pub sort_row-requires : goal.sort_row-requires
+sort_row-requires c = (omega (arith, c.requires), omega (arith, c.wide.ensures), omega (arith, c.requires, c.loop-i.invariant.0))
 
-pub shape_of-rows-then-not-a : goal.shape_of-rows-then-not-a
-shape_of-rows-then-not-a c = c.sort_row-a.auto.rows ∙ c.loop-i.invariant.0
-
-pub returns-then-not-a : goal.returns-then-not-a
-returns-then-not-a c = acts_stop c.args.s.now c.args.cells.now c.args.sorts.now c.args.acts.now c.loop-i.rows c.loop-i.i (λ Ds. (c.sort_row-a.result.at ≡ get_or c.args.acts.now c.loop-i.i 0 + 2 + 2 * length Ds + 1) × SortsAt Ds c.sort_row-a.new.rows (3 * c.loop-i.i))
-    (λ N. InRows no_action (λ a i. ActAt a c.sort_row-a.new.rows i)) c.sort_row-a.result.ok c.loop-i-test.true c.loop-i.invariant.1 (subst (λ (q : ℕ). Answers (λ Ds. (c.sort_row-a.result.at ≡ q + 2 + 2 * length Ds + 1) × SortsAt Ds c.sort_row-a.new.rows (3 * c.loop-i.i)) (numbered (sorts_at c.args.s.now c.args.cells.now c.args.sorts.now) (item_names c.args.s.now c.args.cells.now (q + 2) (item_count c.args.cells.now 2 (q + 2) 2))) c.sort_row-a.result.ok) c.wide.ensures.0 c.sort_row-a.ensures.row) (not-true _ c.if-not-a.true)
+pub returns-in_default : goal.returns-in_default
+returns-in_default c =
+    let a = c.args in
+    let rows = c.sort_row.new.rows in
+    acts_stop a.s.now a.cells.now a.sorts.now a.acts.now c.loop-i.rows c.loop-i.i (λ Ds r. (r ≡ get_or a.acts.now c.loop-i.i 0 + 2 + 2 * length Ds + 1) × SortsAt Ds rows (3 * c.loop-i.i))
+    (λ N. InRows no_action (λ a i. ActAt a rows i)) c.loop-i-test.true c.loop-i.invariant.1
+    (subst (λ (q : ℕ). Gives (λ Ds r. (r ≡ q + 2 + 2 * length Ds + 1) × SortsAt Ds rows (3 * c.loop-i.i)) (numbered (sorts_at a.s.now a.cells.now a.sorts.now) (item_names a.s.now a.cells.now (q + 2) (item_count a.cells.now 2 (q + 2) 2))) None) c.wide.ensures.0 c.in_default.ensures.row)
 
 pub loop-i-preserved : goal.loop-i-preserved
-loop-i-preserved c = (
-  c.sort_row-a.auto.rows ∙ c.loop-i.invariant.0,
-  acts_go c.args.s.now c.args.cells.now c.args.sorts.now c.args.acts.now c.loop-i.rows c.sort_row-a.new.rows c.loop-i.i (λ Ds. c.sort_row-a.result.at ≡ get_or c.args.acts.now c.loop-i.i 0 + 2 + 2 * length Ds + 1)
-      c.sort_row-a.result.ok c.loop-i-test.true c.loop-i.invariant.1 c.sort_row-a.ensures.kept (subst (λ (q : ℕ). Answers (λ Ds. (c.sort_row-a.result.at ≡ q + 2 + 2 * length Ds + 1) × SortsAt Ds c.sort_row-a.new.rows (3 * c.loop-i.i)) (numbered (sorts_at c.args.s.now c.args.cells.now c.args.sorts.now) (item_names c.args.s.now c.args.cells.now (q + 2) (item_count c.args.cells.now 2 (q + 2) 2))) c.sort_row-a.result.ok) c.wide.ensures.0 c.sort_row-a.ensures.row) (not-false _ c.if-not-a.false),
-)
+loop-i-preserved c =
+    let a = c.args in
+    let rows = c.sort_row.new.rows in (
+      c.sort_row.auto.rows ∙ c.loop-i.invariant.0,
+      acts_go a.s.now a.cells.now a.sorts.now a.acts.now c.loop-i.rows rows c.loop-i.i (λ Ds r. r ≡ get_or a.acts.now c.loop-i.i 0 + 2 + 2 * length Ds + 1)
+          c.in-Some.field-0 c.loop-i-test.true c.loop-i.invariant.1 c.in-Some.ensures.kept
+          (subst (λ (q : ℕ). Gives (λ Ds r. (r ≡ q + 2 + 2 * length Ds + 1) × SortsAt Ds rows (3 * c.loop-i.i)) (numbered (sorts_at a.s.now a.cells.now a.sorts.now) (item_names a.s.now a.cells.now (q + 2) (item_count a.cells.now 2 (q + 2) 2))) (Some c.in-Some.field-0)) c.wide.ensures.0 c.in-Some.ensures.row),
+    )
 
 pub shape_of-rows : goal.shape_of-rows
 shape_of-rows c = c.loop-i.invariant.0

@@ -4,10 +4,11 @@ use Prim.Native.Nat.{ℕ, suc, ◌+◌}
 use native.Mathlib.Omega.{arith}
 use lib.ListN.{length-set}
 use Rattle.pcrl.specs.Names.{number_of}
-use Rattle.names.specs.NameCells.{name_at, or_count}
+use Rattle.names.specs.NameCells.{name_at}
 use Rattle.names.specs.NameKinds.{sorts_in}
 use Rattle.names.specs.NameList.{names_in, kinds_in}
-use Rattle.names.proofs.ListLaws.{names_few, sorts_few}
+use Rattle.names.proofs.Numbers.{is_found, not_found}
+use Rattle.names.proofs.ListLaws.{names_few}
 use Rattle.names.proofs.ParamLines.{params_start, params_old, params_no_sort, params_go, params_end}
 use Rattle.names.proofs.rows.param_row.Goals as goal
 
@@ -36,7 +37,7 @@ pub shape_of-scope-then-not-new_variable : goal.shape_of-scope-then-not-new_vari
 shape_of-scope-then-not-new_variable c = c.loop-k.invariant.2
 
 pub returns-then-not-new_variable : goal.returns-then-not-new_variable
-returns-then-not-new_variable c = record { few = omega (arith, c.loop-k.invariant.0, c.items-m.ensures.most); params = params_old c.args.s.now c.args.cells.now (names_in c.args.declared.now) (kinds_in c.args.declared.now) c.args.at c.loop-k.row c.loop-k.scope c.items-m.result c.loop-k.k c.peek-v.result c.new_variable.result c.loop-k.invariant.3 c.items-m.ensures.count c.loop-k-test.true c.peek-v.ensures c.new_variable.ensures c.loop-k.row c.loop-k.scope _ c.if-not-new_variable.true refl }
+returns-then-not-new_variable c = record { few = tt; params = params_old c.args.s.now c.args.cells.now (names_in c.args.declared.now) (kinds_in c.args.declared.now) c.args.at c.loop-k.row c.loop-k.scope c.items-m.result c.loop-k.k c.peek-v.result c.new_variable.result c.loop-k.invariant.3 c.items-m.ensures.count c.loop-k-test.true c.peek-v.ensures c.new_variable.ensures c.loop-k.row c.loop-k.scope c.if-not-new_variable.true }
 
 pub overflow_mul-k-in-loop-k : goal.overflow_mul-k-in-loop-k
 overflow_mul-k-in-loop-k c = omega (arith, c.requires, c.items-m.ensures.most)
@@ -47,17 +48,25 @@ overflow_add-at-in-loop-k-2 c = omega (arith, c.requires, c.items-m.ensures.most
 pub overflow_add-at-in-loop-k-3 : goal.overflow_add-at-in-loop-k-3
 overflow_add-at-in-loop-k-3 c = omega (arith, c.requires, c.items-m.ensures.most)
 
-pub sort_in-d-requires : goal.sort_in-d-requires
-sort_in-d-requires c = c.requires.0
+pub sort_in-requires : goal.sort_in-requires
+sort_in-requires c = c.requires.0
 
-pub shape_of-row-then-d-sorts : goal.shape_of-row-then-d-sorts
-shape_of-row-then-d-sorts c = c.loop-k.invariant.1
+pub shape_of-row-in_err-d : goal.shape_of-row-in_err-d
+shape_of-row-in_err-d c = c.loop-k.invariant.1
 
-pub shape_of-scope-then-d-sorts : goal.shape_of-scope-then-d-sorts
-shape_of-scope-then-d-sorts c = c.loop-k.invariant.2
+pub shape_of-scope-in_err-d : goal.shape_of-scope-in_err-d
+shape_of-scope-in_err-d c = c.loop-k.invariant.2
 
-pub returns-then-d-sorts : goal.returns-then-d-sorts
-returns-then-d-sorts c = record { few = omega (arith, c.loop-k.invariant.0, c.items-m.ensures.most); params = params_no_sort c.args.s.now c.args.cells.now (names_in c.args.declared.now) (kinds_in c.args.declared.now) c.args.at c.loop-k.row c.loop-k.scope c.items-m.result c.loop-k.k c.peek-v.result c.new_variable.result c.loop-k.invariant.3 c.items-m.ensures.count c.loop-k-test.true c.peek-v.ensures c.new_variable.ensures (suc (kinds_in c.args.declared.now).sorts) c.sort_in-d.result (sorts_few c.args.s.now (names_in c.args.declared.now) (kinds_in c.args.declared.now)) c.if-not-new_variable.false (c.sort_in-d.ensures.number ∙ ap (λ (v : ℕ). or_count (suc (kinds_in c.args.declared.now).sorts) (number_of (name_at c.args.s.now v) (sorts_in c.args.s.now (names_in c.args.declared.now) (kinds_in c.args.declared.now)))) c.peek.ensures) c.loop-k.row c.loop-k.scope _ (omega (arith, c.cell-sorts.ensures, c.if-d-sorts.true)) refl }
+pub returns-in_err-d : goal.returns-in_err-d
+returns-in_err-d c =
+    let a = c.args in
+    let names = names_in a.declared.now in
+    let kinds = kinds_in a.declared.now in
+    let number = not_found (number_of (name_at a.s.now c.peek.result) (sorts_in a.s.now names kinds)) c.in_err-d.ensures.number in
+    rw c.from_residual.ensures (record {
+      few = tt;
+      params = params_no_sort a.s.now a.cells.now names kinds a.at c.loop-k.row c.loop-k.scope c.items-m.result c.loop-k.k c.peek-v.result c.new_variable.result c.loop-k.invariant.3 c.items-m.ensures.count c.loop-k-test.true c.peek-v.ensures c.new_variable.ensures c.if-not-new_variable.false c.loop-k.row c.loop-k.scope (rw (← c.peek.ensures) number);
+    })
 
 pub offset_bounds-scope-k : goal.offset_bounds-scope-k
 offset_bounds-scope-k c = omega (arith, c.requires, c.items-m.ensures.most, c.loop-k.invariant.2)
@@ -68,7 +77,7 @@ bounds-scope-k c = omega (arith, c.requires, c.items-m.ensures.most, c.loop-k.in
 pub overflow_cast-row : goal.overflow_cast-row
 overflow_cast-row c =
     let n = names_few c.args.s.now c.args.declared.now _ c.requires.0 in
-    omega (arith, c.cell-sorts.ensures, c.if-d-sorts.false)
+    omega (arith, c.in_ok-d.ensures.most)
 
 pub overflow_add-row : goal.overflow_add-row
 overflow_add-row c = omega (arith, c.requires.2, c.items-m.ensures.most)
@@ -77,12 +86,16 @@ pub bounds-row-k : goal.bounds-row-k
 bounds-row-k c = omega (arith, c.requires, c.items-m.ensures.most, c.loop-k.invariant.1)
 
 pub loop-k-preserved : goal.loop-k-preserved
-loop-k-preserved c = (
-  omega arith,
-  length-set c.loop-k.row (1 + c.loop-k.k) c.sort_in-d.result ∙ c.loop-k.invariant.1,
-  length-set c.loop-k.scope c.loop-k.k c.peek-v.result ∙ c.loop-k.invariant.2,
-  params_go c.args.s.now c.args.cells.now (names_in c.args.declared.now) (kinds_in c.args.declared.now) c.args.at c.loop-k.row c.loop-k.scope c.items-m.result c.loop-k.k c.peek-v.result c.new_variable.result c.loop-k.invariant.3 c.items-m.ensures.count c.loop-k-test.true c.peek-v.ensures c.new_variable.ensures (suc (kinds_in c.args.declared.now).sorts) c.sort_in-d.result (sorts_few c.args.s.now (names_in c.args.declared.now) (kinds_in c.args.declared.now)) c.if-not-new_variable.false (c.sort_in-d.ensures.number ∙ ap (λ (v : ℕ). or_count (suc (kinds_in c.args.declared.now).sorts) (number_of (name_at c.args.s.now v) (sorts_in c.args.s.now (names_in c.args.declared.now) (kinds_in c.args.declared.now)))) c.peek.ensures) (1 + c.loop-k.k) (omega (arith, c.cell-sorts.ensures, c.if-d-sorts.false)) (omega (arith, c.requires, c.items-m.ensures.most, c.loop-k.invariant.2)) refl (omega (arith, c.requires, c.items-m.ensures.most, c.loop-k.invariant.1)),
-)
+loop-k-preserved c =
+    let a = c.args in
+    let names = names_in a.declared.now in
+    let kinds = kinds_in a.declared.now in
+    let number = is_found (number_of (name_at a.s.now c.peek.result) (sorts_in a.s.now names kinds)) c.in_ok-d.d c.in_ok-d.ensures.number in (
+      omega arith,
+      length-set c.loop-k.row (1 + c.loop-k.k) c.in_ok-d.d ∙ c.loop-k.invariant.1,
+      length-set c.loop-k.scope c.loop-k.k c.peek-v.result ∙ c.loop-k.invariant.2,
+      params_go a.s.now a.cells.now names kinds a.at c.loop-k.row c.loop-k.scope c.items-m.result c.loop-k.k c.peek-v.result c.new_variable.result c.loop-k.invariant.3 c.items-m.ensures.count c.loop-k-test.true c.peek-v.ensures c.new_variable.ensures c.if-not-new_variable.false (1 + c.loop-k.k) c.in_ok-d.d (rw (← c.peek.ensures) number) (omega (arith, c.requires, c.items-m.ensures.most, c.loop-k.invariant.2)) refl (omega (arith, c.requires, c.items-m.ensures.most, c.loop-k.invariant.1)),
+    )
 
 pub overflow_cast-row-2 : goal.overflow_cast-row-2
 overflow_cast-row-2 c = omega (arith, c.items-m.ensures.most)
@@ -107,4 +120,4 @@ shape_of-scope c = c.loop-k.invariant.2
 
 pub returns : goal.returns
 returns c =
-    let z : c.loop-k.k ≡ c.items-m.result = omega arith in record { few = c.items-m.ensures.most; params = params_end c.args.s.now c.args.cells.now (names_in c.args.declared.now) (kinds_in c.args.declared.now) c.args.at c.loop-k.row c.loop-k.scope c.loop-k.k c.items-m.result _ c.items-m.ensures.count z (omega (arith, c.requires, c.loop-k.invariant.1)) c.loop-k.invariant.3 refl refl refl }
+    let z : c.loop-k.k ≡ c.items-m.result = omega arith in record { few = c.items-m.ensures.most; params = params_end c.args.s.now c.args.cells.now (names_in c.args.declared.now) (kinds_in c.args.declared.now) c.args.at c.loop-k.row c.loop-k.scope c.loop-k.k c.items-m.result _ c.items-m.ensures.count z (omega (arith, c.requires, c.loop-k.invariant.1)) c.loop-k.invariant.3 refl refl }
