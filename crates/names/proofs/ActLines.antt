@@ -21,9 +21,9 @@ use Rattle.parser.specs.Cells.{Symbol, tag, token, act_tag, enc_act, enc_items, 
 use Rattle.nodes.specs.Held.{act_width, SortsAt, ActAt}
 use Rattle.names.specs.Standing.{symbols, At, LinesAt}
 use Rattle.names.specs.Items.{item_count, item_names}
-use Rattle.names.specs.Rows.{Kept, Answers, Gives, InRows, sorts_at, numbered}
+use Rattle.names.specs.Rows.{Kept, Answers, Yields, InRows, sorts_at, numbered}
 use Rattle.names.proofs.Items.{behind, count_is, names_are}
-use Rattle.names.proofs.Kept.{sorts_kept, gives_none, gives_some, each_next, every_at}
+use Rattle.names.proofs.Kept.{sorts_kept, yields_none, yields_some, each_next, every_at}
 use Rattle.names.proofs.Filled.{Gone, gone_none, gone_stops, gone_goes, gone_ends}
 
 -- the sorts of the names that stand there
@@ -61,24 +61,24 @@ module _ (s cells sorts acts : List ℕ) where
 
   -- a name is no sort
   pub acts_stop : (rows : List ℕ) (i : ℕ) (X : List ℕ → ℕ → Type 0) (Y : (N : Names) → List Action → Type 0) → i < length acts → ActsGone rows i
-      → Gives X (Read (get_or acts i 0)) None
+      → Yields X (Read (get_or acts i 0)) None
       → (N : Names) (ls : List ActLine) → N.sorts ≡ sorts_at s cells sorts → LinesAt enc_act s cells acts ls → Every FormedAct ls → Answers (Y N) (for_each (resolve_act N) ls) false
   unfolding FormedAct
   acts_stop rows i X Y h g a N ls n l f =
       let (b, d, at) = each_next (λ p l. At s cells (enc_act l) p) acts ls i l h in
       let few = every_at FormedAct ls i b (drop (i + 1) ls) f d in
       let e = sorts_read s cells (sorts_at s cells sorts) N b.takes (get_or acts i 0 + 2) at.0 n (takes_at b (get_or acts i 0) at) few in
-      rw (gone_stops (resolve_act N) no_action (λ a j. ActAt a rows j) ls (drop (i + 1) ls) i b (g N ls n l f) d (unresolved N b (sym e ∙ gives_none X (Read (get_or acts i 0)) a))) refl
+      rw (gone_stops (resolve_act N) no_action (λ a j. ActAt a rows j) ls (drop (i + 1) ls) i b (g N ls n l f) d (unresolved N b (sym e ∙ yields_none X (Read (get_or acts i 0)) a))) refl
 
   -- one more row
   pub acts_go : (rows rows' : List ℕ) (i : ℕ) (W : List ℕ → ℕ → Type 0) (q : ℕ) → i < length acts → ActsGone rows i → Kept (3 * i) rows rows'
-      → Gives (λ Ds q. W Ds q × SortsAt Ds rows' (3 * i)) (Read (get_or acts i 0)) (Some q) → ActsGone rows' (i + 1)
+      → Yields (λ Ds q. W Ds q × SortsAt Ds rows' (3 * i)) (Read (get_or acts i 0)) (Some q) → ActsGone rows' (i + 1)
   unfolding FormedAct
   acts_go rows rows' i W q h g k a N ls n l f =
       let (b, d, at) = each_next (λ p l. At s cells (enc_act l) p) acts ls i l h in
       let few = every_at FormedAct ls i b (drop (i + 1) ls) f d in
       let e = sorts_read s cells (sorts_at s cells sorts) N b.takes (get_or acts i 0 + 2) at.0 n (takes_at b (get_or acts i 0) at) few in
-      let (Ds, r, w) = gives_some (λ Ds q. W Ds q × SortsAt Ds rows' (3 * i)) (Read (get_or acts i 0)) q a in
+      let (Ds, r, w) = yields_some (λ Ds q. W Ds q × SortsAt Ds rows' (3 * i)) (Read (get_or acts i 0)) q a in
       let m = sorts_declared N b.takes Ds (sym e ∙ r) in
       gone_goes (resolve_act N) no_action (λ a j. ActAt a rows j) (λ a j. ActAt a rows' j) ls i b (record { name = b.name; takes = Ds }) (g N ls n l f) d (resolved N b Ds (sym e ∙ r))
       (λ x j o r. record { few = r.few; takes = sorts_kept (3 * i) rows rows' x.takes (act_width * j) k (omega (arith, r.few)) r.takes })

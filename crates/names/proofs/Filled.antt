@@ -11,7 +11,7 @@ use native.Mathlib.Omega.{arith}
 use lib.ListN.{length, drop, get_or, length-append, drop_of_length-le, get_or-append}
 use lib.Seq.{get_or_at}
 use Rattle.pcrl.specs.Maybe.{◌>>=◌, for_each}
-use Rattle.names.specs.Rows.{Answers, Gives}
+use Rattle.names.specs.Rows.{Answers, Yields}
 
 -- values before those that may be missing
 abbrev pub glue : {B : Type 0} → List B → Option (List B) → Option (List B)
@@ -71,9 +71,9 @@ module _ {A B : Type 0} where
     all_there done m e = rw (e, append-nil done)
 
     -- all of them, and what is given for them
-    pub gone_gives : {C : Type 0} (P : B → ℕ → Type 0) (X : List B → C → Type 0) (ls : List A) (i : ℕ) (c : C) → Gone P ls i → length ls ≤ i
-        → ((bs : List B) → length bs ≡ i → ((j : ℕ) → j < i → P (get_or bs j d) j) → X bs c) → Gives X (for_each f ls) (Some c)
-    gone_gives P X ls i c g h x = rw (g.whole, all_there g.done (drop i ls) (drop_of_length-le ls {i = i} h)) (x g.done g.many g.held)
+    pub gone_yields : {C : Type 0} (P : B → ℕ → Type 0) (X : List B → C → Type 0) (ls : List A) (i : ℕ) (c : C) → Gone P ls i → length ls ≤ i
+        → ((bs : List B) → length bs ≡ i → ((j : ℕ) → j < i → P (get_or bs j d) j) → X bs c) → Yields X (for_each f ls) (Some c)
+    gone_yields P X ls i c g h x = rw (g.whole, all_there g.done (drop i ls) (drop_of_length-le ls {i = i} h)) (x g.done g.many g.held)
 
     -- all of them
     pub gone_ends : (P : B → ℕ → Type 0) (X : List B → Type 0) (ls : List A) (i : ℕ) (ok : Bool) → Gone P ls i → length ls ≤ i → ok ≡ true

@@ -17,16 +17,16 @@ use Rattle.nodes.specs.Held.{SortsAt}
 use Rattle.names.specs.NameCells.{name_at}
 use Rattle.names.specs.Standing.{symbols}
 use Rattle.names.specs.Items.{item_count, item_names}
-use Rattle.names.specs.Rows.{Gives, sorts_at, numbered, FuncRead}
+use Rattle.names.specs.Rows.{Yields, sorts_at, numbered, FuncRead}
 use Rattle.names.proofs.Symbols.{name_is, symbols_behind}
 use Rattle.names.proofs.Items.{behind, items_behind}
-use Rattle.names.proofs.Kept.{gives_none, gives_some}
+use Rattle.names.proofs.Kept.{yields_none, yields_some}
 use Rattle.names.proofs.ActLines.{sorts_read}
 
 module _ (s cells sorts : List ℕ) (at p : ℕ) where
   -- what the row of the sorts that it takes answers
   abbrev pub TakesRead : (List ℕ → ℕ → Type 0) → Option ℕ → Type 0
-  TakesRead X r = Gives X (numbered (sorts_at s cells sorts) (item_names s cells (at + 2) (item_count cells 2 (at + 2) 2))) r
+  TakesRead X r = Yields X (numbered (sorts_at s cells sorts) (item_names s cells (at + 2) (item_count cells 2 (at + 2) 2))) r
 
   module _ (N : Names) (l : FuncLine) (rest : List Symbol) (n : N.sorts ≡ sorts_at s cells sorts) (e : drop at (symbols s cells) ≡ enc_func l ++ rest) (f : FormedFunc l) where
     gives_rest : List Symbol
@@ -61,13 +61,13 @@ module _ (s cells sorts : List ℕ) (at p : ℕ) where
   -- a name that it takes is no sort
   pub takes_unknown : (X : List ℕ → ℕ → Type 0) (rows : List ℕ) → TakesRead X None → FuncRead s cells sorts at rows p None
   takes_unknown X rows a N l rest n e f =
-      rw (no_takes N l (sym (takes_are N l rest n e f) ∙ gives_none X (numbered (sorts_at s cells sorts) (item_names s cells (at + 2) (item_count cells 2 (at + 2) 2))) a)) tt
+      rw (no_takes N l (sym (takes_are N l rest n e f) ∙ yields_none X (numbered (sorts_at s cells sorts) (item_names s cells (at + 2) (item_count cells 2 (at + 2) 2))) a)) tt
 
   module _ (rows : List ℕ) (q : ℕ) (a : TakesRead (λ Ds q. (q ≡ at + 2 + 2 * length Ds + 1) × SortsAt Ds rows p) (Some q)) where
     -- the one that it gives is none
     pub gives_unknown : (rows' : List ℕ) → number_of (name_at s (get_or cells q 0)) (sorts_at s cells sorts) ≡ none → FuncRead s cells sorts at rows' p None
     gives_unknown rows' h N l rest n e f =
-        let (Ds, k, w) = gives_some (λ Ds q. (q ≡ at + 2 + 2 * length Ds + 1) × SortsAt Ds rows p) (numbered (sorts_at s cells sorts) (item_names s cells (at + 2) (item_count cells 2 (at + 2) 2))) q a in
+        let (Ds, k, w) = yields_some (λ Ds q. (q ≡ at + 2 + 2 * length Ds + 1) × SortsAt Ds rows p) (numbered (sorts_at s cells sorts) (item_names s cells (at + 2) (item_count cells 2 (at + 2) 2))) q a in
         let t = sym (takes_are N l rest n e f) ∙ k in
         let g = name_is s cells q l.gives (gives_rest N l rest n e f) (gives_stands N l rest n e f Ds q t w.0) in
         rw (no_gives N l Ds t (rw (n, ← g) h)) tt
@@ -77,7 +77,7 @@ module _ (s cells sorts : List ℕ) (at p : ℕ) where
         → FuncRead s cells sorts at (set rows (p + 3) D) p (Some (q + 1))
     unfolding FormedFunc gives_rest
     func_known D h room N l rest n e f =
-        let (Ds, k, w) = gives_some (λ Ds q. (q ≡ at + 2 + 2 * length Ds + 1) × SortsAt Ds rows p) (numbered (sorts_at s cells sorts) (item_names s cells (at + 2) (item_count cells 2 (at + 2) 2))) q a in
+        let (Ds, k, w) = yields_some (λ Ds q. (q ≡ at + 2 + 2 * length Ds + 1) × SortsAt Ds rows p) (numbered (sorts_at s cells sorts) (item_names s cells (at + 2) (item_count cells 2 (at + 2) 2))) q a in
         let t = sym (takes_are N l rest n e f) ∙ k in
         let st = gives_stands N l rest n e f Ds q t w.0 in
         let g = name_is s cells q l.gives (gives_rest N l rest n e f) st in

@@ -22,7 +22,7 @@ use Rattle.names.specs.Standing.{symbols, At, LinesAt}
 use Rattle.names.specs.Items.{item_count, item_values}
 use Rattle.names.specs.Rows.{Kept, InRows, sorts_at, FuncRow, FuncRead, FuncRows, SmallValues}
 use Rattle.names.proofs.Items.{count_is, values_are}
-use Rattle.names.proofs.Kept.{kept_at, sorts_kept, gives_none, gives_some, each_next, every_at}
+use Rattle.names.proofs.Kept.{kept_at, sorts_kept, yields_none, yields_some, each_next, every_at}
 use Rattle.names.proofs.Filled.{Gone, gone_none, gone_stops, gone_goes, gone_ends}
 
 -- PARTS OF LISTS
@@ -89,7 +89,7 @@ module _ (s cells sorts lines : List ℕ) where
       let (x, d, at) = each_next (λ p l. At s cells (enc_func l) p) lines ls i l h in
       let few = every_at FormedFunc ls i x (drop (i + 1) ls) f d in
       rw (gone_stops (resolve_func N) no_func (λ g j. FuncBefore g rows values places w j) ls (drop (i + 1) ls) i x
-      (g N ls n l f v (omega arith)).gone d (gives_none _ (resolve_func N x) (a N x at.0 n at.1 few))) refl
+      (g N ls n l f v (omega arith)).gone d (yields_none _ (resolve_func N x) (a N x at.0 n at.1 few))) refl
 
   pub funcs_end : (rows values places : List ℕ) (w i : ℕ) → length lines ≤ i → FuncsGone rows values places w i → FuncRows s cells sorts lines rows values places true
   funcs_end rows values places w i h g N ls n l f v b =
@@ -130,7 +130,7 @@ module _ (s cells sorts lines : List ℕ) where
         let small = every_at SmallValues ls i y (drop (i + 1) ls) v d in
         let size = kv.same in
         let G = g N ls ns l f v (omega arith) in
-        let (z, e, t) = gives_some (λ z q. FuncRow z y (symbols s cells) at.0 rows' (4 * i) q) (resolve_func N y) q (a N y at.0 ns at.1 formed) in
+        let (z, e, t) = yields_some (λ z q. FuncRow z y (symbols s cells) at.0 rows' (4 * i) q) (resolve_func N y) q (a N y at.0 ns at.1 formed) in
         let left : length (all_values (drop i ls)) ≡ length y.values + length (all_values (drop (i + 1) ls)) = ap (λ (m : List FuncLine). length (all_values m)) d ∙ length-append y.values (all_values (drop (i + 1) ls)) in
         let room = G.room in
         let count = count_is s cells enc_numeral 1 (λ u. refl) y.values q (length values - w) at.0 t.next in

@@ -11,7 +11,7 @@ use lib.ListN.{length, drop, get_or}
 use lib.Seq.{get_or-take}
 use Rattle.pcrl.specs.Tests.{Every, Each}
 use Rattle.nodes.specs.Held.{SortsAt}
-use Rattle.names.specs.Rows.{Kept, Answers, Gives}
+use Rattle.names.specs.Rows.{Kept, Answers, Yields}
 
 pub kept_at : (p : ℕ) (l l' : List ℕ) (q : ℕ) → Kept p l l' → q < p → get_or l' q 0 ≡ get_or l q 0
 kept_at p l l' q k h = sym (get_or-take p l' q 0 h) ∙ (ap (λ (m : List ℕ). get_or m q 0) k.before ∙ get_or-take p l q 0 h)
@@ -32,13 +32,13 @@ answered_yes X none ok a e = absurd (let z : ◌≡◌ {A = ℕ} 0 1 = cc in ome
 answered_yes X (some x) ok a e = (x, refl, a.1)
 
 -- and one that is a value, or none
-pub gives_none : {A B : Type 0} (X : A → B → Type 0) (o : Option A) → Gives X o None → o ≡ none
-gives_none X none g = refl
-gives_none X (some x) g = absurd g
+pub yields_none : {A B : Type 0} (X : A → B → Type 0) (o : Option A) → Yields X o None → o ≡ none
+yields_none X none g = refl
+yields_none X (some x) g = absurd g
 
-pub gives_some : {A B : Type 0} (X : A → B → Type 0) (o : Option A) (b : B) → Gives X o (Some b) → (x : A) × (o ≡ some x) × X x b
-gives_some X none b g = absurd g
-gives_some X (some x) b g = (x, refl, g)
+pub yields_some : {A B : Type 0} (X : A → B → Type 0) (o : Option A) (b : B) → Yields X o (Some b) → (x : A) × (o ≡ some x) × X x b
+yields_some X none b g = absurd g
+yields_some X (some x) b g = (x, refl, g)
 
 -- the line at the i-th place, and those behind it
 pub each_next : {B : Type 0} (R : ℕ → B → Type 0) (l : List ℕ) (m : List B) (i : ℕ) → Each R l m → i < length l

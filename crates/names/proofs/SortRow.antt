@@ -11,9 +11,9 @@ use Rattle.pcrl.specs.Tree.{Name}
 use Rattle.pcrl.specs.Names.{number_of}
 use Rattle.nodes.specs.Held.{SortsAt}
 use Rattle.names.specs.NameCells.{declared_at, names_at}
-use Rattle.names.specs.Rows.{Kept, Gives, sorts_at, numbered}
+use Rattle.names.specs.Rows.{Kept, Yields, sorts_at, numbered}
 use Rattle.names.proofs.Lists.{mapped_length}
-use Rattle.names.proofs.Filled.{Gone, gone_none, gone_stops, gone_goes, gone_gives}
+use Rattle.names.proofs.Filled.{Gone, gone_none, gone_stops, gone_goes, gone_yields}
 
 pub kept_all : (p : ℕ) (l : List ℕ) → Kept p l l
 kept_all p l = record { same = refl; before = refl }
@@ -34,7 +34,7 @@ module _ (sorts : List Name) where
   row_starts rows p xs = gone_none (λ x. number_of x sorts) 0 (Numbered rows p) xs
 
   pub row_stops : (X : List ℕ → ℕ → Type 0) (rows : List ℕ) (p : ℕ) (xs m : List Name) (k : ℕ) (x : Name) → RowGone rows p xs k → drop k xs ≡ x ∷ m
-      → number_of x sorts ≡ none → Gives X (numbered sorts xs) None
+      → number_of x sorts ≡ none → Yields X (numbered sorts xs) None
   row_stops X rows p xs m k x g e h = rw (gone_stops (λ x. number_of x sorts) 0 (Numbered rows p) xs m k x g e h) tt
 
   pub row_goes : (rows : List ℕ) (p : ℕ) (xs : List Name) (k q : ℕ) (x : Name) (i : ℕ) → q ≡ p + 1 + k → q < length rows → RowGone rows p xs k → drop k xs ≡ x ∷ drop (k + 1) xs
@@ -45,9 +45,9 @@ module _ (sorts : List Name) where
       (rw (← hq) (get_or-set_same rows q i 0 room))
 
   pub row_ends : (X : List ℕ → ℕ → Type 0) (rows : List ℕ) (p : ℕ) (xs : List Name) (k q : ℕ) → p < length rows → RowGone rows p xs k → length xs ≤ k
-      → ((Ds : List ℕ) → length Ds ≡ k → SortsAt Ds (set rows p k) p → X Ds q) → Gives X (numbered sorts xs) (Some q)
+      → ((Ds : List ℕ) → length Ds ≡ k → SortsAt Ds (set rows p k) p → X Ds q) → Yields X (numbered sorts xs) (Some q)
   row_ends X rows p xs k q room g l x =
-      gone_gives (λ x. number_of x sorts) 0 (Numbered rows p) X xs k q g l
+      gone_yields (λ x. number_of x sorts) 0 (Numbered rows p) X xs k q g l
       (λ Ds n h. x Ds n (record {
         many = get_or-set_same rows p k 0 room ∙ sym n;
         each = λ i o. get_or-set_other rows p (p + 1 + i) k 0 (λ w. omega arith) ∙ h i (omega arith);

@@ -33,11 +33,11 @@ Answers P O.none ok = ok ≡ false
 Answers P (O.some a) ok = (ok ≡ true) × P a
 
 -- the same where the answer is itself a value: none is given, or P holds of both
-abbrev pub Gives : {A B : Type 0} → (A → B → Type 0) → O.Option A → Option B → Type 0
-Gives P O.none None = Unit {0}
-Gives P (O.some a) (Some b) = P a b
-Gives P O.none (Some b) = ⊥
-Gives P (O.some a) None = ⊥
+abbrev pub Yields : {A B : Type 0} → (A → B → Type 0) → O.Option A → Option B → Type 0
+Yields P O.none None = Unit {0}
+Yields P (O.some a) (Some b) = P a b
+Yields P O.none (Some b) = ⊥
+Yields P (O.some a) None = ⊥
 
 -- each value has its row
 abbrev pub InRows : {A : Type 0} → A → (A → ℕ → Type 0) → List A → Type 0
@@ -62,7 +62,7 @@ pub record FuncRow (g : Func) (l : FuncLine) (m rest : List Symbol) (rows : List
 
 abbrev pub FuncRead : (s cells sorts : List ℕ) (at : ℕ) (rows : List ℕ) (p : ℕ) → Option ℕ → Type 0
 FuncRead s cells sorts at rows p r = (N : Names) (l : FuncLine) (rest : List Symbol) → N.sorts ≡ sorts_at s cells sorts → drop at (symbols s cells) ≡ enc_func l ++ rest → FormedFunc l
-    → Gives (λ g q. FuncRow g l (symbols s cells) rest rows p q) (resolve_func N l) r
+    → Yields (λ g q. FuncRow g l (symbols s cells) rest rows p q) (resolve_func N l) r
 
 -- numerals as a lexer reads them
 abbrev pub SmallValues : FuncLine → Type 0
@@ -85,4 +85,4 @@ abbrev pub ParamsRead : (s cells names : List ℕ) (kinds : Kinds) (at : ℕ) (r
 ParamsRead s cells names kinds at row scope r =
     (N : Names) (ps : List (Name × Name)) (rest : List Symbol) → N.sorts ≡ sorts_in s names kinds → declared N ≡ bytes "Bool" ∷ scope_at s names (total_of kinds)
     → drop at (symbols s cells) ≡ enc_items enc_param ps ++ rest → length ps ≤ frame_width
-    → Gives (λ x p. ParamRow s x (symbols s cells) rest row scope p) (resolve_params N [] ps) r
+    → Yields (λ x p. ParamRow s x (symbols s cells) rest row scope p) (resolve_params N [] ps) r

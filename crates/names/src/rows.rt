@@ -7,7 +7,7 @@ ghost use Rattle.nodes.specs.Held.{func_width, act_width, SortsAt};
 ghost use Rattle.names.specs.NameCells.{byte_of};
 ghost use Rattle.names.specs.NameList.{names_in, kinds_in, KeyedNames};
 ghost use Rattle.names.specs.Items.{far, name_step, item_count, item_names, numeral_at, item_values};
-ghost use Rattle.names.specs.Rows.{Kept, Gives, ActRows, FuncRead, FuncRows, ParamsRead, sorts_at, numbered};
+ghost use Rattle.names.specs.Rows.{Kept, Yields, ActRows, FuncRead, FuncRows, ParamsRead, sorts_at, numbered};
 
 use crate::counts::{NAME_STEP, PARAM_STEP, items};
 use crate::find::sort_number;
@@ -62,7 +62,7 @@ fn sort_row(
     requires { (length sorts.now < max_sorts) × (at < far) × (p + max_arity < length rows.old) }
     ensures kept { Kept p rows.old rows.new }
     ensures near { IfSome result (λ q. q ≤ at + 5) }
-    ensures row { Gives (λ Ds q. (q ≡ at + name_step * length Ds + 1) × SortsAt Ds rows.new p)
+    ensures row { Yields (λ Ds q. (q ≡ at + name_step * length Ds + 1) × SortsAt Ds rows.new p)
         (numbered (sorts_at s.now cells.now sorts.now) (item_names s.now cells.now at (item_count cells.now name_step at max_arity))) result }
 {
     let n = items(cells, NAME_STEP, at, MAX_ARITY);

@@ -15,10 +15,9 @@ use Rattle.parser.specs.Cells.{enc_atom}
 use Rattle.parser.specs.Cells.{enc_data as raw_data, enc_datas as raw_datas}
 use Rattle.parser.specs.Reading.{Put}
 use Rattle.nodes.specs.Layout.{cell_limit, enc_data}
-use Rattle.names.specs.NameCells.{or_count, name_at, scope_at}
+use Rattle.names.specs.NameCells.{name_at, scope_at}
 use Rattle.names.specs.NameKinds.{funcs_in}
 use Rattle.names.specs.declared.Kinds.{Kinds}
-use Rattle.names.proofs.KeyLaws.{scope_most}
 use Rattle.names.specs.Standing.{symbols}
 use Rattle.names.proofs.Symbols.{name_of_cell}
 use Rattle.parser.specs.declared.Step.{Step}
@@ -28,7 +27,6 @@ use Rattle.resolver.specs.Resolving.{Outcome, lost, took, data_cells, atom_cells
 use Rattle.resolver.specs.Sorting.{scope_sorts, KnownSorts}
 use Rattle.resolver.proofs.Writing.{writes_nothing, writes_then, writes_cell, writes_instead}
 use Rattle.resolver.proofs.Symbols.{pair, first_tag, next, NumeralCell, numeral_is}
-use Rattle.resolver.proofs.Lookup.{known, unknown, funcs_most}
 use Rattle.resolver.proofs.DataCells.{then_nothing, then_assoc, then_none, then_last, none_last, variable_unknown, variable_known, apply_unknown, apply_known, group_cells, datas_one, datas_more}
 
 -- two places behind, and cells as they must be
@@ -58,32 +56,32 @@ module _ (s raw names : List ℕ) (kinds : Kinds) (scope : List ℕ) (n at w : �
     value_took c a w' o' ec ea put N S (Atom.apply x ds) rest f so e = let q = first_tag s raw at 3 _ e in absurd (omega arith)
 
   -- ---- a variable
-  module _ (k : get_or raw at 0 ≡ 2) (few : n ≤ length scope) (c i : ℕ) (ec : c ≡ get_or raw (at + 1) 0) (found : i ≡ or_count n (number_of (name_at s c) (scope_at s scope n))) where
-    pub variable_lost : (r : Step) (o' : List ℕ) → length raw < r.at → n ≤ i → ResolvesAtom s raw names kinds scope n at w o r o'
+  module _ (k : get_or raw at 0 ≡ 2) (c : ℕ) (ec : c ≡ get_or raw (at + 1) 0) where
+    pub variable_lost : (r : Step) (o' : List ℕ) → length raw < r.at → number_of (name_at s c) (scope_at s scope n) ≡ none → ResolvesAtom s raw names kinds scope n at w o r o'
     unfolding enc_atom
     variable_lost r o' l h N S (Atom.value v) rest f so e = let q = first_tag s raw at 1 _ e in absurd (omega arith)
     variable_lost r o' l h N S (Atom.variable x) rest f so e =
         let p = pair s raw at 2 (name x) rest e in
         let y : name_at s c ≡ x = ap (name_at s) ec ∙ name_of_cell s (get_or raw (at + 1) 0) x p.token_cell in
-        let u = subst (λ (z : Name). number_of z (scope_at s scope n) ≡ none) y (unknown (name_at s c) (scope_at s scope n) i n (scope_most s scope n) found h) in
+        let u = subst (λ (z : Name). number_of z (scope_at s scope n) ≡ none) y h in
         became (sym (variable_unknown N S (scope_at s scope n) (scope_sorts scope n) x u)) (lost l)
     variable_lost r o' l h N S (Atom.group d) rest f so e = let q = first_tag s raw at 28 _ e in absurd (omega arith)
     variable_lost r o' l h N S (Atom.apply x ds) rest f so e = let q = first_tag s raw at 3 _ e in absurd (omega arith)
 
-    pub variable_took : (a w' : ℕ) (o' : List ℕ) → i < n → a ≡ 4 * i + 1 → Put o w a w' o' → ResolvesAtom s raw names kinds scope n at w o (record { at = at + 2; w = w' }) o'
+    pub variable_took : (i a w' : ℕ) (o' : List ℕ) → number_of (name_at s c) (scope_at s scope n) ≡ some i → a ≡ 4 * i + 1 → Put o w a w' o' → ResolvesAtom s raw names kinds scope n at w o (record { at = at + 2; w = w' }) o'
     unfolding enc_atom
-    variable_took a w' o' h ea put N S (Atom.value v) rest f so e = let q = first_tag s raw at 1 _ e in absurd (omega arith)
-    variable_took a w' o' h ea put N S (Atom.variable x) rest f so e =
+    variable_took i a w' o' h ea put N S (Atom.value v) rest f so e = let q = first_tag s raw at 1 _ e in absurd (omega arith)
+    variable_took i a w' o' h ea put N S (Atom.variable x) rest f so e =
         let p = pair s raw at 2 (name x) rest e in
         let y : name_at s c ≡ x = ap (name_at s) ec ∙ name_of_cell s (get_or raw (at + 1) 0) x p.token_cell in
-        let u = subst (λ (z : Name). number_of z (scope_at s scope n) ≡ some i) y (known (name_at s c) (scope_at s scope n) i n (scope_most s scope n) found h) in
+        let u = subst (λ (z : Name). number_of z (scope_at s scope n) ≡ some i) y h in
         became (ap (λ (j : ℕ). some (j ∷ [])) ea ∙ sym (variable_known N S (scope_at s scope n) (scope_sorts scope n) x i u)) (took p.inside p.behind (writes_cell put))
-    variable_took a w' o' h ea put N S (Atom.group d) rest f so e = let q = first_tag s raw at 28 _ e in absurd (omega arith)
-    variable_took a w' o' h ea put N S (Atom.apply x ds) rest f so e = let q = first_tag s raw at 3 _ e in absurd (omega arith)
+    variable_took i a w' o' h ea put N S (Atom.group d) rest f so e = let q = first_tag s raw at 28 _ e in absurd (omega arith)
+    variable_took i a w' o' h ea put N S (Atom.apply x ds) rest f so e = let q = first_tag s raw at 3 _ e in absurd (omega arith)
 
   -- ---- a function
-  module _ (k : get_or raw at 0 ≡ 3) (c i : ℕ) (ec : c ≡ get_or raw (at + 1) 0) (found : i ≡ or_count kinds.funcs (number_of (name_at s c) (funcs_in s names kinds))) where
-    pub apply_lost : (r : Step) (o' : List ℕ) → length raw < r.at → kinds.funcs ≤ i → ResolvesAtom s raw names kinds scope n at w o r o'
+  module _ (k : get_or raw at 0 ≡ 3) (c : ℕ) (ec : c ≡ get_or raw (at + 1) 0) where
+    pub apply_lost : (r : Step) (o' : List ℕ) → length raw < r.at → number_of (name_at s c) (funcs_in s names kinds) ≡ none → ResolvesAtom s raw names kinds scope n at w o r o'
     unfolding enc_atom
     apply_lost r o' l h N S (Atom.value v) rest f so e = let q = first_tag s raw at 1 _ e in absurd (omega arith)
     apply_lost r o' l h N S (Atom.variable x) rest f so e = let q = first_tag s raw at 2 _ e in absurd (omega arith)
@@ -91,20 +89,18 @@ module _ (s raw names : List ℕ) (kinds : Kinds) (scope : List ℕ) (n at w : �
     apply_lost r o' l h N S (Atom.apply x ds) rest f so e =
         let p = pair s raw at 3 (name x) _ e in
         let y : name_at s c ≡ x = ap (name_at s) ec ∙ name_of_cell s (get_or raw (at + 1) 0) x p.token_cell in
-        let u = unknown (name_at s c) (funcs_in s names kinds) i kinds.funcs (funcs_most s names kinds) found h in
         became (sym (apply_unknown N S (scope_at s scope n) (scope_sorts scope n) x ds (cc))) (lost l)
 
-    pub apply_took : (a w₁ w₂ w₃ b : ℕ) (l : DataRun) (o₁ o₂ o₃ o' : List ℕ) → i < kinds.funcs → a ≡ 4 * i + 2 → Put o w a w₁ o₁ → Put o₁ w₁ 0 w₂ o₂
+    pub apply_took : (i a w₁ w₂ w₃ b : ℕ) (l : DataRun) (o₁ o₂ o₃ o' : List ℕ) → number_of (name_at s c) (funcs_in s names kinds) ≡ some i → a ≡ 4 * i + 2 → Put o w a w₁ o₁ → Put o₁ w₁ 0 w₂ o₂
         → ResolvesDatas s raw names kinds scope n (at + 2) w₂ o₂ l o₃ → (l.count < cell_limit → b ≡ l.count) → Put o₃ w₁ b w₃ o'
         → ResolvesAtom s raw names kinds scope n at w o (record { at = l.at; w = l.w }) o'
     unfolding enc_atom
-    apply_took a w₁ w₂ w₃ b l o₁ o₂ o₃ o' h ea put₁ put₂ list short put₃ N S (Atom.value v) rest f so e = let q = first_tag s raw at 1 _ e in absurd (omega arith)
-    apply_took a w₁ w₂ w₃ b l o₁ o₂ o₃ o' h ea put₁ put₂ list short put₃ N S (Atom.variable x) rest f so e = let q = first_tag s raw at 2 _ e in absurd (omega arith)
-    apply_took a w₁ w₂ w₃ b l o₁ o₂ o₃ o' h ea put₁ put₂ list short put₃ N S (Atom.group d) rest f so e = let q = first_tag s raw at 28 _ e in absurd (omega arith)
-    apply_took a w₁ w₂ w₃ b l o₁ o₂ o₃ o' h ea put₁ put₂ list short put₃ N S (Atom.apply x ds) rest f so e =
+    apply_took i a w₁ w₂ w₃ b l o₁ o₂ o₃ o' h ea put₁ put₂ list short put₃ N S (Atom.value v) rest f so e = let q = first_tag s raw at 1 _ e in absurd (omega arith)
+    apply_took i a w₁ w₂ w₃ b l o₁ o₂ o₃ o' h ea put₁ put₂ list short put₃ N S (Atom.variable x) rest f so e = let q = first_tag s raw at 2 _ e in absurd (omega arith)
+    apply_took i a w₁ w₂ w₃ b l o₁ o₂ o₃ o' h ea put₁ put₂ list short put₃ N S (Atom.group d) rest f so e = let q = first_tag s raw at 28 _ e in absurd (omega arith)
+    apply_took i a w₁ w₂ w₃ b l o₁ o₂ o₃ o' h ea put₁ put₂ list short put₃ N S (Atom.apply x ds) rest f so e =
         let p = pair s raw at 3 (name x) (raw_datas ds ++ rest) e in
         let y : name_at s c ≡ x = ap (name_at s) ec ∙ name_of_cell s (get_or raw (at + 1) 0) x p.token_cell in
-        let u = known (name_at s c) (funcs_in s names kinds) i kinds.funcs (funcs_most s names kinds) found h in
         let d = list N S ds rest f so p.behind in
         became (sym (apply_known N S (scope_at s scope n) (scope_sorts scope n) x ds i (cc))) (filled ds (datas_cells N S (scope_at s scope n) (scope_sorts scope n) ds) rest d.0 (λ z. short (d.1 z).1 ∙ (d.1 z).0))
       where

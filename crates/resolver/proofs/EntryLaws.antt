@@ -1,12 +1,11 @@
 -- A right side and init: from a place past the end or not to the answer.
 use mathlib.Core.Path.{◌≡◌, refl, sym, ap, ◌∙◌, subst}
-use mathlib.Core.Bool.{true, false}
+use mathlib.Core.Bool.{false}
 use mathlib.Core.List.{List, [], ◌++◌}
+use Rattle.std.specs.Prelude.{Option as Given, Some, None}
 use mathlib.Core.Option.{Option, none, some, some-injective}
 use Prim.Native.Nat.{ℕ, ◌+◌, ◌≤◌, ◌<◌}
 use native.Mathlib.Omega.{arith}
-use borrow.Author.Tests.{le-leb, lt-leb}
-use lib.Dec.{leb}
 use lib.ListN.{length, drop, get_or}
 use Rattle.pcrl.specs.Maybe.{◌>>=◌}
 use Rattle.pcrl.specs.Tests.{Every}
@@ -16,50 +15,46 @@ use Rattle.pcrl.specs.Sheet.{Data, Proc, Sig}
 use Rattle.pcrl.specs.Names.{Names, number_of, resolve_given, resolve_init}
 use Rattle.parser.specs.Cells.{Symbol, tag, init_tag, enc_call, enc_init}
 use Rattle.nodes.specs.Layout.{enc_node, first_cell, one_if, call_kind, enc}
-use Rattle.names.specs.NameCells.{or_count, name_at, scope_at}
+use Rattle.names.specs.NameCells.{name_at, scope_at}
 use Rattle.names.specs.NameKinds.{procs_in}
 use Rattle.names.specs.declared.Kinds.{Kinds}
 use Rattle.names.specs.Standing.{symbols}
 use Rattle.names.proofs.Symbols.{name_of_cell}
 use Rattle.parser.specs.declared.Step.{Step}
-use Rattle.resolver.specs.declared.RightSide.{RightSide}
 use Rattle.resolver.specs.Raw.{choice, enc_term, resolve_term, term_depth}
 use Rattle.resolver.specs.Sorting.{scope_sorts, scope_results, Gives, KnownSorts}
 use Rattle.resolver.specs.Writing.{Writes}
-use Rattle.resolver.specs.Resolving.{Outcome, lost, took, term_cells, ResolvesTerm, Answers, ResolvesRight, called, ResolvesInit}
+use Rattle.resolver.specs.Resolving.{Outcome, lost, took, term_cells, ResolvesTerm, Whole, Answers, ResolvesRight, called, ResolvesInit}
 use Rattle.resolver.proofs.Symbols.{next, pair}
 use Rattle.resolver.proofs.DataCells.{node_cells}
 use Rattle.resolver.proofs.GivenLaws.{ResolvesNode}
-use Rattle.resolver.proofs.Lookup.{known, unknown, procs_most}
 
 -- the answer by the place
-answered : (raw : List ℕ) (ys rest : List Symbol) (w : ℕ) (o : List ℕ) (a : Step) (o' : List ℕ) (p : Option Proc) → Outcome raw ys rest w o a.at a.w o' (◌>>=◌ p (λ q. some (enc false q)))
-    → Answers ys rest w o p (record { ok = leb a.at (length raw); next = a.at; w = a.w }) o'
+answered : (raw : List ℕ) (ys rest : List Symbol) (w : ℕ) (o : List ℕ) (a : Step) (o' : List ℕ) (p : Option Proc) (r : Given Step) → Whole raw a r
+    → Outcome raw ys rest w o a.at a.w o' (◌>>=◌ p (λ q. some (enc false q))) → Answers ys rest w o p r o'
 unfolding Answers
-answered raw ys rest w o a o' none h = by h refl
+answered raw ys rest w o a o' none r k h = by h refl
   where
-    by : {X : Option (List ℕ)} → Outcome raw ys rest w o a.at a.w o' X → X ≡ none → leb a.at (length raw) ≡ false
-    by (lost z) q = lt-leb a.at (length raw) z
-    by (took z d ws) q = let l : ◌≡◌ {A = ℕ} 0 1 = cc in absurd (omega arith)
-answered raw ys rest w o a o' (some p) h = by h refl
+    by : {X : Option (List ℕ)} → Outcome raw ys rest w o a.at a.w o' X → X ≡ none → Answers ys rest w o none r o'
+    by (lost z) q = rw (k.past z) tt
+    by (took z d ws) q = absurd (cc)
+answered raw ys rest w o a o' (some p) r k h = by h refl
   where
-    by : {X : Option (List ℕ)} → Outcome raw ys rest w o a.at a.w o' X → X ≡ some (enc false p)
-        → (leb a.at (length raw) ≡ true) × (drop a.at ys ≡ rest) × Writes (enc false p) w o a.w o'
-    by (lost z) q = let l : ◌≡◌ {A = ℕ} 0 1 = cc in absurd (omega arith)
-    by (took {e} z d ws) q = (le-leb a.at (length raw) z, d, subst (λ (l : List ℕ). Writes l w o a.w o') (some-injective e (enc false p) q) ws)
+    by : {X : Option (List ℕ)} → Outcome raw ys rest w o a.at a.w o' X → X ≡ some (enc false p) → Answers ys rest w o (some p) r o'
+    by (lost z) q = absurd (cc)
+    by (took {e} z d ws) q = rw (k.reached z) (d, subst (λ (l : List ℕ). Writes l w o a.w o') (some-injective e (enc false p) q) ws)
 
-pub right_answered : (s raw names : List ℕ) (kinds : Kinds) (scope : List ℕ) (n at w : ℕ) (o : List ℕ) (a : Step) (o' : List ℕ) → ResolvesTerm s raw names kinds scope n at false w o a o'
-    → ResolvesRight s raw names kinds scope n at w o (record { ok = leb a.at (length raw); next = a.at; w = a.w }) o'
+pub right_answered : (s raw names : List ℕ) (kinds : Kinds) (scope : List ℕ) (n at w : ℕ) (o : List ℕ) (a : Step) (o' : List ℕ) (r : Given Step) → Whole raw a r
+    → ResolvesTerm s raw names kinds scope n at false w o a o' → ResolvesRight s raw names kinds scope n at w o r o'
 unfolding enc_term term_depth term_cells resolve_term
-right_answered s raw names kinds scope n at w o a o' f N S t rest dec so e d = answered raw (symbols s raw) rest w o a o' _ (f N S (choice t) rest dec so e d)
+right_answered s raw names kinds scope n at w o a o' r k f N S t rest dec so e d = answered raw (symbols s raw) rest w o a o' _ r k (f N S (choice t) rest dec so e d)
 
 -- where nothing is in scope
 none_sorted : (kinds : Kinds) (scope : List ℕ) (S : Sig) → Gives kinds (scope_results scope) S → KnownSorts kinds scope 0 S
 unfolding scope_sorts Every
 none_sorted kinds scope S g = record { results = g; sorts_small = tt }
 
-module _ (s raw names : List ℕ) (kinds : Kinds) (scope : List ℕ) (at w : ℕ) (o : List ℕ) (c k : ℕ) (ec : c ≡ get_or raw (at + 2) 0)
-    (found : k ≡ or_count kinds.procs (number_of (name_at s c) (procs_in s names kinds))) where
+module _ (s raw names : List ℕ) (kinds : Kinds) (scope : List ℕ) (at w : ℕ) (o : List ℕ) (c : ℕ) (ec : c ≡ get_or raw (at + 2) 0) where
   -- the name behind init's tag
   init_name : (N : Names) (l : InitLine) (rest : List Symbol) → drop at (symbols s raw) ≡ enc_init l ++ rest → name_at s c ≡ l.name
   unfolding enc_init enc_call
@@ -73,19 +68,18 @@ module _ (s raw names : List ℕ) (kinds : Kinds) (scope : List ℕ) (at w : ℕ
           let q : at + 2 ≡ at + 1 + 1 = omega arith in
           ap (λ i. name_at s (get_or raw i 0)) q ∙ name_of_cell s (get_or raw (at + 1 + 1) 0) l.name (pair s raw (at + 1) 15 (name l.name) _ d).token_cell
 
-  pub init_unknown : kinds.procs ≤ k → (r : RightSide) (o' : List ℕ) → r.ok ≡ false → ResolvesInit s raw names kinds scope at w o r o'
+  pub init_unknown : number_of (name_at s c) (procs_in s names kinds) ≡ none → (o' : List ℕ) → ResolvesInit s raw names kinds scope at w o None o'
   unfolding resolve_init Answers
-  init_unknown h r o' z N S l rest gi f p e =
-      let u = unknown (name_at s c) (procs_in s names kinds) k kinds.procs (procs_most s names kinds) found h in
+  init_unknown u o' N S l rest gi f p e =
       let y = init_name N l rest e in
       let v : number_of l.name N.procs ≡ none = ap (number_of l.name) p ∙ ap (λ (x : Name). number_of x (procs_in s names kinds)) (sym y) ∙ u in
-      rw v z
+      rw v tt
 
-  pub init_answered : k < kinds.procs → (first : ℕ) → first ≡ first_cell k (one_if false) call_kind → (a : Step) (o' : List ℕ) → ResolvesNode s raw names kinds scope 0 (at + 1) first w o a o'
-      → ResolvesInit s raw names kinds scope at w o (record { ok = leb a.at (length raw); next = a.at; w = a.w }) o'
+  pub init_answered : (k : ℕ) → number_of (name_at s c) (procs_in s names kinds) ≡ some k → (first : ℕ) → first ≡ first_cell k (one_if false) call_kind
+      → (a : Step) (o' : List ℕ) (r : Given Step) → Whole raw a r → ResolvesNode s raw names kinds scope 0 (at + 1) first w o a o'
+      → ResolvesInit s raw names kinds scope at w o r o'
   unfolding resolve_init enc_init node_cells scope_at scope_sorts enc one_if
-  init_answered h first ef a o' g N S l rest gi f p e =
-      let u = known (name_at s c) (procs_in s names kinds) k kinds.procs (procs_most s names kinds) found h in
+  init_answered k u first ef a o' r whole g N S l rest gi f p e =
       let y = init_name N l rest e in
       let v : number_of l.name N.procs ≡ some k = ap (number_of l.name) p ∙ ap (λ (x : Name). number_of x (procs_in s names kinds)) (sym y) ∙ u in
       rw v (by (resolve_given N S [] [] l.data_given) (g N S l.name l.data_given rest f (none_sorted kinds scope S gi) (next s raw at (tag init_tag) (enc_call l.name l.data_given ++ rest) e).behind))
@@ -95,5 +89,5 @@ module _ (s raw names : List ℕ) (kinds : Kinds) (scope : List ℕ) (at w : ℕ
       same (some es) = ap (λ (i : ℕ). some (enc_node i es)) ef
 
       by : (q : Option (List Data)) → Outcome raw (symbols s raw) rest w o a.at a.w o' (◌>>=◌ q (λ es. some (enc_node first es)))
-          → Answers (symbols s raw) rest w o (called (◌>>=◌ q (λ ds. some (k, ds)))) (record { ok = leb a.at (length raw); next = a.at; w = a.w }) o'
-      by q h = answered raw (symbols s raw) rest w o a o' (called (◌>>=◌ q (λ ds. some (k, ds)))) (subst (λ (x : Option (List ℕ)). Outcome raw (symbols s raw) rest w o a.at a.w o' x) (same q) h)
+          → Answers (symbols s raw) rest w o (called (◌>>=◌ q (λ ds. some (k, ds)))) r o'
+      by q h = answered raw (symbols s raw) rest w o a o' (called (◌>>=◌ q (λ ds. some (k, ds)))) r whole (subst (λ (x : Option (List ℕ)). Outcome raw (symbols s raw) rest w o a.at a.w o' x) (same q) h)

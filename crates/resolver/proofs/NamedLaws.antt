@@ -2,10 +2,12 @@
 use mathlib.Core.Path.{◌≡◌, refl, sym, ap, ◌∙◌, subst}
 use mathlib.Core.Bool.{Bool, true, false}
 use mathlib.Core.List.{List, ◌++◌}
+use Rattle.std.specs.Prelude.{Some, None}
 use mathlib.Core.Option.{Option, none, some}
 use Prim.Native.Nat.{ℕ, ◌+◌, ◌<◌}
 use native.Mathlib.Omega.{arith}
 use lib.ListN.{length, drop, get_or}
+use Rattle.std.proofs.lemmas.Option.{same_Some}
 use Rattle.pcrl.specs.Tokens.{name}
 use Rattle.pcrl.specs.Tree.{Name, RawDatas, Part}
 use Rattle.pcrl.specs.Names.{number_of}
@@ -17,7 +19,6 @@ use Rattle.names.specs.declared.Kinds.{Kinds}
 use Rattle.names.specs.Standing.{symbols}
 use Rattle.names.proofs.Symbols.{name_of_cell}
 use Rattle.parser.specs.declared.Step.{Step}
-use Rattle.resolver.specs.declared.Known.{Known}
 use Rattle.resolver.specs.Raw.{Term, part, enc_term, tokens_of}
 use Rattle.resolver.specs.Sorting.{scope_sorts}
 use Rattle.resolver.specs.Resolving.{Outcome, lost, term_cells, Naming, ResolvesNamed}
@@ -28,18 +29,18 @@ use Rattle.resolver.proofs.GivenLaws.{ResolvesNode}
 use Rattle.resolver.proofs.ProcessCells.{action_cells, process_cells, unnamed_cells}
 use Rattle.resolver.proofs.Terms.{SingleTag, only_tag, plain_tag, last_tag, group_tag, View, single, plus, cond, then, delta, tau, bare, given, sum, seen}
 
-module _ (after : Bool) (o k : Option ℕ) (r : Known) where
-  pub naming_action : (i : ℕ) → o ≡ some i → r.known ≡ true → r.first ≡ first_cell (i + 1) (one_if after) atom_kind → Naming after o k r
+module _ (after : Bool) (o k : Option ℕ) where
+  pub naming_action : (i r : ℕ) → o ≡ some i → r ≡ first_cell (i + 1) (one_if after) atom_kind → Naming after o k (Some r)
   unfolding Naming
-  naming_action i e a b = subst (λ (x : Option ℕ). Naming after x k r) (sym e) (a, b)
+  naming_action i r e b = rw e (ap Some b)
 
-  pub naming_process : (i : ℕ) → o ≡ none → k ≡ some i → r.known ≡ true → r.first ≡ first_cell i (one_if false) call_kind → Naming after o k r
+  pub naming_process : (i r : ℕ) → o ≡ none → k ≡ some i → r ≡ first_cell i (one_if false) call_kind → Naming after o k (Some r)
   unfolding Naming one_if
-  naming_process i e f a b = subst (λ (x : Option ℕ). Naming after x k r) (sym e) (subst (λ (x : Option ℕ). Naming after none x r) (sym f) (a, b))
+  naming_process i r e f b = rw (e, f) (ap Some b)
 
-  pub naming_none : o ≡ none → k ≡ none → r.known ≡ false → Naming after o k r
+  pub naming_none : o ≡ none → k ≡ none → Naming after o k None
   unfolding Naming
-  naming_none e f a = subst (λ (x : Option ℕ). Naming after x k r) (sym e) (subst (λ (x : Option ℕ). Naming after none x r) (sym f) a)
+  naming_none e f = rw (e, f) refl
 
 module _ (s raw names : List ℕ) (kinds : Kinds) (scope : List ℕ) (n at : ℕ) (after : Bool) (w : ℕ) (o : List ℕ) where
   -- the tag is that of a name: the name's cell and what is given to it
@@ -63,36 +64,36 @@ module _ (s raw names : List ℕ) (kinds : Kinds) (scope : List ℕ) (n at : ℕ
   by_name P t k rest (given x ds) q h h' e f = f x (some ds) (name_of_cell s (get_or raw (at + 1) 0) x (pair s raw at 15 (name x) _ e).token_cell) e
   by_name P t k rest (sum v D p) q h h' e f = absurd (h' q)
 
-  module _ (c : ℕ) (ec : c ≡ get_or raw (at + 1) 0) (f : Known)
-      (naming : Naming after (number_of (name_at s c) (acts_in s names kinds)) (number_of (name_at s c) (procs_in s names kinds)) f) where
-    pub part_lost : f.known ≡ false → (r : Step) (o' : List ℕ) → length raw < r.at → ResolvesNamed s raw names kinds scope n at after w o r o'
+  module _ (c : ℕ) (ec : c ≡ get_or raw (at + 1) 0) where
+    pub part_lost : Naming after (number_of (name_at s c) (acts_in s names kinds)) (number_of (name_at s c) (procs_in s names kinds)) None → (r : Step) (o' : List ℕ) → length raw < r.at → ResolvesNamed s raw names kinds scope n at after w o r o'
     unfolding Naming
-    part_lost unknown r o' z N S t rest so fs as' ps e h h' =
+    part_lost naming r o' z N S t rest so fs as' ps e h h' =
         let v = seen s raw at t rest e in
         by_name (λ t. Outcome raw (symbols s raw) rest w o r.at r.w o' (term_cells N S (scope_at s scope n) (scope_sorts scope n) after t)) t v.tag_of rest v.view v.cell h h' e
         (λ x ds q d. go (number_of (name_at s c) (acts_in s names kinds)) (number_of (name_at s c) (procs_in s names kinds)) refl refl naming x ds (ap (name_at s) ec ∙ q))
       where
-        go : (i k : Option ℕ) → number_of (name_at s c) (acts_in s names kinds) ≡ i → number_of (name_at s c) (procs_in s names kinds) ≡ k → Naming after i k f
+        go : (i k : Option ℕ) → number_of (name_at s c) (acts_in s names kinds) ≡ i → number_of (name_at s c) (procs_in s names kinds) ≡ k → Naming after i k None
             → (x : Name) (ds : Option RawDatas) → name_at s c ≡ x → Outcome raw (symbols s raw) rest w o r.at r.w o' (term_cells N S (scope_at s scope n) (scope_sorts scope n) after (part (Part.named x ds)))
-        go (some i) k p q m x ds y = let b : true ≡ false = sym m.0 ∙ unknown in let l : ◌≡◌ {A = ℕ} 0 1 = cc in absurd (omega arith)
-        go none (some k) p q m x ds y = let b : true ≡ false = sym m.0 ∙ unknown in let l : ◌≡◌ {A = ℕ} 0 1 = cc in absurd (omega arith)
+        go (some i) k p q m x ds y = absurd (cc)
+        go none (some k) p q m x ds y = absurd (cc)
         go none none p q m x ds y = became (sym (unnamed_cells N S (scope_at s scope n) (scope_sorts scope n) after x ds (cc) (cc))) (lost z)
 
-    pub part_took : f.known ≡ true → (r : Step) (o' : List ℕ) → ResolvesNode s raw names kinds scope n at f.first w o r o' → ResolvesNamed s raw names kinds scope n at after w o r o'
+    pub part_took : (f : ℕ) → Naming after (number_of (name_at s c) (acts_in s names kinds)) (number_of (name_at s c) (procs_in s names kinds)) (Some f)
+        → (r : Step) (o' : List ℕ) → ResolvesNode s raw names kinds scope n at f w o r o' → ResolvesNamed s raw names kinds scope n at after w o r o'
     unfolding Naming
-    part_took is_Known r o' resolves N S t rest so fs as' ps e h h' =
+    part_took f naming r o' resolves N S t rest so fs as' ps e h h' =
         let v = seen s raw at t rest e in
         by_name (λ t. Outcome raw (symbols s raw) rest w o r.at r.w o' (term_cells N S (scope_at s scope n) (scope_sorts scope n) after t)) t v.tag_of rest v.view v.cell h h' e
         (λ x ds q d. go (number_of (name_at s c) (acts_in s names kinds)) (number_of (name_at s c) (procs_in s names kinds)) refl refl naming x ds (ap (name_at s) ec ∙ q) (resolves N S x ds rest fs so d))
       where
-        go : (i k : Option ℕ) → number_of (name_at s c) (acts_in s names kinds) ≡ i → number_of (name_at s c) (procs_in s names kinds) ≡ k → Naming after i k f
+        go : (i k : Option ℕ) → number_of (name_at s c) (acts_in s names kinds) ≡ i → number_of (name_at s c) (procs_in s names kinds) ≡ k → Naming after i k (Some f)
             → (x : Name) (ds : Option RawDatas) → name_at s c ≡ x
-            → Outcome raw (symbols s raw) rest w o r.at r.w o' (node_cells N S (scope_at s scope n) (scope_sorts scope n) f.first ds)
+            → Outcome raw (symbols s raw) rest w o r.at r.w o' (node_cells N S (scope_at s scope n) (scope_sorts scope n) f ds)
             → Outcome raw (symbols s raw) rest w o r.at r.w o' (term_cells N S (scope_at s scope n) (scope_sorts scope n) after (part (Part.named x ds)))
         go (some i) k p q m x ds y u =
-            became (ap (λ (j : ℕ). node_cells N S (scope_at s scope n) (scope_sorts scope n) j ds) m.1
+            became (ap (λ (j : ℕ). node_cells N S (scope_at s scope n) (scope_sorts scope n) j ds) (same_Some f _ m)
             ∙ sym (action_cells N S (scope_at s scope n) (scope_sorts scope n) after x ds i (cc))) u
         go none (some k) p q m x ds y u =
-            became (ap (λ (j : ℕ). node_cells N S (scope_at s scope n) (scope_sorts scope n) j ds) m.1
+            became (ap (λ (j : ℕ). node_cells N S (scope_at s scope n) (scope_sorts scope n) j ds) (same_Some f _ m)
             ∙ sym (process_cells N S (scope_at s scope n) (scope_sorts scope n) after x ds k (cc) (cc))) u
-        go none none p q m x ds y u = let b : true ≡ false = sym is_Known ∙ m in let l : ◌≡◌ {A = ℕ} 0 1 = cc in absurd (omega arith)
+        go none none p q m x ds y u = absurd (cc)

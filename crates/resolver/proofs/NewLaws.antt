@@ -29,7 +29,7 @@ use Rattle.resolver.specs.Sorting.{first_sort, first_result, scope_cells, scope_
 use Rattle.resolver.specs.Resolving.{lost, took, Declared, binder_cells, sort_found, Binds}
 use Rattle.resolver.proofs.Writing.{writes_then, writes_cell}
 use Rattle.resolver.proofs.Symbols.{next, pair}
-use Rattle.resolver.proofs.Lookup.{known, unknown, sorts_most, scope_many}
+use Rattle.resolver.proofs.Lookup.{scope_many}
 use Rattle.resolver.proofs.DataLaws.{became}
 
 -- a variable that may come into scope
@@ -111,24 +111,22 @@ module _ (s raw names : List ℕ) (kinds : Kinds) (scope : List ℕ) (n at : ℕ
         let q : new_variable N (scope_at s scope n) x ≡ false = ap (new_variable N (scope_at s scope n)) (sym (ap (name_at s) ec ∙ t.variable)) ∙ sym (says N dec) ∙ b in
         became (sym (rw q refl)) (lost z)
 
-    module _ (b : new ≡ true) (c₂ : ℕ) (ec₂ : c₂ ≡ get_or raw (at + 2) 0) (i : ℕ) (si : i ≡ or_count (suc kinds.sorts) (number_of (name_at s c₂) (sorts_in s names kinds))) where
-      pub binder_no_sort : kinds.sorts < i → (r : Step) (o' : List ℕ) → length raw < r.at → Binds s raw names kinds scope n at after w o r o'
+    module _ (b : new ≡ true) (c₂ : ℕ) (ec₂ : c₂ ≡ get_or raw (at + 2) 0) where
+      pub binder_no_sort : number_of (name_at s c₂) (sorts_in s names kinds) ≡ none → (r : Step) (o' : List ℕ) → length raw < r.at → Binds s raw names kinds scope n at after w o r o'
       unfolding binder_cells
       binder_no_sort h r o' z N S x D rest dec e l =
           let t = two_names s raw at x D rest e in
           let q : new_variable N (scope_at s scope n) x ≡ true = ap (new_variable N (scope_at s scope n)) (sym (ap (name_at s) ec ∙ t.variable)) ∙ sym (says N dec) ∙ b in
-          let u = unknown (name_at s c₂) (sorts_in s names kinds) i (suc kinds.sorts) (sorts_most s names kinds) si (omega arith) in
-          let f : number_of D N.sorts ≡ none = ap (number_of D) dec.sorts_are ∙ ap (λ (y : Name). number_of y (sorts_in s names kinds)) (sym (ap (name_at s) ec₂ ∙ t.sort)) ∙ u in
+          let f : number_of D N.sorts ≡ none = ap (number_of D) dec.sorts_are ∙ ap (λ (y : Name). number_of y (sorts_in s names kinds)) (sym (ap (name_at s) ec₂ ∙ t.sort)) ∙ h in
           became (sym (rw (q, f) refl)) (lost z)
 
-      pub binder_took : i ≤ kinds.sorts → (first v v₁ w' : ℕ) (o₁ o' : List ℕ) → first ≡ first_cell i (one_if after) sum_kind → v ≡ 4 * n + 1 → Writes (first ∷ 1 ∷ 1 ∷ []) w o v₁ o₁ → Put o₁ v₁ v w' o'
+      pub binder_took : (i : ℕ) → number_of (name_at s c₂) (sorts_in s names kinds) ≡ some i → (first v v₁ w' : ℕ) (o₁ o' : List ℕ) → first ≡ first_cell i (one_if after) sum_kind → v ≡ 4 * n + 1 → Writes (first ∷ 1 ∷ 1 ∷ []) w o v₁ o₁ → Put o₁ v₁ v w' o'
           → Binds s raw names kinds scope n at after w o (record { at = at + 3; w = w' }) o'
       unfolding binder_cells
-      binder_took h first v v₁ w' o₁ o' ef ev ws put N S x D rest dec e l =
+      binder_took i h first v v₁ w' o₁ o' ef ev ws put N S x D rest dec e l =
           let t = two_names s raw at x D rest e in
           let q : new_variable N (scope_at s scope n) x ≡ true = ap (new_variable N (scope_at s scope n)) (sym (ap (name_at s) ec ∙ t.variable)) ∙ sym (says N dec) ∙ b in
-          let u = known (name_at s c₂) (sorts_in s names kinds) i (suc kinds.sorts) (sorts_most s names kinds) si (omega arith) in
-          let f : number_of D N.sorts ≡ some i = ap (number_of D) dec.sorts_are ∙ ap (λ (y : Name). number_of y (sorts_in s names kinds)) (sym (ap (name_at s) ec₂ ∙ t.sort)) ∙ u in
+          let f : number_of D N.sorts ≡ some i = ap (number_of D) dec.sorts_are ∙ ap (λ (y : Name). number_of y (sorts_in s names kinds)) (sym (ap (name_at s) ec₂ ∙ t.sort)) ∙ h in
           let g : v ≡ 4 * length (scope_at s scope n) + variable_tag = let y = scope_many s scope n few in omega arith in
           became (ap (λ (y : ℕ). some (y ∷ 1 ∷ 1 ∷ v ∷ [])) ef ∙ ap (λ (y : ℕ). some (first_cell i (one_if after) sum_kind ∷ 1 ∷ 1 ∷ y ∷ [])) g ∙ sym (rw (q, f) refl))
           (took t.inside t.behind (writes_then ws (writes_cell put)))

@@ -1,6 +1,7 @@
 -- What the resolver answers: for every raw term that stands at a place of the cells, and every list of names that the scope
 -- and the cells of the declared names stand for, the cells of the resolved term, or a place past the end.
 use Rattle.std.specs.Prelude.{◌≡◌, List, [], ◌∷◌, ◌++◌, Bool, true, false, ℕ, zero, suc, ◌+◌, ◌*◌, ◌≤◌, ◌<◌, min, max, eqb, length, drop, get_or, set}
+use Rattle.std.specs.Prelude.{Option as Given, Some, None}
 use Rattle.std.proofs.Math.Option.{Option, none, some}
 use Rattle.pcrl.specs.Limits.{max_sorts, max_functions, max_actions, max_processes}
 use Rattle.pcrl.specs.Maybe.{◌>>=◌, ◌>>◌, provided}
@@ -17,11 +18,10 @@ use Rattle.names.specs.NameCells.{or_count, name_at, scope_at}
 use Rattle.names.specs.NameKinds.{sorts_in, funcs_in, acts_in, procs_in}
 use Rattle.names.specs.declared.Kinds.{Kinds}
 use Rattle.names.specs.Standing.{symbols}
+use Rattle.names.specs.Rows.{Yields}
 use Rattle.parser.specs.declared.Step.{Step}
 use Rattle.resolver.specs.declared.DataRun.{DataRun}
-use Rattle.resolver.specs.declared.Known.{Known}
 use Rattle.resolver.specs.declared.Fork.{Fork}
-use Rattle.resolver.specs.declared.RightSide.{RightSide}
 use Rattle.resolver.specs.Raw.{Term, enc_term, resolve_term, term_depth, sum_depth, tokens_of, kids_of}
 use Rattle.resolver.specs.Writing.{Writes}
 use Rattle.resolver.specs.Sorting.{first_sort, scope_cells, scope_sorts, scope_results, Gives, KnownSorts, cell_sort}
@@ -166,10 +166,10 @@ joins c zero = []
 joins c (suc k) = c ∷ 2 ∷ joins c k
 
 -- an action, or else a process
-unfoldable pub Naming : Bool → Option ℕ → Option ℕ → Known → Type 0
-Naming after (some a) k r = (r.known ≡ true) × (r.first ≡ first_cell (a + 1) (one_if after) atom_kind)
-Naming after none (some k) r = (r.known ≡ true) × (r.first ≡ first_cell k 0 call_kind)
-Naming after none none r = r.known ≡ false
+unfoldable pub Naming : Bool → Option ℕ → Option ℕ → Given ℕ → Type 0
+Naming after (some a) k r = r ≡ Some (first_cell (a + 1) (one_if after) atom_kind)
+Naming after none (some k) r = r ≡ Some (first_cell k 0 call_kind)
+Naming after none none r = r ≡ None
 
 -- the node of a sum, up to its term; if it is written, the variable is in scope
 abbrev pub Binds : (s raw names : List ℕ) (kinds : Kinds) (scope : List ℕ) (n at : ℕ) → Bool → (w : ℕ) (o : List ℕ) → Step → List ℕ → Type 0
@@ -234,13 +234,17 @@ module _ (s raw names : List ℕ) (kinds : Kinds) (scope : List ℕ) (n : ℕ) w
       → drop at (symbols s raw) ≡ enc_term t ++ rest → n + term_depth t ≤ max_scope → 1 < kids_of (get_or raw at 0) → Halved s raw N S (scope_at s scope n) (scope_sorts scope n) at after t rest w o r o'
 
 -- ---- what the layers above are told
+-- what was read, where its place is not past the end
+pub record Whole (raw : List ℕ) (a : Step) (r : Given Step) : Type 0 where
+  pub reached : a.at ≤ length raw → r ≡ Some a
+  pub past : length raw < a.at → r ≡ None
+
 -- Resolved or not. If so: the place behind the raw term, and the term's cells behind those before w, if there was room.
-unfoldable pub Answers : List Symbol → List Symbol → ℕ → List ℕ → Option Proc → RightSide → List ℕ → Type 0
-Answers symbols rest w o none r o' = r.ok ≡ false
-Answers symbols rest w o (some p) r o' = (r.ok ≡ true) × (drop r.next symbols ≡ rest) × Writes (enc false p) w o r.w o'
+unfoldable pub Answers : List Symbol → List Symbol → ℕ → List ℕ → Option Proc → Given Step → List ℕ → Type 0
+Answers symbols rest w o p r o' = Yields (λ p a. (drop a.at symbols ≡ rest) × Writes (enc false p) w o a.w o') p r
 
 -- for every choice that stands at `at`
-abbrev pub ResolvesRight : (s raw names : List ℕ) (kinds : Kinds) (scope : List ℕ) (n at w : ℕ) (o : List ℕ) → RightSide → List ℕ → Type 0
+abbrev pub ResolvesRight : (s raw names : List ℕ) (kinds : Kinds) (scope : List ℕ) (n at w : ℕ) (o : List ℕ) → Given Step → List ℕ → Type 0
 ResolvesRight s raw names kinds scope n at w o r o' = (N : Names) (S : Sig) (t : Choice) (rest : List Symbol) → Declared s names kinds N → KnownSorts kinds scope n S
     → drop at (symbols s raw) ≡ enc_choice t ++ rest → n + sum_depth t ≤ max_scope → Answers (symbols s raw) rest w o (resolve_choice N S (scope_at s scope n) (scope_sorts scope n) t) r o'
 
@@ -249,6 +253,6 @@ called none = none
 called (some s) = some (call s.0 s.1)
 
 -- for every line of init that stands at `at`
-abbrev pub ResolvesInit : (s raw names : List ℕ) (kinds : Kinds) (scope : List ℕ) (at w : ℕ) (o : List ℕ) → RightSide → List ℕ → Type 0
+abbrev pub ResolvesInit : (s raw names : List ℕ) (kinds : Kinds) (scope : List ℕ) (at w : ℕ) (o : List ℕ) → Given Step → List ℕ → Type 0
 ResolvesInit s raw names kinds scope at w o r o' = (N : Names) (S : Sig) (l : InitLine) (rest : List Symbol) → Gives kinds (scope_results scope) S → N.funcs ≡ funcs_in s names kinds → N.procs ≡ procs_in s names kinds
     → drop at (symbols s raw) ≡ enc_init l ++ rest → Answers (symbols s raw) rest w o (called (resolve_init N S l)) r o'

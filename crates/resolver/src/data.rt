@@ -6,9 +6,8 @@ ghost use Rattle.resolver.specs.Resolving.{Ahead, Few, ResolvesData, ResolvesCon
 use crate::DataRun;
 use crate::cells::{put_joins, span};
 use crate::operators::equal_cell;
-use elements::{cell, peek, short, wide};
+use elements::{peek, short, wide};
 use lexer::{FIRST_NAME, FIRST_NUMERAL};
-use names::FUNC_COUNT;
 use names::find::scope_number;
 use names::keys::func_in;
 use parser::Step;
@@ -187,10 +186,9 @@ fn atom(
         };
     }
     if k == VARIABLE_TAG {
-        let i = scope_number(s, scope, n, peek(raw, at + 1));
-        if i >= n {
+        let Some(i) = scope_number(s, scope, n, peek(raw, at + 1)) else {
             return lost(raw, w);
-        }
+        };
         return Step {
             at: at + 2,
             w: put(out, w, short(4 * i + 1)),
@@ -199,10 +197,9 @@ fn atom(
     if k != APPLY_TAG {
         return lost(raw, w);
     }
-    let f = func_in(s, declared, peek(raw, at + 1));
-    if f >= cell(declared, FUNC_COUNT) {
+    let Some(f) = func_in(s, declared, peek(raw, at + 1)) else {
         return lost(raw, w);
-    }
+    };
     let v = put(out, w, short(4 * f + 2));
     let d = put(out, v, 0);
     let l = data_list(s, raw, declared, scope, n, at + 2, out, d);

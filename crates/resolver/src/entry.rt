@@ -2,20 +2,25 @@
 ghost use Rattle.std.specs.Prelude.{◌<◌, length};
 ghost use Rattle.names.specs.NameList.{names_in, kinds_in, KeyedNames};
 ghost use Rattle.resolver.specs.Sorting.{ScopeKept};
-ghost use Rattle.resolver.specs.Resolving.{Few, ResolvesRight, ResolvesInit};
+ghost use Rattle.resolver.specs.Resolving.{Few, Whole, ResolvesRight, ResolvesInit};
 
-use crate::RightSide;
 use crate::cells::first_cell;
 use crate::data::given;
 use crate::process::term;
-use elements::{cell, peek};
-use names::PROC_COUNT;
+use elements::peek;
 use names::keys::proc_in;
 use nodes::CALL;
 use parser::Step;
 use parser::cells::put;
 
-// The right side of a process at `at`, with n names in scope.
+// What was read, if every name in it was as it must be: else its place is past the end.
+fn whole(raw: &[u16], a: Step) -> Option<Step>
+    ensures { Whole raw.now a result }
+{
+    if a.at > raw.len() { None } else { Some(a) }
+}
+
+// The right side of a process at `at`, with n names in scope: the place behind it and the next free cell, if every name is as it must be.
 pub fn right_side(
     s: &[u8],
     raw: &[u16],
@@ -25,21 +30,17 @@ pub fn right_side(
     at: usize,
     out: &mut [u16],
     w: usize,
-) -> RightSide
+) -> Option<Step>
     requires { Few raw.now (kinds_in declared.now) scope.old n × KeyedNames s.now declared.now }
     ensures kept { ScopeKept n scope.old scope.new }
     ensures resolves { ResolvesRight s.now raw.now (names_in declared.now) (kinds_in declared.now) scope.old n at w out.old result out.new }
 {
     let from = Step { at: at, w: w };
     let a = term(s, raw, declared, scope, n, from, false, out);
-    RightSide {
-        ok: a.at <= raw.len(),
-        next: a.at,
-        w: a.w,
-    }
+    whole(raw, a)
 }
 
-// The call of init, whose line stands at `at`; nothing is in scope.
+// The same of the call of init, whose line stands at `at`; nothing is in scope.
 pub fn init(
     s: &[u8],
     raw: &[u16],
@@ -48,23 +49,12 @@ pub fn init(
     at: usize,
     out: &mut [u16],
     w: usize,
-) -> RightSide
+) -> Option<Step>
     requires { Few raw.now (kinds_in declared.now) scope.now 0 × (at < length raw.now) × KeyedNames s.now declared.now }
     ensures { ResolvesInit s.now raw.now (names_in declared.now) (kinds_in declared.now) scope.now at w out.old result out.new }
 {
-    let k = proc_in(s, declared, peek(raw, at + 2));
-    if k >= cell(declared, PROC_COUNT) {
-        return RightSide {
-            ok: false,
-            next: at,
-            w: w,
-        };
-    }
+    let k = proc_in(s, declared, peek(raw, at + 2))?;
     let v = put(out, w, first_cell(k, false, CALL));
     let a = given(s, raw, declared, scope, 0, at + 1, out, v);
-    RightSide {
-        ok: a.at <= raw.len(),
-        next: a.at,
-        w: a.w,
-    }
+    whole(raw, a)
 }

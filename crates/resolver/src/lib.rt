@@ -25,25 +25,10 @@ pub struct DataRun {
     pub count: usize,
 }
 
-// The first cell of a node for a name, if the name is known.
-#[derive(Clone, Copy)]
-pub struct Known {
-    pub known: bool,
-    pub first: u16,
-}
-
 // A node of two subterms: how far its head was read, the next free cell, and whether the first subterm stands after a first part.
 #[derive(Clone, Copy)]
 pub struct Fork {
     pub at: usize,
     pub w: usize,
     pub left: bool,
-}
-
-// Whether all names were as they must be, the place behind the term, and the next free cell.
-#[derive(Clone, Copy)]
-pub struct RightSide {
-    pub ok: bool,
-    pub next: usize,
-    pub w: usize,
 }

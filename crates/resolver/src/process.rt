@@ -11,40 +11,27 @@ ghost use Rattle.resolver.specs.Resolving.{Ahead, Few, Naming, InScope, Binds, R
 
 use crate::cells::{first_cell, kids, node, skip, tokens};
 use crate::data::{condition, given};
-use crate::{FIRST_SORT, Fork, Known};
+use crate::{FIRST_SORT, Fork};
 use elements::{cell, peek, short};
 use names::fresh::new_variable;
 use names::keys::{part_in, sort_in};
-use names::{ACT_COUNT, PROC_COUNT, SORT_COUNT};
+use names::ACT_COUNT;
 use nodes::{ALT, ATOM, CALL, COND, DELTA, MAX_SCOPE, SEQ, SUM};
 use parser::Step;
 use parser::cells::{lost, put};
 use parser::codes::{DELTA_TAG, PLUS_TAG, SUM_TAG, TAU_TAG, THEN_TAG};
 
-// "As a part a name is an action or a process."
-fn named(s: &[u8], declared: &[u16], x: u16, after: bool) -> Known
+// "As a part a name is an action or a process": the first cell of its node, if the name is known.
+fn named(s: &[u8], declared: &[u16], x: u16, after: bool) -> Option<u16>
     requires { ((kinds_in declared.now).acts ≤ max_actions) × ((kinds_in declared.now).procs ≤ max_processes) × KeyedNames s.now declared.now }
     ensures { Naming after (number_of (name_at s.now x) (acts_in s.now (names_in declared.now) (kinds_in declared.now))) (number_of (name_at s.now x) (procs_in s.now (names_in declared.now) (kinds_in declared.now))) result }
 {
     let acts = cell(declared, ACT_COUNT);
-    let i = part_in(s, declared, x);
+    let i = part_in(s, declared, x)?;
     if i < acts {
-        return Known {
-            known: true,
-            first: first_cell(i + 1, after, ATOM),
-        };
+        return Some(first_cell(i + 1, after, ATOM));
     }
-    let k = i - acts;
-    if k < cell(declared, PROC_COUNT) {
-        return Known {
-            known: true,
-            first: first_cell(k, false, CALL),
-        };
-    }
-    Known {
-        known: false,
-        first: 0,
-    }
+    Some(first_cell(i - acts, false, CALL))
 }
 
 // `sum(v:sort,`: the variable comes into scope with the next number, and its sort.
@@ -68,10 +55,9 @@ fn binder(
     if !new_variable(s, declared, scope, n, x) {
         return lost(raw, from.w);
     }
-    let d = sort_in(s, declared, peek(raw, from.at + 2));
-    if d > cell(declared, SORT_COUNT) {
+    let Some(d) = sort_in(s, declared, peek(raw, from.at + 2)) else {
         return lost(raw, from.w);
-    }
+    };
     if n >= MAX_SCOPE {
         return lost(raw, from.w);
     }
@@ -159,11 +145,10 @@ fn named_part(
     ensures ahead { Ahead (length raw.now) from.at result.at }
     ensures resolves { ResolvesNamed s.now raw.now (names_in declared.now) (kinds_in declared.now) scope.now n from.at after from.w out.old result out.new }
 {
-    let f = named(s, declared, peek(raw, from.at + 1), after);
-    if !f.known {
+    let Some(first) = named(s, declared, peek(raw, from.at + 1), after) else {
         return lost(raw, from.w);
-    }
-    let v = put(out, from.w, f.first);
+    };
+    let v = put(out, from.w, first);
     given(s, raw, declared, scope, n, from.at, out, v)
 }
 

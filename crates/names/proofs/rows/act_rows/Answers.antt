@@ -7,7 +7,7 @@ use lib.ListN.{length, get_or}
 use Rattle.pcrl.specs.Sheet.{no_action}
 use Rattle.nodes.specs.Held.{SortsAt, ActAt}
 use Rattle.names.specs.Items.{item_count, item_names}
-use Rattle.names.specs.Rows.{Gives, InRows, sorts_at, numbered}
+use Rattle.names.specs.Rows.{Yields, InRows, sorts_at, numbered}
 use Rattle.names.proofs.ActLines.{acts_start, acts_stop, acts_go, acts_end}
 use Rattle.names.proofs.rows.act_rows.Goals as goal
 
@@ -29,7 +29,7 @@ returns-in_default c =
     let rows = c.sort_row.new.rows in
     acts_stop a.s.now a.cells.now a.sorts.now a.acts.now c.loop-i.rows c.loop-i.i (λ Ds r. (r ≡ get_or a.acts.now c.loop-i.i 0 + 2 + 2 * length Ds + 1) × SortsAt Ds rows (3 * c.loop-i.i))
     (λ N. InRows no_action (λ a i. ActAt a rows i)) c.loop-i-test.true c.loop-i.invariant.1
-    (subst (λ (q : ℕ). Gives (λ Ds r. (r ≡ q + 2 + 2 * length Ds + 1) × SortsAt Ds rows (3 * c.loop-i.i)) (numbered (sorts_at a.s.now a.cells.now a.sorts.now) (item_names a.s.now a.cells.now (q + 2) (item_count a.cells.now 2 (q + 2) 2))) None) c.wide.ensures.0 c.in_default.ensures.row)
+    (subst (λ (q : ℕ). Yields (λ Ds r. (r ≡ q + 2 + 2 * length Ds + 1) × SortsAt Ds rows (3 * c.loop-i.i)) (numbered (sorts_at a.s.now a.cells.now a.sorts.now) (item_names a.s.now a.cells.now (q + 2) (item_count a.cells.now 2 (q + 2) 2))) None) c.wide.ensures.0 c.in_default.ensures.row)
 
 pub loop-i-preserved : goal.loop-i-preserved
 loop-i-preserved c =
@@ -38,7 +38,7 @@ loop-i-preserved c =
       c.sort_row.auto.rows ∙ c.loop-i.invariant.0,
       acts_go a.s.now a.cells.now a.sorts.now a.acts.now c.loop-i.rows rows c.loop-i.i (λ Ds r. r ≡ get_or a.acts.now c.loop-i.i 0 + 2 + 2 * length Ds + 1)
           c.in-Some.field-0 c.loop-i-test.true c.loop-i.invariant.1 c.in-Some.ensures.kept
-          (subst (λ (q : ℕ). Gives (λ Ds r. (r ≡ q + 2 + 2 * length Ds + 1) × SortsAt Ds rows (3 * c.loop-i.i)) (numbered (sorts_at a.s.now a.cells.now a.sorts.now) (item_names a.s.now a.cells.now (q + 2) (item_count a.cells.now 2 (q + 2) 2))) (Some c.in-Some.field-0)) c.wide.ensures.0 c.in-Some.ensures.row),
+          (subst (λ (q : ℕ). Yields (λ Ds r. (r ≡ q + 2 + 2 * length Ds + 1) × SortsAt Ds rows (3 * c.loop-i.i)) (numbered (sorts_at a.s.now a.cells.now a.sorts.now) (item_names a.s.now a.cells.now (q + 2) (item_count a.cells.now 2 (q + 2) 2))) (Some c.in-Some.field-0)) c.wide.ensures.0 c.in-Some.ensures.row),
     )
 
 pub shape_of-rows : goal.shape_of-rows

@@ -17,7 +17,7 @@ loop-need-preserved c =
     let k = c.kids.ensures.0 ∙ ap kids_of c.peek-k.ensures in
     let n = c.tokens.ensures.0 ∙ ap tokens_of c.peek-k.ensures in
     let a = c.wide.ensures.0 in
-    let b = c.wide.ensures.0 in
+    let b = c.wide-in-loop-need.ensures.0 in
     (omega arith, skip_step c.args.raw.now c.args.at c.loop-need.p c.loop-need.need c.loop-need.invariant.1 (omega arith) _ _ (ap (λ x. c.loop-need.need - 1 + x) (a ∙ k)) (ap (λ x. c.loop-need.p + 1 + x) (b ∙ n)))
 
 pub returns : goal.returns

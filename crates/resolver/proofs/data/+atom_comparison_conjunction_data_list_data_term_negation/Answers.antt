@@ -3,6 +3,10 @@ use mathlib.Core.Path.{refl, sym, ◌∙◌}
 use Prim.Native.Nat.{◌+◌}
 use native.Mathlib.Omega.{arith}
 use Rattle.laws.specs.Places.{get_or_positive}
+use Rattle.pcrl.specs.Names.{number_of}
+use Rattle.names.specs.NameCells.{name_at, scope_at}
+use Rattle.names.specs.NameKinds.{funcs_in}
+use Rattle.names.proofs.Numbers.{is_found, not_found}
 use Rattle.names.specs.NameList.{names_in, kinds_in}
 use Rattle.parser.specs.Cells.{enc_conjunction, enc_comparison}
 use Rattle.resolver.specs.Resolving.{conjunction_cells, comparison_cells}
@@ -71,15 +75,15 @@ atom-overflow_add-at-then-k-eq-VARIABLE_TAG t c =
     let l = get_or_positive args.raw.now args.at (let k = c.peek-k.ensures in omega arith) in
     omega arith
 
-pub atom-scope_number-i-requires : goal.atom-scope_number-i-requires
-atom-scope_number-i-requires t c = let q = c.requires.0 in omega arith
+pub atom-scope_number-requires : goal.atom-scope_number-requires
+atom-scope_number-requires t c = let q = c.requires.0 in omega arith
 
-pub atom-returns-then-i-n : goal.atom-returns-then-i-n
-atom-returns-then-i-n t c =
+pub atom-returns-in_default : goal.atom-returns-in_default
+atom-returns-in_default t c =
     let args = c.args in
     let cell3 = c.peek in
-    let scope-number = c.scope_number-i in
-    record { ahead = let z = c.lost-then-i-n.ensures in omega arith; resolves = variable_lost args.s.now args.raw.now (names_in args.declared.now) (kinds_in args.declared.now) args.scope.now args.n args.at args.w args.out.now (sym c.peek-k.ensures ∙ c.if-k-eq-VARIABLE_TAG.true) (let q = c.requires.0 in omega arith) cell3.result scope-number.result cell3.ensures scope-number.ensures.number c.lost-then-i-n.result args.out.now c.lost-then-i-n.ensures c.if-i-n.true }
+    record { ahead = let z = c.lost-in_default.ensures in omega arith; resolves = variable_lost args.s.now args.raw.now (names_in args.declared.now) (kinds_in args.declared.now) args.scope.now args.n args.at args.w args.out.now (sym c.peek-k.ensures ∙ c.if-k-eq-VARIABLE_TAG.true) cell3.result cell3.ensures c.lost-in_default.result args.out.now c.lost-in_default.ensures
+        (not_found (number_of (name_at args.s.now cell3.result) (scope_at args.s.now args.scope.now args.n)) c.in_default.ensures.number) }
 
 pub atom-overflow_add-result-then-k-eq-VARIABLE_TAG : goal.atom-overflow_add-result-then-k-eq-VARIABLE_TAG
 atom-overflow_add-result-then-k-eq-VARIABLE_TAG t c =
@@ -94,11 +98,13 @@ pub atom-returns-then-k-eq-VARIABLE_TAG : goal.atom-returns-then-k-eq-VARIABLE_T
 atom-returns-then-k-eq-VARIABLE_TAG t c =
     let args = c.args in
     let cell3 = c.peek in
-    let scope-number = c.scope_number-i in
+    let i = c.in-Some.i in
+    let less = c.in-Some.ensures.most in
     let short = c.short in
     let put2 = c.put-then-k-eq-VARIABLE_TAG in
     let q = c.requires in
-    record { ahead = omega arith; resolves = variable_took args.s.now args.raw.now (names_in args.declared.now) (kinds_in args.declared.now) args.scope.now args.n args.at args.w args.out.now (sym c.peek-k.ensures ∙ c.if-k-eq-VARIABLE_TAG.true) (let q = c.requires.0 in omega arith) cell3.result scope-number.result cell3.ensures scope-number.ensures.number short.result put2.result put2.new.out c.if-i-n.false (short.ensures (omega arith)) put2.ensures }
+    record { ahead = omega arith; resolves = variable_took args.s.now args.raw.now (names_in args.declared.now) (kinds_in args.declared.now) args.scope.now args.n args.at args.w args.out.now (sym c.peek-k.ensures ∙ c.if-k-eq-VARIABLE_TAG.true) cell3.result cell3.ensures i short.result put2.result put2.new.out
+        (is_found (number_of (name_at args.s.now cell3.result) (scope_at args.s.now args.scope.now args.n)) i c.in-Some.ensures.number) (short.ensures (omega arith)) put2.ensures }
 
 pub atom-returns-then-k-ne-APPLY_TAG : goal.atom-returns-then-k-ne-APPLY_TAG
 atom-returns-then-k-ne-APPLY_TAG t c =
@@ -112,15 +118,16 @@ atom-overflow_add-at-2 t c =
     let l = get_or_positive args.raw.now args.at (let k = c.peek-k.ensures in omega arith) in
     omega arith
 
-pub atom-func_in-f-requires : goal.atom-func_in-f-requires
-atom-func_in-f-requires t c = c.requires.1
+pub atom-func_in-requires : goal.atom-func_in-requires
+atom-func_in-requires t c = c.requires.1
 
-pub atom-returns-then-f-cell : goal.atom-returns-then-f-cell
-atom-returns-then-f-cell t c =
+pub atom-returns-in_default-func_in : goal.atom-returns-in_default-func_in
+atom-returns-in_default-func_in t c =
     let args = c.args in
     let cell4 = c.peek-2 in
-    let func-in = c.func_in-f in
-    record { ahead = let z = c.lost-then-f-cell.ensures in omega arith; resolves = apply_lost args.s.now args.raw.now (names_in args.declared.now) (kinds_in args.declared.now) args.scope.now args.n args.at args.w args.out.now (sym c.peek-k.ensures ∙ (let z = c.if-k-ne-APPLY_TAG.false in omega arith)) cell4.result func-in.result cell4.ensures func-in.ensures.number c.lost-then-f-cell.result args.out.now c.lost-then-f-cell.ensures (omega (arith, c.cell.ensures, c.if-f-cell.true)) }
+    let gone = c.lost-in_default-func_in in
+    record { ahead = let z = gone.ensures in omega arith; resolves = apply_lost args.s.now args.raw.now (names_in args.declared.now) (kinds_in args.declared.now) args.scope.now args.n args.at args.w args.out.now (sym c.peek-k.ensures ∙ (let z = c.if-k-ne-APPLY_TAG.false in omega arith)) cell4.result cell4.ensures gone.result args.out.now gone.ensures
+        (not_found (number_of (name_at args.s.now cell4.result) (funcs_in args.s.now (names_in args.declared.now) (kinds_in args.declared.now))) c.in_default-func_in.ensures.number) }
 
 pub atom-overflow_add-at-3 : goal.atom-overflow_add-at-3
 atom-overflow_add-at-3 t c =
@@ -147,7 +154,8 @@ atom-returns t c =
     let cell = c.peek-k in
     let called = c.data_list-l in
     let cell4 = c.peek-2 in
-    let func-in = c.func_in-f in
+    let f = c.in-Some-func_in.f in
+    let less = c.in-Some-func_in.ensures.most in
     let short2 = c.short-2 in
     let put3 = c.put-v in
     let put4 = c.put-d in
@@ -158,7 +166,7 @@ atom-returns t c =
     let k = cell.ensures in
     let l = get_or_positive args.raw.now args.at (omega arith) in
     let a = called.ensures.ahead in
-    record { ahead = omega arith; resolves = apply_took args.s.now args.raw.now (names_in args.declared.now) (kinds_in args.declared.now) args.scope.now args.n args.at args.w args.out.now (sym cell.ensures ∙ (omega arith)) cell4.result func-in.result cell4.ensures func-in.ensures.number short2.result put3.result put4.result put5.result short3.result called.result put3.new.out put4.new.out called.new.out put5.new.out (omega (arith, c.cell.ensures, c.if-f-cell.false)) (short2.ensures (omega arith)) put3.ensures put4.ensures called.ensures.resolves short3.ensures put5.ensures }
+    record { ahead = omega arith; resolves = apply_took args.s.now args.raw.now (names_in args.declared.now) (kinds_in args.declared.now) args.scope.now args.n args.at args.w args.out.now (sym cell.ensures ∙ (omega arith)) cell4.result cell4.ensures f short2.result put3.result put4.result put5.result short3.result called.result put3.new.out put4.new.out called.new.out put5.new.out (is_found (number_of (name_at args.s.now cell4.result) (funcs_in args.s.now (names_in args.declared.now) (kinds_in args.declared.now))) f c.in-Some-func_in.ensures.number) (short2.ensures (omega arith)) put3.ensures put4.ensures called.ensures.resolves short3.ensures put5.ensures }
 
 pub comparison-overflow_add-at : goal.comparison-overflow_add-at
 comparison-overflow_add-at t c =

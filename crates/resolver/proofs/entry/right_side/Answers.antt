@@ -13,4 +13,4 @@ pub shape_of-out : goal.shape_of-out
 shape_of-out c = c.term-a.auto.out
 
 pub returns : goal.returns
-returns c = record { kept = c.term-a.ensures.kept; resolves = right_answered c.args.s.now c.args.raw.now (names_in c.args.declared.now) (kinds_in c.args.declared.now) c.args.scope.now c.args.n c.args.at c.args.w c.args.out.now c.term-a.result c.term-a.new.out c.term-a.ensures.resolves }
+returns c = record { kept = c.term-a.ensures.kept; resolves = right_answered c.args.s.now c.args.raw.now (names_in c.args.declared.now) (kinds_in c.args.declared.now) c.args.scope.now c.args.n c.args.at c.args.w c.args.out.now c.term-a.result c.term-a.new.out c.whole.result c.whole.ensures c.term-a.ensures.resolves }

@@ -1,8 +1,12 @@
 -- A new variable and a known sort: the node, the variable, its name behind those in scope, and its sort.
-use mathlib.Core.Path.{◌∙◌}
-use Prim.Native.Nat.{◌≤◌, ◌<◌}
+use mathlib.Core.Path.{◌∙◌, sym, ap}
+use Prim.Native.Nat.{suc, ◌≤◌, ◌<◌}
 use native.Mathlib.Omega.{arith}
 use lib.ListN.{set, length-set}
+use Rattle.pcrl.specs.Names.{number_of}
+use Rattle.names.specs.NameCells.{or_count, name_at}
+use Rattle.names.specs.NameKinds.{sorts_in}
+use Rattle.names.proofs.Numbers.{is_found, not_found}
 use Rattle.names.specs.NameList.{names_in, kinds_in}
 use Rattle.resolver.proofs.NewLaws.{says_new, binder_full, binder_old, binder_no_sort, binder_took, push_kept, both_pushed, nothing_changed}
 use Rattle.resolver.proofs.process.binder.Goals as goal
@@ -24,16 +28,16 @@ returns-then-not-new_variable c =
 pub overflow_add-from-2 : goal.overflow_add-from-2
 overflow_add-from-2 c = let q = c.requires in omega arith
 
-pub sort_in-d-requires : goal.sort_in-d-requires
-sort_in-d-requires c = c.requires.2
+pub sort_in-requires : goal.sort_in-requires
+sort_in-requires c = c.requires.2
 
-pub returns-then-d-cell : goal.returns-then-d-cell
-returns-then-d-cell c =
+pub returns-in_default : goal.returns-in_default
+returns-in_default c =
     let args = c.args in
     let few = c.requires.0 in
     let q = c.requires.1 in
-    let z = c.lost-then-d-cell.ensures in
-    record { ahead = omega arith; kept = nothing_changed args.n args.scope.now; bound = λ h. absurd (omega arith); binds = binder_no_sort args.s.now args.raw.now (names_in args.declared.now) (kinds_in args.declared.now) args.scope.now args.n args.from.at args.after args.from.w args.out.now (omega arith) c.peek-x.result c.peek-x.ensures c.new_variable.result (says_new args.s.now (names_in args.declared.now) (kinds_in args.declared.now) args.scope.now args.n c.peek-x.result c.new_variable.result c.new_variable.ensures) c.if-not-new_variable.false c.peek.result c.peek.ensures c.sort_in-d.result c.sort_in-d.ensures.number (omega (arith, c.cell.ensures, c.if-d-cell.true)) c.lost-then-d-cell.result args.out.now c.lost-then-d-cell.ensures }
+    let z = c.lost-in_default.ensures in
+    record { ahead = omega arith; kept = nothing_changed args.n args.scope.now; bound = λ h. absurd (omega arith); binds = binder_no_sort args.s.now args.raw.now (names_in args.declared.now) (kinds_in args.declared.now) args.scope.now args.n args.from.at args.after args.from.w args.out.now (omega arith) c.peek-x.result c.peek-x.ensures c.new_variable.result (says_new args.s.now (names_in args.declared.now) (kinds_in args.declared.now) args.scope.now args.n c.peek-x.result c.new_variable.result c.new_variable.ensures) c.if-not-new_variable.false c.peek.result c.peek.ensures (not_found (number_of (name_at args.s.now c.peek.result) (sorts_in args.s.now (names_in args.declared.now) (kinds_in args.declared.now))) c.in_default.ensures.number) c.lost-in_default.result args.out.now c.lost-in_default.ensures }
 
 pub returns-then-n-ge-MAX_SCOPE : goal.returns-then-n-ge-MAX_SCOPE
 returns-then-n-ge-MAX_SCOPE c =
@@ -78,7 +82,8 @@ returns c =
     let args = c.args in
     let few = c.requires.0 in
     let q = c.requires.1 in
-    let found : c.sort_in-d.result ≤ (kinds_in args.declared.now).sorts = omega (arith, c.cell.ensures, c.if-d-cell.false) in
+    let found : c.in-Some.d ≤ (kinds_in args.declared.now).sorts = c.in-Some.ensures.most in
+    let number = is_found (number_of (name_at args.s.now c.peek.result) (sorts_in args.s.now (names_in args.declared.now) (kinds_in args.declared.now))) c.in-Some.d c.in-Some.ensures.number in
     let deep : args.n < 32 = c.if-n-ge-MAX_SCOPE.false in
     let sort = c.short.ensures (omega arith) in
-    record { ahead = omega arith; kept = push_kept args.scope.now args.n c.peek-x.result c.short.result deep few.scope_many; bound = λ h. (deep, both_pushed args.s.now args.raw.now (names_in args.declared.now) (kinds_in args.declared.now) args.scope.now args.n args.from.at c.peek-x.result c.peek.result c.short.result c.sort_in-d.result c.peek-x.ensures c.peek.ensures c.sort_in-d.ensures.number sort); binds = binder_took args.s.now args.raw.now (names_in args.declared.now) (kinds_in args.declared.now) args.scope.now args.n args.from.at args.after args.from.w args.out.now (omega arith) c.peek-x.result c.peek-x.ensures c.new_variable.result (says_new args.s.now (names_in args.declared.now) (kinds_in args.declared.now) args.scope.now args.n c.peek-x.result c.new_variable.result c.new_variable.ensures) c.if-not-new_variable.false c.peek.result c.peek.ensures c.sort_in-d.result c.sort_in-d.ensures.number found c.first_cell.result c.short-2.result c.node-v.result c.put.result c.node-v.new.out c.put.new.out c.first_cell.ensures (c.short-2.ensures (omega arith)) c.node-v.ensures c.put.ensures }
+    record { ahead = omega arith; kept = push_kept args.scope.now args.n c.peek-x.result c.short.result deep few.scope_many; bound = λ h. (deep, both_pushed args.s.now args.raw.now (names_in args.declared.now) (kinds_in args.declared.now) args.scope.now args.n args.from.at c.peek-x.result c.peek.result c.short.result c.in-Some.d c.peek-x.ensures c.peek.ensures (sym (ap (or_count (suc (kinds_in args.declared.now).sorts)) number)) sort); binds = binder_took args.s.now args.raw.now (names_in args.declared.now) (kinds_in args.declared.now) args.scope.now args.n args.from.at args.after args.from.w args.out.now (omega arith) c.peek-x.result c.peek-x.ensures c.new_variable.result (says_new args.s.now (names_in args.declared.now) (kinds_in args.declared.now) args.scope.now args.n c.peek-x.result c.new_variable.result c.new_variable.ensures) c.if-not-new_variable.false c.peek.result c.peek.ensures c.in-Some.d number c.first_cell.result c.short-2.result c.node-v.result c.put.result c.node-v.new.out c.put.new.out c.first_cell.ensures (c.short-2.ensures (omega arith)) c.node-v.ensures c.put.ensures }

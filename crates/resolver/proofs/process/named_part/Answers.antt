@@ -1,7 +1,6 @@
 -- The name is known or not; if it is, its node is written with what is given.
 use native.Mathlib.Omega.{arith}
 use mathlib.Core.Path.{◌∙◌}
-use borrow.Author.Tests.{not-true, not-false}
 use Rattle.names.specs.NameList.{names_in, kinds_in}
 use Rattle.resolver.proofs.GivenLaws.{node_put}
 use Rattle.resolver.proofs.NamedLaws.{part_lost, part_took}
@@ -10,13 +9,13 @@ use Rattle.resolver.proofs.process.named_part.Goals as goal
 pub overflow_add-from : goal.overflow_add-from
 overflow_add-from c = let q = c.requires in omega arith
 
-pub named-f-requires : goal.named-f-requires
-named-f-requires c = let q = c.requires.0 in (omega arith, omega arith, c.requires.2)
+pub named-requires : goal.named-requires
+named-requires c = let q = c.requires.0 in (omega arith, omega arith, c.requires.2)
 
-pub returns-then-not-f : goal.returns-then-not-f
-returns-then-not-f c =
+pub returns-in_default : goal.returns-in_default
+returns-in_default c =
     let args = c.args in
-    record { ahead = let z = c.lost.ensures in omega arith; resolves = part_lost args.s.now args.raw.now (names_in args.declared.now) (kinds_in args.declared.now) args.scope.now args.n args.from.at args.after args.from.w args.out.now c.peek.result c.peek.ensures c.named-f.result c.named-f.ensures (not-true _ c.if-not-f.true) c.lost.result args.out.now c.lost.ensures }
+    record { ahead = let z = c.lost.ensures in omega arith; resolves = part_lost args.s.now args.raw.now (names_in args.declared.now) (kinds_in args.declared.now) args.scope.now args.n args.from.at args.after args.from.w args.out.now c.peek.result c.peek.ensures c.in_default.ensures c.lost.result args.out.now c.lost.ensures }
 
 pub given-requires : goal.given-requires
 given-requires c = let q = c.requires.0 in (omega arith, c.requires.2)
@@ -27,8 +26,7 @@ shape_of-out c = c.given.auto.out ∙ c.put-v.auto.out
 pub returns : goal.returns
 returns c =
     let args = c.args in
-    let named = c.named-f in
     let put = c.put-v in
     let given = c.given in
-    let head = node_put args.s.now args.raw.now (names_in args.declared.now) (kinds_in args.declared.now) args.scope.now args.n args.from.at named.result.first args.from.w args.out.now put.result put.new.out put.ensures given.result given.new.out given.ensures.resolves in
-    record { ahead = given.ensures.ahead; resolves = part_took args.s.now args.raw.now (names_in args.declared.now) (kinds_in args.declared.now) args.scope.now args.n args.from.at args.after args.from.w args.out.now c.peek.result c.peek.ensures named.result named.ensures (not-false _ c.if-not-f.false) given.result given.new.out head }
+    let head = node_put args.s.now args.raw.now (names_in args.declared.now) (kinds_in args.declared.now) args.scope.now args.n args.from.at c.in-Some.first args.from.w args.out.now put.result put.new.out put.ensures given.result given.new.out given.ensures.resolves in
+    record { ahead = given.ensures.ahead; resolves = part_took args.s.now args.raw.now (names_in args.declared.now) (kinds_in args.declared.now) args.scope.now args.n args.from.at args.after args.from.w args.out.now c.peek.result c.peek.ensures c.in-Some.first c.in-Some.ensures given.result given.new.out head }
