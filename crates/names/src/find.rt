@@ -94,13 +94,7 @@ pub fn is_bool(s: &[u8], a: u16) -> bool
 }
 
 // The first of the lines at these places that declares the name of cell c.
-pub fn number_of(
-    s: &[u8],
-    cells: &[u16],
-    places: &[u16],
-    count: usize,
-    c: u16,
-) -> Option<usize>
+pub fn number_of(s: &[u8], cells: &[u16], places: &[u16], count: usize, c: u16) -> Option<usize>
     requires { count ≤ length places.now }
     ensures most { IfSome result (λ i. i < count) }
     ensures number { result ≡ found (number_of (name_at s.now c) (names_at s.now cells.now places.now count)) }
@@ -115,13 +109,7 @@ pub fn number_of(
 }
 
 // The sort's number: Bool is 0, the first line 1.
-pub fn sort_number(
-    s: &[u8],
-    cells: &[u16],
-    places: &[u16],
-    count: usize,
-    c: u16,
-) -> Option<usize>
+pub fn sort_number(s: &[u8], cells: &[u16], places: &[u16], count: usize, c: u16) -> Option<usize>
     requires { count ≤ length places.now }
     ensures most { IfSome result (λ d. d ≤ count) }
     ensures number { result ≡ found (number_of (name_at s.now c) (bytes "Bool" ∷ names_at s.now cells.now places.now count)) }

@@ -9,11 +9,11 @@ ghost use Rattle.names.specs.NameList.{names_in, kinds_in, KeyedNames};
 ghost use Rattle.names.specs.Items.{far, name_step, item_count, item_names, numeral_at, item_values};
 ghost use Rattle.names.specs.Rows.{Kept, Yields, ActRows, FuncRead, FuncRows, ParamsRead, sorts_at, numbered};
 
+use crate::Params;
 use crate::counts::{NAME_STEP, PARAM_STEP, items};
 use crate::find::sort_number;
 use crate::fresh::new_variable;
 use crate::keys::sort_in;
-use crate::Params;
 use elements::{peek, short, wide};
 use lexer::FIRST_NUMERAL;
 use limits::{FRAME_WIDTH, MAX_ARITY};

@@ -9,7 +9,8 @@ use Rattle.parser.specs.declared.Lines.{Lines}
 use Rattle.names.specs.Standing.{At, LinesAt, Recorded}
 use Rattle.names.proofs.Rooms.{Rooms}
 use Rattle.names.proofs.Recorded.{lines_at}
-use Rattle.sheets.specs.declared.ResolvedRows.{ResolvedRows}
+use Rattle.std.specs.Prelude.{Option as Given}
+use Rattle.sheets.specs.declared.SheetRows.{SheetRows}
 use Rattle.sheets.specs.Resolving.{FewFound, LinesResolve, FoundResolve}
 
 -- the lines of a kind
@@ -18,7 +19,7 @@ counted_at enc s raw places n ls e h r =
     let z : length ls ≡ n - 0 = omega arith in
     subst (λ (k : ℕ). LinesAt enc s raw (take k places) ls) z (lines_at enc s raw places ls (omega arith) r)
 
-pub found_resolve : (s raw : List ℕ) (L : Lines) (values o : List ℕ) (r : ResolvedRows) (at : ℕ) → Rooms L → FewFound L raw → at ≡ L.init
+pub found_resolve : (s raw : List ℕ) (L : Lines) (values o : List ℕ) (r : Given SheetRows) (at : ℕ) → Rooms L → FewFound L raw → at ≡ L.init
     → LinesResolve s raw (take (L.sort_count - 0) L.sorts) (take (L.func_count - 0) L.funcs) (take (L.act_count - 0) L.acts) (take (L.proc_count - 0) L.procs) at values o r
     → FoundResolve s raw L values o r
 found_resolve s raw L values o r at rooms few e h R st init =

@@ -1,7 +1,7 @@
 -- The processes one after another: those done keep their rows and their cells, and each new one stands behind them.
 use mathlib.Core.Path.{◌≡◌, ◌∙◌, ap}
 use mathlib.Core.List.{List, ◌++◌}
-use mathlib.Core.Bool.{Bool, true, false}
+use Rattle.std.specs.Prelude.{Some, None, false}
 use Prim.Native.Nat.{ℕ, ◌+◌, ◌*◌, ◌≤◌, ◌<◌}
 use native.Mathlib.Omega.{arith}
 use lib.ListN.{length, take, drop, get_or, set, length-append, length-drop, length-set, get_or-append}
@@ -21,12 +21,11 @@ use Rattle.nodes.specs.Held.{proc_width, SortsAt, ProcAt}
 use Rattle.names.specs.declared.Kinds.{Kinds}
 use Rattle.names.specs.Standing.{At, LinesAt}
 use Rattle.names.specs.Rows.{Kept}
-use Rattle.names.proofs.Kept.{sorts_kept, answered_no, answered_yes, each_next, every_at}
-use Rattle.names.proofs.Filled.{Gone, gone_none, gone_stops, gone_goes, gone_ends}
-use Rattle.resolver.specs.declared.RightSide.{RightSide}
+use Rattle.names.proofs.Kept.{sorts_kept, yields_none, yields_some, each_next, every_at}
+use Rattle.names.proofs.Filled.{Gone, gone_none, gone_stops, gone_goes, gone_yields}
+use Rattle.parser.specs.declared.Step.{Step}
 use Rattle.resolver.specs.Raw.{sum_depth}
 use Rattle.resolver.specs.Resolving.{Declared}
-use Rattle.sheets.specs.declared.ProcRows.{ProcRows}
 use Rattle.sheets.specs.ScopePuts.{GivesRows}
 use Rattle.sheets.specs.Resolving.{ProcessRow, ProcessRead, ProcessesHeld, ProcessesRead}
 use Rattle.sheets.proofs.Placed.{term_kept, term_written}
@@ -35,20 +34,18 @@ use Rattle.sheets.proofs.Placed.{term_kept, term_written}
 abbrev pub room : List ProcLine → ℕ
 room ls = 3 * length (print_lines "proc" print_proc ls)
 
--- the arrays keep their lengths, and nothing is missing so far
-pub record Stays (out₀ rows out starts : List ℕ) (ok : Bool) : Type 0 where
+-- the arrays keep their lengths
+pub record Stays (out₀ rows out starts : List ℕ) : Type 0 where
   pub cells_same : length out ≡ length out₀
   pub rows_many : length rows ≡ 80
   pub starts_many : length starts ≡ 16
-  pub well : ok ≡ true
 
-pub stays_on : (out₀ rows rows' out out' starts : List ℕ) (k v : ℕ) (ok : Bool) → Stays out₀ rows out starts ok → length rows' ≡ length rows → length out' ≡ length out
-    → Stays out₀ rows' out' (set starts k v) ok
-stays_on out₀ rows rows' out out' starts k v ok h e g = record {
+pub stays_on : (out₀ rows rows' out out' starts : List ℕ) (k v : ℕ) → Stays out₀ rows out starts → length rows' ≡ length rows → length out' ≡ length out
+    → Stays out₀ rows' out' (set starts k v)
+stays_on out₀ rows rows' out out' starts k v h e g = record {
   cells_same = g ∙ h.cells_same;
   rows_many = e ∙ h.rows_many;
   starts_many = length-set starts k v ∙ h.starts_many;
-  well = h.well;
 }
 
 -- a row put among the rows, at p
@@ -91,27 +88,29 @@ module _ (s raw procs names : List ℕ) (kinds : Kinds) (funcs : List ℕ) where
       record { gone = gone_none (resolve_proc N S) no_process (λ q j. ProcAt (length N.procs) q rows (take 0 out) starts j) ls; left = omega arith }
 
   -- all lines are done
-  pub procs_end : (rows out starts : List ℕ) (w k : ℕ) (ok : Bool) → length procs ≤ k → ProcsGone rows out starts w k → ok ≡ true
-      → ProcessesRead s raw procs names kinds funcs (record { ok = ok; procs = rows; starts = starts; w = w }) out
-  procs_end rows out starts w k ok h g o N S ls d gi l f t b =
+  pub procs_end : (rows out starts : List ℕ) (w k : ℕ) → length procs ≤ k → ProcsGone rows out starts w k
+      → ProcessesRead s raw procs names kinds funcs (Some (record { procs = rows; starts = starts; w = w })) out
+  procs_end rows out starts w k h g N S ls d gi l f t b =
       let G = g N S ls d gi l f t b in
       let left = G.left in
-      gone_ends (resolve_proc N S) no_process (λ q j. ProcAt (length N.procs) q rows (take w out) starts j)
-      (ProcessesHeld (length N.procs) (record { ok = ok; procs = rows; starts = starts; w = w }) out (room ls)) ls k ok G.gone
-      (omega (arith, each_length (λ p l. At s raw (enc_proc l) p) procs ls l)) o
+      gone_yields (resolve_proc N S) no_process (λ q j. ProcAt (length N.procs) q rows (take w out) starts j)
+      (ProcessesHeld (length N.procs) out (room ls)) ls k (record { procs = rows; starts = starts; w = w }) G.gone
+      (omega (arith, each_length (λ p l. At s raw (enc_proc l) p) procs ls l))
       (λ bs m x. record { each = λ j i. x j (omega arith); size = omega arith })
 
-  -- the line at k, of which a process was read or not
-  module _ (rows rows' row out out' starts : List ℕ) (w k at : ℕ) (r : RightSide) (h : k < length procs) (same : length out' ≡ length out) (place : at ≡ get_or procs k 0) (g : ProcsGone rows out starts w k)
-      (a : ProcessRead s raw names kinds funcs at row w out r out') where
-    pub procs_stop : (R : ProcRows) → r.ok ≡ false → R.ok ≡ false → ProcessesRead s raw procs names kinds funcs R out'
-    procs_stop R lost z N S ls d gi l f t b =
-        let (x, e, here) = each_next (λ p l. At s raw (enc_proc l) p) procs ls k l h in
-        let few = every_at _ ls k x (drop (k + 1) ls) f e in
-        let deep = every_at _ ls k x (drop (k + 1) ls) t e in
-        gone_stops (resolve_proc N S) no_process (λ q j. ProcAt (length N.procs) q rows (take w out) starts j) (ProcessesHeld (length N.procs) R out' (room ls)) ls (drop (k + 1) ls) k x R.ok
-        (g N S ls d gi l f t (omega arith)).gone e (answered_no _ (resolve_proc N S x) r.ok (a N S x here.0 d gi (rw place here.1) few deep) lost) z
+  -- some name of the line at k is not as it must be
+  pub procs_stop : (rows row out out' starts : List ℕ) (w k at : ℕ) → k < length procs → length out' ≡ length out → at ≡ get_or procs k 0 → ProcsGone rows out starts w k
+      → ProcessRead s raw names kinds funcs at row w out None out' → ProcessesRead s raw procs names kinds funcs None out'
+  procs_stop rows row out out' starts w k at h same place g a N S ls d gi l f t b =
+      let (x, e, here) = each_next (λ p l. At s raw (enc_proc l) p) procs ls k l h in
+      let few = every_at _ ls k x (drop (k + 1) ls) f e in
+      let deep = every_at _ ls k x (drop (k + 1) ls) t e in
+      rw (gone_stops (resolve_proc N S) no_process (λ q j. ProcAt (length N.procs) q rows (take w out) starts j) ls (drop (k + 1) ls) k x
+      (g N S ls d gi l f t (omega arith)).gone e (yields_none _ (resolve_proc N S x) (a N S x here.0 d gi (rw place here.1) few deep))) tt
 
+  -- a process was read of it
+  module _ (rows rows' row out out' starts : List ℕ) (w k at : ℕ) (r : Step) (h : k < length procs) (same : length out' ≡ length out) (place : at ≡ get_or procs k 0) (g : ProcsGone rows out starts w k)
+      (a : ProcessRead s raw names kinds funcs at row w out (Some r) out') where
     module _ (v : ℕ) (few_starts : k < length starts) (few_cells : length out < cell_limit) (start : w < cell_limit → v ≡ w) (kept : Kept (proc_width * k) rows rows')
         (placed : (Ds : List ℕ) → length Ds ≤ frame_width → SortsAt Ds row 0 → SortsAt Ds rows' (proc_width * k)) where
       -- a process that is done keeps its row and its cells
@@ -127,15 +126,15 @@ module _ (s raw procs names : List ℕ) (kinds : Kinds) (funcs : List ℕ) where
           }
 
       -- ONE MORE PROCESS.
-      pub procs_go : r.ok ≡ true → ProcsGone rows' out' (set starts k v) r.w (k + 1)
+      pub procs_go : ProcsGone rows' out' (set starts k v) r.w (k + 1)
       unfolding all
-      procs_go o N S ls d gi l f t b =
+      procs_go N S ls d gi l f t b =
           let (x, e, here) = each_next (λ p l. At s raw (enc_proc l) p) procs ls k l h in
           let few = every_at _ ls k x (drop (k + 1) ls) f e in
           let deep = every_at _ ls k x (drop (k + 1) ls) t e in
           let G = g N S ls d gi l f t (omega arith) in
           let m = length N.procs in
-          let (q, known, held) = answered_yes (λ q. ProcessRow m q row w out r.w out' (3 * length (line "proc" (print_proc x)))) (resolve_proc N S x) r.ok (a N S x here.0 d gi (rw place here.1) few deep) o in
+          let (q, known, held) = yields_some (λ q b. ProcessRow m q row w out b.w out' (3 * length (line "proc" (print_proc x)))) (resolve_proc N S x) r (a N S x here.0 d gi (rw place here.1) few deep) in
           let printed : List ProcLine → List Token = print_lines "proc" print_proc in
           let more : length (printed (drop k ls)) ≡ length (line "proc" (print_proc x)) + length (printed (drop (k + 1) ls))
           = ap (λ (ms : List ProcLine). length (printed ms)) e ∙ length-append (line "proc" (print_proc x)) (printed (drop (k + 1) ls)) in

@@ -1,13 +1,11 @@
 -- Questions 1 to 7: what the lexer, the parser, the counts and the resolver answer, of the whole.
 use mathlib.Core.Path.{◌≡◌, refl, sym, ap, subst, subst⁻¹, ◌∙◌}
-use mathlib.Core.Logic.{◌≢◌}
-use mathlib.Core.Bool.{true, false}
 use mathlib.Core.List.{List, map}
 use mathlib.Core.Option.{Option, none, some}
 use Prim.Native.Nat.{ℕ, ◌≤◌, ◌<◌}
 use native.Mathlib.Omega.{arith}
 use lib.ListN.{length, take, length-append, length-drop}
-use Rattle.pcrl.specs.Result.{Result, refused, accepted, question, question_of, after, refusal}
+use Rattle.pcrl.specs.Result.{Result, refused, accepted, question, question_of, after}
 use Rattle.pcrl.specs.Tokens.{Token}
 use Rattle.pcrl.specs.Tree.{RawSheet}
 use Rattle.pcrl.specs.Sheet.{Sheet}
@@ -20,8 +18,12 @@ use Rattle.pcrl.specs.Circles.{guarded}
 use Rattle.pcrl.specs.Answers.{tokens_read, tree_read, sorted_read, sheet_read}
 use Rattle.laws.specs.Questions.{question_passes, question_fails, question_of_passes, past_question}
 use Rattle.lexer.specs.Cells.{cell_token, Lexes}
-use Rattle.lexer.specs.declared.Lexed.{Lexed}
-use Rattle.lexer.proofs.Accepted.{accepted_cells}
+use Rattle.std.specs.Prelude.{Option as Given, Ok, Err, None, Some}
+use Rattle.std.specs.Option.{ok_or}
+use Rattle.refusals.specs.declared.Refusal.{Refusal}
+use Rattle.refusals.specs.Numbers.{number_of}
+use Rattle.refusals.specs.Answered.{Answered}
+use Rattle.lexer.proofs.Accepted.{accepted_cells, refused_number}
 use Rattle.parser.specs.Parses.{Parses}
 use Rattle.parser.specs.Cells.{enc_init, enc_sheet}
 use Rattle.parser.specs.declared.Lines.{Lines}
@@ -32,8 +34,8 @@ use Rattle.nodes.specs.Held.{Held}
 use Rattle.names.specs.Standing.{Standing, At}
 use Rattle.names.proofs.Trees.{standing, further}
 use Rattle.sheets.specs.Bounded.{Bounded, bounded}
-use Rattle.sheets.specs.declared.Answer.{Answer}
-use Rattle.sheets.specs.Resolving.{FewFound, arrays, Named}
+use Rattle.sheets.specs.declared.SheetRows.{SheetRows}
+use Rattle.sheets.specs.Resolving.{FewFound, Holds}
 use Rattle.sheets.specs.Reading.{judged, Reads}
 
 -- questions 6 to 9 of a raw sheet
@@ -81,61 +83,43 @@ module _ (s : List ℕ) where
   unfolding tree_read after question_of
   with_tree ts R e f = from_answer (accepted R) (rw (e, f)) ∙ nine_inside R
 
-  module _ (toks : List ℕ) (l : Lexed) (lexes : Lexes (tokens_read s) s l toks) where
-    pub refused_early : l.refused ≢ 0 → sheet_read s ≡ refused l.refused
-    unfolding Lexes
-    refused_early z = go (tokens_read s) refl lexes
-      where
-        go : (x : Result (List Token)) → tokens_read s ≡ x → Lexes x s l toks → sheet_read s ≡ refused l.refused
-        go (refused n) e m = no_tokens n e ∙ ap refused (sym m.0)
-        go (accepted ts) e m = absurd (z m.0)
+  module _ (toks : List ℕ) where
+    pub refused_early : (r : Refusal) → Lexes (tokens_read s) s (Err r) toks → sheet_read s ≡ refused (number_of r)
+    refused_early r h = no_tokens (number_of r) (refused_number s toks r h)
 
-    -- the tokens of a sheet that is not refused by 1 to 4
-    pub record Lexical : Type 0 where
-      pub tokens : List Token
-      pub read : tokens_read s ≡ accepted tokens
-      pub count : l.count ≡ length tokens
-      pub cells : map (cell_token s) (take l.count toks) ≡ tokens
+    -- the answer of the parser for the tokens of a sheet that is not refused by 1 to 4
+    module _ (n : ℕ) (lexes : Lexes (tokens_read s) s (Ok n) toks) (raw : List ℕ) where
+      pub refused_5 : Parses (parse (map (cell_token s) (take n toks))) s None raw → sheet_read s ≡ refused 5
+      refused_5 parses =
+          let a = accepted_cells s toks n lexes in
+          no_tree a.tokens a.read (ap parse (sym a.cells) ∙ none_of (parse (map (cell_token s) (take n toks))) s raw parses)
 
-    pub lexical : l.refused ≡ 0 → Lexical
-    unfolding Lexes
-    lexical z =
-        let a = accepted_cells s toks l lexes z in
-        let m : Lexes (accepted a.tokens) s l toks = subst (λ (x : Result (List Token)). Lexes x s l toks) a.read lexes in
-        record { tokens = a.tokens; read = a.read; count = m.1; cells = m.2 }
+      module _ (p : Parsed) where
+        -- the tree of a sheet that is not refused by 1 to 5, where it stands, and how large it is
+        pub record Parsable : Type 0 where
+          pub sheet : RawSheet
+          pub answer : sheet_read s ≡ from_tree sheet
+          pub lines : Standing s raw p.lines sheet
+          pub init : At s raw (enc_init sheet.start) p.lines.init
+          pub inside : p.lines.init < length raw
+          pub bounds : Bounded sheet n
 
-    -- the answer of the parser for those tokens
-    module _ (z : l.refused ≡ 0) (raw : List ℕ) (p : Parsed) (parses : Parses (parse (map (cell_token s) (take l.count toks))) s p raw) where
-      pub refused_5 : p.ok ≡ false → sheet_read s ≡ refused 5
-      refused_5 e =
-          let a = lexical z in
-          no_tree a.tokens a.read (ap parse (sym a.cells) ∙ none_of (parse (map (cell_token s) (take l.count toks))) s p raw parses e)
-
-      -- the tree of a sheet that is not refused by 1 to 5, where it stands, and how large it is
-      pub record Parsable : Type 0 where
-        pub sheet : RawSheet
-        pub answer : sheet_read s ≡ from_tree sheet
-        pub lines : Standing s raw p.lines sheet
-        pub init : At s raw (enc_init sheet.start) p.lines.init
-        pub inside : p.lines.init < length raw
-        pub bounds : Bounded sheet l.count
-
-      pub parsable : p.ok ≡ true → Parsable
-      unfolding enc_init
-      parsable e =
-          let a = lexical z in
-          let (R, f, t) = tree_of (parse (map (cell_token s) (take l.count toks))) s p raw parses e in
-          let g : parse a.tokens ≡ some R = ap parse (sym a.cells) ∙ f in
-          let some_cell : 1 ≤ length (enc_init R.start) = omega arith in
-          let h = t.init in
-          record {
-            sheet = R;
-            answer = with_tree a.tokens R a.read g;
-            lines = standing s R p raw t;
-            init = further s raw p.used p.lines.init (enc_sheet R) (enc_init R.start) t.tree some_cell h;
-            inside = omega (arith, t.used, t.room, length-drop p.lines.init (enc_sheet R), ap length h.1, length-append (enc_init R.start) h.0);
-            bounds = subst (Bounded R) (sym a.count) (bounded s a.tokens R a.read g);
-          }
+        pub parsable : Parses (parse (map (cell_token s) (take n toks))) s (Some p) raw → Parsable
+        unfolding enc_init
+        parsable parses =
+            let a = accepted_cells s toks n lexes in
+            let (R, f, t) = tree_of (parse (map (cell_token s) (take n toks))) s p raw parses in
+            let g : parse a.tokens ≡ some R = ap parse (sym a.cells) ∙ f in
+            let some_cell : 1 ≤ length (enc_init R.start) = omega arith in
+            let h = t.init in
+            record {
+              sheet = R;
+              answer = with_tree a.tokens R a.read g;
+              lines = standing s R p raw t;
+              init = further s raw p.used p.lines.init (enc_sheet R) (enc_init R.start) t.tree some_cell h;
+              inside = omega (arith, t.used, t.room, length-drop p.lines.init (enc_sheet R), ap length h.1, length-append (enc_init R.start) h.0);
+              bounds = subst (Bounded R) (sym a.count) (bounded s a.tokens R a.read g);
+            }
 
 -- refused by 6
 pub refused_6 : (s : List ℕ) (R : RawSheet) → sheet_read s ≡ from_tree R → (Counted R → ⊥) → sheet_read s ≡ refused 6
@@ -149,11 +133,16 @@ refused_7 s R e h f = e ∙ question_passes 6 (counted? R) _ (refused 7) h (λ _
 pub with_sheet : (s : List ℕ) (R : RawSheet) (H : Sheet) → sheet_read s ≡ from_tree R → Counted R → resolve R ≡ some H → sheet_read s ≡ judged H
 with_sheet s R H e h f = e ∙ question_passes 6 (counted? R) _ (judged H) h (λ _. question_of_passes 7 (resolve R) _ H f)
 
+-- the error that is given for none
+pub given_error : {A E : Type 0} (o : Given A) (d e : E) → o ≡ None → Err d ≡ ok_or o e → d ≡ e
+given_error None d e n h = cc
+given_error (Some a) d e n h = absurd (cc)
+
 -- ---- the answer
-module _ (s : List ℕ) (a : Answer) (values cells : List ℕ) where
-  pub refused_by : (n : ℕ) → sheet_read s ≡ refused n → a.refused ≡ n → Reads (sheet_read s) s a values cells
-  unfolding Reads
-  refused_by n e h = subst⁻¹ (λ (x : Result Sheet). Reads x s a values cells) e h
+module _ (s values cells : List ℕ) where
+  pub refused_by : (r : Refusal) → sheet_read s ≡ refused (number_of r) → Reads (sheet_read s) s (Err r) values cells
+  unfolding Answered
+  refused_by r e = rw e refl
 
   -- what is accepted by 8 and 9 is the sheet that they were put to
   judged_same : (H K : Sheet) → judged H ≡ accepted K → H ≡ K
@@ -162,13 +151,22 @@ module _ (s : List ℕ) (a : Answer) (values cells : List ℕ) where
       past_question 8 (rightly_sorted? H) _ K e (λ h₈ e₈.
       past_question 9 (T? (guarded H)) _ K e₈ (λ h₉ e₉. let z : H ≡ K = cc in z))
 
-  pub answered : (H : Sheet) → sheet_read s ≡ judged H → Held H (arrays a.rows values cells) a.rows.outline × Named s a.rows H → a.refused ≡ refusal (judged H) → Reads (sheet_read s) s a values cells
-  unfolding Reads refusal
-  answered H e held k = subst⁻¹ (λ (x : Result Sheet). Reads x s a values cells) e (go (judged H) refl k)
-    where
-      go : (x : Result Sheet) → judged H ≡ x → a.refused ≡ refusal x → Reads x s a values cells
-      go (refused n) f m = m
-      go (accepted K) f m = let same = subst (λ (J : Sheet). Held J (arrays a.rows values cells) a.rows.outline × Named s a.rows J) (judged_same H K f) held in (m, same.0, same.1)
+  module _ (B : Type 0) (H : Sheet) (e : sheet_read s ≡ judged H) where
+    pub judged_refused : (r : Refusal) → Answered {B = B} (λ K b. Unit {0}) (judged H) (Err r) → Reads (sheet_read s) s (Err r) values cells
+    unfolding Answered
+    judged_refused r h = rw e (go (judged H) h)
+      where
+        go : (x : Result Sheet) → Answered {B = B} (λ K b. Unit {0}) x (Err r) → Reads x s (Err r) values cells
+        go (refused n) m = m
+        go (accepted K) m = absurd m
+
+    pub judged_accepted : (b : B) (rows : SheetRows) → Answered (λ K b. Unit {0}) (judged H) (Ok b) → Holds s values cells H rows → Reads (sheet_read s) s (Ok rows) values cells
+    unfolding Answered
+    judged_accepted b rows h held = rw e (go (judged H) refl h)
+      where
+        go : (x : Result Sheet) → judged H ≡ x → Answered (λ K b. Unit {0}) x (Ok b) → Reads x s (Ok rows) values cells
+        go (refused n) f m = absurd m
+        go (accepted K) f m = subst (λ (J : Sheet). Holds s values cells J rows) (judged_same H K f) held
 
 -- so few lines as are counted
 pub few_found : (s raw : List ℕ) (L : Lines) (R : RawSheet) → length raw < cell_limit → L.init < length raw → Standing s raw L R → Counted R → FewFound L raw

@@ -1,14 +1,15 @@
 -- Question 7 on the whole sheet: names new, signature, processes and init, each answered by its part.
 use mathlib.Core.Path.{◌≡◌, refl, sym, ◌∙◌, ap, subst, subst⁻¹}
 use mathlib.Core.List.{List, [], ◌∷◌, ◌++◌, map, append_assoc, append-nil}
-use mathlib.Core.Bool.{Bool, false}
+use Rattle.std.specs.Prelude.{Option as Given, Some, None}
+use mathlib.Core.Bool.{Bool, true, false}
 use mathlib.Core.Option.{Option, none, some}
 use Prim.Native.Nat.{ℕ, suc, ◌+◌, ◌-◌, ◌*◌, ◌≤◌, ◌<◌}
 use native.Mathlib.Omega.{arith}
 use lib.ListN.{length, take, drop, get_or, length-map, length-append, length-take, get_or-append}
 use lib.Seq.{get_or-take, get_or-append-add, take-length}
 use Rattle.pcrl.specs.Text.{bytes}
-use Rattle.pcrl.specs.Tests.{and, distinct}
+use Rattle.pcrl.specs.Tests.{distinct}
 use Rattle.pcrl.specs.Maybe.{◌>>=◌, for_each}
 use Rattle.pcrl.specs.Tree.{Name, RawSheet, ActLine, ProcLine}
 use Rattle.pcrl.specs.Sheet.{Data, call, Process, Func, Action, Sig, Sheet, no_action, no_process}
@@ -18,7 +19,7 @@ use Rattle.laws.specs.Lists.{get_d_map}
 use Rattle.laws.specs.Each.{each_length, each_map}
 use Rattle.laws.specs.Optional.{first_given, each_given}
 use Rattle.pcrl.specs.Print.{print_lines, print_proc, print_init}
-use Rattle.parser.specs.Cells.{Symbol, enc_proc}
+use Rattle.parser.specs.Cells.{Symbol, enc_proc, enc_init}
 use Rattle.nodes.specs.declared.Outline.{Outline}
 use Rattle.nodes.specs.Layout.{cell_limit, enc}
 use Rattle.nodes.specs.Scoped.{Scoped}
@@ -28,19 +29,20 @@ use Rattle.names.specs.NameKinds.{total_of, sorts_in, funcs_in, acts_in, procs_i
 use Rattle.names.specs.NameList.{names_in, kinds_in}
 use Rattle.names.specs.declared.Kinds.{Kinds}
 use Rattle.names.specs.Standing.{At, symbols}
-use Rattle.names.specs.Rows.{Answers, sorts_at}
+use Rattle.names.specs.Rows.{Yields, sorts_at}
 use Rattle.names.proofs.KindLaws.{part_is}
 use Rattle.names.proofs.NamesOf.{sorts_are, funcs_are, acts_are, procs_are, declared_are}
 use Rattle.resolver.specs.Writing.{Writes}
 use Rattle.resolver.specs.Resolving.{Declared, FewKinds, ResolvesInit, called, Answers as Resolves_to}
 use Rattle.resolver.specs.InScope.{init_scoped}
-use Rattle.resolver.specs.declared.RightSide.{RightSide}
+use Rattle.parser.specs.declared.Step.{Step}
 use Rattle.sheets.specs.declared.SigRows.{SigRows}
 use Rattle.sheets.specs.declared.ProcRows.{ProcRows}
 use Rattle.sheets.specs.declared.SheetRows.{SheetRows}
+use Rattle.sheets.specs.Bounded.{Bounded}
 use Rattle.sheets.specs.ScopePuts.{ResultsPut, GivesRows}
-use Rattle.sheets.specs.Resolving.{FewLines, LinesStand, HoldsSignature, SignatureRead, resolve_signature, ProcessesHeld, ProcessesRead, arrays, Named, LinesResolve}
-use Rattle.sheets.proofs.Asked.{answers_then, answers_last, answers_test}
+use Rattle.sheets.specs.Resolving.{FewLines, LinesStand, HoldsSignature, SignatureRead, resolve_signature, ProcessesHeld, ProcessesRead, arrays, Holds, LinesResolve}
+use Rattle.sheets.proofs.Asked.{yields_then, yields_missing, yields_test, yields_untested}
 use Rattle.sheets.proofs.ScopeLaws.{results_known}
 use Rattle.sheets.proofs.TermRoom.{init_room}
 use Rattle.sheets.proofs.Placed.{proc_kept, written_whole, written_at}
@@ -59,11 +61,15 @@ signature_then {B} R k = go (for_each (resolve_func (names_of R)) R.funcs) (for_
     go (some fs) (some as') = refl
 
 -- what was written of init
-init_answers : (m rest : List Symbol) (w : ℕ) (o : List ℕ) (i : Option (ℕ × List Data)) (r : RightSide) (o' : List ℕ) → Resolves_to m rest w o (called i) r o'
-    → Answers (λ (x : ℕ × List Data). Writes (enc false (call x.0 x.1)) w o r.w o') i r.ok
+abbrev Initial : ℕ → List ℕ → List ℕ → ℕ × List Data → Step → Type 0
+Initial w o o' x a = Writes (enc false (call x.0 x.1)) w o a.w o'
+
+init_answers : (m rest : List Symbol) (w : ℕ) (o : List ℕ) (i : Option (ℕ × List Data)) (r : Given Step) (o' : List ℕ) → Resolves_to m rest w o (called i) r o' → Yields (Initial w o o') i r
 unfolding Resolves_to
-init_answers m rest w o none r o' h = h
-init_answers m rest w o (some x) r o' h = (h.0, h.2)
+init_answers m rest w o none None o' h = tt
+init_answers m rest w o none (Some a) o' h = absurd h
+init_answers m rest w o (some x) None o' h = absurd h
+init_answers m rest w o (some x) (Some a) o' h = h.1
 
 -- the rows of the whole sheet
 abbrev pub rows_of : (sorts funcs acts procs names : List ℕ) → SigRows → ProcRows → SheetRows
@@ -151,7 +157,7 @@ module _ (s raw sorts funcs acts procs : List ℕ) (R : RawSheet) (stand : Lines
 
   -- PROCESSES AND INIT ARE HELD, init behind the right sides
   procs_held : (S : Sig) (ps : List Process) (x : ℕ × List Data) (b : ProcRows) (o o' : List ℕ) (most w' : ℕ) (n : Outline) → n.procs ≡ length procs → n.init ≡ b.w → FewLines raw sorts funcs acts procs
-      → for_each (resolve_proc (names_of R) S) R.procs ≡ some ps → ProcessesHeld (length (names_of R).procs) b o most ps → resolve_init (names_of R) S R.start ≡ some x
+      → for_each (resolve_proc (names_of R) S) R.procs ≡ some ps → ProcessesHeld (length (names_of R).procs) o most ps b → resolve_init (names_of R) S R.start ≡ some x
       → Writes (enc false (call x.0 x.1)) b.w o w' o' → most + 3 * length (print_init R.start) ≤ length o → length o < cell_limit
       → HeldProcs (record { sig = S; procs = ps; start = x }) b.procs o' b.starts n
   procs_held S ps x b o o' most w' n np ni few pe held xe wr room short =
@@ -233,55 +239,98 @@ declared_many s raw sorts funcs acts procs names n h e =
 pub kinds_few : (raw sorts funcs acts procs : List ℕ) → FewLines raw sorts funcs acts procs → FewKinds (kinds_of sorts funcs acts procs)
 kinds_few raw sorts funcs acts procs few = record { sorts_few = omega (arith, few.sorts_few); funcs_few = few.funcs_few; acts_few = few.acts_few; procs_few = few.procs_few }
 
--- they hold a sheet
-abbrev Holds : List ℕ → SheetRows → (values cells : List ℕ) → Sheet → Type 0
-Holds s rows values cells H = Held H (arrays rows values cells) rows.outline × Named s rows H
+-- THE WHOLE SHEET; l is the array of declared names
+module _ (s raw sorts funcs acts procs : List ℕ) (at : ℕ) (values names l : List ℕ) (n : ℕ) (few : FewLines raw sorts funcs acts procs) (total : n ≡ total_of (kinds_of sorts funcs acts procs))
+    (scoped : scope_at s names n ≡ names_at s raw sorts (length sorts) ++ (names_at s raw funcs (length funcs) ++ (names_at s raw acts (length acts) ++ names_at s raw procs (length procs))))
+    (kinds : kinds_in l ≡ kinds_of sorts funcs acts procs)
+    (alike : take (total_of (kinds_of sorts funcs acts procs)) (names_in l) ≡ take (total_of (kinds_of sorts funcs acts procs)) names) where
+  abbrev new : Bool
+  new = distinct (bytes "Bool" ∷ scope_at s (names_in l) (total_of (kinds_in l)))
 
--- the whole sheet; listed are the names in the array of declared names
-sheet_resolves : (s raw sorts funcs acts procs : List ℕ) (at : ℕ) (values o o' names listed : List ℕ) (n : ℕ) (fresh : Bool) (a : SigRows) (b : ProcRows) (c : RightSide) (ok : Bool)
-    → FewLines raw sorts funcs acts procs → length o' ≡ length o → length o < cell_limit → n ≡ total_of (kinds_of sorts funcs acts procs)
-    → scope_at s names n ≡ names_at s raw sorts (length sorts) ++ (names_at s raw funcs (length funcs) ++ (names_at s raw acts (length acts) ++ names_at s raw procs (length procs)))
-    → take n listed ≡ take n names → fresh ≡ distinct (bytes "Bool" ∷ scope_at s listed n) → SignatureRead s raw sorts funcs acts values a → ProcessesRead s raw procs listed (kinds_of sorts funcs acts procs) a.funcs b o
-    → (empty scope : List ℕ) → ResultsPut a.funcs empty scope → ResolvesInit s raw listed (kinds_of sorts funcs acts procs) scope at b.w o c o' → ok ≡ and fresh (and a.ok (and b.ok c.ok))
-    → LinesResolve s raw sorts funcs acts procs at values o' (record { ok = ok; rows = rows_of sorts funcs acts procs names a b })
-unfolding resolve resolve_terms symbols Counted arrays scope_at
-sheet_resolves s raw sorts funcs acts procs at values o o' names listed n fresh a b c ok few same short total scoped alike new sig procs_read empty scope results init_read e R stand init_at m counted bounded values_room cells_room =
-    let rows : SheetRows = rows_of sorts funcs acts procs names a b in
-    let D = lines_declare s raw sorts funcs acts procs R stand listed n total (ap (map (name_at s)) alike ∙ scoped) in
-    let known : declared (names_of R) ≡ bytes "Bool" ∷ scope_at s names n = declared_are s raw R sorts funcs acts procs stand.sorts_at stand.funcs_at stand.acts_at stand.procs_at names n scoped in
-    let both = bounded.processes_few in
-    let f = sig R m stand.sorts_at stand.funcs_at stand.acts_at counted bounded values_room in
-    subst⁻¹ (λ (t : Bool). Answers (Holds s rows values o') (resolve R) t) e
-    (answers_test (Holds s rows values o') (distinct (declared (names_of R))) _ fresh _ (new ∙ ap distinct (ap (λ (l : List ℕ). bytes "Bool" ∷ map (name_at s) l) alike ∙ sym known))
-    (subst (λ (q : Option Sheet). Answers (Holds s rows values o') q (and a.ok (and b.ok c.ok))) (signature_then R _)
-    (answers_then (Holds s rows values o') (HoldsSignature sorts funcs acts values a) (resolve_signature R)
-    (λ S. ◌>>=◌ (for_each (resolve_proc (names_of R) S) R.procs) (λ ps. ◌>>=◌ (resolve_init (names_of R) S R.start) (λ x. some (record { sig = S; procs = ps; start = x })))) a.ok _ f
-    (λ S se held.
-    let gi : GivesRows (kinds_of sorts funcs acts procs) a.funcs S = λ i h. ((held rows.outline refl refl refl).func_at i h).gives in
-    let g = procs_read (names_of R) S R.procs D gi stand.procs_at counted.1.1.1.1.1 bounded.sums_shallow (omega arith) in
-    let h = init_answers (symbols s raw) init_at.0 b.w o (resolve_init (names_of R) S R.start) c o'
-    (init_read (names_of R) S R.start init_at.0 (results_known (kinds_of sorts funcs acts procs) a.funcs empty scope S few.funcs_few results gi) D.funcs_are D.procs_are init_at.1) in
-    answers_then (Holds s rows values o') (ProcessesHeld (length (names_of R).procs) b o (3 * length (print_lines "proc" print_proc R.procs))) (for_each (resolve_proc (names_of R) S) R.procs) _ b.ok c.ok g
-    (λ ps pe pheld. answers_last (Holds s rows values o') (λ (x : ℕ × List Data). Writes (enc false (call x.0 x.1)) b.w o c.w o') (resolve_init (names_of R) S R.start) _ c.ok h
-    (λ x xe w. (
-      record {
-        signature = held rows.outline refl refl refl;
-        processes = procs_held s raw sorts funcs acts procs R stand S ps x b o o' (3 * length (print_lines "proc" print_proc R.procs)) c.w rows.outline refl refl few pe pheld xe w (omega arith) short;
-      },
-      record { actions = actions_named s raw sorts funcs acts procs R stand names n scoped S se; sorts = sorts_named s raw sorts funcs acts procs R stand names n scoped S se },
-    )))))))
+  -- the names of the array are those of the lines
+  named : scope_at s (names_in l) n ≡ scope_at s names n
+  unfolding scope_at
+  named = ap (map (name_at s)) (subst⁻¹ (λ (m : ℕ). take m (names_in l) ≡ take m names) total alike)
 
--- THE WHOLE SHEET, by the array of declared names
-pub lines_resolve : (s raw sorts funcs acts procs : List ℕ) (at : ℕ) (values o o' names l : List ℕ) (n : ℕ) (fresh : Bool) (a : SigRows) (b : ProcRows) (c : RightSide) (ok : Bool)
-    → FewLines raw sorts funcs acts procs → length o' ≡ length o → length o < cell_limit → n ≡ total_of (kinds_of sorts funcs acts procs)
-    → scope_at s names n ≡ names_at s raw sorts (length sorts) ++ (names_at s raw funcs (length funcs) ++ (names_at s raw acts (length acts) ++ names_at s raw procs (length procs)))
-    → kinds_in l ≡ kinds_of sorts funcs acts procs → take (total_of (kinds_of sorts funcs acts procs)) (names_in l) ≡ take (total_of (kinds_of sorts funcs acts procs)) names
-    → fresh ≡ distinct (bytes "Bool" ∷ scope_at s (names_in l) (total_of (kinds_in l))) → SignatureRead s raw sorts funcs acts values a → ProcessesRead s raw procs (names_in l) (kinds_in l) a.funcs b o
-    → (empty scope : List ℕ) → ResultsPut a.funcs empty scope → ResolvesInit s raw (names_in l) (kinds_in l) scope at b.w o c o' → ok ≡ and fresh (and a.ok (and b.ok c.ok))
-    → LinesResolve s raw sorts funcs acts procs at values o' (record { ok = ok; rows = rows_of sorts funcs acts procs names a b })
-lines_resolve s raw sorts funcs acts procs at values o o' names l n fresh a b c ok few same short total scoped kinds alike new sig procs_read empty scope results init_read e =
-    let alike' = subst⁻¹ (λ (m : ℕ). take m (names_in l) ≡ take m names) total alike in
-    let new' = subst⁻¹ (λ (m : ℕ). fresh ≡ distinct (bytes "Bool" ∷ scope_at s (names_in l) m)) total (subst (λ (k : Kinds). fresh ≡ distinct (bytes "Bool" ∷ scope_at s (names_in l) (total_of k))) kinds new) in
-    sheet_resolves s raw sorts funcs acts procs at values o o' names (names_in l) n fresh a b c ok few same short total scoped alike' new' sig
-    (subst (λ (k : Kinds). ProcessesRead s raw procs (names_in l) k a.funcs b o) kinds procs_read) empty scope results
-    (subst (λ (k : Kinds). ResolvesInit s raw (names_in l) k scope at b.w o c o') kinds init_read) e
+  new_is : (R : RawSheet) → LinesStand s raw sorts funcs acts procs R → new ≡ distinct (declared (names_of R))
+  new_is R stand =
+      let known : declared (names_of R) ≡ bytes "Bool" ∷ scope_at s names n = declared_are s raw R sorts funcs acts procs stand.sorts_at stand.funcs_at stand.acts_at stand.procs_at names n scoped in
+      let count : total_of (kinds_in l) ≡ n = ap total_of kinds ∙ sym total in
+      ap distinct (ap (λ (m : ℕ). bytes "Bool" ∷ scope_at s (names_in l) m) count ∙ (ap (◌∷◌ (bytes "Bool")) named ∙ sym known))
+
+  declared_by : (R : RawSheet) → LinesStand s raw sorts funcs acts procs R → Declared s (names_in l) (kinds_of sorts funcs acts procs) (names_of R)
+  declared_by R stand = lines_declare s raw sorts funcs acts procs R stand (names_in l) n total (named ∙ scoped)
+
+  -- a name is not new
+  pub not_new : (o' : List ℕ) → false ≡ new → LinesResolve s raw sorts funcs acts procs at values o' None
+  unfolding resolve
+  not_new o' e R stand init_at m counted bounded values_room cells_room = yields_untested (Holds s values o') (distinct (declared (names_of R))) _ (e ∙ new_is R stand)
+
+  abbrev behind : RawSheet → Sig → Option Sheet
+  behind R S = ◌>>=◌ (for_each (resolve_proc (names_of R) S) R.procs) (λ ps. ◌>>=◌ (resolve_init (names_of R) S R.start) (λ x. some (record { sig = S; procs = ps; start = x })))
+
+  module _ (e : true ≡ new) where
+    signature_first : (o' : List ℕ) (R : RawSheet) → LinesStand s raw sorts funcs acts procs R → (r : Given SheetRows) → Yields (Holds s values o') (◌>>=◌ (resolve_signature R) (behind R)) r → Yields (Holds s values o') (resolve R) r
+    unfolding resolve resolve_terms
+    signature_first o' R stand r h = yields_test (Holds s values o') (distinct (declared (names_of R))) _ r (e ∙ new_is R stand) (subst (λ (q : Option Sheet). Yields (Holds s values o') q r) (signature_then R (behind R)) h)
+
+    -- a name of the signature is not known
+    pub no_signature : (o' : List ℕ) → SignatureRead s raw sorts funcs acts values None → LinesResolve s raw sorts funcs acts procs at values o' None
+    no_signature o' sig R stand init_at m counted bounded values_room cells_room =
+        signature_first o' R stand None (yields_missing (Holds s values o') (HoldsSignature sorts funcs acts values) (resolve_signature R) (behind R) (sig R m stand.sorts_at stand.funcs_at stand.acts_at counted bounded values_room))
+
+    module _ (a : SigRows) (sig : SignatureRead s raw sorts funcs acts values (Some a)) where
+      gives : (S : Sig) → HoldsSignature sorts funcs acts values S a → GivesRows (kinds_of sorts funcs acts procs) a.funcs S
+      gives S held = λ i h. ((held (record { sorts = length sorts + 1; funcs = length funcs; acts = length acts; procs = 0; init = 0 }) refl refl refl).func_at i h).gives
+
+      -- what the processes answer
+      abbrev most : RawSheet → ℕ
+      most R = 3 * length (print_lines "proc" print_proc R.procs)
+
+      processes_answer : (o : List ℕ) (b : Given ProcRows) → ProcessesRead s raw procs (names_in l) (kinds_in l) a.funcs b o → (R : RawSheet) → LinesStand s raw sorts funcs acts procs R → (m : ℕ) → Counted R → Bounded R m → 3 * m ≤ length o
+          → (S : Sig) → HoldsSignature sorts funcs acts values S a → Yields (ProcessesHeld (length (names_of R).procs) o (most R)) (for_each (resolve_proc (names_of R) S) R.procs) b
+      unfolding Counted
+      processes_answer o b read R stand m counted bounded room S held =
+          let both = bounded.processes_few in
+          subst (λ (k : Kinds). ProcessesRead s raw procs (names_in l) k a.funcs b o) kinds read (names_of R) S R.procs (declared_by R stand) (gives S held) stand.procs_at counted.1.1.1.1.1 bounded.sums_shallow (omega arith)
+
+      -- a name of a process is not as it must be
+      pub no_processes : (o : List ℕ) → ProcessesRead s raw procs (names_in l) (kinds_in l) a.funcs None o → LinesResolve s raw sorts funcs acts procs at values o None
+      no_processes o read R stand init_at m counted bounded values_room cells_room =
+          signature_first o R stand None (yields_then (Holds s values o) (HoldsSignature sorts funcs acts values) (resolve_signature R) (behind R) a None (sig R m stand.sorts_at stand.funcs_at stand.acts_at counted bounded values_room)
+          (λ S se held. yields_missing (Holds s values o) (ProcessesHeld (length (names_of R).procs) o (most R)) (for_each (resolve_proc (names_of R) S) R.procs) _ (processes_answer o None read R stand m counted bounded cells_room S held)))
+
+      module _ (b : ProcRows) (o o' : List ℕ) (same : length o' ≡ length o) (short : length o < cell_limit) (read : ProcessesRead s raw procs (names_in l) (kinds_in l) a.funcs (Some b) o)
+          (empty scope : List ℕ) (results : ResultsPut a.funcs empty scope) where
+        -- what init answers
+        init_answer : (c : Given Step) → ResolvesInit s raw (names_in l) (kinds_in l) scope at b.w o c o' → (R : RawSheet) (stand : LinesStand s raw sorts funcs acts procs R) (init_at : At s raw (enc_init R.start) at)
+            → (S : Sig) → HoldsSignature sorts funcs acts values S a → Yields (Initial b.w o o') (resolve_init (names_of R) S R.start) c
+        unfolding symbols
+        init_answer c init_read R stand init_at S held =
+            let D = declared_by R stand in
+            init_answers (symbols s raw) init_at.0 b.w o (resolve_init (names_of R) S R.start) c o'
+            (subst (λ (k : Kinds). ResolvesInit s raw (names_in l) k scope at b.w o c o') kinds init_read (names_of R) S R.start init_at.0 (results_known (kinds_of sorts funcs acts procs) a.funcs empty scope S few.funcs_few results (gives S held)) D.funcs_are D.procs_are init_at.1)
+
+        -- init's name, or what is given to it
+        pub no_init : ResolvesInit s raw (names_in l) (kinds_in l) scope at b.w o None o' → LinesResolve s raw sorts funcs acts procs at values o' None
+        no_init init_read R stand init_at m counted bounded values_room cells_room =
+            signature_first o' R stand None (yields_then (Holds s values o') (HoldsSignature sorts funcs acts values) (resolve_signature R) (behind R) a None (sig R m stand.sorts_at stand.funcs_at stand.acts_at counted bounded values_room)
+            (λ S se held. yields_then (Holds s values o') (ProcessesHeld (length (names_of R).procs) o (most R)) (for_each (resolve_proc (names_of R) S) R.procs) _ b None (processes_answer o (Some b) read R stand m counted bounded (omega arith) S held)
+            (λ ps pe pheld. yields_missing (Holds s values o') (Initial b.w o o') (resolve_init (names_of R) S R.start) _ (init_answer None init_read R stand init_at S held))))
+
+        -- all are as they must be
+        pub lines_resolve : (c : Step) → ResolvesInit s raw (names_in l) (kinds_in l) scope at b.w o (Some c) o' → LinesResolve s raw sorts funcs acts procs at values o' (Some (rows_of sorts funcs acts procs names a b))
+        unfolding arrays
+        lines_resolve c init_read R stand init_at m counted bounded values_room cells_room =
+            let rows : SheetRows = rows_of sorts funcs acts procs names a b in
+            let both = bounded.processes_few in
+            signature_first o' R stand (Some rows) (yields_then (Holds s values o') (HoldsSignature sorts funcs acts values) (resolve_signature R) (behind R) a (Some rows) (sig R m stand.sorts_at stand.funcs_at stand.acts_at counted bounded values_room)
+            (λ S se held. yields_then (Holds s values o') (ProcessesHeld (length (names_of R).procs) o (most R)) (for_each (resolve_proc (names_of R) S) R.procs) _ b (Some rows) (processes_answer o (Some b) read R stand m counted bounded (omega arith) S held)
+            (λ ps pe pheld. yields_then (Holds s values o') (Initial b.w o o') (resolve_init (names_of R) S R.start) _ c (Some rows) (init_answer (Some c) init_read R stand init_at S held)
+            (λ x xe w. (
+              record {
+                signature = held rows.outline refl refl refl;
+                processes = procs_held s raw sorts funcs acts procs R stand S ps x b o o' (most R) c.w rows.outline refl refl few pe pheld xe w (omega arith) short;
+              },
+              record { actions = actions_named s raw sorts funcs acts procs R stand names n scoped S se; sorts = sorts_named s raw sorts funcs acts procs R stand names n scoped S se },
+            )))))

@@ -1,5 +1,6 @@
 -- What the parts of question 7 answer, for every raw sheet whose lines stand in the cells.
 use Rattle.std.specs.Prelude.{◌≡◌, List, [], ◌++◌, false, ℕ, suc, ◌+◌, ◌-◌, ◌*◌, ◌≤◌, ◌<◌, length, take, drop, get_or}
+use Rattle.std.specs.Prelude.{Option as Given}
 use Rattle.std.proofs.Math.Option.{Option, some}
 use Rattle.pcrl.specs.Limits.{max_open, max_sorts, max_functions, max_actions, max_processes, frame_width}
 use Rattle.pcrl.specs.Tests.{Every}
@@ -11,6 +12,7 @@ use Rattle.pcrl.specs.Names.{Names, names_of, sizes_of, resolve_func, resolve_ac
 use Rattle.pcrl.specs.Print.{line, print_lines, print_proc}
 use Rattle.parser.specs.Cells.{Symbol, enc_sort, enc_func, enc_act, enc_proc, enc_init}
 use Rattle.parser.specs.declared.Lines.{Lines}
+use Rattle.parser.specs.declared.Step.{Step}
 use Rattle.nodes.specs.declared.Outline.{Outline}
 use Rattle.nodes.specs.Layout.{cell_limit, enc}
 use Rattle.nodes.specs.Scoped.{Scoped}
@@ -19,15 +21,13 @@ use Rattle.names.specs.NameCells.{name_at}
 use Rattle.names.specs.NameList.{kinds_in, KeyedNames}
 use Rattle.names.specs.declared.Kinds.{Kinds}
 use Rattle.names.specs.Standing.{symbols, At, LinesAt, Standing}
-use Rattle.names.specs.Rows.{Answers, InRows}
+use Rattle.names.specs.Rows.{Yields, InRows}
 use Rattle.resolver.specs.Raw.{sum_depth}
 use Rattle.resolver.specs.Writing.{Writes}
 use Rattle.resolver.specs.Resolving.{Declared, FewKinds}
-use Rattle.resolver.specs.declared.RightSide.{RightSide}
 use Rattle.sheets.specs.declared.SigRows.{SigRows}
 use Rattle.sheets.specs.declared.ProcRows.{ProcRows}
 use Rattle.sheets.specs.declared.SheetRows.{SheetRows}
-use Rattle.sheets.specs.declared.ResolvedRows.{ResolvedRows}
 use Rattle.sheets.specs.Bounded.{Bounded}
 use Rattle.sheets.specs.ScopePuts.{GivesRows}
 
@@ -61,14 +61,14 @@ resolve_signature R = do
   some (record { sorts = sizes_of R; sort_names = (names_of R).sorts; funcs = fs; acts = as' })
 
 -- the rows hold it, in the outline of any sheet that has so many sorts, functions and actions
-abbrev pub HoldsSignature : (sorts funcs acts values : List ℕ) → SigRows → Sig → Type 0
-HoldsSignature sorts funcs acts values r S =
+abbrev pub HoldsSignature : (sorts funcs acts values : List ℕ) → Sig → SigRows → Type 0
+HoldsSignature sorts funcs acts values S r =
     (n : Outline) → n.sorts ≡ length sorts + 1 → n.funcs ≡ length funcs → n.acts ≡ length acts → HeldSig S r.sizes r.funcs values r.places r.acts n
 
-abbrev pub SignatureRead : (s raw sorts funcs acts values : List ℕ) → SigRows → Type 0
+abbrev pub SignatureRead : (s raw sorts funcs acts values : List ℕ) → Given SigRows → Type 0
 SignatureRead s raw sorts funcs acts values r =
     (R : RawSheet) (n : ℕ) → LinesAt enc_sort s raw sorts R.sorts → LinesAt enc_func s raw funcs R.funcs → LinesAt enc_act s raw acts R.acts
-    → Counted R → Bounded R n → n ≤ 2 * length values → Answers (HoldsSignature sorts funcs acts values r) (resolve_signature R) r.ok
+    → Counted R → Bounded R n → n ≤ 2 * length values → Yields (HoldsSignature sorts funcs acts values) (resolve_signature R) r
 
 -- ---- processes
 -- a process of a sheet with m of them: its row, and the cells of its right side behind w, at most so many
@@ -80,22 +80,22 @@ pub record ProcessRow (m : ℕ) (q : Process) (row : List ℕ) (w : ℕ) (o : Li
   pub size : length (enc false q.right) ≤ most
 
 -- for every process line that stands at `at`
-abbrev pub ProcessRead : (s raw names : List ℕ) (kinds : Kinds) (funcs : List ℕ) (at : ℕ) (row : List ℕ) (w : ℕ) (o : List ℕ) → RightSide → List ℕ → Type 0
+abbrev pub ProcessRead : (s raw names : List ℕ) (kinds : Kinds) (funcs : List ℕ) (at : ℕ) (row : List ℕ) (w : ℕ) (o : List ℕ) → Given Step → List ℕ → Type 0
 ProcessRead s raw names kinds funcs at row w o r o' =
     (N : Names) (S : Sig) (l : ProcLine) (rest : List Symbol) → Declared s names kinds N → GivesRows kinds funcs S
     → drop at (symbols s raw) ≡ enc_proc l ++ rest → length l.params ≤ frame_width → sum_depth l.right ≤ max_open
-    → Answers (λ q. ProcessRow (length N.procs) q row w o r.w o' (3 * length (line "proc" (print_proc l)))) (resolve_proc N S l) r.ok
+    → Yields (λ q a. ProcessRow (length N.procs) q row w o a.w o' (3 * length (line "proc" (print_proc l)))) (resolve_proc N S l) r
 
 -- all of them: each has its row, and its right side stands among the first w cells
-pub record ProcessesHeld (m : ℕ) (r : ProcRows) (cells : List ℕ) (most : ℕ) (ps : List Process) : Type 0 where
+pub record ProcessesHeld (m : ℕ) (cells : List ℕ) (most : ℕ) (ps : List Process) (r : ProcRows) : Type 0 where
   pub each : InRows no_process (λ q k. ProcAt m q r.procs (take r.w cells) r.starts k) ps
   pub size : r.w ≤ most
 
-abbrev pub ProcessesRead : (s raw procs names : List ℕ) (kinds : Kinds) (funcs : List ℕ) → ProcRows → List ℕ → Type 0
+abbrev pub ProcessesRead : (s raw procs names : List ℕ) (kinds : Kinds) (funcs : List ℕ) → Given ProcRows → List ℕ → Type 0
 ProcessesRead s raw procs names kinds funcs r o' =
     (N : Names) (S : Sig) (ls : List ProcLine) → Declared s names kinds N → GivesRows kinds funcs S → LinesAt enc_proc s raw procs ls
     → Every (λ (l : ProcLine). length l.params ≤ frame_width) ls → Every (λ (l : ProcLine). sum_depth l.right ≤ max_open) ls → 3 * length (print_lines "proc" print_proc ls) ≤ length o'
-    → Answers (ProcessesHeld (length N.procs) r o' (3 * length (print_lines "proc" print_proc ls))) (for_each (resolve_proc N S) ls) r.ok
+    → Yields (ProcessesHeld (length N.procs) o' (3 * length (print_lines "proc" print_proc ls))) (for_each (resolve_proc N S) ls) r
 
 -- ---- the whole sheet
 -- the arrays of a sheet that was read
@@ -120,12 +120,16 @@ pub record Named (s : List ℕ) (r : SheetRows) (H : Sheet) : Type 0 where
   pub actions : (i : ℕ) → i < length H.sig.acts → name_at s (get_or r.names (first_action r + i) 0) ≡ (get_or H.sig.acts i no_action).name
   pub sorts : (D : ℕ) → suc D < length H.sig.sort_names → name_at s (get_or r.names D 0) ≡ get_or H.sig.sort_names (suc D) []
 
--- n tokens: room for their values and for the cells of their terms
-abbrev pub Resolves : (s : List ℕ) → RawSheet → (values o : List ℕ) → ResolvedRows → Type 0
-Resolves s R values o r =
-    (n : ℕ) → Counted R → Bounded R n → n ≤ 2 * length values → 3 * n ≤ length o → Answers (λ H. Held H (arrays r.rows values o) r.rows.outline × Named s r.rows H) (resolve R) r.ok
+-- the rows, the values and the cells hold a sheet, and its names
+abbrev pub Holds : (s values cells : List ℕ) → Sheet → SheetRows → Type 0
+Holds s values cells H r = Held H (arrays r values cells) r.outline × Named s r H
 
-abbrev pub LinesResolve : (s raw sorts funcs acts procs : List ℕ) (at : ℕ) (values o : List ℕ) → ResolvedRows → Type 0
+-- n tokens: room for their values and for the cells of their terms
+abbrev pub Resolves : (s : List ℕ) → RawSheet → (values o : List ℕ) → Given SheetRows → Type 0
+Resolves s R values o r =
+    (n : ℕ) → Counted R → Bounded R n → n ≤ 2 * length values → 3 * n ≤ length o → Yields (Holds s values o) (resolve R) r
+
+abbrev pub LinesResolve : (s raw sorts funcs acts procs : List ℕ) (at : ℕ) (values o : List ℕ) → Given SheetRows → Type 0
 LinesResolve s raw sorts funcs acts procs at values o r =
     (R : RawSheet) → LinesStand s raw sorts funcs acts procs R → At s raw (enc_init R.start) at → Resolves s R values o r
 
@@ -138,5 +142,5 @@ pub record FewFound (L : Lines) (raw : List ℕ) : Type 0 where
   pub procs_few : L.proc_count ≤ max_processes
   pub init_inside : L.init < length raw
 
-abbrev pub FoundResolve : (s raw : List ℕ) → Lines → (values o : List ℕ) → ResolvedRows → Type 0
+abbrev pub FoundResolve : (s raw : List ℕ) → Lines → (values o : List ℕ) → Given SheetRows → Type 0
 FoundResolve s raw L values o r = (R : RawSheet) → Standing s raw L R → At s raw (enc_init R.start) L.init → Resolves s R values o r

@@ -19,10 +19,9 @@ const PROC_ROWS: usize = PROC_ROW * MAX_PROCESSES;
 
 const PLACES: usize = MAX_FUNCTIONS + 1;
 
-// The rows of sorts, functions and actions (crate nodes, Held), if every name in them is known.
+// The rows of sorts, functions and actions (crate nodes, Held).
 #[derive(Clone, Copy)]
 pub struct SigRows {
-    pub ok: bool,
     pub sizes: [u8; MAX_SORTS],
     pub funcs: [u8; FUNC_ROWS],
     pub places: [u16; PLACES],
@@ -32,7 +31,6 @@ pub struct SigRows {
 // The rows of the processes, where their right sides begin, and the next free cell.
 #[derive(Clone, Copy)]
 pub struct ProcRows {
-    pub ok: bool,
     pub procs: [u8; PROC_ROWS],
     pub starts: [u16; MAX_PROCESSES],
     pub w: usize,
@@ -50,18 +48,4 @@ pub struct SheetRows {
     // the cells of the declared names, but for Bool: sorts, functions, actions, processes
     pub names: [u16; MAX_NAMES],
     pub outline: Outline,
-}
-
-// The rows of a resolved sheet, if every name is as it must be.
-#[derive(Clone, Copy)]
-pub struct ResolvedRows {
-    pub ok: bool,
-    pub rows: SheetRows,
-}
-
-// The number of the first question that fails, or 0.
-#[derive(Clone, Copy)]
-pub struct Answer {
-    pub refused: u8,
-    pub rows: SheetRows,
 }

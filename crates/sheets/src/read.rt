@@ -1,46 +1,18 @@
 // Questions 1 to 9, each put to the whole sheet before the next.
-ghost use Rattle.std.specs.Prelude.{◌≡◌};
 ghost use Rattle.pcrl.specs.Answers.{sheet_read};
 ghost use Rattle.sheets.specs.Reading.{Room, Judges, Reads};
 
+use crate::SheetRows;
 use crate::resolve::resolve;
-use crate::{ACT_ROWS, Answer, FUNC_ROWS, PLACES, PROC_ROWS, SheetRows};
 use checker::circles::guarded_sheet;
 use checker::sorts::rightly_sorted;
 use lexer::lex;
-use limits::{MAX_PROCESSES, MAX_SORTS, NO_NAME, NO_SHEET, NOT_GUARDED, NOT_SORTED, TOO_MANY};
-use names::MAX_NAMES;
 use names::counts::counted;
-use nodes::Outline;
 use parser::parse;
-
-// Refused before there are rows.
-fn refusal(n: u8) -> Answer
-    ensures { result.refused ≡ n }
-{
-    Answer {
-        refused: n,
-        rows: SheetRows {
-            sizes: [0u8; MAX_SORTS],
-            funcs: [0u8; FUNC_ROWS],
-            places: [0u16; PLACES],
-            acts: [0u8; ACT_ROWS],
-            procs: [0u8; PROC_ROWS],
-            starts: [0u16; MAX_PROCESSES],
-            names: [0u16; MAX_NAMES],
-            outline: Outline {
-                sorts: 0,
-                funcs: 0,
-                acts: 0,
-                procs: 0,
-                init: 0,
-            },
-        },
-    }
-}
+use refusals::Refusal;
 
 // Questions 8 and 9 on the sheet that is held.
-fn judge(rows: SheetRows, values: &[u8], cells: &[u16]) -> u8
+fn judge(rows: SheetRows, values: &[u8], cells: &[u16]) -> Result<(), Refusal>
     ensures { Judges rows values.now cells.now result }
 {
     let sizes = rows.sizes;
@@ -60,40 +32,32 @@ fn judge(rows: SheetRows, values: &[u8], cells: &[u16]) -> u8
         &starts,
         rows.outline,
     ) {
-        return NOT_SORTED;
+        return Err(Refusal::NotSorted);
     }
     if !guarded_sheet(cells, &starts, rows.outline) {
-        return NOT_GUARDED;
+        return Err(Refusal::NotGuarded);
     }
-    0
+    Ok(())
 }
 
 // Check a sheet: the resolved sheet is left in the rows, the values and the cells. The tokens stand in the cells until the
 // raw tree is made of them; what is left of the raw tree is not needed afterwards.
-pub fn read_sheet(sheet: &[u8], raw: &mut [u16], values: &mut [u8], cells: &mut [u16]) -> Answer
+pub fn read_sheet(
+    sheet: &[u8],
+    raw: &mut [u16],
+    values: &mut [u8],
+    cells: &mut [u16],
+) -> Result<SheetRows, Refusal>
     requires { Room sheet.now raw.old values.old cells.old }
     ensures { Reads (sheet_read sheet.now) sheet.now result values.new cells.new }
 {
-    let l = lex(sheet, cells);
-    if l.refused != 0 {
-        return refusal(l.refused);
-    }
-    let n = l.count;
-    let t = parse(&cells[0..n], raw);
-    if !t.ok {
-        return refusal(NO_SHEET);
-    }
+    let n = lex(sheet, cells)?;
+    let t = parse(&cells[0..n], raw).ok_or(Refusal::NoSheet)?;
     let lines = t.lines;
     if !counted(raw, lines) {
-        return refusal(TOO_MANY);
+        return Err(Refusal::TooMany);
     }
-    let h = resolve(sheet, raw, lines, values, cells);
-    if !h.ok {
-        return refusal(NO_NAME);
-    }
-    let rows = h.rows;
-    Answer {
-        refused: judge(rows, values, cells),
-        rows: rows,
-    }
+    let rows = resolve(sheet, raw, lines, values, cells).ok_or(Refusal::NoName)?;
+    judge(rows, values, cells)?;
+    Ok(rows)
 }

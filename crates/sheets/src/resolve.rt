@@ -4,11 +4,11 @@ ghost use Rattle.std.specs.Prelude.{◌<◌, length};
 ghost use Rattle.nodes.specs.Layout.{cell_limit};
 ghost use Rattle.sheets.specs.Resolving.{FewLines, LinesResolve, FewFound, FoundResolve};
 
+use crate::SheetRows;
 use crate::processes::processes;
 use crate::scopes::put_results;
 use crate::signature::signature;
-use crate::{ResolvedRows, SheetRows};
-use elements::{both, wide};
+use elements::wide;
 use names::fresh::{all_new, declared_names};
 use names::keys::put_names;
 use names::{DECLARED_CELLS, Kinds, MAX_NAMES};
@@ -17,7 +17,7 @@ use parser::Lines;
 use resolver::SCOPE_CELLS;
 use resolver::entry::init;
 
-// The lines of each kind stand at these places, init at `at`.
+// The lines of each kind stand at these places, init at `at`. None: some name is not as it must be.
 fn resolve_lines(
     s: &[u8],
     raw: &[u16],
@@ -28,7 +28,7 @@ fn resolve_lines(
     at: usize,
     values: &mut [u8],
     out: &mut [u16],
-) -> ResolvedRows
+) -> Option<SheetRows>
     requires { FewLines raw.now sorts.now funcs.now acts.now procs.now × (at < length raw.now) × (length values.old < cell_limit) × (length out.old < cell_limit) }
     ensures { LinesResolve s.now raw.now sorts.now funcs.now acts.now procs.now at values.new out.new result }
 {
@@ -42,37 +42,36 @@ fn resolve_lines(
     };
     let mut declared = [0u16; DECLARED_CELLS];
     put_names(s, &names, kinds, &mut declared);
-    let fresh = all_new(s, &declared);
-    let a = signature(s, raw, sorts, funcs, acts, values);
+    if !all_new(s, &declared) {
+        return None;
+    }
+    let a = signature(s, raw, sorts, funcs, acts, values)?;
     let func_bytes = a.funcs;
-    let b = processes(s, raw, procs, &declared, &func_bytes, out);
+    let b = processes(s, raw, procs, &declared, &func_bytes, out)?;
     let mut scope = [0u16; SCOPE_CELLS];
     put_results(&func_bytes, &mut scope);
-    let c = init(s, raw, &declared, &scope, at, out, b.w);
+    init(s, raw, &declared, &scope, at, out, b.w)?;
     let sizes = a.sizes;
     let places = a.places;
     let act_bytes = a.acts;
     let proc_bytes = b.procs;
     let starts = b.starts;
-    ResolvedRows {
-        ok: both(fresh, both(a.ok, both(b.ok, c.ok))),
-        rows: SheetRows {
-            sizes: sizes,
-            funcs: func_bytes,
-            places: places,
-            acts: act_bytes,
-            procs: proc_bytes,
-            starts: starts,
-            names: names,
-            outline: Outline {
-                sorts: sorts.len() + 1,
-                funcs: funcs.len(),
-                acts: acts.len(),
-                procs: procs.len(),
-                init: b.w,
-            },
+    Some(SheetRows {
+        sizes: sizes,
+        funcs: func_bytes,
+        places: places,
+        acts: act_bytes,
+        procs: proc_bytes,
+        starts: starts,
+        names: names,
+        outline: Outline {
+            sorts: sorts.len() + 1,
+            funcs: funcs.len(),
+            acts: acts.len(),
+            procs: procs.len(),
+            init: b.w,
         },
-    }
+    })
 }
 
 // 7, put to all lines, which stand in the raw tree where `lines` says.
@@ -82,7 +81,7 @@ pub fn resolve(
     lines: Lines,
     values: &mut [u8],
     out: &mut [u16],
-) -> ResolvedRows
+) -> Option<SheetRows>
     requires { FewFound lines raw.now × (length values.old < cell_limit) × (length out.old < cell_limit) }
     ensures { FoundResolve s.now raw.now lines values.new out.new result }
 {

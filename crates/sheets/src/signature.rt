@@ -5,11 +5,10 @@ ghost use Rattle.nodes.specs.Layout.{cell_limit};
 ghost use Rattle.sheets.specs.Resolving.{SignatureRead};
 
 use crate::{ACT_ROWS, FUNC_ROWS, PLACES, SigRows};
-use elements::both;
 use limits::MAX_SORTS;
 use names::rows::{act_rows, func_rows};
 
-// The rows of sorts, functions and actions, from their lines.
+// The rows of sorts, functions and actions, from their lines, if every name in them is known.
 pub fn signature(
     s: &[u8],
     raw: &[u16],
@@ -17,7 +16,7 @@ pub fn signature(
     funcs: &[u16],
     acts: &[u16],
     values: &mut [u8],
-) -> SigRows
+) -> Option<SigRows>
     requires { (length sorts.now < max_sorts) × (length funcs.now ≤ max_functions) × (length acts.now ≤ max_actions) × (length values.old < cell_limit) }
     ensures { SignatureRead s.now raw.now sorts.now funcs.now acts.now values.new result }
 {
@@ -26,13 +25,16 @@ pub fn signature(
     let mut places = [0u16; PLACES];
     let mut act_bytes = [0u8; ACT_ROWS];
     names::rows::sizes(raw, sorts, &mut sizes);
-    let a = func_rows(s, raw, sorts, funcs, &mut func_bytes, values, &mut places);
-    let b = act_rows(s, raw, sorts, acts, &mut act_bytes);
-    SigRows {
-        ok: both(a, b),
+    if !func_rows(s, raw, sorts, funcs, &mut func_bytes, values, &mut places) {
+        return None;
+    }
+    if !act_rows(s, raw, sorts, acts, &mut act_bytes) {
+        return None;
+    }
+    Some(SigRows {
         sizes: sizes,
         funcs: func_bytes,
         places: places,
         acts: act_bytes,
-    }
+    })
 }

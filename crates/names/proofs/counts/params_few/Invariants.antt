@@ -7,4 +7,3 @@ use Rattle.names.proofs.counts.params_few.Given as goal
 
 abbrev pub invariant-loop-i : goal.invariant-loop-i
 invariant-loop-i l = Checked (λ p. item_count l.cells 3 (p + 2) (frame_width + 1) ≤ frame_width) l.procs l.i
-

@@ -8,4 +8,3 @@ use Rattle.names.proofs.counts.sizes_right.Given as goal
 
 abbrev pub invariant-loop-i : goal.invariant-loop-i
 invariant-loop-i l = Checked (λ p. Between 1 max_size (numeral_at l.cells (p + 2))) l.sorts l.i
-

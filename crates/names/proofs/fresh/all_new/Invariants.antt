@@ -10,4 +10,3 @@ use Rattle.names.proofs.fresh.all_new.Given as goal
 
 abbrev pub invariant-loop-i : goal.invariant-loop-i
 invariant-loop-i l = distinct (bytes "Bool" ∷ scope_at l.s (names_in l.declared) l.n) ≡ distinct (bytes "Bool" ∷ drop l.i (scope_at l.s (names_in l.declared) l.n))
-

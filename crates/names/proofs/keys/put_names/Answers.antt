@@ -29,8 +29,6 @@ offset_bounds-declared-j c = omega (arith, c.loop-j.invariant.0, c.loop-j.invari
 pub bounds-declared-j : goal.bounds-declared-j
 bounds-declared-j c = omega (arith, c.loop-j.invariant.0, c.loop-j.invariant.1, c.loop-j-test.true)
 
-
-
 pub loop-j-preserved : goal.loop-j-preserved
 loop-j-preserved c =
     let loop = c.loop-j in

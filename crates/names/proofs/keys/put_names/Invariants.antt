@@ -9,7 +9,6 @@ use Rattle.names.proofs.keys.put_names.Given as goal
 abbrev pub invariant-loop-j : goal.invariant-loop-j
 invariant-loop-j l = (length l.declared ≡ list_cells) × (l.j ≤ key_count) × Cleared l.declared l.n l.j
 
-
 abbrev pub invariant-loop-i : goal.invariant-loop-i
 invariant-loop-i l = (l.i ≤ l.n) × ListedFrom l.s l.names l.declared l.n l.i
 

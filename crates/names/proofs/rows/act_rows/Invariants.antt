@@ -6,4 +6,3 @@ use Rattle.names.proofs.rows.act_rows.Given as goal
 
 abbrev pub invariant-loop-i : goal.invariant-loop-i
 invariant-loop-i l = (length l.rows ≡ length l.initial.rows) × ActsGone l.s l.cells l.sorts l.acts l.rows l.i
-

@@ -58,7 +58,6 @@ offset_bounds-places-i c = omega (arith, c.loop-i-test.true)
 pub bounds-places-i : goal.bounds-places-i
 bounds-places-i c = omega (arith, c.requires, c.loop-i.invariant.0.place_same, length-set c.args.places.now 0 0)
 
-
 pub loop-i-preserved : goal.loop-i-preserved
 loop-i-preserved c =
     let z : c.short.result ≡ c.loop-i.w + c.items-n.result = c.short.ensures (omega (arith, c.requires, c.loop-i.invariant.0.value_same, c.items-n.ensures.most, c.loop-i.invariant.0.within)) in

@@ -8,4 +8,3 @@ use Rattle.names.proofs.rows.sizes.Given as goal
 
 abbrev pub invariant-loop-i : goal.invariant-loop-i
 invariant-loop-i l = (l.i ≤ length l.sorts) × Copied 1 l.i (map (λ p. byte_of (numeral_at l.cells (p + 2))) (take l.i l.sorts)) l.initial.out l.out
-

@@ -7,4 +7,3 @@ use Rattle.resolver.proofs.cells.put_joins.Given as goal
 
 abbrev pub invariant-loop-i : goal.invariant-loop-i
 invariant-loop-i l = ((l.i ≤ l.many) × (length l.out ≡ length l.initial.out)) × Writes (joins l.c l.i) l.w l.initial.out l.v l.out
-

@@ -82,8 +82,11 @@ pub atom-returns-in_default : goal.atom-returns-in_default
 atom-returns-in_default t c =
     let args = c.args in
     let cell3 = c.peek in
-    record { ahead = let z = c.lost-in_default.ensures in omega arith; resolves = variable_lost args.s.now args.raw.now (names_in args.declared.now) (kinds_in args.declared.now) args.scope.now args.n args.at args.w args.out.now (sym c.peek-k.ensures ∙ c.if-k-eq-VARIABLE_TAG.true) cell3.result cell3.ensures c.lost-in_default.result args.out.now c.lost-in_default.ensures
-        (not_found (number_of (name_at args.s.now cell3.result) (scope_at args.s.now args.scope.now args.n)) c.in_default.ensures.number) }
+    record {
+      ahead = let z = c.lost-in_default.ensures in omega arith;
+      resolves = variable_lost args.s.now args.raw.now (names_in args.declared.now) (kinds_in args.declared.now) args.scope.now args.n args.at args.w args.out.now (sym c.peek-k.ensures ∙ c.if-k-eq-VARIABLE_TAG.true) cell3.result cell3.ensures c.lost-in_default.result args.out.now c.lost-in_default.ensures
+          (not_found (number_of (name_at args.s.now cell3.result) (scope_at args.s.now args.scope.now args.n)) c.in_default.ensures.number);
+    }
 
 pub atom-overflow_add-result-then-k-eq-VARIABLE_TAG : goal.atom-overflow_add-result-then-k-eq-VARIABLE_TAG
 atom-overflow_add-result-then-k-eq-VARIABLE_TAG t c =
@@ -103,8 +106,11 @@ atom-returns-then-k-eq-VARIABLE_TAG t c =
     let short = c.short in
     let put2 = c.put-then-k-eq-VARIABLE_TAG in
     let q = c.requires in
-    record { ahead = omega arith; resolves = variable_took args.s.now args.raw.now (names_in args.declared.now) (kinds_in args.declared.now) args.scope.now args.n args.at args.w args.out.now (sym c.peek-k.ensures ∙ c.if-k-eq-VARIABLE_TAG.true) cell3.result cell3.ensures i short.result put2.result put2.new.out
-        (is_found (number_of (name_at args.s.now cell3.result) (scope_at args.s.now args.scope.now args.n)) i c.in-Some.ensures.number) (short.ensures (omega arith)) put2.ensures }
+    record {
+      ahead = omega arith;
+      resolves = variable_took args.s.now args.raw.now (names_in args.declared.now) (kinds_in args.declared.now) args.scope.now args.n args.at args.w args.out.now (sym c.peek-k.ensures ∙ c.if-k-eq-VARIABLE_TAG.true) cell3.result cell3.ensures i short.result put2.result put2.new.out
+          (is_found (number_of (name_at args.s.now cell3.result) (scope_at args.s.now args.scope.now args.n)) i c.in-Some.ensures.number) (short.ensures (omega arith)) put2.ensures;
+    }
 
 pub atom-returns-then-k-ne-APPLY_TAG : goal.atom-returns-then-k-ne-APPLY_TAG
 atom-returns-then-k-ne-APPLY_TAG t c =
@@ -126,8 +132,11 @@ atom-returns-in_default-func_in t c =
     let args = c.args in
     let cell4 = c.peek-2 in
     let gone = c.lost-in_default-func_in in
-    record { ahead = let z = gone.ensures in omega arith; resolves = apply_lost args.s.now args.raw.now (names_in args.declared.now) (kinds_in args.declared.now) args.scope.now args.n args.at args.w args.out.now (sym c.peek-k.ensures ∙ (let z = c.if-k-ne-APPLY_TAG.false in omega arith)) cell4.result cell4.ensures gone.result args.out.now gone.ensures
-        (not_found (number_of (name_at args.s.now cell4.result) (funcs_in args.s.now (names_in args.declared.now) (kinds_in args.declared.now))) c.in_default-func_in.ensures.number) }
+    record {
+      ahead = let z = gone.ensures in omega arith;
+      resolves = apply_lost args.s.now args.raw.now (names_in args.declared.now) (kinds_in args.declared.now) args.scope.now args.n args.at args.w args.out.now (sym c.peek-k.ensures ∙ (let z = c.if-k-ne-APPLY_TAG.false in omega arith)) cell4.result cell4.ensures gone.result args.out.now gone.ensures
+          (not_found (number_of (name_at args.s.now cell4.result) (funcs_in args.s.now (names_in args.declared.now) (kinds_in args.declared.now))) c.in_default-func_in.ensures.number);
+    }
 
 pub atom-overflow_add-at-3 : goal.atom-overflow_add-at-3
 atom-overflow_add-at-3 t c =

@@ -1,7 +1,5 @@
 -- Each process gets its row, its cells behind those before, and where they begin; a name that is not as it must be ends it.
-use borrow.Author.Tests.{not-true, not-false}
 use mathlib.Core.Path.{◌≡◌, refl, ◌∙◌}
-use mathlib.Core.Bool.{false}
 use Prim.Native.Nat.{◌+◌, ◌-◌, ◌*◌, ◌≤◌}
 use native.Mathlib.Omega.{arith}
 use lib.ListN.{length, drop, set, length-drop}
@@ -12,7 +10,7 @@ use Rattle.sheets.proofs.ProcessesLaws.{with_row, row_kept, row_placed, stays_on
 use Rattle.sheets.proofs.processes.processes.Goals as goal
 
 pub loop-k-init : goal.loop-k-init
-loop-k-init c = (record { cells_same = refl; rows_many = refl; starts_many = refl; well = refl }, procs_start c.args.s.now c.args.raw.now c.args.procs.now (names_in c.args.declared.now) (kinds_in c.args.declared.now) c.args.funcs.now _ c.args.out.now _)
+loop-k-init c = (record { cells_same = refl; rows_many = refl; starts_many = refl }, procs_start c.args.s.now c.args.raw.now c.args.procs.now (names_in c.args.declared.now) (kinds_in c.args.declared.now) c.args.funcs.now _ c.args.out.now _)
 
 pub offset_bounds-starts-k : goal.offset_bounds-starts-k
 offset_bounds-starts-k c = omega (arith, c.loop-k-test.true)
@@ -41,8 +39,8 @@ slice_bounds-rows-start c = omega (arith, c.loop-k-test.true, c.requires.2, c.lo
 pub slice_bounds-rows-end : goal.slice_bounds-rows-end
 slice_bounds-rows-end c = omega (arith, c.loop-k-test.true, c.requires.2, c.loop-k.invariant.0.rows_many)
 
-pub process-r-requires : goal.process-r-requires
-process-r-requires c =
+pub process-requires : goal.process-requires
+process-requires c =
     let loop = c.loop-k in
     let here = c.loop-k-test.true in
     let few = c.requires.2 in
@@ -52,7 +50,7 @@ process-r-requires c =
 
 pub loop-k-preserved : goal.loop-k-preserved
 loop-k-preserved c =
-    let process = c.process-r in
+    let process = c.process in
     let held = c.loop-k.invariant.0 in
     let row = process.new.row in
     let loop = c.loop-k in
@@ -64,31 +62,23 @@ loop-k-preserved c =
     let few = c.requires.2 in
     let taken = c.loop-k-test.true in
     let cells = process.auto.out in (
-      stays_on c.args.out.now c.loop-k.rows rows c.loop-k.out out c.loop-k.starts c.loop-k.k c.short.result c.loop-k.ok held (row_kept loop.rows row at (at + proc_width - at) room many).same cells,
-      procs_go c.args.s.now c.args.raw.now c.args.procs.now (names_in c.args.declared.now) (kinds_in c.args.declared.now) c.args.funcs.now c.loop-k.rows rows row c.loop-k.out out c.loop-k.starts c.loop-k.w c.loop-k.k c.wide.result process.result taken cells c.wide.ensures.0 c.loop-k.invariant.1 process.ensures
-          c.short.result (omega (arith, held.starts_many)) (omega (arith, c.requires.3, held.cells_same)) c.short.ensures (row_kept loop.rows row at (at + proc_width - at) room many) (λ Ds h. row_placed loop.rows row at (at + proc_width - at) room many Ds (omega arith)) (not-false _ c.if-not-r.false),
+      stays_on c.args.out.now c.loop-k.rows rows c.loop-k.out out c.loop-k.starts c.loop-k.k c.short.result held (row_kept loop.rows row at (at + proc_width - at) room many).same cells,
+      procs_go c.args.s.now c.args.raw.now c.args.procs.now (names_in c.args.declared.now) (kinds_in c.args.declared.now) c.args.funcs.now c.loop-k.rows rows row c.loop-k.out out c.loop-k.starts c.loop-k.w c.loop-k.k c.wide.result c.in_ok-r.r taken cells c.wide.ensures.0 c.loop-k.invariant.1 c.in_ok-r.ensures
+          c.short.result (omega (arith, held.starts_many)) (omega (arith, c.requires.3, held.cells_same)) c.short.ensures (row_kept loop.rows row at (at + proc_width - at) room many) (λ Ds h. row_placed loop.rows row at (at + proc_width - at) room many Ds (omega arith)),
     )
 
-pub shape_of-out-after-loop-k : goal.shape_of-out-after-loop-k
-shape_of-out-after-loop-k c = c.loop-k.invariant.0.cells_same
+pub shape_of-out-in_err-r : goal.shape_of-out-in_err-r
+shape_of-out-in_err-r c = c.process.auto.out ∙ c.loop-k.invariant.0.cells_same
 
-pub returns-after-loop-k : goal.returns-after-loop-k
-returns-after-loop-k c =
-    procs_end c.args.s.now c.args.raw.now c.args.procs.now (names_in c.args.declared.now) (kinds_in c.args.declared.now) c.args.funcs.now c.loop-k.rows c.loop-k.out c.loop-k.starts c.loop-k.w c.loop-k.k c.loop-k.ok c.loop-k-test.false c.loop-k.invariant.1 c.loop-k.invariant.0.well
+pub returns-in_err-r : goal.returns-in_err-r
+returns-in_err-r c =
+    let process = c.process in
+    rw c.from_residual.ensures (procs_stop c.args.s.now c.args.raw.now c.args.procs.now (names_in c.args.declared.now) (kinds_in c.args.declared.now) c.args.funcs.now c.loop-k.rows process.new.row c.loop-k.out process.new.out c.loop-k.starts c.loop-k.w c.loop-k.k c.wide.result
+    c.loop-k-test.true process.auto.out c.wide.ensures.0 c.loop-k.invariant.1 c.in_err-r.ensures)
 
-pub shape_of-out-then-not-r : goal.shape_of-out-then-not-r
-shape_of-out-then-not-r c = c.process-r.auto.out ∙ c.loop-k.invariant.0.cells_same
+pub shape_of-out : goal.shape_of-out
+shape_of-out c = c.loop-k.invariant.0.cells_same
 
-pub returns-then-not-r : goal.returns-then-not-r
-returns-then-not-r c =
-    let process = c.process-r in
-    let row = process.new.row in
-    let loop = c.loop-k in
-    let at = proc_width * loop.k in
-    let room : at + (at + proc_width - at) ≤ length loop.rows = omega (arith, c.loop-k-test.true, c.requires.2, loop.invariant.0.rows_many) in
-    let many : length row ≡ at + proc_width - at = process.auto.row ∙ length-take-le (at + proc_width - at) (drop at loop.rows) (omega (arith, room, length-drop at loop.rows)) in
-    let rows = with_row loop.rows row at (at + proc_width - at) room many in
-    let out = process.new.out in
-    let cells = process.auto.out in
-    procs_stop c.args.s.now c.args.raw.now c.args.procs.now (names_in c.args.declared.now) (kinds_in c.args.declared.now) c.args.funcs.now c.loop-k.rows rows row c.loop-k.out out c.loop-k.starts c.loop-k.w c.loop-k.k c.wide.result process.result c.loop-k-test.true cells c.wide.ensures.0 c.loop-k.invariant.1 process.ensures
-    (record { ok = false; procs = rows; starts = set c.loop-k.starts c.loop-k.k c.short.result; w = c.loop-k.w }) (not-true _ c.if-not-r.true) refl
+pub returns : goal.returns
+returns c =
+    procs_end c.args.s.now c.args.raw.now c.args.procs.now (names_in c.args.declared.now) (kinds_in c.args.declared.now) c.args.funcs.now c.loop-k.rows c.loop-k.out c.loop-k.starts c.loop-k.w c.loop-k.k c.loop-k-test.false c.loop-k.invariant.1

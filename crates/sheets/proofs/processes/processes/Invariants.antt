@@ -5,5 +5,4 @@ use Rattle.sheets.proofs.ProcessesLaws.{Stays, ProcsGone}
 use Rattle.sheets.proofs.processes.processes.Given as goal
 
 abbrev pub invariant-loop-k : goal.invariant-loop-k
-invariant-loop-k l = Stays l.initial.out l.rows l.out l.starts l.ok × ProcsGone l.s l.raw l.procs (names_in l.declared) (kinds_in l.declared) l.funcs l.rows l.out l.starts l.w l.k
-
+invariant-loop-k l = Stays l.initial.out l.rows l.out l.starts × ProcsGone l.s l.raw l.procs (names_in l.declared) (kinds_in l.declared) l.funcs l.rows l.out l.starts l.w l.k
