@@ -2,7 +2,7 @@
 use mathlib.Core.Path.{◌≡◌, refl, sym, subst}
 use mathlib.Core.List.{List}
 use mathlib.Core.Bool.{true}
-use mathlib.Core.Logic.{inl, inr}
+use mathlib.Core.Logic.{◌⊎◌, inl, inr}
 use Prim.Native.Nat.{ℕ, ◌+◌, ◌*◌, ◌%◌, ◌<◌, ◌≤◌}
 use native.Mathlib.Omega.{arith}
 use lib.ListN.{length}
@@ -86,8 +86,8 @@ module _ (cells counts : List ℕ) (base heads : ℕ) where
   pub reaches_idle : {at p q : ℕ} → p < length cells → Reaches cells counts base heads at p 0 → Behind cells (row base counts) p q → Reaches cells counts base heads at q 0
   reaches_idle {at} {p} {q} inside k bh = reaches_by refl refl (reaches_then 0 0 k (reaches_second p bh.d (record { next = q; heads = 0; own = 0 }) inside bh.on bh.views bh.is bh.further bh.counted refl))
 
--- where the passing from `at` on is: the node there, the count of its first part, and where it goes on
-pub record Reached (cells counts : List ℕ) (base heads at p : ℕ) (d : Node) (a : Counted) (own work q : ℕ) : Type 0 where
+-- where the passing from `at` on is: the node there, and the count of its first part
+pub record Reached (cells counts : List ℕ) (base heads at p : ℕ) (d : Node) (a : Counted) (own work : ℕ) : Type 0 where
   pub inside : p < length cells
   pub on : On p d
   pub views : Views cells p d
@@ -96,11 +96,20 @@ pub record Reached (cells counts : List ℕ) (base heads at p : ℕ) (d : Node) 
   pub few : a.own ≤ most_heads
   pub small : own < byte_limit
   pub light : work ≤ work_limit
-  pub side : p < q → (q < length cells) × OnlySide d a heads q
   pub reaches : Reaches cells counts base heads at p own
 
-pub reached_more : {cells counts : List ℕ} {base heads at p : ℕ} {d : Node} {a : Counted} {own work q : ℕ} → Reached cells counts base heads at p d a own work q → p < q → (r m : ℕ) → Passed a own m → Reaches cells counts base heads q r 0 → Reaches cells counts base heads at r m
-reached_more {cells} {counts} {base} {heads} {at} {p} {d} {a} {own} {work} {q} i t r m ps l =
-    let os = (i.side t).1 in
-    let far = i.far (inl (inl os.0)) in
-    reaches_side cells counts base heads p d a i.inside i.on i.views os.0 far (i.counted (omega (arith, i.on.on)) far) own m i.reaches i.small os ps l
+module _ {cells counts : List ℕ} {base heads at p : ℕ} {d : Node} {a : Counted} {own work q : ℕ} (i : Reached cells counts base heads at p d a own work) (os : OnlySide d a heads q) where
+  pub reached_on : p < q
+  reached_on = further os.1
+    where
+      far : d.next ≤ a.next
+      far = i.far (inl (inl os.0))
+
+      further : ((a.heads ≡ 0) × (q ≡ a.next)) ⊎ ((0 < a.heads) × (heads ≤ a.heads) × (q ≡ d.next)) → p < q
+      further (inl (none, e)) = omega (arith, i.on.on, far)
+      further (inr (some, most, e)) = omega (arith, i.on.on)
+
+  pub reached_more : (r m : ℕ) → Passed a own m → Reaches cells counts base heads q r 0 → Reaches cells counts base heads at r m
+  reached_more r m ps l =
+      let far = i.far (inl (inl os.0)) in
+      reaches_side cells counts base heads p d a i.inside i.on i.views os.0 far (i.counted (omega (arith, i.on.on)) far) own m i.reaches i.small os ps l

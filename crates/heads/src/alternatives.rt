@@ -1,12 +1,12 @@
 // Where the walk over a term stands; alternatives that have no heads are passed.
-ghost use Rattle.std.specs.Prelude.{◌≡◌, true, false, ℕ, ◌≤◌, ◌<◌, length};
+ghost use Rattle.std.specs.Prelude.{◌≡◌, true, false, ℕ, ◌≤◌, ◌<◌, length, IfSome};
 ghost use Rattle.nodes.specs.Layout.{cell_limit, byte_limit};
 ghost use Rattle.counting.specs.Limits.{most_heads, max_fuel, row};
 ghost use Rattle.counting.specs.Counting.{Counts};
 ghost use Rattle.heads.specs.Progress.{Choice, Parted, Looked, SecondSide, side_spot, Idle, Behind, Past};
 ghost use Rattle.heads.specs.Memory.{work_limit, Reaches, OnlySide, Passed, Finds, Remembers};
 
-use crate::remembered::{Arrival, ENTRIES, WORK, find, found_at, remember};
+use crate::remembered::{Arrival, WORK, find, found_at, remember};
 use contexts::{Side, Spot};
 use counting::Counted;
 use elements::BYTE_LIMIT;
@@ -23,20 +23,14 @@ pub struct Ahead {
 pub fn choice(kind: usize) -> bool
     ensures { Choice kind result }
 {
-    if kind == nodes::ALT {
-        return true;
-    }
-    kind == nodes::COND
+    kind == nodes::ALT || kind == nodes::COND
 }
 
 // Has the node a first part that is walked or passed by itself? A choice or a sequence.
 fn parted(kind: usize) -> bool
     ensures { result ≡ false → Parted kind → ⊥ }
 {
-    if kind == nodes::SEQ {
-        return true;
-    }
-    choice(kind)
+    kind == nodes::SEQ || choice(kind)
 }
 
 // The count of the first part of a choice or a sequence.
@@ -72,15 +66,8 @@ fn beside(s: Spot, e: Side) -> Spot
 {
     Spot {
         at: e.at,
-        fuel: s.fuel,
-        n: s.n,
-        m: s.m,
         c: e.c,
-        nv: s.nv,
-        nc: s.nc,
-        lc: s.lc,
-        nk: s.nk,
-        top: s.top,
+        ..s
     }
 }
 
@@ -89,38 +76,23 @@ fn idle(counts: &[u16], base: usize, e: Node) -> bool
     requires { base < cell_limit }
     ensures { result ≡ true → Idle (row base counts.now) e }
 {
-    if e.kids != 0 {
-        return false;
-    }
-    if e.own != 0 {
-        return false;
-    }
-    if counting::leaf(counts, base, e.kind, e.number) != 0 {
-        return false;
-    }
-    true
+    e.kids == 0 && e.own == 0 && counting::leaf(counts, base, e.kind, e.number) == 0
 }
 
-// The second side of `+` whose first side is idle; else the same place.
-fn behind_idle(cells: &[u16], counts: &[u16], base: usize, p: usize) -> usize
+// The second side of `+` whose first side is idle.
+fn behind_idle(cells: &[u16], counts: &[u16], base: usize, p: usize) -> Option<usize>
     requires { (p < length cells.now) × (base < cell_limit) }
-    ensures lower_bound { (p ≤ result) × (result < length cells.now) }
-    ensures behind { p < result → Behind cells.now (row base counts.now) p result }
+    ensures { IfSome result (λ r. (p < r) × (r < length cells.now) × Behind cells.now (row base counts.now) p r) }
 {
     let d = nodes::node_at(cells, p);
-    if d.kind != nodes::ALT {
-        return p;
-    }
-    if d.next >= cells.len() {
-        return p;
+    if d.kind != nodes::ALT || d.next >= cells.len() {
+        return None;
     }
     let e = nodes::node_at(cells, d.next);
-    if idle(counts, base, e) {
-        if e.next < cells.len() {
-            return e.next;
-        }
+    if idle(counts, base, e) && e.next < cells.len() {
+        return Some(e.next);
     }
-    p
+    None
 }
 
 // The first alternatives passed that are idle.
@@ -129,34 +101,27 @@ fn pass_idle(cells: &[u16], counts: &[u16], base: usize, at: usize) -> usize
     ensures { (at ≤ result) × (result < length cells.now) × ((heads : ℕ) → Reaches cells.now counts.now base heads at result 0) }
 {
     let mut p = at;
-    let mut q = behind_idle(cells, counts, base, p);
-    while p < q {
+    while let Some(q) = behind_idle(cells, counts, base, p) {
         p = q;
-        q = behind_idle(cells, counts, base, p);
     }
     p
 }
 
-// The side of `+` that has all heads, if there are cells for it; else the same place.
-fn only_side(d: Node, a: Counted, heads: usize, l: usize, p: usize) -> usize
-    ensures { p < result → (result < l) × OnlySide d a heads result }
+// The side of `+` that has all heads, if there are cells for it.
+fn only_side(d: Node, a: Counted, heads: usize, l: usize) -> Option<usize>
+    ensures { IfSome result (λ r. (r < l) × OnlySide d a heads r) }
 {
     if d.kind != nodes::ALT {
-        return p;
+        return None;
     }
-    if a.heads == 0 {
-        if a.next < l {
-            return a.next;
-        }
-        return p;
+    let side = if a.heads == 0 { a.next } else { d.next };
+    if side >= l {
+        return None;
     }
-    if a.heads < heads {
-        return p;
+    if a.heads > 0 && a.heads < heads {
+        return None;
     }
-    if d.next < l {
-        return d.next;
-    }
-    p
+    Some(side)
 }
 
 // The new equations passed, with those of a first side that has no heads.
@@ -191,8 +156,7 @@ fn reach(cells: &[u16], counts: &[u16], base: usize, heads: usize, at: usize) ->
     let mut a = first_part(cells, counts, base, d);
     let mut own: usize = 0;
     let mut work = weigh(0, at, p);
-    let mut q = only_side(d, a, heads, cells.len(), p);
-    while p < q {
+    while let Some(q) = only_side(d, a, heads, cells.len()) {
         own = passed(own, a);
         work = weigh(work, p, a.next);
         let r = pass_idle(cells, counts, base, q);
@@ -200,7 +164,6 @@ fn reach(cells: &[u16], counts: &[u16], base: usize, heads: usize, at: usize) ->
         p = r;
         d = nodes::node_at(cells, p);
         a = first_part(cells, counts, base, d);
-        q = only_side(d, a, heads, cells.len(), p);
     }
     Arrival {
         at: p,
@@ -223,8 +186,7 @@ fn recall(
     requires { (at < length cells.now) × (base < cell_limit) × Remembers cells.now counts.now remembered.old }
     ensures { Finds cells.now counts.now base heads at result × Remembers cells.now counts.now remembered.new }
 {
-    let i = find(&*remembered, at, base, heads);
-    if i < ENTRIES {
+    if let Some(i) = find(&*remembered, at, base, heads) {
         return found_at(&*remembered, i);
     }
     let f = reach(cells, counts, base, heads, at);
@@ -238,17 +200,7 @@ fn recall(
 fn usable(d: Node, f: Arrival) -> bool
     ensures { result ≡ true → (d.next ≡ f.next) × (Parted d.kind → f.next ≤ f.a.next) }
 {
-    let a = f.a;
-    if d.next != f.next {
-        return false;
-    }
-    if f.next <= a.next {
-        return true;
-    }
-    if parted(d.kind) {
-        return false;
-    }
-    true
+    d.next == f.next && (f.next <= f.a.next || !parted(d.kind))
 }
 
 // Where the walk comes to from s on, as long as one side of `+` has all heads.

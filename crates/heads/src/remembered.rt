@@ -1,5 +1,5 @@
 // What is found from a place on, remembered in some cells.
-ghost use Rattle.std.specs.Prelude.{◌≡◌, true, ◌<◌, length};
+ghost use Rattle.std.specs.Prelude.{◌≡◌, true, ◌<◌, length, IfSome};
 ghost use Rattle.heads.specs.Memory.{entry_cells, entries, memory_room, Finds, found, entry_at, Remembers, EntryPut, Fitting, FoundFor};
 
 use counting::Counted;
@@ -18,34 +18,28 @@ pub struct Arrival {
 // The cells of an entry, and how many entries there are.
 const ENTRY: usize = 9;
 
-pub const ENTRIES: usize = 64;
+const ENTRIES: usize = 64;
 
 pub const REMEMBERED: usize = ENTRIES * ENTRY;
 
 // What takes less than this is not remembered.
 pub const WORK: usize = 64;
 
-// The entry for a place, a row of counts and a number of heads; ENTRIES, if there is none.
-pub fn find(l: &[u16], p: usize, base: usize, heads: usize) -> usize
-    ensures { result < entries → FoundFor l.now result p base heads }
+// The entry for a place, a row of counts and a number of heads.
+pub fn find(l: &[u16], p: usize, base: usize, heads: usize) -> Option<usize>
+    ensures { IfSome result (λ r. (r < entries) × FoundFor l.now r p base heads) }
 {
-    let mut i: usize = 0;
-    while i < ENTRIES {
+    for i in 0..ENTRIES {
         let k = ENTRY * i;
         let h = cell(l, k + 2);
         if h == 0 {
-            return ENTRIES;
+            return None;
         }
-        if cell(l, k) == p {
-            if cell(l, k + 1) == base {
-                if h == heads {
-                    return i;
-                }
-            }
+        if cell(l, k) == p && cell(l, k + 1) == base && h == heads {
+            return Some(i);
         }
-        i += 1;
     }
-    i
+    None
 }
 
 pub fn found_at(l: &[u16], i: usize) -> Arrival
@@ -92,34 +86,15 @@ fn put_entry(l: &mut [u16], i: usize, e: &[u16])
 fn fits(p: usize, base: usize, heads: usize, f: Arrival) -> bool
     ensures { result ≡ true → Fitting p base heads f }
 {
-    if p >= CELL_LIMIT {
-        return false;
-    }
-    if base >= CELL_LIMIT {
-        return false;
-    }
-    if heads >= CELL_LIMIT {
-        return false;
-    }
-    if f.at >= CELL_LIMIT {
-        return false;
-    }
-    if f.own >= CELL_LIMIT {
-        return false;
-    }
-    if f.next >= CELL_LIMIT {
-        return false;
-    }
-    if f.a.next >= CELL_LIMIT {
-        return false;
-    }
-    if f.a.heads >= CELL_LIMIT {
-        return false;
-    }
-    if f.a.own >= CELL_LIMIT {
-        return false;
-    }
-    true
+    p < CELL_LIMIT
+        && base < CELL_LIMIT
+        && heads < CELL_LIMIT
+        && f.at < CELL_LIMIT
+        && f.own < CELL_LIMIT
+        && f.next < CELL_LIMIT
+        && f.a.next < CELL_LIMIT
+        && f.a.heads < CELL_LIMIT
+        && f.a.own < CELL_LIMIT
 }
 
 // What was found is remembered.

@@ -35,16 +35,7 @@ enum Next {
 fn inner(kind: usize) -> bool
     ensures { Inner kind result }
 {
-    if kind == nodes::ATOM {
-        return false;
-    }
-    if kind == nodes::CALL {
-        return false;
-    }
-    if choice(kind) {
-        return false;
-    }
-    true
+    kind != nodes::ATOM && kind != nodes::CALL && !choice(kind)
 }
 
 // Into a side of the choice at g.

@@ -1,10 +1,9 @@
 -- `heads::alternatives::recall` meets its contract.
-use native.Mathlib.Omega.{arith}
 use Rattle.heads.proofs.Remembering.{recalled}
 use Rattle.heads.proofs.alternatives.recall.Goals as goal
 
-pub returns-then-i-lt-ENTRIES : goal.returns-then-i-lt-ENTRIES
-returns-then-i-lt-ENTRIES c = let a = c.args in let rm = c.requires.2 in (recalled a.cells.now a.counts.now a.remembered.now c.find-i.result a.at a.base a.heads c.found_at.result rm (omega arith) (c.find-i.ensures (omega arith)) c.found_at.ensures, rm)
+pub returns-in-Some : goal.returns-in-Some
+returns-in-Some c = let a = c.args in let rm = c.requires.2 in let f = c.in-Some in (recalled a.cells.now a.counts.now a.remembered.now f.i a.at a.base a.heads c.found_at.result rm f.ensures.0 f.ensures.1 c.found_at.ensures, rm)
 
 pub reach-f-requires : goal.reach-f-requires
 reach-f-requires c = (c.requires.0, c.requires.1)
