@@ -53,10 +53,7 @@ fn put_variable(slots: &mut [u8], n: usize, m: usize)
     requires { (slot_width * n + slot_width ≤ length slots.old) × (m < 200) }
     ensures { VariablePut slots.old n m slots.new }
 {
-    let b = SLOT * n;
-    slots[b] = 1;
-    slots[b + 1] = 1;
-    slots[b + 2] = (VARIABLE_CODE + m) as u8;
+    putting::put_byte(slots, n, (VARIABLE_CODE + m) as u8);
 }
 
 // What is wanted of the condition on a side: the yes part stands first.
@@ -85,15 +82,10 @@ fn down_sum(d: Node, s: Spot, slots: &mut [u8], vars: &mut [u8]) -> Option<Spot>
     vars[nv] = (d.number % BYTE_LIMIT) as u8;
     Some(Spot {
         at: d.next,
-        fuel: s.fuel,
         n: n + 1,
         m: s.m + 1,
-        c: s.c,
         nv: nv + 1,
-        nc: s.nc,
-        lc: s.lc,
-        nk: s.nk,
-        top: s.top,
+        ..s
     })
 }
 
@@ -111,37 +103,24 @@ pub fn down_side(
     ensures fuel_value { IfSome result (λ r. (r.fuel ≡ s.fuel) × (r.at ≡ e.at)) }
     ensures side_down { SideDown cells.now d s e slots.now conds.old result conds.new }
 {
-    let lc = s.lc;
     if d.kind != nodes::COND {
         return Some(Spot {
             at: e.at,
-            fuel: s.fuel,
-            n: s.n,
-            m: s.m,
             c: e.c,
-            nv: s.nv,
-            nc: s.nc,
-            lc: lc,
-            nk: s.nk,
-            top: s.top,
+            ..s
         });
     }
     if s.nc >= MAX_CONDITIONS {
         return None;
     }
-    conds[lc] = wanted(e.second);
-    let r = putting::put_term(cells, d.terms, slots, s.n, &mut *conds, lc + 1)?;
+    conds[s.lc] = wanted(e.second);
+    let r = putting::put_term(cells, d.terms, slots, s.n, &mut *conds, s.lc + 1)?;
     Some(Spot {
         at: e.at,
-        fuel: s.fuel,
-        n: s.n,
-        m: s.m,
         c: e.c,
-        nv: s.nv,
         nc: s.nc + 1,
         lc: r.w,
-        nk: s.nk,
-        top: s.top,
+        ..s
     })
 }
 
@@ -173,15 +152,9 @@ fn down_seq(
     )?;
     Some(Spot {
         at: d.next,
-        fuel: s.fuel,
-        n: s.n,
-        m: s.m,
-        c: s.c,
-        nv: s.nv,
-        nc: s.nc,
-        lc: s.lc,
         nk: r.n,
         top: r.top,
+        ..s
     })
 }
 
@@ -213,13 +186,8 @@ pub fn down_call(
         at: at,
         fuel: s.fuel - 1,
         n: count,
-        m: s.m,
         c: c,
-        nv: s.nv,
-        nc: s.nc,
-        lc: s.lc,
-        nk: s.nk,
-        top: s.top,
+        ..s
     })
 }
 

@@ -1,10 +1,9 @@
 -- What is written of the heads of a term.
-use Rattle.std.specs.Prelude.{◌≡◌, List, [], ◌∷◌, ◌++◌, Bool, true, false, Result, MatchResult, ℕ, ◌+◌, ◌*◌, ◌≤◌, ◌<◌, length, drop}
+use Rattle.std.specs.Prelude.{◌≡◌, List, ◌++◌, Bool, true, false, Result, MatchResult, ℕ, ◌+◌, ◌*◌, ◌≤◌, ◌<◌, length, drop}
 use Rattle.pcrl.specs.Tests.{Every}
 use Rattle.pcrl.specs.Sheet.{Data, val, var, Proc, Sheet}
 use Rattle.pcrl.specs.Parts.{new_count, all_new_parts}
-use Rattle.pcrl.specs.Table.{nodes}
-use Rattle.pcrl.specs.Stream.{encode_data, encode_list, encode_summand}
+use Rattle.pcrl.specs.Stream.{encode_list, encode_summand}
 use Rattle.pcrl.specs.Right.{SummandWithin}
 use Rattle.pcrl.specs.Heads.{heads}
 use Rattle.nodes.specs.Layout.{byte_limit, seq_kind, enc}
@@ -48,10 +47,6 @@ SummandsWritten cells starts counts firsts fuel at c slots n m w o r o' =
 -- The numbers of the first new equations of all processes.
 abbrev pub NumbersFirst : List ℕ → List ℕ → ℕ → List ℕ → Type 0
 NumbersFirst cells starts n firsts = (H : Sheet) → length H.procs ≡ n → Placed H cells starts → length H.procs + length (all_new_parts H.procs) < byte_limit → FirstNew H firsts
-
--- a term of one byte in the next slot
-abbrev pub BytePut : List ℕ → ℕ → ℕ → List ℕ → Type 0
-BytePut o n x o' = (σ : List Data) (d : Data) → nodes d ≡ 1 → encode_data d ≡ x ∷ [] → Slots σ o n → Slots (σ ++ (d ∷ [])) o' (n + 1)
 
 -- a variable in scope: the parameter k, or of no matter
 unfoldable pub param_of : Bool → ℕ → Data

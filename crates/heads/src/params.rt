@@ -6,24 +6,13 @@ ghost use Rattle.pcrl.specs.Stream.{encode_data};
 ghost use Rattle.nodes.specs.Bits.{odd};
 ghost use Rattle.marking.specs.Marks.{bits};
 ghost use Rattle.putting.specs.Slots.{slot_width, Slots};
-ghost use Rattle.heads.specs.Writing.{slots_room, BytePut, param_of};
+ghost use Rattle.heads.specs.Writing.{slots_room, param_of};
 
 use limits::{MAX_VARIABLES, VARIABLE_CODE};
 use putting::SLOT;
 
 // Room for a slot for each variable that can be in scope, and for one for each that a summand adds.
 pub const SLOTS: usize = (nodes::MAX_SCOPE + MAX_VARIABLES) * SLOT;
-
-// A term of one byte in slot n.
-fn put_byte(slots: &mut [u8], n: usize, x: u8)
-    requires { slot_width * n + slot_width ≤ length slots.old }
-    ensures { BytePut slots.old n x slots.new }
-{
-    let b = SLOT * n;
-    slots[b] = 1;
-    slots[b + 1] = 1;
-    slots[b + 2] = x;
-}
 
 // The byte of a variable that is the parameter k, or of one that is none.
 fn param_code(marked: u32, k: usize) -> u8
@@ -45,7 +34,7 @@ pub fn put_params(slots: &mut [u8], m: u32, n: usize)
     let mut k: usize = 0;
     for i in 0..n {
         let b = rest % 2;
-        put_byte(&mut *slots, i, param_code(b, k));
+        putting::put_byte(&mut *slots, i, param_code(b, k));
         k += b as usize;
         rest = rest / 2;
     }

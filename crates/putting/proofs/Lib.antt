@@ -3,3 +3,4 @@ pub mod Opening
 pub mod PutLaws
 pub mod Several
 pub mod Options
+pub mod OneByte

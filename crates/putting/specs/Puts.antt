@@ -1,5 +1,5 @@
 -- What is written of data terms with terms put for their variables.
-use Rattle.std.specs.Prelude.{◌≡◌, List, [], ◌∷◌, ◌++◌, map, Option, MatchOption, ℕ, ◌+◌, ◌≤◌, ◌<◌, length, drop}
+use Rattle.std.specs.Prelude.{◌≡◌, List, [], ◌∷◌, ◌++◌, map, Option, MatchOption, ℕ, ◌+◌, ◌≤◌, ◌*◌, ◌<◌, length, drop, take}
 use Rattle.pcrl.specs.Limits.{max_nodes}
 use Rattle.pcrl.specs.Tests.{Every}
 use Rattle.pcrl.specs.Reader.{all}
@@ -13,7 +13,7 @@ use Rattle.nodes.specs.Layout.{enc_data, enc_datas}
 use Rattle.nodes.specs.Nodes.{data_tag, data_number}
 use Rattle.putting.specs.declared.Share.{Share}
 use Rattle.putting.specs.declared.TermPut.{TermPut}
-use Rattle.putting.specs.Slots.{Slot, Slots, Writable, Adds}
+use Rattle.putting.specs.Slots.{slot_width, Slot, Slots, Writable, Adds}
 
 -- what the first node of a term comes to: a variable is its term
 unfoldable pub node_nodes : List Data → Data → ℕ
@@ -57,3 +57,7 @@ SlotPut cells at slots n o' b r = (d : Data) (rest : List ℕ) (σ : List Data) 
 abbrev pub Fills : List ℕ → ℕ → ℕ → List ℕ → ℕ → List ℕ → Type 0
 Fills cells at count slots n o' = (ds : List Data) (rest : List ℕ) (σ : List Data) → length ds ≡ count → drop at cells ≡ enc_datas ds ++ rest → Slots σ slots n → Every (Writable n) ds
     → Slots (map (put_data (look σ)) ds) o' count
+
+-- A term of one byte in the next slot, those before it as they were.
+abbrev pub BytePut : List ℕ → ℕ → ℕ → List ℕ → Type 0
+BytePut o n x o' = ((σ : List Data) (d : Data) → nodes d ≡ 1 → encode_data d ≡ x ∷ [] → Slots σ o n → Slots (σ ++ (d ∷ [])) o' (n + 1)) × (take (slot_width * n) o' ≡ take (slot_width * n) o)

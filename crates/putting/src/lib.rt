@@ -6,7 +6,7 @@ ghost use Rattle.pcrl.specs.Limits.{max_nodes};
 ghost use Rattle.nodes.specs.Layout.{cell_limit, byte_limit};
 ghost use Rattle.laws.specs.TermLength.{max_term};
 ghost use Rattle.putting.specs.Slots.{slot_width};
-ghost use Rattle.putting.specs.Puts.{Shares, NodePut, Puts, PutsAll, SlotPut, Fills};
+ghost use Rattle.putting.specs.Puts.{Shares, NodePut, Puts, PutsAll, SlotPut, BytePut, Fills};
 
 use elements::{BYTE_LIMIT, cell};
 use limits::{FUNCTION_CODE, MAX_NODES, MAX_TERM};
@@ -163,6 +163,17 @@ pub fn put_terms(
         v = r.w;
     }
     Some(v)
+}
+
+// A term of one byte in slot n.
+pub fn put_byte(slots: &mut [u8], n: usize, x: u8)
+    requires { slot_width * n + slot_width ≤ length slots.old }
+    ensures { BytePut slots.old n x slots.new }
+{
+    let b = SLOT * n;
+    slots[b] = 1;
+    slots[b + 1] = 1;
+    slots[b + 2] = x;
 }
 
 // A term in slot j: the place behind its cells. A term with too many nodes is only marked.

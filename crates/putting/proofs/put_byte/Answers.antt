@@ -1,11 +1,11 @@
--- `heads::params::put_byte` meets its contract.
+-- `putting::put_byte` meets its contract.
 use native.Mathlib.Omega.{arith}
 use Prim.Native.Nat.{◌+◌, ◌*◌}
 use mathlib.Core.Path.{refl}
 use lib.ListN.{length-set, set}
 use Rattle.putting.specs.Slots.{slot_width}
-use Rattle.heads.proofs.Parameters.{byte_put}
-use Rattle.heads.proofs.params.put_byte.Goals as goal
+use Rattle.putting.proofs.OneByte.{byte_put}
+use Rattle.putting.proofs.put_byte.Goals as goal
 
 pub bounds-slots-b-2 : goal.bounds-slots-b-2
 bounds-slots-b-2 c = omega (arith, length-set c.args.slots.now (slot_width * c.args.n) 1)
