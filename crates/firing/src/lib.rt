@@ -21,7 +21,7 @@ ghost use Rattle.firing.specs.Seeks.{Seeks};
 ghost use Rattle.firing.specs.Fires.{frame_bytes, listing, act_of, InBounds, Gives, Fires};
 
 use assignments::{PerSum, PerVariable};
-use elements::{cell, peek, smaller, wide};
+use elements::{cell, peek, wide};
 use limits::{MAX_ARITY, MAX_CALLS};
 use stacks::FRAME;
 
@@ -59,10 +59,7 @@ fn parameters(s: &[u8], params: &[u16], e: usize) -> u8
     ensures { (result ≤ frame_width) × ((S : Sig) (Ps : List (List ℕ)) (acts : List ℕ) → KnownParts S Ps s.now acts params.now → e < length Ps → result ≡ length (get_or Ps e [])) }
 {
     let n = peek(s, cell(params, e));
-    if WIDTH < n {
-        return WIDTH;
-    }
-    n
+    n.min(WIDTH)
 }
 
 // How many values the action with this number, or tau, has.
@@ -74,10 +71,7 @@ fn action_arity(s: &[u8], acts: &[u16], b: u8) -> u8
     }
     let p = cell(acts, wide(b));
     let n = peek(s, p + 1 + wide(peek(s, p)));
-    if ARITY < n {
-        return ARITY;
-    }
-    n
+    n.min(ARITY)
 }
 
 // The frame of a call: its equation, and a value for each of its parameters; the answer is where the call ends.
@@ -119,13 +113,13 @@ fn past(s: &[u8], funcs: &[u16], acts: &[u16], params: &[u16], at: usize) -> usi
     ensures { (result ≤ length s.now) × ((S : Sig) (Ps : List (List ℕ)) (Γ : List ℕ) (a : Act) (ts : List Data) (cs : List (ℕ × List Data)) (rest : List ℕ) → KnownTerms S s.now funcs.now → length Γ ≤ variable_code → KnownParts S Ps s.now acts.now params.now → IsAct S a → Each (RightTerm S Γ) (takes_of S a) ts → Every (RightCall S Ps Γ) cs → length cs ≤ max_calls → drop at s.now ≡ encode_act a ++ (all encode_data ts ++ (encode_list encode_call cs ++ rest)) → drop result s.now ≡ rest) }
 {
     let m = evaluation::skip(s, funcs, at + 1, action_arity(s, acts, peek(s, at)));
-    let n = smaller(wide(peek(s, m)), MAX_CALLS);
+    let n = wide(peek(s, m)).min(MAX_CALLS);
     let mut a = m + 1;
     for i in 0..n {
         let k = parameters(s, params, wide(peek(s, a)));
         a = evaluation::skip(s, funcs, a + 1, k);
     }
-    smaller(a, s.len())
+    a.min(s.len())
 }
 
 // The values of p parameters, and zeros behind them.
@@ -157,7 +151,7 @@ fn fire_at(
     let n = action_arity(s, acts, b);
     let mut v = [0u8; MAX_ARITY];
     let m = terms_at(s, funcs, e, at + 1, wide(n), &mut v);
-    let k = smaller(wide(peek(s, m)), MAX_CALLS);
+    let k = wide(peek(s, m)).min(MAX_CALLS);
     frames_at(s, funcs, params, e, m + 1, k, made);
     Fired {
         action: b,
@@ -218,7 +212,7 @@ fn fire_rows(
     ensures { InBounds result made.old made.new × ((S : Sig) (Ps : List (List ℕ)) (Δ vs : List ℕ) (hs : List Summand) (rest : List ℕ) → AtRow S Ps s.now funcs.now acts.now params.now Δ vs hs → take p first.at ≡ vs → drop row s.now ≡ encode_list encode_summand hs ++ rest → Fires S (get_elem? (all (fired frame_width S vs) hs) k) (length (all (fired frame_width S vs) hs)) result made.old made.new) }
 {
     let n = wide(peek(s, row));
-    let mut at = smaller(row + 1, s.len());
+    let mut at = (row + 1).min(s.len());
     let mut left = k;
     for i in 0..n {
         let z = opening::sizes(s, funcs, at);

@@ -16,7 +16,7 @@ pub overflow_add-row : goal.overflow_add-row
 overflow_add-row c = omega (arith, c.requires.1.1.1.0)
 
 pub loop-i-init : goal.loop-i-init
-loop-i-init c = let a = c.args in (omega arith, (omega (arith, c.smaller-at.ensures), (refl, row_start a.s.now a.funcs.now a.acts.now a.params.now a.first.at a.p a.row a.k c.wide-n.result c.smaller-at.result (c.wide-n.ensures.0 ∙ c.peek.ensures) c.smaller-at.ensures)))
+loop-i-init c = let a = c.args in (omega arith, (omega (arith, c.min-at.ensures), (refl, row_start a.s.now a.funcs.now a.acts.now a.params.now a.first.at a.p a.row a.k c.wide-n.result c.min-at.result (c.wide-n.ensures.0 ∙ c.peek.ensures) c.min-at.ensures)))
 
 pub sizes-z-requires : goal.sizes-z-requires
 sizes-z-requires c = omega (arith, c.loop-i.invariant.1.0, c.requires.0)

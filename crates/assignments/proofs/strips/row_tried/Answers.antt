@@ -23,9 +23,9 @@ returns c = λ x y h k w z. let a = c.args in let r = c.row_holds.ensures x y h 
   (
     r.1.0,
     IfSome_then c.row_holds.result r.1.1 (λ left t o.
-      record {
-        sifted = λ i m. t.kept_lanes i m ∙ ap (λ (b : Bool). pick b (get_or a.met.now i 0) 0) (is_inner _ a.block a.w (omega arith) (omega arith));
-        none = t.none_left;
-      }),
+        record {
+          sifted = λ i m. t.kept_lanes i m ∙ ap (λ (b : Bool). pick b (get_or a.met.now i 0) 0) (is_inner _ a.block a.w (omega arith) (omega arith));
+          none = t.none_left;
+        }),
   ),
 )

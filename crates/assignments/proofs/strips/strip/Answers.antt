@@ -14,8 +14,8 @@ loop-i-init c = ((omega arith, (omega arith, (omega arith, omega arith))), (let 
 pub loop-i-preserved : goal.loop-i-preserved
 loop-i-preserved c = let a = c.args in let l = c.loop-i in
     elim c.if-y-size.branch [
-      then-y-size w ↦ rw (w.x-is, w.y-is) ((omega arith, (omega arith, (omega arith, omega arith))), (omega arith, ((simp length-set l.invariant.1.1.0.0, (simp length-set l.invariant.1.1.0.1.0, simp length-set l.invariant.1.1.0.1.1)), strip_more a.size a.first l.i l.slow l.fast l.met l.x l.y (omega arith) (omega arith) (omega arith) (omega arith) (omega arith) l.invariant.1.0 l.invariant.1.1.1)))
-    | else-y-size w ↦ rw (w.x-is, w.y-is) ((omega arith, (omega arith, (omega arith, omega arith))), (next_row a.size a.first l.i l.x l.y (omega arith) l.invariant.1.0 (omega arith), ((simp length-set l.invariant.1.1.0.0, (simp length-set l.invariant.1.1.0.1.0, simp length-set l.invariant.1.1.0.1.1)), strip_more a.size a.first l.i l.slow l.fast l.met l.x l.y (omega arith) (omega arith) (omega arith) (omega arith) (omega arith) l.invariant.1.0 l.invariant.1.1.1)))
+      | then-y-size w ↦ rw (w.x-is, w.y-is) ((omega arith, (omega arith, (omega arith, omega arith))), (omega arith, ((simp length-set l.invariant.1.1.0.0, (simp length-set l.invariant.1.1.0.1.0, simp length-set l.invariant.1.1.0.1.1)), strip_more a.size a.first l.i l.slow l.fast l.met l.x l.y (omega arith) (omega arith) (omega arith) (omega arith) (omega arith) l.invariant.1.0 l.invariant.1.1.1)))
+      | else-y-size w ↦ rw (w.x-is, w.y-is) ((omega arith, (omega arith, (omega arith, omega arith))), (next_row a.size a.first l.i l.x l.y (omega arith) l.invariant.1.0 (omega arith), ((simp length-set l.invariant.1.1.0.0, (simp length-set l.invariant.1.1.0.1.0, simp length-set l.invariant.1.1.0.1.1)), strip_more a.size a.first l.i l.slow l.fast l.met l.x l.y (omega arith) (omega arith) (omega arith) (omega arith) (omega arith) l.invariant.1.0 l.invariant.1.1.1)))
     ]
 
 pub shape_of-slow : goal.shape_of-slow

@@ -6,4 +6,3 @@ use Rattle.evaluation.proofs.lanes.one.Given as goal
 
 abbrev pub invariant-loop-i : goal.invariant-loop-i
 invariant-loop-i l = (l.i ≤ l.n) × (((l.x ≡ l.t * 128) × (l.r ≡ l.d * 128)) × ((length l.rows ≡ length l.initial.rows) × Putting l.initial.rows l.d (λ m. get_or l.s (l.q + lane l.initial.rows l.t m) 0) 0 l.i l.rows))
-

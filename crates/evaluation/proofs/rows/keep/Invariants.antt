@@ -7,4 +7,3 @@ use Rattle.evaluation.proofs.rows.keep.Given as goal
 
 abbrev pub invariant-loop-i : goal.invariant-loop-i
 invariant-loop-i l = (l.i ≤ l.n) × ((l.r ≡ l.t * 128) × ((length l.met ≡ length l.initial.met) × Keeping (lane l.rows l.t) l.wanted l.initial.met l.i l.met l.some))
-
