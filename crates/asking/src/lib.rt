@@ -228,8 +228,7 @@ pub fn ask_each(
     let params = index.params;
     let rows = index.rows;
     let actions = index.actions;
-    let named = lettering::names_of(s, index);
-    let names = named;
+    let names = lettering::names_of(s, index);
     let mut d = depth;
     for i in 0..ks.len() {
         let told = ask(s, &funcs, &acts, &params, &rows, frames, d, ks[i]);

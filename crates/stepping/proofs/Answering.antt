@@ -17,7 +17,6 @@ use Rattle.stacks.specs.Lent.{frame_bytes, frames_in}
 use Rattle.stacks.proofs.Views.{length_frames_in}
 use Rattle.asking.specs.Encoding.{answers_after}
 use Rattle.asking.specs.Replies.{AllIs}
-use Rattle.stepping.specs.declared.Answered.{Answered}
 use Rattle.stepping.specs.Promises.{Replied}
 
 -- a reply that is known
@@ -44,20 +43,20 @@ module _ (file : List ℕ) (fs : List Frame) (d : ℕ) where
   unfolding stack_read after
   read_no_stack T e h = rw e (question_fails 15 (right_frames? frame_width stack_limit T fs d) _ h)
 
-  pub ask_all_refused : (n : ℕ) (r : Answered) → stack_read frame_width stack_limit file fs d ≡ refused n → r.refused ≡ n → r.depth ≡ d
-      → (ks out : List ℕ) → Replied (asked_all file fs d ks) r.refused fs r.depth × (out ≡ answers_after (asked_all file fs d ks).answer out)
+  pub list_refused : (n : ℕ) → stack_read frame_width stack_limit file fs d ≡ refused n
+      → (ks out : List ℕ) → Replied (asked_all file fs d ks) n fs d × (out ≡ answers_after (asked_all file fs d ks).answer out)
   unfolding refusal answers_after
-  ask_all_refused n r e h g ks out = let q = all_refused ks n e in (replied_by (asked_all file fs d ks) _ q r.refused fs r.depth h refl g, sym (ap (λ (x : Reply (List Answer)). answers_after x.answer out) q))
+  list_refused n e ks out = let q = all_refused ks n e in (replied_by (asked_all file fs d ks) _ q n fs d refl refl refl, sym (ap (λ (x : Reply (List Answer)). answers_after x.answer out) q))
 
   -- ANSWERED
 
   pub all_answered : (T : Table) → table_checked file ≡ accepted T → RightFrames frame_width stack_limit T fs d
-      → (new : List Frame) (ks out out' : List ℕ) (r : Answered) → r.refused ≡ 0 → AllIs T fs d ks out out' new r.depth
-      → Replied (asked_all file fs d ks) r.refused new r.depth × (out' ≡ answers_after (asked_all file fs d ks).answer out)
+      → (new : List Frame) (ks out out' : List ℕ) (e : ℕ) → AllIs T fs d ks out out' new e
+      → Replied (asked_all file fs d ks) 0 new e × (out' ≡ answers_after (asked_all file fs d ks).answer out)
   unfolding refusal
-  all_answered T checked right new ks out out' r z a =
+  all_answered T checked right new ks out out' e a =
       let q = asked_all_is frame_width stack_limit file T checked ((passes_15 frame_width stack_limit T fs d).0 right) ks in
-      (replied_by (asked_all file fs d ks) _ q r.refused new r.depth z a.frames a.depth, a.answers ∙ sym (ap (λ (x : Reply (List Answer)). answers_after x.answer out) q))
+      (replied_by (asked_all file fs d ks) _ q 0 new e refl a.frames a.depth, a.answers ∙ sym (ap (λ (x : Reply (List Answer)). answers_after x.answer out) q))
 
 module _ (file bytes : List ℕ) (d : ℕ) where
   abbrev fs : List Frame
@@ -72,23 +71,22 @@ module _ (file bytes : List ℕ) (d : ℕ) where
   unfolding started_in
   started_as x e = ap (reply frame_width stack_limit fs d) e
 
-  module _ (r : Answered) where
-    start_refused : (n : ℕ) → first_stack ≡ refused n → r.refused ≡ n → r.depth ≡ d → Replied (started file fs d) r.refused fs r.depth
-    unfolding reply refusal
-    start_refused n e h g = replied_by (started file fs d) _ (started_as (refused n) e) r.refused fs r.depth h refl g
+  start_refused : (n : ℕ) → first_stack ≡ refused n → Replied (started file fs d) n fs d
+  unfolding reply refusal
+  start_refused n e = replied_by (started file fs d) _ (started_as (refused n) e) n fs d refl refl refl
 
-    pub start_no_table : (n : ℕ) → table_checked file ≡ refused n → r.refused ≡ n → r.depth ≡ d → Replied (started file fs d) r.refused fs r.depth
+  pub start_no_table : (n : ℕ) → table_checked file ≡ refused n → Replied (started file fs d) n fs d
+  unfolding after
+  start_no_table n e = start_refused n (rw e)
+
+  module _ (T : Table) (checked : table_checked file ≡ accepted T) where
+    pub start_no_stack : ¬ (length bytes / frame_bytes frame_width ≡ stack_limit) → Replied (started file fs d) 15 fs d
     unfolding after
-    start_no_table n e h g = start_refused n (rw e) h g
+    start_no_stack n = start_refused 15 (rw checked (question_fails 15 (ℕ_discrete (length fs) stack_limit) _ (λ e. n (sym (length_frames_in frame_width bytes) ∙ e))))
 
-    module _ (T : Table) (checked : table_checked file ≡ accepted T) where
-      pub start_no_stack : ¬ (length bytes / frame_bytes frame_width ≡ stack_limit) → r.refused ≡ 15 → r.depth ≡ d → Replied (started file fs d) r.refused fs r.depth
-      unfolding after
-      start_no_stack n h g = start_refused 15 (rw checked (question_fails 15 (ℕ_discrete (length fs) stack_limit) _ (λ e. n (sym (length_frames_in frame_width bytes) ∙ e)))) h g
-
-      pub start_done : length bytes / frame_bytes frame_width ≡ stack_limit → (new : List Frame) → new ≡ frames_of frame_width stack_limit (start_stack frame_width T) → r.refused ≡ 0 → r.depth ≡ 1 → Replied (started file fs d) r.refused new r.depth
-      unfolding after reply refusal start_stack
-      start_done n new e h g =
-          replied_by (started file fs d) _
-          (started_as (accepted (tt, start_stack frame_width T)) (rw checked (question_passes 15 (ℕ_discrete (length fs) stack_limit) _ (accepted (tt, start_stack frame_width T)) (length_frames_in frame_width bytes ∙ n) (λ _. refl))))
-          r.refused new r.depth h e g
+    pub start_done : length bytes / frame_bytes frame_width ≡ stack_limit → (new : List Frame) → new ≡ frames_of frame_width stack_limit (start_stack frame_width T) → Replied (started file fs d) 0 new 1
+    unfolding after reply refusal start_stack
+    start_done n new e =
+        replied_by (started file fs d) _
+        (started_as (accepted (tt, start_stack frame_width T)) (rw checked (question_passes 15 (ℕ_discrete (length fs) stack_limit) _ (accepted (tt, start_stack frame_width T)) (length_frames_in frame_width bytes ∙ n) (λ _. refl))))
+        0 new 1 refl e refl

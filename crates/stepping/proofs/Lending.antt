@@ -15,7 +15,6 @@ use Rattle.tables.specs.declared.Index.{Index}
 use Rattle.stacks.specs.Lent.{frame_bytes, frames_in, stack_bytes}
 use Rattle.asking.specs.Encoding.{answer_bytes, answers_after}
 use Rattle.asking.specs.Replies.{AllIs}
-use Rattle.stepping.specs.declared.Answered.{Answered}
 use Rattle.stepping.specs.Promises.{Replied, put_questions}
 use Rattle.stepping.proofs.Fronts.{front_frames, front_back}
 use Rattle.stepping.proofs.Readiness.{Ready, ready_count}
@@ -50,20 +49,20 @@ module _ (file bytes : List ℕ) (d : ℕ) (stream : List ℕ) (index : Index) (
     new_frames = front_back bytes count new new_length
 
     -- as many questions as there is room for
-    pub all_done : (ks out out' asked : List ℕ) (n : ℕ) (r : Answered) → r.refused ≡ 0 → n ≡ min (length ks) (length out / answer_bytes) → asked ≡ take n ks
-        → AllIs y.table (frames_in frame_width front) d asked out out' (frames_in frame_width new) r.depth
-        → Replied (asked_all file (frames_in frame_width bytes) d (put_questions ks out)) r.refused (frames_in frame_width (new ++ drop stack_bytes bytes)) r.depth
+    pub all_done : (ks out out' asked : List ℕ) (n e : ℕ) → n ≡ min (length ks) (length out / answer_bytes) → asked ≡ take n ks
+        → AllIs y.table (frames_in frame_width front) d asked out out' (frames_in frame_width new) e
+        → Replied (asked_all file (frames_in frame_width bytes) d (put_questions ks out)) 0 (frames_in frame_width (new ++ drop stack_bytes bytes)) e
         × (out' ≡ answers_after (asked_all file (frames_in frame_width bytes) d (put_questions ks out)).answer out)
-    all_done ks out out' asked n r z c e a =
-        let put : asked ≡ put_questions ks out = e ∙ ap (λ (m : ℕ). take m ks) c ∙ min_take (length out / answer_bytes) ks in
-        all_answered file (frames_in frame_width bytes) d y.table y.checked y.right_frames (frames_in frame_width (new ++ drop stack_bytes bytes)) (put_questions ks out) out out' r z
-        (subst (λ (qs : List ℕ). AllIs y.table (frames_in frame_width bytes) d qs out out' (frames_in frame_width (new ++ drop stack_bytes bytes)) r.depth) put
-        (subst₂ (λ (fs gs : List Frame). AllIs y.table fs d asked out out' gs r.depth) (front_frames bytes count) (sym new_frames) a))
+    all_done ks out out' asked n e c these a =
+        let put : asked ≡ put_questions ks out = these ∙ ap (λ (m : ℕ). take m ks) c ∙ min_take (length out / answer_bytes) ks in
+        all_answered file (frames_in frame_width bytes) d y.table y.checked y.right_frames (frames_in frame_width (new ++ drop stack_bytes bytes)) (put_questions ks out) out out' e
+        (subst (λ (qs : List ℕ). AllIs y.table (frames_in frame_width bytes) d qs out out' (frames_in frame_width (new ++ drop stack_bytes bytes)) e) put
+        (subst₂ (λ (fs gs : List Frame). AllIs y.table fs d asked out out' gs e) (front_frames bytes count) (sym new_frames) a))
 
 -- Start a stack.
-pub started_done : (file bytes : List ℕ) (d : ℕ) (r : Answered) (T : Table) → table_checked file ≡ accepted T → length bytes / frame_bytes frame_width ≡ stack_limit → (new : List ℕ) → length new ≡ length (take stack_bytes bytes)
-    → frames_in frame_width new ≡ frames_of frame_width stack_limit (start_stack frame_width T) → r.refused ≡ 0 → r.depth ≡ 1
-    → Replied (started file (frames_in frame_width bytes) d) r.refused (frames_in frame_width (new ++ drop stack_bytes bytes)) r.depth
-started_done file bytes d r T checked count new len e h g =
+pub started_done : (file bytes : List ℕ) (d : ℕ) (T : Table) → table_checked file ≡ accepted T → length bytes / frame_bytes frame_width ≡ stack_limit → (new : List ℕ) → length new ≡ length (take stack_bytes bytes)
+    → frames_in frame_width new ≡ frames_of frame_width stack_limit (start_stack frame_width T)
+    → Replied (started file (frames_in frame_width bytes) d) 0 (frames_in frame_width (new ++ drop stack_bytes bytes)) 1
+started_done file bytes d T checked count new len e =
     let n : length new ≡ stack_bytes = len ∙ length-take stack_bytes bytes ∙ (let z : min stack_bytes (length bytes) ≡ stack_bytes = omega arith in z) in
-    start_done file bytes d r T checked count (frames_in frame_width (new ++ drop stack_bytes bytes)) (front_back bytes count new n ∙ e) h g
+    start_done file bytes d T checked count (frames_in frame_width (new ++ drop stack_bytes bytes)) (front_back bytes count new n ∙ e)

@@ -1,20 +1,25 @@
 -- Questions 12 to 14 from their parts, and what each answer says.
 use mathlib.Core.Path.{◌≡◌, refl, sym, ap, ◌∙◌, subst}
 use mathlib.Core.List.{List}
-use mathlib.Core.Bool.{Bool, true, false}
+use mathlib.Core.Bool.{true, false}
 use mathlib.Core.Option.{Option, none, some}
-use Prim.Native.Nat.{ℕ, ◌<◌, ◌≤◌}
+use Prim.Native.Nat.{ℕ, ◌≤◌}
 use native.Mathlib.Omega.{arith}
+use Rattle.std.specs.Prelude.{Ok, Err}
 use lib.ListN.{length, take}
-use Rattle.pcrl.specs.Result.{Result, refused, accepted, question, question_of, after}
+use Rattle.pcrl.specs.Result as R
+use Rattle.pcrl.specs.Result.{refused, accepted, question, question_of, after}
 use Rattle.pcrl.specs.Table.{Table}
 use Rattle.pcrl.specs.Right.{RightTable}
 use Rattle.pcrl.specs.Blocks.{right_length?, right_blocks?, stream_of, table_read}
 use Rattle.pcrl.specs.Answers.{stream_read, table_checked}
 use Rattle.tables.specs.declared.Tabled.{Tabled}
-use Rattle.tables.specs.declared.Index.{Index}
 use Rattle.tables.specs.Indexed.{Indexed, TableRead}
 use Rattle.tables.proofs.Known.{read_right}
+use Rattle.refusals.specs.declared.Refusal.{Refusal}
+use Rattle.refusals.specs.declared.Refusal.TheVariants.{NoTable}
+use Rattle.refusals.specs.Numbers.{number_of}
+use Rattle.refusals.specs.Answered.{Answered}
 use Rattle.stepping.specs.declared.Loaded.{Loaded}
 use Rattle.stepping.specs.Promises.{Loads}
 
@@ -36,49 +41,49 @@ table_number f n e = go (stream_read f) refl e
     go_table none e = let z : 14 ≡ n = cc in omega arith
     go_table (some T) e = absurd (let z : ◌≡◌ {A = ℕ} 0 1 = cc in omega arith)
 
-    go : (x : Result (List ℕ)) → stream_read f ≡ x → after x (λ s. question_of 14 (table_read s) (λ T. accepted T)) ≡ refused n → (12 ≤ n) × (n ≤ 14)
+    go : (x : R.Result (List ℕ)) → stream_read f ≡ x → after x (λ s. question_of 14 (table_read s) (λ T. accepted T)) ≡ refused n → (12 ≤ n) × (n ≤ 14)
     go (refused m) q e = let z : m ≡ n = cc in let h = stream_number f m q in omega arith
     go (accepted s) q e = go_table (table_read s) e
 
 clash : true ≡ false → ⊥
 clash e = let z : ◌≡◌ {A = ℕ} 0 1 = cc in omega arith
 
-module _ (f : List ℕ) (out : List ℕ) (r : Loaded) where
+module _ (f : List ℕ) (out : List ℕ) where
   -- refused by 12 or 13
-  pub no_stream : (n : ℕ) → stream_read f ≡ refused n → 0 < n → r.refused ≡ n → Loads (table_checked f) out r
-  unfolding table_checked after Loads
-  no_stream n e p h = rw e (h, p)
+  pub no_stream : (e : Refusal) → stream_read f ≡ refused (number_of e) → Loads (table_checked f) out (Err e)
+  unfolding table_checked after Answered
+  no_stream e h = rw h refl
 
   module _ (s : List ℕ) (t : Tabled) (stream : stream_read f ≡ accepted s) (read : TableRead (table_read s) s t) where
     -- refused by 14
-    pub no_table : t.ok ≡ false → r.refused ≡ 14 → Loads (table_checked f) out r
-    unfolding table_checked after question_of TableRead Loads
-    no_table e h = rw stream (go (table_read s) read)
+    pub no_table : t.ok ≡ false → Loads (table_checked f) out (Err NoTable)
+    unfolding table_checked after question_of TableRead Answered
+    no_table e = rw stream (go (table_read s) read)
       where
-        go : (o : Option Table) → TableRead o s t → Loads (question_of 14 o (λ T. accepted T)) out r
-        go none k = (h, omega arith)
+        go : (o : Option Table) → TableRead o s t → Loads (question_of 14 o (λ T. accepted T)) out (Err NoTable)
+        go none k = refl
         go (some T) k = absurd (clash (sym k.0 ∙ e))
 
-    pub loaded : t.ok ≡ true → r.refused ≡ 0 → r.count ≤ length out → s ≡ take r.count out → r.index ≡ t.index → Loads (table_checked f) out r
-    unfolding table_checked after question_of TableRead Loads
-    loaded e h b is x = rw stream (go (table_read s) refl read)
+    pub loaded : (l : Loaded) → t.ok ≡ true → l.count ≤ length out → s ≡ take l.count out → l.index ≡ t.index → Loads (table_checked f) out (Ok l)
+    unfolding table_checked after question_of TableRead Answered
+    loaded l e b is x = rw stream (go (table_read s) refl read)
       where
-        go : (o : Option Table) → table_read s ≡ o → TableRead o s t → Loads (question_of 14 o (λ T. accepted T)) out r
+        go : (o : Option Table) → table_read s ≡ o → TableRead o s t → Loads (question_of 14 o (λ T. accepted T)) out (Ok l)
         go none q k = absurd (clash (sym e ∙ k))
-        go (some T) q k = (h, (b, (read_right s T q, subst (λ (l : List ℕ). Indexed T l r.index) is (subst (Indexed T s) (sym x) k.1))))
+        go (some T) q k = (b, (read_right s T q, subst (λ (m : List ℕ). Indexed T m l.index) is (subst (Indexed T s) (sym x) k.1)))
 
 -- what a load says
-pub load_refused : (x : Result Table) (s : List ℕ) (r : Loaded) → Loads x s r → ¬ (r.refused ≡ 0) → x ≡ refused r.refused
-unfolding Loads
-load_refused (refused n) s r h z = ap refused (sym h.0)
-load_refused (accepted T) s r h z = absurd (z h.0)
+pub load_refused : (x : R.Result Table) (s : List ℕ) (e : Refusal) → Loads x s (Err e) → x ≡ refused (number_of e)
+unfolding Answered
+load_refused (refused n) s e h = ap refused (sym h)
+load_refused (accepted T) s e h = absurd h
 
-pub load_accepted : (x : Result Table) (s : List ℕ) (r : Loaded) → Loads x s r → r.refused ≡ 0 → (T : Table) × (x ≡ accepted T) × (RightTable T × Indexed T (take r.count s) r.index)
-unfolding Loads
-load_accepted (refused n) s r h z = absurd (omega (arith, h.0, h.1))
-load_accepted (accepted T) s r h z = (T, refl, h.1.1)
+pub load_accepted : (x : R.Result Table) (s : List ℕ) (l : Loaded) → Loads x s (Ok l) → (T : Table) × (x ≡ accepted T) × (RightTable T × Indexed T (take l.count s) l.index)
+unfolding Answered
+load_accepted (refused n) s l h = absurd h
+load_accepted (accepted T) s l h = (T, refl, h.1)
 
-pub load_count : (x : Result Table) (s : List ℕ) (r : Loaded) → Loads x s r → r.refused ≡ 0 → r.count ≤ length s
-unfolding Loads
-load_count (refused n) s r h z = absurd (omega (arith, h.0, h.1))
-load_count (accepted T) s r h z = h.1.0
+pub load_count : (x : R.Result Table) (s : List ℕ) (l : Loaded) → Loads x s (Ok l) → l.count ≤ length s
+unfolding Answered
+load_count (refused n) s l h = absurd h
+load_count (accepted T) s l h = h.0

@@ -2,10 +2,10 @@
 use mathlib.Core.Path.{◌≡◌, sym, ◌∙◌, subst}
 use mathlib.Core.List.{List}
 use mathlib.Core.Bool.{Bool, true, false}
-use Prim.Native.Nat.{ℕ, ◌/◌, ◌-◌, ◌<◌, ◌≤◌}
+use Prim.Native.Nat.{ℕ, ◌/◌, ◌-◌, ◌≤◌}
 use native.Mathlib.Omega.{arith}
+use Rattle.std.specs.Prelude.{Ok}
 use lib.ListN.{length, take}
-use lib.Seq.{take_all}
 use Rattle.pcrl.specs.Limits.{frame_width, stack_limit}
 use Rattle.pcrl.specs.Result.{refused, accepted}
 use Rattle.pcrl.specs.Table.{Table}
@@ -35,24 +35,19 @@ pub ready_count : (file bytes : List ℕ) (d : ℕ) (stream : List ℕ) (index :
 unfolding RightFrames
 ready_count file bytes d stream index y = (sym (length_frames_in frame_width bytes) ∙ y.right_frames.0, y.right_frames.1.0)
 
--- all of a slice
-pub whole : (l : List ℕ) → take (length l - 0) l ≡ l
-whole l = take_all (length l - 0) l (omega arith)
+module _ (file stream bytes : List ℕ) (d : ℕ) (l : Loaded) (load : Loads (table_checked file) stream (Ok l)) where
+  module _ (b : Bool) (says : (T : Table) → Indexed T (take (l.count - 0) stream) l.index → Says b (RightFrames frame_width stack_limit T (frames_in frame_width bytes) d)) where
+    same : l.count ≡ l.count - 0
+    same = omega arith
 
-module _ (file stream bytes : List ℕ) (d : ℕ) (r : Loaded) (load : Loads (table_checked file) stream r) (none_refused : r.refused ≡ 0) where
-  module _ (b : Bool) (says : (T : Table) → Indexed T (take (r.count - 0) stream) r.index → Says b (RightFrames frame_width stack_limit T (frames_in frame_width (take (length bytes - 0) bytes)) d)) where
-    own_says : (T : Table) → Indexed T (take r.count stream) r.index → Says b (RightFrames frame_width stack_limit T (frames_in frame_width bytes) d)
-    own_says T x =
-        let n : r.count ≡ r.count - 0 = omega arith in
-        subst (λ (l : List ℕ). Says b (RightFrames frame_width stack_limit T (frames_in frame_width l) d)) (whole bytes) (says T (subst (λ (m : ℕ). Indexed T (take m stream) r.index) n x))
-
-    pub ready : b ≡ true → Ready file bytes d (take (r.count - 0) stream) r.index
+    pub ready : b ≡ true → Ready file bytes d (take (l.count - 0) stream) l.index
     ready e =
-        let (T, checked, (right, x)) = load_accepted (table_checked file) stream r load none_refused in
-        let n : r.count ≡ r.count - 0 = omega arith in
-        record { table = T; checked = checked; right_table = right; indexed = subst (λ (m : ℕ). Indexed T (take m stream) r.index) n x; right_frames = said_yes b (own_says T x) e }
+        let (T, checked, (right, own)) = load_accepted (table_checked file) stream l load in
+        let x : Indexed T (take (l.count - 0) stream) l.index = subst (λ (m : ℕ). Indexed T (take m stream) l.index) same own in
+        record { table = T; checked = checked; right_table = right; indexed = x; right_frames = said_yes b (says T x) e }
 
     pub not_ready : b ≡ false → stack_read frame_width stack_limit file (frames_in frame_width bytes) d ≡ refused 15
     not_ready e =
-        let (T, checked, (right, x)) = load_accepted (table_checked file) stream r load none_refused in
-        read_no_stack file (frames_in frame_width bytes) d T checked (said_no b (own_says T x) e)
+        let (T, checked, (right, own)) = load_accepted (table_checked file) stream l load in
+        let x : Indexed T (take (l.count - 0) stream) l.index = subst (λ (m : ℕ). Indexed T (take m stream) l.index) same own in
+        read_no_stack file (frames_in frame_width bytes) d T checked (said_no b (says T x) e)

@@ -1,23 +1,21 @@
 #![tactic(auto)]
 // Stepping from a table file, on lent bytes that hold frames: start a stack, ask for a step, ask a list. Any bytes whatever are taken.
-ghost use Rattle.std.specs.Prelude.{◌≡◌, List, [], ◌∷◌, ℕ, ◌*◌, ◌/◌, ◌≤◌, min, length, replicate};
-ghost use Rattle.pcrl.specs.Limits.{frame_width, max_stream};
-ghost use Rattle.pcrl.specs.Blocks.{block_bytes, block_stream};
+ghost use Rattle.std.specs.Prelude.{◌≡◌, List, [], ◌∷◌, ℕ, ◌≤◌, length, replicate};
+ghost use Rattle.pcrl.specs.Limits.{frame_width};
 ghost use Rattle.pcrl.specs.Stack.{Frame};
-ghost use Rattle.pcrl.specs.Answers.{table_checked, started, asked, asked_all};
+ghost use Rattle.pcrl.specs.Answers.{table_checked};
 ghost use Rattle.stacks.specs.Lent.{frames_in};
-ghost use Rattle.asking.specs.Encoding.{answer_bytes, answer_after, answers_after};
-ghost use Rattle.stepping.specs.Promises.{Loads, Replied, put_questions};
+ghost use Rattle.asking.specs.Encoding.{answer_bytes};
+ghost use Rattle.stepping.specs.Promises.{HasRoom, Loads, StartIs, QuestionIs, AllAsked, ListIs};
 
 use asking::ANSWER;
 use blocks::{BLOCK_STREAM, MAX_STREAM, SHORT_FILE, SHORT_STREAM};
-use elements::smaller;
-use limits::{NO_TABLE, TOO_DEEP, WRONG_STACK};
+use refusals::Refusal;
 use stacks::{BYTES, FRAME, LIMIT};
 
 // A file's stream stands in an array of the stack, of 1, 8, 32, 64 or 128 blocks as the file needs. That of one block stands in the frame of
-// the operation. The longer ones stand in `start_many` and `ask_all_many`, which have two callers and are large, so that the compiler lays
-// them into neither: a file of one block does not take the stack of a long one. Among themselves they save the time to clear the longest.
+// the operation. The longer ones stand in `start_many` and `ask_all_many`, which are never laid into it: a file of one block does not take the
+// stack of a long one. Among themselves they save the time to clear the longest.
 pub const ONE_FILE: usize = 512;
 
 const FILE_32: usize = 32 * ONE_FILE;
@@ -28,158 +26,75 @@ const FILE_64: usize = 64 * ONE_FILE;
 
 const STREAM_64: usize = 64 * BLOCK_STREAM;
 
-// The number of the question that failed; or 0, how long the stream is, and where its parts stand.
+// How long the stream is, and where its parts stand.
 #[derive(Clone, Copy)]
 pub struct Loaded {
-    pub refused: u8,
     pub count: usize,
     pub index: tables::Index,
 }
 
-// The number of the question that refused, or 0; and the depth that is left.
-#[derive(Clone, Copy)]
-pub struct Answered {
-    pub refused: u8,
-    pub depth: usize,
-}
-
-fn none(refused: u8) -> Loaded
-    ensures { result.refused ≡ refused }
-{
-    let index = tables::Index {
-        sorts: [0; 8],
-        funcs: [0; 24],
-        acts: [0; 32],
-        params: [0; 64],
-        rows: [0; 64],
-        sort_count: 0,
-        named: false,
-        functions: 0,
-        actions: 0,
-        equations: 0,
-        start: 0,
-    };
-    Loaded {
-        refused: refused,
-        count: 0,
-        index: index,
-    }
-}
-
 // Questions 12 to 14, where there is room for the file's stream.
-pub fn load(file: &[u8], stream: &mut [u8]) -> Loaded
-    requires { (min (length file.now / block_bytes * block_stream) max_stream ≤ length stream.old) × (length stream.old ≤ max_stream) }
+pub fn load(file: &[u8], stream: &mut [u8]) -> Result<Loaded, Refusal>
+    requires { HasRoom file.now (length stream.old) }
     ensures { Loads (table_checked file.now) stream.new result }
 {
-    let opened = blocks::read_file(file, stream);
-    if opened.refused != 0 {
-        return none(opened.refused);
-    }
-    let n = opened.count;
-    let table = tables::read_table(&stream[0..n]);
+    let count = blocks::read_file(file, stream)?;
+    let table = tables::read_table(&stream[0..count]);
     if !table.ok {
-        return none(NO_TABLE);
+        return Err(Refusal::NoTable);
     }
-    let index = table.index;
-    Loaded {
-        refused: 0,
-        count: n,
-        index: index,
-    }
+    Ok(Loaded {
+        count: count,
+        index: table.index,
+    })
 }
 
-fn refusal(refused: u8, depth: usize) -> Answered
-    ensures { (result.refused ≡ refused) × (result.depth ≡ depth) }
+fn start_in(file: &[u8], stream: &mut [u8], frames: &mut [u8]) -> Result<usize, Refusal>
+    requires { HasRoom file.now (length stream.old) }
+    ensures { (d : ℕ) → StartIs file.now (frames_in frame_width frames.old) d result (frames_in frame_width frames.new) }
 {
-    Answered {
-        refused: refused,
-        depth: depth,
-    }
-}
-
-fn start_in(file: &[u8], stream: &mut [u8], frames: &mut [u8], depth: usize) -> Answered
-    requires { (min (length file.now / block_bytes * block_stream) max_stream ≤ length stream.old) × (length stream.old ≤ max_stream) }
-    ensures { Replied (started file.now (frames_in frame_width frames.old) depth) result.refused (frames_in frame_width frames.new) result.depth }
-{
-    let f = load(file, stream);
-    if f.refused != 0 {
-        return refusal(f.refused, depth);
-    }
+    let f = load(file, stream)?;
     if frames.len() / FRAME != LIMIT {
-        return refusal(WRONG_STACK, depth);
+        return Err(Refusal::WrongStack);
     }
-    let n = f.count;
-    let index = f.index;
-    stacks::start(&stream[0..n], index, &mut frames[0..BYTES]);
-    Answered {
-        refused: 0,
-        depth: 1,
-    }
+    stacks::start(&stream[0..f.count], f.index, &mut frames[0..BYTES]);
+    Ok(1)
 }
 
-fn start_one(file: &[u8], frames: &mut [u8], depth: usize) -> Answered
-    requires { length file.now ≤ 512 }
-    ensures { Replied (started file.now (frames_in frame_width frames.old) depth) result.refused (frames_in frame_width frames.new) result.depth }
+// By a stream of N bytes.
+fn start_by<const N: usize>(file: &[u8], frames: &mut [u8]) -> Result<usize, Refusal>
+    requires { HasRoom file.now N }
+    ensures { (d : ℕ) → StartIs file.now (frames_in frame_width frames.old) d result (frames_in frame_width frames.new) }
 {
-    let mut stream = [0u8; BLOCK_STREAM];
-    start_in(file, &mut stream, frames, depth)
-}
-
-fn start_8(file: &[u8], frames: &mut [u8], depth: usize) -> Answered
-    requires { length file.now ≤ 4096 }
-    ensures { Replied (started file.now (frames_in frame_width frames.old) depth) result.refused (frames_in frame_width frames.new) result.depth }
-{
-    let mut stream = [0u8; SHORT_STREAM];
-    start_in(file, &mut stream, frames, depth)
-}
-
-fn start_32(file: &[u8], frames: &mut [u8], depth: usize) -> Answered
-    requires { length file.now ≤ 16384 }
-    ensures { Replied (started file.now (frames_in frame_width frames.old) depth) result.refused (frames_in frame_width frames.new) result.depth }
-{
-    let mut stream = [0u8; STREAM_32];
-    start_in(file, &mut stream, frames, depth)
-}
-
-fn start_64(file: &[u8], frames: &mut [u8], depth: usize) -> Answered
-    requires { length file.now ≤ 32768 }
-    ensures { Replied (started file.now (frames_in frame_width frames.old) depth) result.refused (frames_in frame_width frames.new) result.depth }
-{
-    let mut stream = [0u8; STREAM_64];
-    start_in(file, &mut stream, frames, depth)
-}
-
-fn start_128(file: &[u8], frames: &mut [u8], depth: usize) -> Answered
-    ensures { Replied (started file.now (frames_in frame_width frames.old) depth) result.refused (frames_in frame_width frames.new) result.depth }
-{
-    let mut stream = [0u8; MAX_STREAM];
-    start_in(file, &mut stream, frames, depth)
+    let mut stream = [0u8; N];
+    start_in(file, &mut stream, frames)
 }
 
 // For a file of more than one block; the check of a file is the other caller.
-pub fn start_many(file: &[u8], frames: &mut [u8], depth: usize) -> Answered
-    ensures { Replied (started file.now (frames_in frame_width frames.old) depth) result.refused (frames_in frame_width frames.new) result.depth }
+#[inline(never)]
+pub fn start_many(file: &[u8], frames: &mut [u8]) -> Result<usize, Refusal>
+    ensures { (d : ℕ) → StartIs file.now (frames_in frame_width frames.old) d result (frames_in frame_width frames.new) }
 {
     if file.len() <= SHORT_FILE {
-        return start_8(file, frames, depth);
+        return start_by::<SHORT_STREAM>(file, frames);
     }
     if file.len() <= FILE_32 {
-        return start_32(file, frames, depth);
+        return start_by::<STREAM_32>(file, frames);
     }
     if file.len() <= FILE_64 {
-        return start_64(file, frames, depth);
+        return start_by::<STREAM_64>(file, frames);
     }
-    start_128(file, frames, depth)
+    start_by::<MAX_STREAM>(file, frames)
 }
 
-// Start a stack: questions 12 to 14, and of 15 that 64 frames are lent.
-pub fn start(file: &[u8], frames: &mut [u8], depth: usize) -> Answered
-    ensures { Replied (started file.now (frames_in frame_width frames.old) depth) result.refused (frames_in frame_width frames.new) result.depth }
+// Start a stack: questions 12 to 14, and of 15 that 64 frames are lent. The depth is then 1.
+pub fn start(file: &[u8], frames: &mut [u8]) -> Result<usize, Refusal>
+    ensures { (d : ℕ) → StartIs file.now (frames_in frame_width frames.old) d result (frames_in frame_width frames.new) }
 {
     if file.len() <= ONE_FILE {
-        return start_one(file, frames, depth);
+        return start_by::<BLOCK_STREAM>(file, frames);
     }
-    start_many(file, frames, depth)
+    start_many(file, frames)
 }
 
 fn ask_all_in(
@@ -189,129 +104,108 @@ fn ask_all_in(
     depth: usize,
     ks: &[u64],
     out: &mut [u8],
-) -> Answered
-    requires { (min (length file.now / block_bytes * block_stream) max_stream ≤ length stream.old) × (length stream.old ≤ max_stream) }
-    ensures { (Replied (asked_all file.now (frames_in frame_width frames.old) depth (put_questions ks.now out.old)) result.refused (frames_in frame_width frames.new) result.depth) × (out.new ≡ answers_after (asked_all file.now (frames_in frame_width frames.old) depth (put_questions ks.now out.old)).answer out.old) }
+) -> Result<usize, Refusal>
+    requires { HasRoom file.now (length stream.old) }
+    ensures { ListIs file.now (frames_in frame_width frames.old) depth ks.now out.old result (frames_in frame_width frames.new) out.new }
 {
-    let f = load(file, stream);
-    if f.refused != 0 {
-        return refusal(f.refused, depth);
+    let f = load(file, stream)?;
+    if !stacks::right_frames(&stream[0..f.count], f.index, frames, depth) {
+        return Err(Refusal::WrongStack);
     }
-    let n = f.count;
-    let index = f.index;
-    if !stacks::right_frames(&stream[0..n], index, &frames[0..], depth) {
-        return refusal(WRONG_STACK, depth);
-    }
-    let count = smaller(ks.len(), out.len() / ANSWER);
+    let count = ks.len().min(out.len() / ANSWER);
     let last = asking::ask_each(
-        &stream[0..n],
-        index,
+        &stream[0..f.count],
+        f.index,
         &mut frames[0..BYTES],
         depth,
         &ks[0..count],
         out,
     );
-    Answered {
-        refused: 0,
-        depth: last,
-    }
+    Ok(last)
 }
 
-fn ask_all_one(file: &[u8], frames: &mut [u8], depth: usize, ks: &[u64], out: &mut [u8]) -> Answered
-    requires { length file.now ≤ 512 }
-    ensures { (Replied (asked_all file.now (frames_in frame_width frames.old) depth (put_questions ks.now out.old)) result.refused (frames_in frame_width frames.new) result.depth) × (out.new ≡ answers_after (asked_all file.now (frames_in frame_width frames.old) depth (put_questions ks.now out.old)).answer out.old) }
+// By a stream of N bytes.
+fn ask_all_by<const N: usize>(
+    file: &[u8],
+    frames: &mut [u8],
+    depth: usize,
+    ks: &[u64],
+    out: &mut [u8],
+) -> Result<usize, Refusal>
+    requires { HasRoom file.now N }
+    ensures { ListIs file.now (frames_in frame_width frames.old) depth ks.now out.old result (frames_in frame_width frames.new) out.new }
 {
-    let mut stream = [0u8; BLOCK_STREAM];
-    ask_all_in(file, &mut stream, frames, depth, ks, out)
-}
-
-fn ask_all_8(file: &[u8], frames: &mut [u8], depth: usize, ks: &[u64], out: &mut [u8]) -> Answered
-    requires { length file.now ≤ 4096 }
-    ensures { (Replied (asked_all file.now (frames_in frame_width frames.old) depth (put_questions ks.now out.old)) result.refused (frames_in frame_width frames.new) result.depth) × (out.new ≡ answers_after (asked_all file.now (frames_in frame_width frames.old) depth (put_questions ks.now out.old)).answer out.old) }
-{
-    let mut stream = [0u8; SHORT_STREAM];
-    ask_all_in(file, &mut stream, frames, depth, ks, out)
-}
-
-fn ask_all_32(file: &[u8], frames: &mut [u8], depth: usize, ks: &[u64], out: &mut [u8]) -> Answered
-    requires { length file.now ≤ 16384 }
-    ensures { (Replied (asked_all file.now (frames_in frame_width frames.old) depth (put_questions ks.now out.old)) result.refused (frames_in frame_width frames.new) result.depth) × (out.new ≡ answers_after (asked_all file.now (frames_in frame_width frames.old) depth (put_questions ks.now out.old)).answer out.old) }
-{
-    let mut stream = [0u8; STREAM_32];
-    ask_all_in(file, &mut stream, frames, depth, ks, out)
-}
-
-fn ask_all_64(file: &[u8], frames: &mut [u8], depth: usize, ks: &[u64], out: &mut [u8]) -> Answered
-    requires { length file.now ≤ 32768 }
-    ensures { (Replied (asked_all file.now (frames_in frame_width frames.old) depth (put_questions ks.now out.old)) result.refused (frames_in frame_width frames.new) result.depth) × (out.new ≡ answers_after (asked_all file.now (frames_in frame_width frames.old) depth (put_questions ks.now out.old)).answer out.old) }
-{
-    let mut stream = [0u8; STREAM_64];
-    ask_all_in(file, &mut stream, frames, depth, ks, out)
-}
-
-fn ask_all_128(file: &[u8], frames: &mut [u8], depth: usize, ks: &[u64], out: &mut [u8]) -> Answered
-    ensures { (Replied (asked_all file.now (frames_in frame_width frames.old) depth (put_questions ks.now out.old)) result.refused (frames_in frame_width frames.new) result.depth) × (out.new ≡ answers_after (asked_all file.now (frames_in frame_width frames.old) depth (put_questions ks.now out.old)).answer out.old) }
-{
-    let mut stream = [0u8; MAX_STREAM];
+    let mut stream = [0u8; N];
     ask_all_in(file, &mut stream, frames, depth, ks, out)
 }
 
 // For a file of more than one block.
+#[inline(never)]
 fn ask_all_many(
     file: &[u8],
     frames: &mut [u8],
     depth: usize,
     ks: &[u64],
     out: &mut [u8],
-) -> Answered
-    ensures { (Replied (asked_all file.now (frames_in frame_width frames.old) depth (put_questions ks.now out.old)) result.refused (frames_in frame_width frames.new) result.depth) × (out.new ≡ answers_after (asked_all file.now (frames_in frame_width frames.old) depth (put_questions ks.now out.old)).answer out.old) }
+) -> Result<usize, Refusal>
+    ensures { ListIs file.now (frames_in frame_width frames.old) depth ks.now out.old result (frames_in frame_width frames.new) out.new }
 {
     if file.len() <= SHORT_FILE {
-        return ask_all_8(file, frames, depth, ks, out);
+        return ask_all_by::<SHORT_STREAM>(file, frames, depth, ks, out);
     }
     if file.len() <= FILE_32 {
-        return ask_all_32(file, frames, depth, ks, out);
+        return ask_all_by::<STREAM_32>(file, frames, depth, ks, out);
     }
     if file.len() <= FILE_64 {
-        return ask_all_64(file, frames, depth, ks, out);
+        return ask_all_by::<STREAM_64>(file, frames, depth, ks, out);
     }
-    ask_all_128(file, frames, depth, ks, out)
+    ask_all_by::<MAX_STREAM>(file, frames, depth, ks, out)
 }
 
 // Ask a list: questions 12 to 15 once, then each question in turn, as many as there is room for answers.
-pub fn ask_all(file: &[u8], frames: &mut [u8], depth: usize, ks: &[u64], out: &mut [u8]) -> Answered
-    ensures { (Replied (asked_all file.now (frames_in frame_width frames.old) depth (put_questions ks.now out.old)) result.refused (frames_in frame_width frames.new) result.depth) × (out.new ≡ answers_after (asked_all file.now (frames_in frame_width frames.old) depth (put_questions ks.now out.old)).answer out.old) }
+pub fn ask_all(
+    file: &[u8],
+    frames: &mut [u8],
+    depth: usize,
+    ks: &[u64],
+    out: &mut [u8],
+) -> Result<usize, Refusal>
+    ensures { ListIs file.now (frames_in frame_width frames.old) depth ks.now out.old result (frames_in frame_width frames.new) out.new }
 {
     if file.len() <= ONE_FILE {
-        return ask_all_one(file, frames, depth, ks, out);
+        return ask_all_by::<BLOCK_STREAM>(file, frames, depth, ks, out);
     }
     ask_all_many(file, frames, depth, ks, out)
 }
 
 // The answer to a list of one question as that question's: a refusal by 16 is returned alone.
-fn told(a: Answered, bytes: [u8; 72], out: &mut [u8; 72]) -> Answered
-    ensures { (file : List ℕ) (fs new : List Frame) (d k : ℕ) → Replied (asked_all file fs d (k ∷ [])) a.refused new a.depth → bytes ≡ answers_after (asked_all file fs d (k ∷ [])).answer (replicate answer_bytes 0) → (Replied (asked file fs d k) result.refused new result.depth) × (out.new ≡ answer_after (asked file fs d k).answer out.old) }
+fn told(
+    answer: Result<usize, Refusal>,
+    bytes: [u8; 72],
+    out: &mut [u8; 72],
+) -> Result<usize, Refusal>
+    ensures { (file : List ℕ) (fs new : List Frame) (d k : ℕ) → AllAsked file fs d (k ∷ []) (replicate answer_bytes 0) answer new bytes → QuestionIs file fs d k out.old result new out.new }
 {
-    if a.refused != 0 {
-        return a;
-    }
-    if bytes[0] == TOO_DEEP {
-        return refusal(TOO_DEEP, a.depth);
+    let depth = answer?;
+    if bytes[0] == u8::from(Refusal::TooDeep) {
+        return Err(Refusal::TooDeep);
     }
     *out = bytes;
-    a
+    Ok(depth)
 }
 
 // Ask for step k, a list of one question: questions 12 to 16.
-pub fn ask(file: &[u8], frames: &mut [u8], depth: usize, k: u64, out: &mut [u8; 72]) -> Answered
-    ensures { (Replied (asked file.now (frames_in frame_width frames.old) depth k) result.refused (frames_in frame_width frames.new) result.depth) × (out.new ≡ answer_after (asked file.now (frames_in frame_width frames.old) depth k).answer out.old) }
+pub fn ask(
+    file: &[u8],
+    frames: &mut [u8],
+    depth: usize,
+    k: u64,
+    out: &mut [u8; 72],
+) -> Result<usize, Refusal>
+    ensures { QuestionIs file.now (frames_in frame_width frames.old) depth k out.old result (frames_in frame_width frames.new) out.new }
 {
     let ks = [k];
     let mut bytes = [0u8; ANSWER];
-    let a = if file.len() <= ONE_FILE {
-        ask_all_one(file, frames, depth, &ks, &mut bytes)
-    } else {
-        ask_all_many(file, frames, depth, &ks, &mut bytes)
-    };
-    told(a, bytes, out)
+    let answer = ask_all(file, frames, depth, &ks, &mut bytes);
+    told(answer, bytes, out)
 }

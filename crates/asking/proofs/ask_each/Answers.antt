@@ -14,8 +14,8 @@ use Rattle.asking.proofs.Stepping.{first_depth}
 use Rattle.asking.proofs.InTurn.{going_start, going_on, going_end}
 use Rattle.asking.proofs.ask_each.Goals as goal
 
-pub names_of-named-requires : goal.names_of-named-requires
-names_of-named-requires c = c.requires.0
+pub names_of-names-requires : goal.names_of-names-requires
+names_of-names-requires c = c.requires.0
 
 pub loop-i-init : goal.loop-i-init
 loop-i-init c = ((refl, (refl, (omega (arith, c.requires), omega arith))), λ T x y n p. going_start T _ _ _ _ p)
@@ -50,4 +50,4 @@ pub shape_of-out : goal.shape_of-out
 shape_of-out c = c.loop-i.invariant.0.1.0
 
 pub returns : goal.returns
-returns c = λ T r x p. let a = c.args in going_end T a.ks.now (frames_in frame_width a.frames.now) a.depth a.out.now c.loop-i.i (frames_in frame_width c.loop-i.frames) c.loop-i.d c.loop-i.out (c.loop-i.invariant.1 T (known_table T a.s.now a.index x r) (acts_at T a.s.now a.index x) (c.names_of-named.ensures T r x) p) (omega arith)
+returns c = λ T r x p. let a = c.args in going_end T a.ks.now (frames_in frame_width a.frames.now) a.depth a.out.now c.loop-i.i (frames_in frame_width c.loop-i.frames) c.loop-i.d c.loop-i.out (c.loop-i.invariant.1 T (known_table T a.s.now a.index x r) (acts_at T a.s.now a.index x) (c.names_of-names.ensures T r x) p) (omega arith)
