@@ -1,8 +1,8 @@
 -- A loop that reads values one after another and keeps where each stands: what was read so far, and what is left to read.
 use mathlib.Core.Path.{◌≡◌, refl, sym, ap, ◌∙◌}
 use mathlib.Core.List.{List, [], ◌∷◌, ◌++◌, append_assoc, append-nil}
-use mathlib.Core.Bool.{true, false}
 use Prim.Native.Nat.{ℕ, suc, ◌<◌, ◌≤◌}
+use Rattle.std.specs.Prelude.{Some, None}
 use lib.ListN.{length, get_or, take, drop, set, drop_of_length-le}
 use lib.Seq.{drop-cons, take-suc-set}
 use Rattle.pcrl.specs.Tests.{Each}
@@ -90,10 +90,10 @@ module _ {A : Type 0} where
             stand = rw p (each_snoc (λ x at. Stands s at (encode x)) l.values (take k pos) a i l.stand st);
           }
 
-    pub lay_done : (rest : Got ℕ (List A)) (places : List ℕ) (end : ℕ) → Laying g rest encode s places → rest ≡ found [] (drop end s) → Laid true g encode s end places
+    pub lay_done : (rest : Got ℕ (List A)) (places : List ℕ) (end : ℕ) → Laying g rest encode s places → rest ≡ found [] (drop end s) → Laid g encode s (Some end) places
     unfolding Laid glue
     lay_done rest places end l e = (l.values, l.left ∙ rw e (ap (λ (y : List A). found y (drop end s)) (append-nil l.values)), l.stand)
 
-    pub not_laid : (end : ℕ) (places : List ℕ) → g ≡ missing → Laid false g encode s end places
+    pub not_laid : (places : List ℕ) → g ≡ missing → Laid g encode s None places
     unfolding Laid
-    not_laid end places e = e
+    not_laid places e = e

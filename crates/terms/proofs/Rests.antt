@@ -1,24 +1,12 @@
 -- Where a reader ends, combinator by combinator: what a checker shows of a larger reader from what it knows of the smaller ones.
 use mathlib.Core.Path.{◌≡◌, refl, sym, ap, ◌∙◌}
 use mathlib.Core.List.{List, ◌∷◌}
-use mathlib.Core.Bool.{Bool, true, false}
 use Prim.Native.Nat.{ℕ, suc, ◌<◌, ◌≤◌}
-use native.Mathlib.Omega.{arith}
 use lib.ListN.{length, get_or, drop, drop_of_length-le}
 use lib.Seq.{drop-cons}
 use Rattle.pcrl.specs.Reader.{Got, missing, found, Reader, bind, keep, one, test, pair, view, times, counted, each}
 use Rattle.codec.specs.Lawful.{never, keeps}
-use Rattle.terms.specs.Ends.{rests, ends}
-
--- A CALLEE'S ANSWER
-
-pub passed : {A : Type 0} (g : Got ℕ A) (ok : Bool) (ys : List ℕ) → rests g ≡ ends ok ys → ok ≡ true → rests g ≡ found tt ys
-passed g true ys e h = e
-passed g false ys e h = absurd (let z : ◌≡◌ {A = ℕ} 0 1 = cc in omega arith)
-
-pub failed : {A : Type 0} (g : Got ℕ A) (ok : Bool) (ys : List ℕ) → rests g ≡ ends ok ys → ok ≡ false → rests g ≡ missing
-failed g true ys e h = absurd (let z : ◌≡◌ {A = ℕ} 0 1 = cc in omega arith)
-failed g false ys e h = e
+use Rattle.terms.specs.Ends.{rests}
 
 -- where something is left, something was found
 pub found_there : {A : Type 0} (g : Got ℕ A) (ys : List ℕ) → rests g ≡ found tt ys → (a : A) × (g ≡ found a ys)

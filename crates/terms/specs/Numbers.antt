@@ -3,7 +3,6 @@ use Rattle.std.specs.Prelude.{◌≡◌, List, ℕ, ◌+◌, ◌≤◌, ◌<◌,
 use Rattle.std.proofs.Math.Decide.{dec_le, dec_lt}
 use Rattle.pcrl.specs.Tests.{both?, between?}
 use Rattle.pcrl.specs.Reader.{Reader, one, counted}
-use Rattle.terms.specs.declared.Next.{Next}
 
 -- low ≤ n < limit
 unfoldable pub from? : (low limit n : ℕ) → Dec ((low ≤ n) × (n < limit))
@@ -14,7 +13,7 @@ unfoldable pub read_list : (least most low limit : ℕ) → Reader ℕ (List ℕ
 read_list least most low limit = counted (between? least most) (one (from? low limit))
 
 -- where such a list ends that starts at a place
-pub record ListEnds (s : List ℕ) (at most : ℕ) (r : Next) : Type 0 where
-  pub end : r.at ≡ at + 1 + get_or s at 0
-  pub inside : r.at ≤ length s
+pub record ListEnds (s : List ℕ) (at most past : ℕ) : Type 0 where
+  pub end : past ≡ at + 1 + get_or s at 0
+  pub inside : past ≤ length s
   pub few : get_or s at 0 ≤ most

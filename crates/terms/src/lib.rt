@@ -1,6 +1,6 @@
 #![tactic(auto)]
 // Data terms of a table's stream, and counted lists of numbers: each function says where its piece ends.
-ghost use Rattle.std.specs.Prelude.{◌≡◌, List, ◌∷◌, ◌++◌, true, ℕ, ◌+◌, ◌-◌, ◌≤◌, ◌<◌, length, get_or, drop};
+ghost use Rattle.std.specs.Prelude.{◌≡◌, List, ◌∷◌, ◌++◌, ℕ, ◌+◌, ◌-◌, ◌≤◌, ◌<◌, length, get_or, drop, IfSome};
 ghost use Rattle.pcrl.specs.Sheet.{Sig};
 ghost use Rattle.pcrl.specs.Reader.{found, each};
 ghost use Rattle.pcrl.specs.Decode.{Node, node_of, read_node, Fits, wants, read_term};
@@ -30,13 +30,6 @@ const BOOL_SORT: u8 = limits::BOOL as u8;
 
 // Sorts that are expected at once, at the most: one at first, and one more with each node.
 const WANTED: usize = limits::MAX_NODES + 1;
-
-// Where a piece ends, if it is right.
-#[derive(Clone, Copy)]
-pub struct Next {
-    pub ok: bool,
-    pub at: usize,
-}
 
 // The size of a sort: the sizes stand behind the places of the functions.
 pub fn size_of(funcs: &[u16], d: u8) -> u8
@@ -169,7 +162,14 @@ fn past(s: &[u8], i: usize) -> usize
 }
 
 // A term of the given sort.
-pub fn read_term(s: &[u8], sizes: &[u8], funcs: &[u16], scope: &[u8], at: usize, sort: u8) -> Next
+pub fn read_term(
+    s: &[u8],
+    sizes: &[u8],
+    funcs: &[u16],
+    scope: &[u8],
+    at: usize,
+    sort: u8,
+) -> Option<usize>
     ensures { (S : Sig) → KnownData S s.now sizes.now funcs.now → rests (read_term S scope.now sort (drop at s.now)) ≡ ended s.now result }
 {
     let mut sorts = [sort; WANTED];
@@ -178,29 +178,29 @@ pub fn read_term(s: &[u8], sizes: &[u8], funcs: &[u16], scope: &[u8], at: usize,
     let mut left = MAX_NODES;
     while top < WANTED {
         if left == 0 {
-            return Next { ok: false, at: 0 };
+            return None;
         }
         if s.len() <= i {
-            return Next { ok: false, at: 0 };
+            return None;
         }
         left -= 1;
         let b = s[i];
         let d = sorts[top];
         if wide(b) < NOT_CODE {
             if !fits(s, sizes, funcs, scope, b, d) {
-                return Next { ok: false, at: 0 };
+                return None;
             }
             top = after(&mut sorts, top, s, funcs, b);
             i += 1;
             continue;
         }
         if !operator_fits(s, sizes, i, d) {
-            return Next { ok: false, at: 0 };
+            return None;
         }
         top = operands(&mut sorts, top, s, i);
         i = past(s, i);
     }
-    Next { ok: true, at: i }
+    Some(i)
 }
 
 // A term for each of the given sorts.
@@ -211,48 +211,41 @@ pub fn read_terms(
     scope: &[u8],
     sorts: &[u8],
     at: usize,
-) -> Next
+) -> Option<usize>
     ensures { (S : Sig) → KnownData S s.now sizes.now funcs.now → rests (each (read_term S scope.now) sorts.now (drop at s.now)) ≡ ended s.now result }
 {
     let mut i = at;
-    for k in 0..sorts.len() {
-        let t = read_term(s, sizes, funcs, scope, i, sorts[k]);
-        if !t.ok {
-            return Next { ok: false, at: 0 };
-        }
-        i = t.at;
+    for d in sorts {
+        i = read_term(s, sizes, funcs, scope, i, *d)?;
     }
-    Next { ok: true, at: i }
+    Some(i)
 }
 
 // A counted list: from least to most numbers, each from low to below limit.
-pub fn read_list(s: &[u8], at: usize, least: u8, most: u8, low: u8, limit: usize) -> Next
-    ensures { (rests (read_list least most low limit (drop at s.now)) ≡ ended s.now result) × (result.ok ≡ true → ListEnds s.now at most result) }
+pub fn read_list(s: &[u8], at: usize, least: u8, most: u8, low: u8, limit: usize) -> Option<usize>
+    ensures { (rests (read_list least most low limit (drop at s.now)) ≡ ended s.now result) × IfSome result (λ end. ListEnds s.now at most end) }
 {
     if s.len() <= at {
-        return Next { ok: false, at: 0 };
+        return None;
     }
     let n = s[at];
     if n < least {
-        return Next { ok: false, at: 0 };
+        return None;
     }
     if most < n {
-        return Next { ok: false, at: 0 };
+        return None;
     }
-    let mut i = at + 1;
-    let mut left = n;
-    while 0 < left {
+    let end = at + 1 + wide(n);
+    for i in at + 1..end {
         if s.len() <= i {
-            return Next { ok: false, at: 0 };
+            return None;
         }
         if s[i] < low {
-            return Next { ok: false, at: 0 };
+            return None;
         }
         if limit <= wide(s[i]) {
-            return Next { ok: false, at: 0 };
+            return None;
         }
-        i += 1;
-        left -= 1;
     }
-    Next { ok: true, at: i }
+    Some(end)
 }
