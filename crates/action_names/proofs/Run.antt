@@ -18,7 +18,7 @@ use Rattle.pcrl.specs.Decode.{read_name, read_sort_name}
 use Rattle.laws.specs.Tests.{both_pass, of_true}
 use Rattle.lexer.specs.Classes.{class_of}
 use Rattle.terms.specs.Stands.{list_at}
-use Rattle.terms.specs.Ends.{rests, ends}
+use Rattle.terms.specs.Ends.{rests}
 use Rattle.terms.proofs.Rests.{test_fail, test_bad, test_pass}
 use Rattle.terms.proofs.Lists.{numbers_are}
 
@@ -93,8 +93,3 @@ a_letter b h e = sym (letter_class b h) ∙ eq-eqb (class_of b) 3 e
 
 pub no_letter : (b : ℕ) → b < 256 → ¬ (class_of b ≡ 3) → letter b ≡ false
 no_letter b h n = sym (letter_class b h) ∙ ne_eqb (class_of b) 3 n
-
--- an answer that is handed on
-pub passing : (ok : Bool) (xs : List ℕ) → ok ≡ true → found tt xs ≡ ends ok xs
-passing true xs e = refl
-passing false xs e = absurd (let z : ◌≡◌ {A = ℕ} 0 1 = cc in omega arith)

@@ -1,6 +1,6 @@
 #![tactic(auto)]
 // The names of a table's sorts and actions: valid by the token rule, no word, distinct; an action's is not Bool.
-ghost use Rattle.std.specs.Prelude.{◌≡◌, map, ◌∷◌, true, ◌+◌, ◌≤◌, ◌<◌, length, drop};
+ghost use Rattle.std.specs.Prelude.{◌≡◌, map, ◌∷◌, ◌+◌, ◌≤◌, ◌<◌, length, drop, OnSome};
 ghost use Rattle.pcrl.specs.Limits.{max_name};
 ghost use Rattle.pcrl.specs.Text.{bytes};
 ghost use Rattle.pcrl.specs.Tests as tests;
@@ -12,11 +12,10 @@ ghost use Rattle.pcrl.specs.Decode.{read_name, read_sort_name};
 ghost use Rattle.terms.specs.Stands.{list_at};
 ghost use Rattle.terms.specs.Ends.{rests, ended};
 
-use elements::{cell, peek};
+use elements::{cell, peek, wide};
 use lexer::NO_TOKEN;
-use lexer::bytes::{LETTER, class, name_byte, same};
+use lexer::bytes::{LETTER, class, name_byte};
 use lexer::token::word;
-use terms::Next;
 
 const NAME: u8 = limits::MAX_NAME as u8;
 
@@ -24,7 +23,7 @@ const NAME: u8 = limits::MAX_NAME as u8;
 fn reserved(n: &[u8]) -> bool
     ensures { result ≡ tests.among n.now (bytes "Bool" ∷ words) }
 {
-    if same(n, b"Bool") {
+    if n == b"Bool" {
         return true;
     }
     if word(n) == NO_TOKEN {
@@ -57,60 +56,51 @@ fn token_name(n: &[u8]) -> bool
 }
 
 // A counted run of the bytes of names.
-fn read_run(s: &[u8], at: usize) -> Next
-    ensures { (rests (counted (tests.between? 1 max_name) (one (λ b. tests.T? (classes.name_byte b))) (drop at s.now)) ≡ ended s.now result) × (result.ok ≡ true → at < length s.now) }
+fn read_run(s: &[u8], at: usize) -> Option<usize>
+    ensures { (rests (counted (tests.between? 1 max_name) (one (λ b. tests.T? (classes.name_byte b))) (drop at s.now)) ≡ ended s.now result) × OnSome result (at < length s.now) }
 {
     if s.len() <= at {
-        return Next { ok: false, at: 0 };
+        return None;
     }
     let n = s[at];
     if n < 1 {
-        return Next { ok: false, at: 0 };
+        return None;
     }
     if NAME < n {
-        return Next { ok: false, at: 0 };
+        return None;
     }
-    let mut i = at + 1;
-    let mut left = n;
-    while 0 < left {
+    let end = at + 1 + wide(n);
+    for i in at + 1..end {
         if s.len() <= i {
-            return Next { ok: false, at: 0 };
+            return None;
         }
         if !name_byte(s[i]) {
-            return Next { ok: false, at: 0 };
+            return None;
         }
-        i += 1;
-        left -= 1;
     }
-    Next { ok: true, at: i }
+    Some(end)
 }
 
 // "valid by the token rule, and none is Bool"
-pub fn read_name(s: &[u8], at: usize) -> Next
-    ensures { (rests (read_name (drop at s.now)) ≡ ended s.now result) × (result.ok ≡ true → at < length s.now) }
+pub fn read_name(s: &[u8], at: usize) -> Option<usize>
+    ensures { (rests (read_name (drop at s.now)) ≡ ended s.now result) × OnSome result (at < length s.now) }
 {
-    let t = read_run(s, at);
-    if !t.ok {
-        return Next { ok: false, at: 0 };
-    }
+    let end = read_run(s, at)?;
     if !free_name(terms::list_at(s, at)) {
-        return Next { ok: false, at: 0 };
+        return None;
     }
-    t
+    Some(end)
 }
 
 // #104: "Sort names must be valid"
-pub fn read_sort_name(s: &[u8], at: usize) -> Next
-    ensures { (rests (read_sort_name (drop at s.now)) ≡ ended s.now result) × (result.ok ≡ true → at < length s.now) }
+pub fn read_sort_name(s: &[u8], at: usize) -> Option<usize>
+    ensures { (rests (read_sort_name (drop at s.now)) ≡ ended s.now result) × OnSome result (at < length s.now) }
 {
-    let t = read_run(s, at);
-    if !t.ok {
-        return Next { ok: false, at: 0 };
-    }
+    let end = read_run(s, at)?;
     if !token_name(terms::list_at(s, at)) {
-        return Next { ok: false, at: 0 };
+        return None;
     }
-    t
+    Some(end)
 }
 
 // Does the name stand at one of the places, from the given one on? Names stand so many bytes behind their places.
@@ -120,7 +110,7 @@ fn among(s: &[u8], name: &[u8], places: &[u16], skip: usize, from: usize) -> boo
 {
     for k in from..places.len() {
         let other = terms::list_at(s, cell(places, k) + skip);
-        if same(name, other) {
+        if name == other {
             return true;
         }
     }

@@ -1,10 +1,11 @@
 -- A summand from its parts: calls, conditions, label, and the variables that come into scope.
 use mathlib.Core.Path.{◌≡◌, sym, ap, ◌∙◌}
-use mathlib.Core.List.{List, [], ◌∷◌, ◌++◌, append_assoc, append-nil}
-use Prim.Native.Nat.{ℕ, suc, ◌+◌, ◌<◌, ◌≤◌}
+use mathlib.Core.List.{List, [], ◌++◌, append_assoc}
+use Prim.Native.Nat.{ℕ, suc, ◌+◌, ◌-◌, ◌<◌, ◌≤◌}
 use native.Mathlib.Omega.{arith}
-use lib.ListN.{length, get_or, take, drop, set}
-use lib.Seq.{take-suc-set, take-suc, take_all}
+use borrow.Rule.Slice.PartMut.{put_mid}
+use lib.ListN.{length, get_or, take, drop, length-append}
+use lib.Seq.{take_at}
 use Rattle.pcrl.specs.Limits.{max_variables, max_conditions, max_calls}
 use Rattle.pcrl.specs.Tests.{at_most?, below?}
 use Rattle.pcrl.specs.Reader.{missing, found, counted, each}
@@ -75,17 +76,10 @@ module _ (S : Sig) (Ps : List (List ℕ)) (Δ s : List ℕ) (at n : ℕ) (z : n 
 
 -- SORTS COPIED INTO THE SCOPE
 
-pub copy_start : (a : List ℕ) (n : ℕ) → take n a ≡ take n a ++ []
-copy_start a n = sym (append-nil (take n a))
-
-pub copy_one : (a a₀ part : List ℕ) (n n₀ k n' k' : ℕ) → n' ≡ suc n → k' ≡ suc k → n < length a → k < length part → take n a ≡ take n₀ a₀ ++ take k part
-    → take n' (set a n (get_or part k 0)) ≡ take n₀ a₀ ++ take k' part
-copy_one a a₀ part n n₀ k n' k' z w h l e = rw (z, w, take-suc-set a n (get_or part k 0) h, take-suc part k 0 l, e) (append_assoc (take n₀ a₀) (take k part) (get_or part k 0 ∷ []))
-
-pub copy_done : (a a₀ part : List ℕ) (n n₀ k : ℕ) → length part ≤ k → take n a ≡ take n₀ a₀ ++ take k part → take n a ≡ take n₀ a₀ ++ part
-copy_done a a₀ part n n₀ k h e = e ∙ ap (λ (l : List ℕ). take n₀ a₀ ++ l) (take_all k part h)
-
--- the parameters and behind them the variables
-pub scope_is : (a a₁ own s : List ℕ) (n' n n₁ m at : ℕ) → n' ≡ n → m ≡ get_or s at 0 → take n₁ a₁ ≡ own → take n a ≡ take n₁ a₁ ++ take m (drop (at + 1) s) → take n' a ≡ own ++ list_at s at
-scope_is a a₁ own s n' n n₁ m at z y e f =
-    ap (λ (k : ℕ). take k a) z ∙ f ∙ ap (λ (l : List ℕ). l ++ take m (drop (at + 1) s)) e ∙ ap (λ (k : ℕ). own ++ take k (drop (at + 1) s)) y
+-- the parameters, and behind them the variables
+pub scope_is : (own own' vars vars' zs : List ℕ) (n m : ℕ) → own' ≡ own → vars' ≡ vars → n ≡ length own → m ≡ n + length vars → take m (put_mid n (m - n) (own' ++ drop n zs) vars') ≡ own ++ vars
+scope_is own own' vars vars' zs n m x y e f =
+    let first : take n (own ++ drop n zs) ≡ own = take_at own (drop n zs) n (sym e) in
+    let back : List ℕ = drop (m - n) (drop n (own ++ drop n zs)) in
+    let long : length (own ++ vars) ≡ m = omega (arith, length-append own vars) in
+    rw (x, y, first) (ap (take m) (sym (append_assoc own vars back)) ∙ take_at (own ++ vars) back m long)

@@ -1,5 +1,5 @@
 use mathlib.Core.Path.{◌≡◌}
-use Prim.Native.Nat.{◌<◌, ◌≤◌}
+use Prim.Native.Nat.{◌-◌, ◌<◌, ◌≤◌}
 use lib.ListN.{drop, length}
 use Rattle.pcrl.specs.Bytes.{name_byte}
 use Rattle.pcrl.specs.Limits.{max_name}
@@ -8,9 +8,6 @@ use Rattle.pcrl.specs.Tests.{T?, between?}
 use Rattle.terms.specs.Ends.{rests}
 use Rattle.action_names.proofs.read_run.Given as goal
 
-abbrev pub invariant-loop-left : goal.invariant-loop-left
-invariant-loop-left l = (l.left ≤ l.n) × (l.at < length l.s)
-    × (rests (counted (between? 1 max_name) (one (λ b. T? (name_byte b))) (drop l.at l.s)) ≡ rests (times (one (λ b. T? (name_byte b))) l.left (drop l.i l.s)))
-
-abbrev pub decreases-loop-left : goal.decreases-loop-left
-decreases-loop-left l = l.left
+abbrev pub invariant-loop-i : goal.invariant-loop-i
+invariant-loop-i l = (l.i ≤ length l.s) × (l.at < length l.s)
+    × (rests (counted (between? 1 max_name) (one (λ b. T? (name_byte b))) (drop l.at l.s)) ≡ rests (times (one (λ b. T? (name_byte b))) (l.end - l.i) (drop l.i l.s)))

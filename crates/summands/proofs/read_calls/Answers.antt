@@ -1,13 +1,13 @@
 -- One call a turn: what is left to read is as many calls as are left.
-use mathlib.Core.Path.{◌∙◌, ap}
-use Prim.Native.Nat.{◌+◌, ◌-◌, ◌≤◌}
+use mathlib.Core.Path.{◌≡◌, ◌∙◌, ap}
+use Prim.Native.Nat.{◌+◌, ◌-◌, ℕ, ◌≤◌}
 use native.Mathlib.Omega.{arith}
 use lib.ListN.{drop, get_or}
-use borrow.Author.Tests.{not-false, not-true}
 use Rattle.pcrl.specs.Decode.{read_call}
 use Rattle.pcrl.specs.Limits.{max_calls}
+use Rattle.pcrl.specs.Reader.{times}
 use Rattle.pcrl.specs.Tests.{at_most?}
-use Rattle.terms.proofs.Rests.{counted_bad, counted_end, counted_pass, failed, passed, times_done, times_fail, times_pass}
+use Rattle.terms.proofs.Rests.{counted_bad, counted_end, counted_pass, times_done, times_fail, times_pass}
 use Rattle.terms.specs.Ends.{rests}
 use Rattle.summands.proofs.read_calls.Goals as goal
 
@@ -17,14 +17,28 @@ returns-then-s-at c = λ S Ps k q. counted_end (at_most? max_calls) c.args.s.now
 pub returns-then-n-gt-CALLS : goal.returns-then-n-gt-CALLS
 returns-then-n-gt-CALLS c = λ S Ps k q. counted_bad (at_most? max_calls) c.args.s.now c.args.at (read_call S Ps c.args.scope.now) (omega arith) (λ (h : get_or c.args.s.now c.args.at 0 ≤ max_calls). omega arith)
 
-pub loop-left-init : goal.loop-left-init
-loop-left-init c = (omega arith, λ S Ps k q. ap rests (counted_pass (at_most? max_calls) c.args.s.now c.args.at (read_call S Ps c.args.scope.now) (c.args.at + 1) (omega arith) (omega arith) (omega arith)))
+pub loop-init : goal.loop-init
+loop-init c =
+    let a = c.args in
+    let all : get_or a.s.now a.at 0 ≡ get_or a.s.now a.at 0 - 0 = omega arith in
+    λ S Ps k q. ap rests (counted_pass (at_most? max_calls) a.s.now a.at (read_call S Ps a.scope.now) (a.at + 1) (omega arith) (omega arith) (omega arith)) ∙ ap (λ (n : ℕ). rests (times (read_call S Ps a.scope.now) n (drop (a.at + 1) a.s.now))) all
 
-pub returns-then-not-t : goal.returns-then-not-t
-returns-then-not-t c = λ S Ps k q. c.loop-left.invariant.1 S Ps k q ∙ times_fail (read_call S Ps c.args.scope.now) c.loop-left.left (c.loop-left.left - 1) (drop c.loop-left.i c.args.s.now) (omega arith) (failed ((read_call S Ps c.args.scope.now) (drop c.loop-left.i c.args.s.now)) c.read_call-t.result.ok (drop c.read_call-t.result.at c.args.s.now) (c.read_call-t.ensures S Ps k q) (not-true _ c.if-not-t.true))
+pub returns-in_err-i : goal.returns-in_err-i
+returns-in_err-i c =
+    let a = c.args in
+    let l = c.loop in
+    let n = get_or a.s.now a.at 0 in
+    rw c.from_residual.ensures λ S Ps k q. c.loop.invariant S Ps k q ∙ times_fail (read_call S Ps a.scope.now) (n - l.counter) (n - (l.counter + 1)) (drop l.i a.s.now) (omega arith) (c.in_err-i.ensures S Ps k q)
 
-pub loop-left-preserved : goal.loop-left-preserved
-loop-left-preserved c = (omega arith, λ S Ps k q. c.loop-left.invariant.1 S Ps k q ∙ times_pass (read_call S Ps c.args.scope.now) c.loop-left.left (c.loop-left.left - 1) (drop c.loop-left.i c.args.s.now) (drop c.read_call-t.result.at c.args.s.now) (omega arith) (passed ((read_call S Ps c.args.scope.now) (drop c.loop-left.i c.args.s.now)) c.read_call-t.result.ok (drop c.read_call-t.result.at c.args.s.now) (c.read_call-t.ensures S Ps k q) (not-false _ c.if-not-t.false)))
+pub loop-preserved : goal.loop-preserved
+loop-preserved c =
+    let a = c.args in
+    let l = c.loop in
+    let n = get_or a.s.now a.at 0 in
+    λ S Ps k q. c.loop.invariant S Ps k q ∙ times_pass (read_call S Ps a.scope.now) (n - l.counter) (n - (l.counter + 1)) (drop l.i a.s.now) _ (omega arith) (c.in_ok-i.ensures S Ps k q)
 
 pub returns : goal.returns
-returns c = λ S Ps k q. c.loop-left.invariant.1 S Ps k q ∙ times_done (read_call S Ps c.args.scope.now) c.loop-left.left (drop c.loop-left.i c.args.s.now) (omega arith)
+returns c =
+    let a = c.args in
+    let l = c.loop in
+    λ S Ps k q. c.loop.invariant S Ps k q ∙ times_done (read_call S Ps a.scope.now) (get_or a.s.now a.at 0 - l.counter) (drop l.i a.s.now) (omega arith)

@@ -1,5 +1,5 @@
 use mathlib.Core.Path.{◌≡◌}
-use Prim.Native.Nat.{◌≤◌}
+use Prim.Native.Nat.{◌-◌}
 use lib.ListN.{drop}
 use Rattle.pcrl.specs.Decode.{read_cond}
 use Rattle.pcrl.specs.Limits.{max_conditions}
@@ -10,8 +10,5 @@ use Rattle.terms.specs.Ends.{rests}
 use Rattle.terms.specs.Stands.{KnownData}
 use Rattle.summands.proofs.read_conds.Given as goal
 
-abbrev pub invariant-loop-left : goal.invariant-loop-left
-invariant-loop-left l = (l.left ≤ max_conditions) × ((S : Sig) → KnownData S l.s l.sizes l.funcs → rests (counted (at_most? max_conditions) (read_cond S l.scope) (drop l.at l.s)) ≡ rests (times (read_cond S l.scope) l.left (drop l.i l.s)))
-
-abbrev pub decreases-loop-left : goal.decreases-loop-left
-decreases-loop-left l = l.left
+abbrev pub invariant-loop : goal.invariant-loop
+invariant-loop l = (S : Sig) → KnownData S l.s l.sizes l.funcs → rests (counted (at_most? max_conditions) (read_cond S l.scope) (drop l.at l.s)) ≡ rests (times (read_cond S l.scope) (l.n - l.counter) (drop l.i l.s))
