@@ -4,6 +4,8 @@ use mathlib.Core.List.{List, [], ◌∷◌, map}
 use mathlib.Core.Bool.{Bool, true, false}
 use Prim.Native.Nat.{ℕ, suc, ◌<◌, ◌≤◌}
 use native.Mathlib.Omega.{arith}
+use Rattle.std.specs.Option.{is_some}
+use Rattle.std.specs.Prelude.{Option, Some, None}
 use lib.ListN.{length, get_or, drop, drop_of_length-le}
 use lib.Seq.{drop-cons}
 use Rattle.pcrl.specs.Tests.{same?, among, distinct}
@@ -69,20 +71,16 @@ module _ (name : ℕ → List ℕ) (places : List ℕ) (k : ℕ) where
   unfolding distinct
   distinct_none h = rw (names_none h)
 
--- a word has a cell, which is not 0 where the first one's is not
-cell_among : (c : ℕ) (vs : List (List ℕ)) (w : List ℕ) → 0 < c → (sign_cell c vs w ≡ 0 → among w vs ≡ false) × (¬ (sign_cell c vs w ≡ 0) → among w vs ≡ true)
+-- a word has a cell
+cell_among : (c : ℕ) (vs : List (List ℕ)) (w : List ℕ) → is_some (sign_cell c vs w) ≡ among w vs
 unfolding sign_cell among
-cell_among c [] w h = (λ e. refl, λ n. absurd (n refl))
-cell_among c (v ∷ vs) w h = go (same? w v) (cell_among (suc c) vs w (omega arith))
+cell_among c [] w = refl
+cell_among c (v ∷ vs) w = go (same? w v) (cell_among (suc c) vs w)
   where
-    go : (d : Dec (w ≡ v)) → (sign_cell (suc c) vs w ≡ 0 → among w vs ≡ false) × (¬ (sign_cell (suc c) vs w ≡ 0) → among w vs ≡ true)
-        → (◌≡◌ {A = ℕ} (elim d as (λ x. ℕ) [ yes e ↦ c | no n ↦ sign_cell (suc c) vs w ]) 0 → elim d as (λ x. Bool) [ yes e ↦ true | no n ↦ among w vs ] ≡ false)
-        × (¬ (◌≡◌ {A = ℕ} (elim d as (λ x. ℕ) [ yes e ↦ c | no n ↦ sign_cell (suc c) vs w ]) 0) → elim d as (λ x. Bool) [ yes e ↦ true | no n ↦ among w vs ] ≡ true)
-    go (yes e) k = (λ z. absurd (omega arith), λ n. refl)
+    go : (d : Dec (w ≡ v)) → is_some (sign_cell (suc c) vs w) ≡ among w vs
+        → is_some (elim d as (λ x. Option ℕ) [ yes e ↦ Some c | no n ↦ sign_cell (suc c) vs w ]) ≡ elim d as (λ x. Bool) [ yes e ↦ true | no n ↦ among w vs ]
+    go (yes e) k = refl
     go (no n) k = k
 
-pub word_among : (w : List ℕ) → ¬ (sign_cell first_word words w ≡ 0) → among w words ≡ true
-word_among w = (cell_among first_word words w (omega arith)).1
-
-pub word_missing : (w : List ℕ) → sign_cell first_word words w ≡ 0 → among w words ≡ false
-word_missing w = (cell_among first_word words w (omega arith)).0
+pub word_among : (w : List ℕ) → is_some (sign_cell first_word words w) ≡ among w words
+word_among w = cell_among first_word words w

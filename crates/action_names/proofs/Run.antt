@@ -62,6 +62,10 @@ pub not_negated : (a b : Bool) → a ≡ b → not a ≡ negated b
 not_negated true b e = rw (← e)
 not_negated false b e = rw (← e)
 
+pub negated_not : (a b : Bool) → a ≡ not b → b ≡ negated a
+negated_not a true e = rw e
+negated_not a false e = rw e
+
 -- a byte's class says whether it is a letter
 abbrev alike : Bool → Bool → Bool
 alike a b = or (and a b) (and (negated a) (negated b))

@@ -13,7 +13,6 @@ ghost use Rattle.terms.specs.Stands.{list_at};
 ghost use Rattle.terms.specs.Ends.{rests, ended};
 
 use elements::{cell, peek, wide};
-use lexer::NO_TOKEN;
 use lexer::bytes::{LETTER, class, name_byte};
 use lexer::token::word;
 
@@ -23,13 +22,10 @@ const NAME: u8 = limits::MAX_NAME as u8;
 fn reserved(n: &[u8]) -> bool
     ensures { result ≡ tests.among n.now (bytes "Bool" ∷ words) }
 {
-    if n == b"Bool" {
+    if n == b"Bool".as_slice() {
         return true;
     }
-    if word(n) == NO_TOKEN {
-        return false;
-    }
-    true
+    word(n).is_some()
 }
 
 // Begins with a letter, and is no word and not Bool.
@@ -49,10 +45,7 @@ fn token_name(n: &[u8]) -> bool
     if class(peek(n, 0)) != LETTER {
         return false;
     }
-    if word(n) == NO_TOKEN {
-        return true;
-    }
-    false
+    word(n).is_none()
 }
 
 // A counted run of the bytes of names.
@@ -103,13 +96,13 @@ pub fn read_sort_name(s: &[u8], at: usize) -> Option<usize>
     Some(end)
 }
 
-// Does the name stand at one of the places, from the given one on? Names stand so many bytes behind their places.
-fn among(s: &[u8], name: &[u8], places: &[u16], skip: usize, from: usize) -> bool
+// Does the name stand at one of the places? Names stand so many bytes behind their places.
+fn among(s: &[u8], name: &[u8], places: &[u16], skip: usize) -> bool
     requires { skip ≤ 1 }
-    ensures { result ≡ tests.among name.now (map (λ p. list_at s.now (p + skip)) (drop from places.now)) }
+    ensures { result ≡ tests.among name.now (map (λ p. list_at s.now (p + skip)) places.now) }
 {
-    for k in from..places.len() {
-        let other = terms::list_at(s, cell(places, k) + skip);
+    for p in places {
+        let other = terms::list_at(s, wide(*p) + skip);
         if name == other {
             return true;
         }
@@ -124,7 +117,7 @@ pub fn distinct(s: &[u8], places: &[u16], skip: usize) -> bool
 {
     for k in 0..places.len() {
         let name = terms::list_at(s, cell(places, k) + skip);
-        if among(s, name, places, skip, k + 1) {
+        if among(s, name, &places[k + 1..], skip) {
             return false;
         }
     }

@@ -1,11 +1,13 @@
 -- The signature from its parts: sorts, functions, actions, and that the names at the actions' places are distinct.
 use mathlib.Core.Path.{◌≡◌, refl, sym, ap, ap₂, subst, ◌∙◌}
 use mathlib.Core.List.{List, [], ◌∷◌, map}
-use mathlib.Core.Bool.{Bool, true, false}
+use mathlib.Core.Bool.{true, false}
 use mathlib.Core.Option.{Option}
 use Prim.Native.Nat.{ℕ, ◌+◌}
 use native.Mathlib.Omega.{arith}
 use lib.ListN.{length, get_or, take, drop}
+use Rattle.std.specs.Prelude as R
+use Rattle.std.specs.Prelude.{Some, None}
 use Rattle.pcrl.specs.Limits.{max_functions, max_actions, max_arity}
 use Rattle.pcrl.specs.Tests.{Between, at_most?, T?, distinct, Every, Each}
 use Rattle.pcrl.specs.Reader.{missing, found, bind, pair, view, test, counted}
@@ -22,7 +24,7 @@ use Rattle.terms.specs.Laid.{Laid}
 use Rattle.terms.proofs.Rests.{test_bad, test_pass}
 use Rattle.terms.proofs.Places.{name_stands, list_is}
 use Rattle.action_names.proofs.Run.{fails}
-use Rattle.signature.specs.Reading.{names_there, SortsAt, SigRead}
+use Rattle.signature.specs.Reading.{SigRead}
 
 -- the names of actions that stand at places
 pub names_at : (s : List ℕ) (acts : List Action) (places : List ℕ) → Standing encode_action s acts places → map (λ p. list_at s (p + 0)) places ≡ action_names acts
@@ -40,19 +42,19 @@ arities sizes xs fs ys e =
     every_weaken (RightFunc sizes) (λ (g : Func). Between 1 max_arity (length g.takes)) (λ g h. h.0.0) fs c
 
 module _ (s zs : List ℕ) (o : Option (List Name)) (i : ℕ) (sorts : read_all_sorts s ≡ found (zs, o) (drop i s)) where
-  pub no_funcs : (sizes funcs acts : List ℕ) (end : ℕ) (ps : List ℕ) (f : ℕ) → Laid false (counted (at_most? max_functions) (read_func zs) (drop i s)) encode_func s f ps → SigRead false o s end sizes funcs acts
-  unfolding Laid SigRead read_sig view pair bind
-  no_funcs sizes funcs acts end ps f e = rw (sorts, e)
+  pub no_funcs : (ps : List ℕ) → Laid (counted (at_most? max_functions) (read_func zs) (drop i s)) encode_func s None ps → read_sig s ≡ missing
+  unfolding Laid read_sig view pair bind
+  no_funcs ps e = rw (sorts, e)
 
-  module _ (j : ℕ) (funcs : List ℕ) (laid_funcs : Laid true (counted (at_most? max_functions) (read_func zs) (drop i s)) encode_func s j funcs) where
-    pub no_acts : (sizes fs us : List ℕ) (end : ℕ) (ps : List ℕ) (f : ℕ) → Laid false (counted (at_most? max_actions) (read_action zs) (drop j s)) encode_action s f ps → SigRead false o s end sizes fs us
-    unfolding Laid SigRead read_sig view pair bind test
-    no_acts sizes fs us end ps f e = rw (sorts, laid_funcs.1, e)
+  module _ (j : ℕ) (funcs : List ℕ) (laid_funcs : Laid (counted (at_most? max_functions) (read_func zs) (drop i s)) encode_func s (Some j) funcs) where
+    pub no_acts : (ps : List ℕ) → Laid (counted (at_most? max_actions) (read_action zs) (drop j s)) encode_action s None ps → read_sig s ≡ missing
+    unfolding Laid read_sig view pair bind test
+    no_acts ps e = rw (sorts, laid_funcs.1, e)
 
-    module _ (k : ℕ) (acts : List ℕ) (laid_acts : Laid true (counted (at_most? max_actions) (read_action zs) (drop j s)) encode_action s k acts) where
-      pub names_twice : (sizes fs us : List ℕ) (end : ℕ) → distinct (map (λ p. list_at s (p + 0)) acts) ≡ false → SigRead false o s end sizes fs us
-      unfolding Laid SigRead read_sig view pair bind
-      names_twice sizes fs us end e =
+    module _ (k : ℕ) (acts : List ℕ) (laid_acts : Laid (counted (at_most? max_actions) (read_action zs) (drop j s)) encode_action s (Some k) acts) where
+      pub names_twice : distinct (map (λ p. list_at s (p + 0)) acts) ≡ false → read_sig s ≡ missing
+      unfolding Laid read_sig view pair bind
+      names_twice e =
           rw (
             sorts,
             laid_funcs.1,
@@ -60,7 +62,7 @@ module _ (s zs : List ℕ) (o : Option (List Name)) (i : ℕ) (sorts : read_all_
                 (fails (distinct (action_names laid_acts.0)) (ap distinct (sym (names_at s laid_acts.0 acts laid_acts.2)) ∙ e)),
           )
 
-      pub sig_read : distinct (map (λ p. list_at s (p + 0)) acts) ≡ true → SigRead true o s k zs funcs acts
+      pub sig_read : distinct (map (λ p. list_at s (p + 0)) acts) ≡ true → SigRead o s k zs funcs acts
       unfolding Laid SigRead read_sig to_sig view pair bind
       sig_read e =
           let right = of_true (distinct (action_names laid_acts.0)) (ap distinct (sym (names_at s laid_acts.0 acts laid_acts.2)) ∙ e) in (
@@ -80,32 +82,18 @@ module _ (s zs : List ℕ) (o : Option (List Name)) (i : ℕ) (sorts : read_all_
             },
           )
 
--- what a callee laid, by its answer and with its count said otherwise
-module _ (s zs places : List ℕ) (i e n : ℕ) (ok b : Bool) (so : ok ≡ b) (z : n ≡ get_or s i 0) where
-  pub funcs_laid : Laid ok (counted (at_most? max_functions) (read_func zs) (drop i s)) encode_func s e (take (get_or s i 0) places)
-      → Laid b (counted (at_most? max_functions) (read_func zs) (drop i s)) encode_func s e (take n places)
-  funcs_laid h =
-      subst (λ (m : ℕ). Laid b (counted (at_most? max_functions) (read_func zs) (drop i s)) encode_func s e (take m places)) (sym z)
-      (subst (λ (x : Bool). Laid x (counted (at_most? max_functions) (read_func zs) (drop i s)) encode_func s e (take (get_or s i 0) places)) so h)
+-- what a callee laid, with its count said otherwise
+module _ (s zs places : List ℕ) (i n : ℕ) (e : R.Option ℕ) (z : n ≡ get_or s i 0) where
+  pub funcs_laid : Laid (counted (at_most? max_functions) (read_func zs) (drop i s)) encode_func s e (take (get_or s i 0) places)
+      → Laid (counted (at_most? max_functions) (read_func zs) (drop i s)) encode_func s e (take n places)
+  funcs_laid h = subst (λ (m : ℕ). Laid (counted (at_most? max_functions) (read_func zs) (drop i s)) encode_func s e (take m places)) (sym z) h
 
-  pub acts_laid : Laid ok (counted (at_most? max_actions) (read_action zs) (drop i s)) encode_action s e (take (get_or s i 0) places)
-      → Laid b (counted (at_most? max_actions) (read_action zs) (drop i s)) encode_action s e (take n places)
-  acts_laid h =
-      subst (λ (m : ℕ). Laid b (counted (at_most? max_actions) (read_action zs) (drop i s)) encode_action s e (take m places)) (sym z)
-      (subst (λ (x : Bool). Laid x (counted (at_most? max_actions) (read_action zs) (drop i s)) encode_action s e (take (get_or s i 0) places)) so h)
+  pub acts_laid : Laid (counted (at_most? max_actions) (read_action zs) (drop i s)) encode_action s e (take (get_or s i 0) places)
+      → Laid (counted (at_most? max_actions) (read_action zs) (drop i s)) encode_action s e (take n places)
+  acts_laid h = subst (λ (m : ℕ). Laid (counted (at_most? max_actions) (read_action zs) (drop i s)) encode_action s e (take m places)) (sym z) h
 
 -- THE WHOLE SIGNATURE
 
-pub no_sorts : (s : List ℕ) (end : ℕ) (sizes : List ℕ) (named : Bool) (places : List ℕ) (ok : Bool) → ok ≡ false → SortsAt ok s end sizes named places
-    → (o : Option (List Name)) (end' : ℕ) (sizes' funcs acts : List ℕ) → SigRead false o s end' sizes' funcs acts
-unfolding SortsAt SigRead read_sig view pair bind
-no_sorts s end sizes named places ok e h o end' sizes' funcs acts = let m : read_all_sorts s ≡ missing = subst (λ (b : Bool). SortsAt b s end sizes named places) e h in rw m refl
-
-pub sorts_found : (s : List ℕ) (end n m : ℕ) (sizes : List ℕ) (named : Bool) (places : List ℕ) (ok : Bool) → ok ≡ true → m ≡ n → SortsAt ok s end (take n sizes) named places
-    → read_all_sorts s ≡ found (take m sizes, names_there named s places) (drop end s)
-unfolding SortsAt
-sorts_found s end n m sizes named places ok e z h =
-    subst (λ (k : ℕ). read_all_sorts s ≡ found (take k sizes, names_there named s places) (drop end s)) (sym z) (subst (λ (b : Bool). SortsAt b s end (take n sizes) named places) e h)
-
-pub sized_so : (ok : Bool) (o : Option (List Name)) (s : List ℕ) (end n m : ℕ) (sizes funcs acts : List ℕ) → m ≡ n → SigRead ok o s end (take m sizes) funcs acts → SigRead ok o s end (take n sizes) funcs acts
-sized_so ok o s end n m sizes funcs acts z h = subst (λ (k : ℕ). SigRead ok o s end (take k sizes) funcs acts) z h
+pub no_sorts : (s : List ℕ) → read_all_sorts s ≡ missing → read_sig s ≡ missing
+unfolding read_sig view pair bind
+no_sorts s e = rw e refl

@@ -5,9 +5,11 @@ use Prim.Native.Nat.{ℕ, suc, ◌+◌, ◌<◌, ◌≤◌}
 use native.Mathlib.Omega.{arith}
 use native.Mathlib.Decide.{ℕ_discrete}
 use lib.Dec.{T}
-use mathlib.Core.Bool.{Bool, true, false}
+use mathlib.Core.Bool.{true, false}
 use lib.ListN.{length, get_or, take, drop, set}
 use lib.Seq.{take-suc, take-suc-set, take-length, length-take-le}
+use Rattle.std.specs.Prelude as R
+use Rattle.std.specs.Prelude.{Some, None}
 use Rattle.pcrl.specs.Text.{bytes}
 use Rattle.pcrl.specs.Limits.{max_sorts, max_size}
 use Rattle.pcrl.specs.Tests.{Between, both?, between?, T?, same?, distinct, Each}
@@ -25,7 +27,7 @@ use Rattle.terms.specs.Laid.{Laid}
 use Rattle.terms.proofs.Places.{number_at, behind, list_is}
 use Rattle.terms.specs.Ends.{rests}
 use Rattle.terms.proofs.Rests.{number_end, number_bad, number_pass, pair_fail, pair_pass, test_bad, test_pass, missing_there}
-use Rattle.signature.specs.Reading.{BoolAt, names_there, SortsAt}
+use Rattle.signature.specs.Reading.{BoolAt, names_there}
 use Rattle.action_names.proofs.Run.{fails}
 
 module _ (s : List ℕ) (at : ℕ) where
@@ -81,25 +83,25 @@ without_mark [] n = refl
 without_mark (b ∷ xs) n = where_no (ℕ_discrete b names_code) n _ _
 
 module _ (s : List ℕ) (mark : get_or s 0 0 ≡ names_code) where
-  pub no_named : (end : ℕ) (sizes : List ℕ) (places : List ℕ) → counted (between? 1 max_sorts) read_sort (drop 1 s) ≡ missing → SortsAt false s end sizes true places
-  unfolding SortsAt view bind read_named_sorts test
-  no_named end sizes places e = with_mark s mark ∙ rw e refl
+  pub no_named : counted (between? 1 max_sorts) read_sort (drop 1 s) ≡ missing → read_all_sorts s ≡ missing
+  unfolding view bind read_named_sorts test
+  no_named e = with_mark s mark ∙ rw e refl
 
   -- the tests of what was laid
-  module _ (end : ℕ) (places : List ℕ) (laid : Laid true (counted (between? 1 max_sorts) read_sort (drop 1 s)) encode_sort s end places) where
+  module _ (end : ℕ) (places : List ℕ) (laid : Laid (counted (between? 1 max_sorts) read_sort (drop 1 s)) encode_sort s (Some end) places) where
     abbrev First : Type 0
     First = (get_or (map (λ p. get_or s p 0) places) 0 0 ≡ 2) × (get_or (map (λ p. list_at s (p + 1)) places) 0 [] ≡ bytes "Bool")
 
-    pub named_bad : (sizes' places' : List ℕ) (end' : ℕ) → ¬ (First × T (distinct (map (λ p. list_at s (p + 1)) places))) → SortsAt false s end' sizes' true places'
-    unfolding SortsAt view bind read_named_sorts Laid
-    named_bad sizes' places' end' n =
+    pub named_bad : ¬ (First × T (distinct (map (λ p. list_at s (p + 1)) places))) → read_all_sorts s ≡ missing
+    unfolding view bind read_named_sorts Laid
+    named_bad n =
         let (a, b) = parts_stand s laid.0 places laid.2 in
         with_mark s mark
         ∙ rw (test_bad (λ l. both? (ℕ_discrete (get_or (firsts l) 0 0) 2) (both? (T? (distinct (seconds l))) (same? (get_or (seconds l) 0 []) (bytes "Bool")))) (counted (between? 1 max_sorts) read_sort) (drop 1 s) laid.0 (drop end s) laid.1
         (λ h. n ((ap (λ (l : List ℕ). get_or l 0 0) (sym a) ∙ h.0, ap (λ (l : List Name). get_or l 0 []) (sym b) ∙ h.1.1), subst (λ (l : List Name). T (distinct l)) b h.1.0))) refl
 
-    pub named_right : First → T (distinct (map (λ p. list_at s (p + 1)) places)) → SortsAt true s end (map (λ p. get_or s p 0) places) true places
-    unfolding SortsAt names_there view bind read_named_sorts named_sorts Laid
+    pub named_right : First → T (distinct (map (λ p. list_at s (p + 1)) places)) → read_all_sorts s ≡ found (map (λ p. get_or s p 0) places, names_there true s places) (drop end s)
+    unfolding names_there view bind read_named_sorts named_sorts Laid
     named_right f d =
         let (a, b) = parts_stand s laid.0 places laid.2 in
         with_mark s mark
@@ -107,17 +109,17 @@ module _ (s : List ℕ) (mark : get_or s 0 0 ≡ names_code) where
         (ap (λ (l : List ℕ). get_or l 0 0) a ∙ f.0, (subst (λ (l : List Name). T (distinct l)) (sym b) d, ap (λ (l : List Name). get_or l 0 []) b ∙ f.1))) (rw (a, b) refl)
 
 module _ (s : List ℕ) (mark : ¬ (get_or s 0 0 ≡ names_code)) where
-  pub no_unnamed : (end : ℕ) (sizes places : List ℕ) → read_sizes s ≡ missing → SortsAt false s end sizes false places
-  unfolding SortsAt view bind
-  no_unnamed end sizes places e = without_mark s mark ∙ rw e refl
+  pub no_unnamed : read_sizes s ≡ missing → read_all_sorts s ≡ missing
+  unfolding view bind
+  no_unnamed e = without_mark s mark ∙ rw e refl
 
-  pub unnamed_right : (end : ℕ) (places : List ℕ) → read_sizes s ≡ found (list_at s 0) (drop end s) → SortsAt true s end (list_at s 0) false places
-  unfolding SortsAt names_there view bind unnamed_sorts
+  pub unnamed_right : (end : ℕ) (places : List ℕ) → read_sizes s ≡ found (list_at s 0) (drop end s) → read_all_sorts s ≡ found (list_at s 0, names_there false s places) (drop end s)
+  unfolding names_there view bind unnamed_sorts
   unnamed_right end places e = without_mark s mark ∙ rw e refl
 
 -- the sorts that were laid, of which there are n, at the first places of an array
 module _ (s : List ℕ) (mark : get_or s 0 0 ≡ names_code) (sorts : List ℕ) (n end : ℕ) (some_sort : 1 ≤ n) (room : n ≤ length sorts)
-    (laid : Laid true (counted (between? 1 max_sorts) read_sort (drop 1 s)) encode_sort s end (take n sorts)) where
+    (laid : Laid (counted (between? 1 max_sorts) read_sort (drop 1 s)) encode_sort s (Some end) (take n sorts)) where
   first_at : {A : Type 0} (f : ℕ → A) (d : A) → get_or (map f (take n sorts)) 0 d ≡ f (get_or sorts 0 0)
   first_at f d = go n sorts some_sort room
     where
@@ -126,39 +128,29 @@ module _ (s : List ℕ) (mark : get_or s 0 0 ≡ names_code) (sorts : List ℕ) 
       go (ℕ.suc n) [] h k = absurd (omega arith)
       go (ℕ.suc n) (p ∷ l) h k = refl
 
-  pub not_Bool : (sizes' places' : List ℕ) (end' : ℕ) → ¬ (BoolAt s (get_or sorts 0 0)) → SortsAt false s end' sizes' true places'
-  not_Bool sizes' places' end' no' =
-      named_bad s mark end (take n sorts) laid sizes' places' end' (λ h. no' (sym (first_at (λ p. get_or s p 0) 0) ∙ h.0.0, sym (first_at (λ p. list_at s (p + 1)) []) ∙ h.0.1))
+  pub not_Bool : ¬ (BoolAt s (get_or sorts 0 0)) → read_all_sorts s ≡ missing
+  not_Bool no' =
+      named_bad s mark end (take n sorts) laid (λ h. no' (sym (first_at (λ p. get_or s p 0) 0) ∙ h.0.0, sym (first_at (λ p. list_at s (p + 1)) []) ∙ h.0.1))
 
-  pub not_distinct : (sizes' places' : List ℕ) (end' : ℕ) → distinct (map (λ p. list_at s (p + 1)) (take n sorts)) ≡ false → SortsAt false s end' sizes' true places'
-  not_distinct sizes' places' end' e = named_bad s mark end (take n sorts) laid sizes' places' end' (λ h. fails _ e h.1)
+  pub not_distinct : distinct (map (λ p. list_at s (p + 1)) (take n sorts)) ≡ false → read_all_sorts s ≡ missing
+  not_distinct e = named_bad s mark end (take n sorts) laid (λ h. fails _ e h.1)
 
   pub sorts_right : (sizes : List ℕ) → BoolAt s (get_or sorts 0 0) → distinct (map (λ p. list_at s (p + 1)) (take n sorts)) ≡ true
-      → take (length (take n sorts)) sizes ≡ map (λ p. get_or s p 0) (take n sorts) → SortsAt true s end (take n sizes) true (take n sorts)
+      → take (length (take n sorts)) sizes ≡ map (λ p. get_or s p 0) (take n sorts) → read_all_sorts s ≡ found (take n sizes, names_there true s (take n sorts)) (drop end s)
   sorts_right sizes b d e =
       let l : length (take n sorts) ≡ n = length-take-le n sorts room in
       let sized : take n sizes ≡ map (λ p. get_or s p 0) (take n sorts) = ap (λ (m : ℕ). take m sizes) (sym l) ∙ e in
-      subst (λ (zs : List ℕ). SortsAt true s end zs true (take n sorts)) (sym sized)
+      subst (λ (zs : List ℕ). read_all_sorts s ≡ found (zs, names_there true s (take n sorts)) (drop end s)) (sym sized)
       (named_right s mark end (take n sorts) laid (first_at (λ p. get_or s p 0) 0 ∙ b.0, first_at (λ p. list_at s (p + 1)) [] ∙ b.1) (of_true _ d))
 
-pub named_missing : (s : List ℕ) → get_or s 0 0 ≡ names_code → (e : ℕ) (places sizes' places' : List ℕ) (end' : ℕ) → Laid false (counted (between? 1 max_sorts) read_sort (drop 1 s)) encode_sort s e places
-    → SortsAt false s end' sizes' true places'
+-- what was laid, with the count said otherwise
+pub named_laid : (s places : List ℕ) (n : ℕ) (e : R.Option ℕ) → n ≡ get_or s 1 0 → Laid (counted (between? 1 max_sorts) read_sort (drop 1 s)) encode_sort s e (take (get_or s 1 0) places)
+    → Laid (counted (between? 1 max_sorts) read_sort (drop 1 s)) encode_sort s e (take n places)
+named_laid s places n e z h = subst (λ (m : ℕ). Laid (counted (between? 1 max_sorts) read_sort (drop 1 s)) encode_sort s e (take m places)) (sym z) h
+
+pub named_missing : (s places : List ℕ) → get_or s 0 0 ≡ names_code → Laid (counted (between? 1 max_sorts) read_sort (drop 1 s)) encode_sort s None places → read_all_sorts s ≡ missing
 unfolding Laid
-named_missing s mark e places sizes' places' end' h = no_named s mark end' sizes' places' h
-
--- what was laid, by the answer and with the count said otherwise
-pub named_laid : (s places : List ℕ) (e n : ℕ) (ok b : Bool) → ok ≡ b → n ≡ get_or s 1 0 → Laid ok (counted (between? 1 max_sorts) read_sort (drop 1 s)) encode_sort s e (take (get_or s 1 0) places)
-    → Laid b (counted (between? 1 max_sorts) read_sort (drop 1 s)) encode_sort s e (take n places)
-named_laid s places e n ok b so z h =
-    subst (λ (m : ℕ). Laid b (counted (between? 1 max_sorts) read_sort (drop 1 s)) encode_sort s e (take m places)) (sym z)
-    (subst (λ (x : Bool). Laid x (counted (between? 1 max_sorts) read_sort (drop 1 s)) encode_sort s e (take (get_or s 1 0) places)) so h)
-
--- one byte more of a list
-pub byte_more : (l sizes : List ℕ) (k k' v : ℕ) → k < length l → length l ≤ length sizes → k' ≡ suc k → v ≡ get_or l k 0 → take k sizes ≡ take k l → take k' (set sizes k v) ≡ take k' l
-byte_more l sizes k k' v h m z e f = rw (z, take-suc-set sizes k v (omega arith), take-suc l k 0 h, f, e)
-
-pub list_whole : (l sizes : List ℕ) (k : ℕ) → length l ≤ k → k ≤ length l → take k sizes ≡ take k l → take (length l) sizes ≡ l
-list_whole l sizes k h m e = let z : k ≡ length l = omega arith in subst (λ (m : ℕ). take m sizes ≡ take m l) z e ∙ take-length l
+named_missing s places mark h = no_named s mark h
 
 -- SIZES WITHOUT NAMES
 
@@ -166,10 +158,10 @@ pub few_sizes : (s ys : List ℕ) → rests (read_sizes s) ≡ found tt ys → l
 unfolding RightSizes
 few_sizes s ys e = (sizes_law.back s (list_at s 0) ys (sizes_value s 0 ys e)).1.0.0.1
 
-pub sizes_missing : (s : List ℕ) → (get_or s 0 0 ≡ names_code → ⊥) → (end : ℕ) (sizes places : List ℕ) → rests (read_sizes s) ≡ missing → SortsAt false s end sizes false places
-sizes_missing s mark end sizes places e = no_unnamed s mark end sizes places (missing_there (read_sizes s) e)
+pub sizes_missing : (s : List ℕ) → (get_or s 0 0 ≡ names_code → ⊥) → rests (read_sizes s) ≡ missing → read_all_sorts s ≡ missing
+sizes_missing s mark e = no_unnamed s mark (missing_there (read_sizes s) e)
 
 pub sizes_right : (s : List ℕ) → (get_or s 0 0 ≡ names_code → ⊥) → (end : ℕ) (l sizes places : List ℕ) → rests (read_sizes s) ≡ found tt (drop end s) → l ≡ list_at s 0 → take (length l) sizes ≡ l
-    → SortsAt true s end (take (length l) sizes) false places
+    → read_all_sorts s ≡ found (take (length l) sizes, names_there false s places) (drop end s)
 sizes_right s mark end l sizes places e z t =
-    subst (λ (zs : List ℕ). SortsAt true s end zs false places) (sym (t ∙ z)) (unnamed_right s mark end places (sizes_value s 0 (drop end s) e))
+    subst (λ (zs : List ℕ). read_all_sorts s ≡ found (zs, names_there false s places) (drop end s)) (sym (t ∙ z)) (unnamed_right s mark end places (sizes_value s 0 (drop end s) e))

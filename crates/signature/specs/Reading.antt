@@ -1,11 +1,13 @@
 -- A signature that is read from the start of a stream, and where its functions and actions stand.
-use Rattle.std.specs.Prelude.{◌≡◌, List, map, Bool, true, false, ℕ, ◌+◌, get_or, drop}
+use Rattle.std.specs.Prelude.{◌≡◌, List, map, Bool, true, false, ℕ, ◌+◌, get_or, take, drop}
+use Rattle.std.specs.Prelude as R
 use Rattle.std.proofs.Math.Option.{Option, none, some}
 use Rattle.pcrl.specs.Text.{bytes}
 use Rattle.pcrl.specs.Reader.{missing, found}
 use Rattle.pcrl.specs.Sheet.{Sig}
 use Rattle.pcrl.specs.Table.{Layout}
 use Rattle.pcrl.specs.Decode.{read_all_sorts, layout_by, names_by, read_sig}
+use Rattle.signature.specs.declared.SortList.{SortList}
 use Rattle.terms.specs.Stands.{list_at, KnownData, KnownActs}
 
 -- "Bool first": a sort of size 2 that is named Bool stands at a place
@@ -17,10 +19,10 @@ unfoldable pub names_there : Bool → List ℕ → List ℕ → Option (List (Li
 names_there true s places = some (map (λ p. list_at s (p + 1)) places)
 names_there false s places = none
 
--- the sorts that end at a place: their sizes, whether their names stand there, and where each sort stands
-unfoldable pub SortsAt : Bool → List ℕ → ℕ → List ℕ → Bool → List ℕ → Type 0
-SortsAt true s end sizes named places = read_all_sorts s ≡ found (sizes, names_there named s places) (drop end s)
-SortsAt false s end sizes named places = read_all_sorts s ≡ missing
+-- the sorts: their sizes and where each stands in front of the arrays, whether their names stand there, and where they end
+abbrev pub SortsRead : List ℕ → List ℕ → List ℕ → R.Option SortList → Type 0
+SortsRead s sizes sorts (R.Some r) = read_all_sorts s ≡ found (take r.count sizes, names_there r.named s (take r.count sorts)) (drop r.at s)
+SortsRead s sizes sorts R.None = read_all_sorts s ≡ missing
 
 -- the signature that ends at a place, with the names o of its sorts, if they stand in the stream
 pub record SigAt (L : Layout) (S : Sig) (o : Option (List (List ℕ))) (s : List ℕ) (end : ℕ) (sizes funcs acts : List ℕ) : Type 0 where
@@ -30,6 +32,5 @@ pub record SigAt (L : Layout) (S : Sig) (o : Option (List (List ℕ))) (s : List
   pub data_known : KnownData S s sizes funcs
   pub acts_known : KnownActs S s acts
 
-unfoldable pub SigRead : Bool → Option (List (List ℕ)) → List ℕ → ℕ → List ℕ → List ℕ → List ℕ → Type 0
-SigRead true o s end sizes funcs acts = (L : Layout) × (S : Sig) × SigAt L S o s end sizes funcs acts
-SigRead false o s end sizes funcs acts = read_sig s ≡ missing
+unfoldable pub SigRead : Option (List (List ℕ)) → List ℕ → ℕ → List ℕ → List ℕ → List ℕ → Type 0
+SigRead o s end sizes funcs acts = (L : Layout) × (S : Sig) × SigAt L S o s end sizes funcs acts

@@ -2,6 +2,7 @@
 use mathlib.Core.Path.{◌≡◌, refl, sym, ap, ◌∙◌}
 use mathlib.Core.List.{List, ◌∷◌}
 use Prim.Native.Nat.{ℕ, suc, ◌<◌, ◌≤◌}
+use Rattle.std.specs.Prelude.{Option, Some, None, OnSome}
 use lib.ListN.{length, get_or, drop, drop_of_length-le}
 use lib.Seq.{drop-cons}
 use Rattle.pcrl.specs.Reader.{Got, missing, found, Reader, bind, keep, one, test, pair, view, times, counted, each}
@@ -168,3 +169,8 @@ module _ {A B : Type 0} (r : A → Reader ℕ B) (l : List A) (d : A) (k : ℕ) 
   pub each_done : (xs : List ℕ) → length l ≤ k → rests (each r (drop k l) xs) ≡ found tt xs
   unfolding each rests
   each_done xs h = rw (drop_of_length-le l {i = k} h)
+
+-- what holds anyway holds where something was answered
+pub on_some : {A P : Type 0} (r : Option A) → P → OnSome r P
+on_some None h = tt
+on_some (Some x) h = h

@@ -1,18 +1,16 @@
 -- Bool first, then the words.
-use mathlib.Core.Path.{◌∙◌, sym}
+use mathlib.Core.Path.{◌∙◌, ap, sym}
+use Rattle.std.specs.Cmp.Lexicographic.{same_text, other_text}
+use Rattle.std.specs.Option.{is_some}
 use Rattle.pcrl.specs.Text.{bytes}
 use Rattle.pcrl.specs.Tokens.{words}
-use Rattle.laws.specs.Says.{said_yes, said_no}
-use Rattle.action_names.proofs.Alike.{among_first, among_later, word_among, word_missing}
+use Rattle.action_names.proofs.Alike.{among_first, among_later, word_among}
 use Rattle.action_names.proofs.reserved.Goals as goal
 
-pub returns-then-same : goal.returns-then-same
-returns-then-same c = sym (among_first c.args.n.now (bytes "Bool") words (said_yes c.same.result c.same.ensures c.if-same.true))
-
-pub returns-then-word-eq-NO_TOKEN : goal.returns-then-word-eq-NO_TOKEN
-returns-then-word-eq-NO_TOKEN c = let n = c.args.n.now in
-    sym (among_later n (bytes "Bool") words (said_no c.same.result c.same.ensures c.if-same.false) ∙ word_missing n (sym c.word.ensures ∙ c.if-word-eq-NO_TOKEN.true))
+pub returns-then-eq : goal.returns-then-eq
+returns-then-eq c = sym (among_first c.args.n.now (bytes "Bool") words (same_text c.args.n.now c.as_slice.result.now c.if-eq.ensures ∙ c.as_slice.ensures))
 
 pub returns : goal.returns
 returns c = let n = c.args.n.now in
-    sym (among_later n (bytes "Bool") words (said_no c.same.result c.same.ensures c.if-same.false) ∙ word_among n (λ e. c.if-word-eq-NO_TOKEN.false (c.word.ensures ∙ e)))
+    c.is_some.ensures ∙ ap is_some c.word.ensures ∙ word_among n
+    ∙ sym (among_later n (bytes "Bool") words (λ e. other_text n c.as_slice.result.now c.if-eq.ensures (e ∙ sym c.as_slice.ensures)))

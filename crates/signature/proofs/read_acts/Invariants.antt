@@ -12,4 +12,3 @@ use Rattle.signature.proofs.read_acts.Given as goal
 abbrev pub invariant-loop-k : goal.invariant-loop-k
 invariant-loop-k l = (l.k ≤ l.n) × (length l.acts ≡ length l.initial.acts) × (l.n ≤ length l.acts) × (length l.s < 65536) × (l.n ≡ get_or l.s l.at 0) × (l.n ≤ max_actions)
     × Laying (counted (at_most? max_actions) (read_action l.sizes) (drop l.at l.s)) (times (read_action l.sizes) (l.n - l.k) (drop l.i l.s)) encode_action l.s (take l.k l.acts)
-

@@ -1,11 +1,9 @@
 -- One function a turn; where it stands is kept.
 use mathlib.Core.Path.{◌∙◌, ◌≡◌, ap, refl, subst}
-use mathlib.Core.Bool.{true}
+use Rattle.std.specs.Prelude.{Some}
 use Prim.Native.Nat.{◌+◌, ◌-◌, ◌≤◌, ℕ}
 use native.Mathlib.Omega.{arith}
 use lib.ListN.{drop, get_or, length-set, take}
-use borrow.Author.Tests.{not-false, not-true}
-use Rattle.laws.specs.Booleans.{false_not_true}
 use Rattle.codec.specs.StreamLaws.{func_law}
 use Rattle.pcrl.specs.Decode.{read_func}
 use Rattle.pcrl.specs.Limits.{max_functions}
@@ -13,15 +11,15 @@ use Rattle.pcrl.specs.Reader.{counted, times}
 use Rattle.pcrl.specs.Stream.{encode_func}
 use Rattle.pcrl.specs.Tests.{at_most?}
 use Rattle.terms.proofs.Laying.{lay_done, lay_fail, lay_pass, lay_start, not_laid, times_more, times_none}
-use Rattle.terms.proofs.Rests.{counted_bad, counted_end, counted_pass, failed, missing_there, passed}
+use Rattle.terms.proofs.Rests.{counted_bad, counted_end, counted_pass, missing_there}
 use Rattle.terms.specs.Laid.{Laid}
 use Rattle.signature.proofs.read_funcs.Goals as goal
 
 pub returns-then-s-at : goal.returns-then-s-at
-returns-then-s-at c = (not_laid (counted (at_most? max_functions) (read_func c.args.sizes.now) (drop c.args.at c.args.s.now)) encode_func c.args.s.now 0 _ (missing_there (counted (at_most? max_functions) (read_func c.args.sizes.now) (drop c.args.at c.args.s.now)) (counted_end (at_most? max_functions) c.args.s.now c.args.at (read_func c.args.sizes.now) c.if-s-at.true)), λ h. false_not_true h)
+returns-then-s-at c = (not_laid (counted (at_most? max_functions) (read_func c.args.sizes.now) (drop c.args.at c.args.s.now)) encode_func c.args.s.now _ (missing_there (counted (at_most? max_functions) (read_func c.args.sizes.now) (drop c.args.at c.args.s.now)) (counted_end (at_most? max_functions) c.args.s.now c.args.at (read_func c.args.sizes.now) c.if-s-at.true)), tt)
 
 pub returns-then-n-gt-MAX_FUNCTIONS : goal.returns-then-n-gt-MAX_FUNCTIONS
-returns-then-n-gt-MAX_FUNCTIONS c = (not_laid (counted (at_most? max_functions) (read_func c.args.sizes.now) (drop c.args.at c.args.s.now)) encode_func c.args.s.now 0 _ (missing_there (counted (at_most? max_functions) (read_func c.args.sizes.now) (drop c.args.at c.args.s.now)) (counted_bad (at_most? max_functions) c.args.s.now c.args.at (read_func c.args.sizes.now) (omega arith) (λ (h : get_or c.args.s.now c.args.at 0 ≤ max_functions). omega arith))), λ h. false_not_true h)
+returns-then-n-gt-MAX_FUNCTIONS c = (not_laid (counted (at_most? max_functions) (read_func c.args.sizes.now) (drop c.args.at c.args.s.now)) encode_func c.args.s.now _ (missing_there (counted (at_most? max_functions) (read_func c.args.sizes.now) (drop c.args.at c.args.s.now)) (counted_bad (at_most? max_functions) c.args.s.now c.args.at (read_func c.args.sizes.now) (omega arith) (λ (h : get_or c.args.s.now c.args.at 0 ≤ max_functions). omega arith))), tt)
 
 pub loop-k-init : goal.loop-k-init
 loop-k-init c = let z : get_or c.args.s.now c.args.at 0 ≡ c.wide-n.result - 0 = omega arith in
@@ -35,14 +33,15 @@ loop-k-init c = let z : get_or c.args.s.now c.args.at 0 ≡ c.wide-n.result - 0 
       lay_start (counted (at_most? max_functions) (read_func c.args.sizes.now) (drop c.args.at c.args.s.now)) encode_func c.args.s.now (times (read_func c.args.sizes.now) (c.wide-n.result - 0) (drop (c.args.at + 1) c.args.s.now)) (counted_pass (at_most? max_functions) c.args.s.now c.args.at (read_func c.args.sizes.now) (c.args.at + 1) (omega arith) (omega arith) (omega arith) ∙ ap (λ (m : ℕ). times (read_func c.args.sizes.now) m (drop (c.args.at + 1) c.args.s.now)) z),
     )
 
-pub shape_of-funcs-then-not-t : goal.shape_of-funcs-then-not-t
-shape_of-funcs-then-not-t c = c.loop-k.invariant.1
+pub shape_of-funcs-in_err-next : goal.shape_of-funcs-in_err-next
+shape_of-funcs-in_err-next c = c.loop-k.invariant.1
 
-pub returns-then-not-t : goal.returns-then-not-t
-returns-then-not-t c = (not_laid (counted (at_most? max_functions) (read_func c.args.sizes.now) (drop c.args.at c.args.s.now)) encode_func c.args.s.now 0 _ (lay_fail (counted (at_most? max_functions) (read_func c.args.sizes.now) (drop c.args.at c.args.s.now)) encode_func c.args.s.now (read_func c.args.sizes.now) (times (read_func c.args.sizes.now) (c.wide-n.result - c.loop-k.k - 1)) (times (read_func c.args.sizes.now) (c.wide-n.result - c.loop-k.k) (drop c.loop-k.i c.args.s.now)) (take c.loop-k.k c.loop-k.funcs) (drop c.loop-k.i c.args.s.now) c.loop-k.invariant.6 (times_more (read_func c.args.sizes.now) (c.wide-n.result - c.loop-k.k) (c.wide-n.result - c.loop-k.k - 1) (drop c.loop-k.i c.args.s.now) (omega arith)) (failed ((read_func c.args.sizes.now) (drop c.loop-k.i c.args.s.now)) c.read_func-t.result.ok (drop c.read_func-t.result.at c.args.s.now) c.read_func-t.ensures.0 (not-true _ c.if-not-t.true))), λ h. false_not_true h)
+pub returns-in_err-next : goal.returns-in_err-next
+returns-in_err-next c =
+    rw c.from_residual.ensures (not_laid (counted (at_most? max_functions) (read_func c.args.sizes.now) (drop c.args.at c.args.s.now)) encode_func c.args.s.now _ (lay_fail (counted (at_most? max_functions) (read_func c.args.sizes.now) (drop c.args.at c.args.s.now)) encode_func c.args.s.now (read_func c.args.sizes.now) (times (read_func c.args.sizes.now) (c.wide-n.result - c.loop-k.k - 1)) (times (read_func c.args.sizes.now) (c.wide-n.result - c.loop-k.k) (drop c.loop-k.i c.args.s.now)) (take c.loop-k.k c.loop-k.funcs) (drop c.loop-k.i c.args.s.now) c.loop-k.invariant.6 (times_more (read_func c.args.sizes.now) (c.wide-n.result - c.loop-k.k) (c.wide-n.result - c.loop-k.k - 1) (drop c.loop-k.i c.args.s.now) (omega arith)) (c.in_err-next.ensures.0)), tt)
 
 pub overflow_cast-funcs : goal.overflow_cast-funcs
-overflow_cast-funcs c = let h = c.read_func-t.ensures.1 (not-false _ c.if-not-t.false) in omega arith
+overflow_cast-funcs c = let h = c.in_ok-next.ensures.1 in omega arith
 
 pub loop-k-preserved : goal.loop-k-preserved
 loop-k-preserved c = (
@@ -52,7 +51,7 @@ loop-k-preserved c = (
   c.loop-k.invariant.3,
   c.loop-k.invariant.4,
   c.loop-k.invariant.5,
-  lay_pass (counted (at_most? max_functions) (read_func c.args.sizes.now) (drop c.args.at c.args.s.now)) encode_func c.args.s.now (read_func c.args.sizes.now) (func_law c.args.sizes.now) (times (read_func c.args.sizes.now) (c.wide-n.result - (c.loop-k.k + 1))) (times (read_func c.args.sizes.now) (c.wide-n.result - c.loop-k.k) (drop c.loop-k.i c.args.s.now)) c.loop-k.funcs c.loop-k.k (c.loop-k.k + 1) c.loop-k.i c.read_func-t.result.at c.loop-k.invariant.6 (times_more (read_func c.args.sizes.now) (c.wide-n.result - c.loop-k.k) (c.wide-n.result - (c.loop-k.k + 1)) (drop c.loop-k.i c.args.s.now) (omega arith)) (omega arith) (omega arith) (passed ((read_func c.args.sizes.now) (drop c.loop-k.i c.args.s.now)) c.read_func-t.result.ok (drop c.read_func-t.result.at c.args.s.now) c.read_func-t.ensures.0 (not-false _ c.if-not-t.false)),
+  lay_pass (counted (at_most? max_functions) (read_func c.args.sizes.now) (drop c.args.at c.args.s.now)) encode_func c.args.s.now (read_func c.args.sizes.now) (func_law c.args.sizes.now) (times (read_func c.args.sizes.now) (c.wide-n.result - (c.loop-k.k + 1))) (times (read_func c.args.sizes.now) (c.wide-n.result - c.loop-k.k) (drop c.loop-k.i c.args.s.now)) c.loop-k.funcs c.loop-k.k (c.loop-k.k + 1) c.loop-k.i c.in_ok-next.next c.loop-k.invariant.6 (times_more (read_func c.args.sizes.now) (c.wide-n.result - c.loop-k.k) (c.wide-n.result - (c.loop-k.k + 1)) (drop c.loop-k.i c.args.s.now) (omega arith)) (omega arith) (omega arith) (c.in_ok-next.ensures.0),
 )
 
 pub shape_of-funcs : goal.shape_of-funcs
@@ -60,4 +59,4 @@ shape_of-funcs c = c.loop-k.invariant.1
 
 pub returns : goal.returns
 returns c = let z : c.loop-k.k ≡ get_or c.args.s.now c.args.at 0 = omega arith in
-    (subst (λ (m : ℕ). Laid true (counted (at_most? max_functions) (read_func c.args.sizes.now) (drop c.args.at c.args.s.now)) encode_func c.args.s.now c.loop-k.i (take m c.loop-k.funcs)) z (lay_done (counted (at_most? max_functions) (read_func c.args.sizes.now) (drop c.args.at c.args.s.now)) encode_func c.args.s.now (times (read_func c.args.sizes.now) (c.wide-n.result - c.loop-k.k) (drop c.loop-k.i c.args.s.now)) (take c.loop-k.k c.loop-k.funcs) c.loop-k.i c.loop-k.invariant.6 (times_none (read_func c.args.sizes.now) (c.wide-n.result - c.loop-k.k) (drop c.loop-k.i c.args.s.now) (omega arith))), λ h. omega arith)
+    (subst (λ (m : ℕ). Laid (counted (at_most? max_functions) (read_func c.args.sizes.now) (drop c.args.at c.args.s.now)) encode_func c.args.s.now (Some c.loop-k.i) (take m c.loop-k.funcs)) z (lay_done (counted (at_most? max_functions) (read_func c.args.sizes.now) (drop c.args.at c.args.s.now)) encode_func c.args.s.now (times (read_func c.args.sizes.now) (c.wide-n.result - c.loop-k.k) (drop c.loop-k.i c.args.s.now)) (take c.loop-k.k c.loop-k.funcs) c.loop-k.i c.loop-k.invariant.6 (times_none (read_func c.args.sizes.now) (c.wide-n.result - c.loop-k.k) (drop c.loop-k.i c.args.s.now) (omega arith))), omega arith)

@@ -12,4 +12,3 @@ use Rattle.signature.proofs.read_funcs.Given as goal
 abbrev pub invariant-loop-k : goal.invariant-loop-k
 invariant-loop-k l = (l.k ≤ l.n) × (length l.funcs ≡ length l.initial.funcs) × (l.n ≤ length l.funcs) × (length l.s < 65536) × (l.n ≡ get_or l.s l.at 0) × (l.n ≤ max_functions)
     × Laying (counted (at_most? max_functions) (read_func l.sizes) (drop l.at l.s)) (times (read_func l.sizes) (l.n - l.k) (drop l.i l.s)) encode_func l.s (take l.k l.funcs)
-

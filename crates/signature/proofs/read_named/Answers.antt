@@ -1,11 +1,9 @@
 -- One sort a turn; where it stands is kept.
 use mathlib.Core.Path.{◌∙◌, ◌≡◌, ap, refl, subst}
-use mathlib.Core.Bool.{true}
+use Rattle.std.specs.Prelude.{Some}
 use Prim.Native.Nat.{◌+◌, ◌-◌, ℕ}
 use native.Mathlib.Omega.{arith}
 use lib.ListN.{drop, get_or, length-set, take}
-use borrow.Author.Tests.{not-false, not-true}
-use Rattle.laws.specs.Booleans.{false_not_true}
 use Rattle.codec.specs.StreamLaws.{sort_law}
 use Rattle.pcrl.specs.Decode.{read_sort}
 use Rattle.pcrl.specs.Limits.{max_sorts}
@@ -13,18 +11,18 @@ use Rattle.pcrl.specs.Reader.{counted, times}
 use Rattle.pcrl.specs.Stream.{encode_sort}
 use Rattle.pcrl.specs.Tests.{between?}
 use Rattle.terms.proofs.Laying.{lay_done, lay_fail, lay_pass, lay_start, not_laid, times_more, times_none}
-use Rattle.terms.proofs.Rests.{counted_bad, counted_end, counted_pass, failed, missing_there, passed}
+use Rattle.terms.proofs.Rests.{counted_bad, counted_end, counted_pass, missing_there}
 use Rattle.terms.specs.Laid.{Laid}
 use Rattle.signature.proofs.read_named.Goals as goal
 
 pub returns-then-s-at : goal.returns-then-s-at
-returns-then-s-at c = (not_laid (counted (between? 1 max_sorts) read_sort (drop c.args.at c.args.s.now)) encode_sort c.args.s.now 0 _ (missing_there (counted (between? 1 max_sorts) read_sort (drop c.args.at c.args.s.now)) (counted_end (between? 1 max_sorts) c.args.s.now c.args.at read_sort c.if-s-at.true)), λ h. false_not_true h)
+returns-then-s-at c = (not_laid (counted (between? 1 max_sorts) read_sort (drop c.args.at c.args.s.now)) encode_sort c.args.s.now _ (missing_there (counted (between? 1 max_sorts) read_sort (drop c.args.at c.args.s.now)) (counted_end (between? 1 max_sorts) c.args.s.now c.args.at read_sort c.if-s-at.true)), tt)
 
 pub returns-then-n-lt1 : goal.returns-then-n-lt1
-returns-then-n-lt1 c = (not_laid (counted (between? 1 max_sorts) read_sort (drop c.args.at c.args.s.now)) encode_sort c.args.s.now 0 _ (missing_there (counted (between? 1 max_sorts) read_sort (drop c.args.at c.args.s.now)) (counted_bad (between? 1 max_sorts) c.args.s.now c.args.at read_sort (omega arith) (λ k. let l = k.0 in omega arith))), λ h. false_not_true h)
+returns-then-n-lt1 c = (not_laid (counted (between? 1 max_sorts) read_sort (drop c.args.at c.args.s.now)) encode_sort c.args.s.now _ (missing_there (counted (between? 1 max_sorts) read_sort (drop c.args.at c.args.s.now)) (counted_bad (between? 1 max_sorts) c.args.s.now c.args.at read_sort (omega arith) (λ k. let l = k.0 in omega arith))), tt)
 
 pub returns-then-n-gt-MAX_SORTS : goal.returns-then-n-gt-MAX_SORTS
-returns-then-n-gt-MAX_SORTS c = (not_laid (counted (between? 1 max_sorts) read_sort (drop c.args.at c.args.s.now)) encode_sort c.args.s.now 0 _ (missing_there (counted (between? 1 max_sorts) read_sort (drop c.args.at c.args.s.now)) (counted_bad (between? 1 max_sorts) c.args.s.now c.args.at read_sort (omega arith) (λ k. let l = k.1 in omega arith))), λ h. false_not_true h)
+returns-then-n-gt-MAX_SORTS c = (not_laid (counted (between? 1 max_sorts) read_sort (drop c.args.at c.args.s.now)) encode_sort c.args.s.now _ (missing_there (counted (between? 1 max_sorts) read_sort (drop c.args.at c.args.s.now)) (counted_bad (between? 1 max_sorts) c.args.s.now c.args.at read_sort (omega arith) (λ k. let l = k.1 in omega arith))), tt)
 
 pub loop-k-init : goal.loop-k-init
 loop-k-init c = let z : get_or c.args.s.now c.args.at 0 ≡ c.wide-n.result - 0 = omega arith in
@@ -38,14 +36,15 @@ loop-k-init c = let z : get_or c.args.s.now c.args.at 0 ≡ c.wide-n.result - 0 
       lay_start (counted (between? 1 max_sorts) read_sort (drop c.args.at c.args.s.now)) encode_sort c.args.s.now (times read_sort (c.wide-n.result - 0) (drop (c.args.at + 1) c.args.s.now)) (counted_pass (between? 1 max_sorts) c.args.s.now c.args.at read_sort (c.args.at + 1) (omega arith) (omega arith) (omega arith, omega arith) ∙ ap (λ (m : ℕ). times read_sort m (drop (c.args.at + 1) c.args.s.now)) z),
     )
 
-pub shape_of-sorts-then-not-t : goal.shape_of-sorts-then-not-t
-shape_of-sorts-then-not-t c = c.loop-k.invariant.1
+pub shape_of-sorts-in_err-next : goal.shape_of-sorts-in_err-next
+shape_of-sorts-in_err-next c = c.loop-k.invariant.1
 
-pub returns-then-not-t : goal.returns-then-not-t
-returns-then-not-t c = (not_laid (counted (between? 1 max_sorts) read_sort (drop c.args.at c.args.s.now)) encode_sort c.args.s.now 0 _ (lay_fail (counted (between? 1 max_sorts) read_sort (drop c.args.at c.args.s.now)) encode_sort c.args.s.now read_sort (times read_sort (c.wide-n.result - c.loop-k.k - 1)) (times read_sort (c.wide-n.result - c.loop-k.k) (drop c.loop-k.i c.args.s.now)) (take c.loop-k.k c.loop-k.sorts) (drop c.loop-k.i c.args.s.now) c.loop-k.invariant.6 (times_more read_sort (c.wide-n.result - c.loop-k.k) (c.wide-n.result - c.loop-k.k - 1) (drop c.loop-k.i c.args.s.now) (omega arith)) (failed (read_sort (drop c.loop-k.i c.args.s.now)) c.read_sort-t.result.ok (drop c.read_sort-t.result.at c.args.s.now) c.read_sort-t.ensures.0 (not-true _ c.if-not-t.true))), λ h. false_not_true h)
+pub returns-in_err-next : goal.returns-in_err-next
+returns-in_err-next c =
+    rw c.from_residual.ensures (not_laid (counted (between? 1 max_sorts) read_sort (drop c.args.at c.args.s.now)) encode_sort c.args.s.now _ (lay_fail (counted (between? 1 max_sorts) read_sort (drop c.args.at c.args.s.now)) encode_sort c.args.s.now read_sort (times read_sort (c.wide-n.result - c.loop-k.k - 1)) (times read_sort (c.wide-n.result - c.loop-k.k) (drop c.loop-k.i c.args.s.now)) (take c.loop-k.k c.loop-k.sorts) (drop c.loop-k.i c.args.s.now) c.loop-k.invariant.6 (times_more read_sort (c.wide-n.result - c.loop-k.k) (c.wide-n.result - c.loop-k.k - 1) (drop c.loop-k.i c.args.s.now) (omega arith)) (c.in_err-next.ensures.0)), tt)
 
 pub overflow_cast-sorts : goal.overflow_cast-sorts
-overflow_cast-sorts c = let h = c.read_sort-t.ensures.1 (not-false _ c.if-not-t.false) in omega arith
+overflow_cast-sorts c = let h = c.in_ok-next.ensures.1 in omega arith
 
 pub loop-k-preserved : goal.loop-k-preserved
 loop-k-preserved c = (
@@ -55,7 +54,7 @@ loop-k-preserved c = (
   c.loop-k.invariant.3,
   c.loop-k.invariant.4,
   c.loop-k.invariant.5,
-  lay_pass (counted (between? 1 max_sorts) read_sort (drop c.args.at c.args.s.now)) encode_sort c.args.s.now read_sort sort_law (times read_sort (c.wide-n.result - (c.loop-k.k + 1))) (times read_sort (c.wide-n.result - c.loop-k.k) (drop c.loop-k.i c.args.s.now)) c.loop-k.sorts c.loop-k.k (c.loop-k.k + 1) c.loop-k.i c.read_sort-t.result.at c.loop-k.invariant.6 (times_more read_sort (c.wide-n.result - c.loop-k.k) (c.wide-n.result - (c.loop-k.k + 1)) (drop c.loop-k.i c.args.s.now) (omega arith)) (omega arith) (omega arith) (passed (read_sort (drop c.loop-k.i c.args.s.now)) c.read_sort-t.result.ok (drop c.read_sort-t.result.at c.args.s.now) c.read_sort-t.ensures.0 (not-false _ c.if-not-t.false)),
+  lay_pass (counted (between? 1 max_sorts) read_sort (drop c.args.at c.args.s.now)) encode_sort c.args.s.now read_sort sort_law (times read_sort (c.wide-n.result - (c.loop-k.k + 1))) (times read_sort (c.wide-n.result - c.loop-k.k) (drop c.loop-k.i c.args.s.now)) c.loop-k.sorts c.loop-k.k (c.loop-k.k + 1) c.loop-k.i c.in_ok-next.next c.loop-k.invariant.6 (times_more read_sort (c.wide-n.result - c.loop-k.k) (c.wide-n.result - (c.loop-k.k + 1)) (drop c.loop-k.i c.args.s.now) (omega arith)) (omega arith) (omega arith) (c.in_ok-next.ensures.0),
 )
 
 pub shape_of-sorts : goal.shape_of-sorts
@@ -63,4 +62,4 @@ shape_of-sorts c = c.loop-k.invariant.1
 
 pub returns : goal.returns
 returns c = let z : c.loop-k.k ≡ get_or c.args.s.now c.args.at 0 = omega arith in
-    (subst (λ (m : ℕ). Laid true (counted (between? 1 max_sorts) read_sort (drop c.args.at c.args.s.now)) encode_sort c.args.s.now c.loop-k.i (take m c.loop-k.sorts)) z (lay_done (counted (between? 1 max_sorts) read_sort (drop c.args.at c.args.s.now)) encode_sort c.args.s.now (times read_sort (c.wide-n.result - c.loop-k.k) (drop c.loop-k.i c.args.s.now)) (take c.loop-k.k c.loop-k.sorts) c.loop-k.i c.loop-k.invariant.6 (times_none read_sort (c.wide-n.result - c.loop-k.k) (drop c.loop-k.i c.args.s.now) (omega arith))), λ h. (omega arith, omega arith))
+    (subst (λ (m : ℕ). Laid (counted (between? 1 max_sorts) read_sort (drop c.args.at c.args.s.now)) encode_sort c.args.s.now (Some c.loop-k.i) (take m c.loop-k.sorts)) z (lay_done (counted (between? 1 max_sorts) read_sort (drop c.args.at c.args.s.now)) encode_sort c.args.s.now (times read_sort (c.wide-n.result - c.loop-k.k) (drop c.loop-k.i c.args.s.now)) (take c.loop-k.k c.loop-k.sorts) c.loop-k.i c.loop-k.invariant.6 (times_none read_sort (c.wide-n.result - c.loop-k.k) (drop c.loop-k.i c.args.s.now) (omega arith))), (omega arith, omega arith))

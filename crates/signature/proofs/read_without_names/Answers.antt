@@ -1,36 +1,43 @@
 -- The sizes read, and copied.
-use mathlib.Core.List.{[]}
-use mathlib.Core.Path.{ap}
+use mathlib.Core.Path.{◌≡◌, ◌∙◌, ap, sym}
 use Prim.Native.Nat.{◌≤◌}
 use native.Mathlib.Omega.{arith}
-use lib.ListN.{drop, length}
-use borrow.Author.Tests.{not-false, not-true}
+use lib.ListN.{drop, length, take}
+use lib.Seq.{length-take-le, take_at}
 use Rattle.pcrl.specs.Limits.{max_sorts}
-use Rattle.pcrl.specs.Decode.{read_sizes}
-use Rattle.terms.proofs.Rests.{failed, passed}
 use Rattle.signature.proofs.Sorts.{few_sizes, sizes_missing, sizes_right}
 use Rattle.signature.proofs.read_without_names.Goals as goal
 
-pub returns-then-not-z : goal.returns-then-not-z
-returns-then-not-z c = let args = c.args in
-    let s = args.s.now in
-    let z = c.read_sizes-z in
-    (λ mark places. sizes_missing s mark 0 [] places (failed (read_sizes s) z.result.ok (drop z.result.at s) z.ensures (not-true _ c.if-not-z.true)), omega arith)
+pub returns-in_err-at : goal.returns-in_err-at
+returns-in_err-at c = rw c.from_residual.ensures (λ mark places. sizes_missing c.args.s.now mark c.in_err-at.ensures, tt)
 
-pub copy_list-requires : goal.copy_list-requires
-copy_list-requires c = let args = c.args in
-    let s = args.s.now in
-    let z = c.read_sizes-z in
-    let few = few_sizes s (drop z.result.at s) (passed (read_sizes s) z.result.ok (drop z.result.at s) z.ensures (not-false _ c.if-not-z.false)) in
+pub slice_bounds-copy_from_slice-end : goal.slice_bounds-copy_from_slice-end
+slice_bounds-copy_from_slice-end c =
+    let few = few_sizes c.args.s.now _ c.in_ok-at.ensures in
     let l = ap length c.list_at-list.ensures in
-    let room : max_sorts ≤ length args.sizes.now = c.requires in
+    let room : max_sorts ≤ length c.args.sizes.now = c.requires in
     omega arith
 
+pub slice_bounds-copy_from_slice-end-2 : goal.slice_bounds-copy_from_slice-end-2
+slice_bounds-copy_from_slice-end-2 c =
+    let few = few_sizes c.args.s.now _ c.in_ok-at.ensures in
+    let l = ap length c.list_at-list.ensures in
+    let room : max_sorts ≤ length c.args.sizes.now = c.requires in
+    sym (length-take-le (length c.list_at-list.result.now) c.args.sizes.now (omega arith))
+
+pub copy_from_slice-requires : goal.copy_from_slice-requires
+copy_from_slice-requires c =
+    let few = few_sizes c.args.s.now _ c.in_ok-at.ensures in
+    let l = ap length c.list_at-list.ensures in
+    let room : max_sorts ≤ length c.args.sizes.now = c.requires in
+    length-take-le (length c.list_at-list.result.now) c.args.sizes.now (omega arith)
+
 pub returns : goal.returns
-returns c = let args = c.args in
-    let s = args.s.now in
-    let z = c.read_sizes-z in
+returns c =
+    let s = c.args.s.now in
     let list = c.list_at-list in
-    let few = few_sizes s (drop z.result.at s) (passed (read_sizes s) z.result.ok (drop z.result.at s) z.ensures (not-false _ c.if-not-z.false)) in
+    let few = few_sizes s _ c.in_ok-at.ensures in
     let l = ap length list.ensures in
-    (λ mark places. sizes_right s mark z.result.at list.result.now c.copy_list.new.sizes places (passed (read_sizes s) z.result.ok (drop z.result.at s) z.ensures (not-false _ c.if-not-z.false)) list.ensures c.copy_list.ensures, omega arith)
+    let copied : c.copy_from_slice.new.self ≡ list.result.now = c.copy_from_slice.ensures.after in
+    let front = take_at c.copy_from_slice.new.self (drop (length list.result.now) c.args.sizes.now) (length list.result.now) (ap length copied) ∙ copied in
+    (λ mark places. sizes_right s mark c.in_ok-at.at list.result.now _ (take (length list.result.now) places) c.in_ok-at.ensures list.ensures front, omega arith)
