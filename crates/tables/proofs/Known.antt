@@ -5,6 +5,7 @@ use mathlib.Core.Option.{Option, none, some}
 use Prim.Native.Nat.{ℕ}
 use native.Mathlib.Omega.{arith}
 use lib.ListN.{length}
+use Rattle.std.specs.Prelude as R
 use Rattle.pcrl.specs.Limits.{max_arity}
 use Rattle.pcrl.specs.Tests.{Between}
 use Rattle.pcrl.specs.Reader.{Got, missing, found}
@@ -17,7 +18,8 @@ use Rattle.pcrl.specs.Blocks.{Filled, filled?, table_in, table_read}
 use Rattle.laws.specs.Every.{every_weaken}
 use Rattle.codec.specs.StreamLaws.{encode_decode}
 use Rattle.equations.specs.Reading.{KnownSig}
-use Rattle.tables.specs.Indexed.{PartsAt}
+use Rattle.tables.specs.Indexed.{PartsAt, Indexed, TableRead}
+use Rattle.tables.specs.declared.Index.{Index}
 
 -- A table that question 14 accepts is right.
 pub read_right : (s : List ℕ) (T : Table) → table_read s ≡ some T → RightTable T
@@ -45,3 +47,17 @@ sig_by_index T s sizes names funcs acts params rows start p h =
       acts_known = p.acts_stand;
       right = h.0.0;
     }
+
+-- WHAT THE ANSWER SAYS
+
+-- No index: no table.
+pub table_none : (o : Option Table) (s : List ℕ) → TableRead o s R.None → o ≡ none
+unfolding TableRead
+table_none none s h = refl
+table_none (some T) s h = absurd h
+
+-- An index is that of the table that is read.
+pub table_some : (o : Option Table) (s : List ℕ) (index : Index) → TableRead o s (R.Some index) → (T : Table) × (o ≡ some T) × Indexed T s index
+unfolding TableRead
+table_some none s index h = absurd h
+table_some (some T) s index h = (T, refl, h)

@@ -1,8 +1,9 @@
 -- Where the parts of a table stand in its stream, and the answer to question 14 with such an index.
-use Rattle.std.specs.Prelude.{◌≡◌, List, Bool, true, false, ℕ, length, take, drop}
+use Rattle.std.specs.Prelude.{◌≡◌, List, ℕ, length, take, drop}
+use Rattle.std.specs.Prelude as R
 use Rattle.std.proofs.Math.Option.{Option, none, some}
 use Rattle.pcrl.specs.Limits.{max_functions}
-use Rattle.pcrl.specs.Reader.{missing, found}
+use Rattle.pcrl.specs.Reader.{found}
 use Rattle.pcrl.specs.Table.{Table, params_of, summands_of}
 use Rattle.pcrl.specs.Stream.{encode_numbers, encode_list, encode_func, encode_action, encode_summand, encode_start}
 use Rattle.pcrl.specs.Tree.{Name}
@@ -10,7 +11,6 @@ use Rattle.pcrl.specs.Decode.{layout_by, names_by, decode}
 use Rattle.signature.specs.Reading.{names_there}
 use Rattle.terms.specs.Stands.{Stands, Standing}
 use Rattle.tables.specs.declared.Index.{Index}
-use Rattle.tables.specs.declared.Tabled.{Tabled}
 
 -- the sizes of n sorts, which stand behind the places of the functions
 abbrev pub sizes_behind : ℕ → List ℕ → List ℕ
@@ -37,11 +37,12 @@ pub record Indexed (T : Table) (s : List ℕ) (index : Index) : Type 0 where
   pub parts : PartsAt T s (sizes_behind index.sort_count index.funcs) (names_there index.named s (take index.sort_count index.sorts)) (take index.functions index.funcs) (take index.actions index.acts) (take index.equations index.params) (take index.equations index.rows) index.start
 
 -- o: the table that the stream s holds, if it holds one
-unfoldable pub TableRead : Option Table → List ℕ → Tabled → Type 0
-TableRead none s r = r.ok ≡ false
-TableRead (some T) s r = (r.ok ≡ true) × Indexed T s r.index
+unfoldable pub TableRead : Option Table → List ℕ → R.Option Index → Type 0
+TableRead none s R.None = Unit {0}
+TableRead (some T) s (R.Some index) = Indexed T s index
+TableRead none s (R.Some index) = ⊥
+TableRead (some T) s R.None = ⊥
 
 -- the table that ends at `end`
-unfoldable pub Decoded : Bool → List ℕ → ℕ → List ℕ → Option (List Name) → List ℕ → List ℕ → List ℕ → List ℕ → ℕ → Type 0
-Decoded true s end sizes names funcs acts params rows start = (T : Table) × (decode s ≡ found T (drop end s)) × PartsAt T s sizes names funcs acts params rows start
-Decoded false s end sizes names funcs acts params rows start = decode s ≡ missing
+unfoldable pub Decoded : List ℕ → ℕ → List ℕ → Option (List Name) → List ℕ → List ℕ → List ℕ → List ℕ → ℕ → Type 0
+Decoded s end sizes names funcs acts params rows start = (T : Table) × (decode s ≡ found T (drop end s)) × PartsAt T s sizes names funcs acts params rows start

@@ -1,15 +1,17 @@
 #![tactic(auto)]
 // Question 14: a stream is read as the one table that it holds, with an index of where the parts stand.
-ghost use Rattle.std.specs.Prelude.{◌≡◌, ◌++◌, false, ◌+◌, ◌*◌, ◌≤◌, length, take, drop};
+ghost use Rattle.std.specs.Prelude.{◌≡◌, ◌++◌, ◌+◌, ◌*◌, ◌≤◌, length, take, drop, MatchOption};
 ghost use Rattle.pcrl.specs.Limits.{max_sorts, max_functions, max_actions, max_equations, max_stream};
 ghost use Rattle.pcrl.specs.Tests.{Every};
 ghost use Rattle.pcrl.specs.Blocks.{block_stream, blocks_for, table_read};
+ghost use Rattle.pcrl.specs.Reader.{missing};
+ghost use Rattle.pcrl.specs.Decode.{decode};
 ghost use Rattle.laws.specs.Says.{Says};
 ghost use Rattle.signature.specs.Reading.{names_there};
 ghost use Rattle.tables.specs.Indexed.{TableRead, Decoded};
 
 use blocks::BLOCK_STREAM;
-use elements::{both, cell_of, peek, wide};
+use elements::{peek, wide};
 use limits::{MAX_ACTIONS, MAX_EQUATIONS, MAX_FUNCTIONS, MAX_SORTS, MAX_SUMMANDS};
 
 // Cells for the places of the functions, and for the sizes of the sorts behind them.
@@ -32,24 +34,16 @@ pub struct Index {
     pub start: usize,
 }
 
-// Where the parts of a table stand in its stream, if the stream is a right table's.
-#[derive(Clone, Copy)]
-pub struct Tabled {
-    pub ok: bool,
-    pub index: Index,
-}
-
 // What was read into lent places: how many sorts, functions, actions and equations there are, where the start stands and the table ends.
 #[derive(Clone, Copy)]
-pub struct Read {
-    pub ok: bool,
-    pub sort_count: usize,
-    pub named: bool,
-    pub functions: usize,
-    pub actions: usize,
-    pub equations: usize,
-    pub start: usize,
-    pub end: usize,
+struct Read {
+    sort_count: usize,
+    named: bool,
+    functions: usize,
+    actions: usize,
+    equations: usize,
+    start: usize,
+    end: usize,
 }
 
 // The table from the start of the stream, its parts' places in lent arrays.
@@ -61,63 +55,34 @@ fn read_into(
     acts: &mut [u16],
     params: &mut [u16],
     rows: &mut [u16],
-) -> Read
+) -> Option<Read>
     requires { (max_sorts ≤ length sizes.old) × ((max_sorts ≤ length sorts.old) × ((max_functions ≤ length funcs.old) × ((max_actions ≤ length acts.old) × ((max_equations ≤ length params.old) × ((max_equations ≤ length rows.old) × (length s.now ≤ max_stream)))))) }
-    ensures { Decoded result.ok s.now result.end (take result.sort_count sizes.new) (names_there result.named s.now (take result.sort_count sorts.new)) (take result.functions funcs.new) (take result.actions acts.new) (take result.equations params.new) (take result.equations rows.new) result.start × ((result.sort_count ≤ max_sorts) × ((result.functions ≤ max_functions) × ((result.actions ≤ max_actions) × ((result.equations ≤ max_equations) × (result.end ≤ length s.now))))) }
+    ensures { MatchOption result (decode s.now ≡ missing) (λ r. Decoded s.now r.end (take r.sort_count sizes.new) (names_there r.named s.now (take r.sort_count sorts.new)) (take r.functions funcs.new) (take r.actions acts.new) (take r.equations params.new) (take r.equations rows.new) r.start × ((r.sort_count ≤ max_sorts) × ((r.functions ≤ max_functions) × ((r.actions ≤ max_actions) × ((r.equations ≤ max_equations) × (r.end ≤ length s.now)))))) }
 {
-    let g = signature::read_sig(s, sizes, sorts, funcs, acts);
-    if !g.ok {
-        return none();
-    }
-    let f = g.funcs;
-    let a = g.acts;
-    let c = g.sorts;
+    let g = signature::read_sig(s, sizes, sorts, funcs, acts)?;
     let r = equations::read_equations(
         s,
-        &sizes[0..c],
-        &funcs[0..f],
-        &acts[0..a],
+        &sizes[..g.sorts],
+        &funcs[..g.funcs],
+        &acts[..g.acts],
         g.at,
         params,
         rows,
-    );
-    if !r.ok {
-        return none();
-    }
+    )?;
     let n = wide(peek(s, g.at));
-    let t = equations::read_start(s, &sizes[0..c], &params[0..n], r.at);
-    if !t.ok {
-        return none();
-    }
+    let end = equations::read_start(s, &sizes[..g.sorts], &params[..n], r.at)?;
     if MAX_SUMMANDS < r.total {
-        return none();
+        return None;
     }
-    Read {
-        ok: true,
-        sort_count: c,
+    Some(Read {
+        sort_count: g.sorts,
         named: g.named,
-        functions: f,
-        actions: a,
+        functions: g.funcs,
+        actions: g.acts,
         equations: n,
         start: r.at,
-        end: t.at,
-    }
-}
-
-// No table.
-fn none() -> Read
-    ensures { (result.ok ≡ false) × ((result.sort_count ≡ 0) × ((result.functions ≡ 0) × ((result.actions ≡ 0) × ((result.equations ≡ 0) × (result.end ≡ 0))))) }
-{
-    Read {
-        ok: false,
-        sort_count: 0,
-        named: false,
-        functions: 0,
-        actions: 0,
-        equations: 0,
-        start: 0,
-        end: 0,
-    }
+        end,
+    })
 }
 
 // The sizes of the sorts go behind the places of the functions.
@@ -126,7 +91,7 @@ fn put_sizes(funcs: &mut [u16], sizes: &[u8])
     ensures { funcs.new ≡ take max_functions funcs.old ++ sizes.now }
 {
     for k in 0..sizes.len() {
-        funcs[MAX_FUNCTIONS + k] = cell_of(sizes[k]);
+        funcs[MAX_FUNCTIONS + k] = u16::from(sizes[k]);
     }
 }
 
@@ -135,10 +100,8 @@ fn zeros(s: &[u8], at: usize) -> bool
     ensures { Says result (Every (λ b. b ≡ 0) (drop at s.now)) }
 {
     let mut good = true;
-    let mut i = s.len();
-    while at < i {
-        i -= 1;
-        good = both(good, s[i] == 0);
+    for i in (at..s.len()).rev() {
+        good = good & (s[i] == 0);
     }
     good
 }
@@ -155,7 +118,7 @@ fn filled(s: &[u8], end: usize) -> bool
 }
 
 // The one table that a stream holds, as an index.
-pub fn read_table(s: &[u8]) -> Tabled
+pub fn read_table(s: &[u8]) -> Option<Index>
     requires { length s.now ≤ max_stream }
     ensures { TableRead (table_read s.now) s.now result }
 {
@@ -173,35 +136,22 @@ pub fn read_table(s: &[u8]) -> Tabled
         &mut acts,
         &mut params,
         &mut rows,
-    );
+    )?;
+    if !filled(s, r.end) {
+        return None;
+    }
     put_sizes(&mut funcs, &sizes);
-    let index = Index {
-        sorts: sorts,
-        funcs: funcs,
-        acts: acts,
-        params: params,
-        rows: rows,
+    Some(Index {
+        sorts,
+        funcs,
+        acts,
+        params,
+        rows,
         sort_count: r.sort_count,
         named: r.named,
         functions: r.functions,
         actions: r.actions,
         equations: r.equations,
         start: r.start,
-    };
-    if !r.ok {
-        return Tabled {
-            ok: false,
-            index: index,
-        };
-    }
-    if !filled(s, r.end) {
-        return Tabled {
-            ok: false,
-            index: index,
-        };
-    }
-    Tabled {
-        ok: true,
-        index: index,
-    }
+    })
 }

@@ -13,7 +13,7 @@ loop-k-init c = (omega arith, c.requires.1, refl, c.requires.0, refl, refl)
 pub loop-k-preserved : goal.loop-k-preserved
 loop-k-preserved c = let here = c.loop-k in
     let sizes = c.args.sizes.now in
-    let more = size_more sizes here.funcs _ here.k (here.k + 1) _ (omega arith) (omega (arith, length-drop max_functions here.funcs)) (omega arith) c.cell_of.ensures here.invariant.4 here.invariant.5 in
+    let more = size_more sizes here.funcs _ here.k (here.k + 1) _ (omega arith) (omega (arith, length-drop max_functions here.funcs)) (omega arith) c.from.ensures here.invariant.4 here.invariant.5 in
     (omega arith, here.invariant.1, simp length-set here.invariant.2, simp length-set here.invariant.3, more.0, more.1)
 
 pub shape_of-funcs : goal.shape_of-funcs

@@ -2,7 +2,7 @@
 -- from the place asked for on, or behind the end
 use native.Mathlib.Omega.{arith}
 use Prim.Native.Nat.{ℕ, ◌-◌, ◌≤◌, ◌<◌}
-use mathlib.Core.Path.{◌≡◌, refl, sym, subst}
+use mathlib.Core.Path.{◌≡◌, refl, subst}
 use mathlib.Core.List.{List}
 use mathlib.Core.Bool.{Bool, true, false}
 use lib.ListN.{drop, length}
@@ -27,7 +27,7 @@ bounds-s-i c = let v = c.loop-i.invariant.0 in omega arith
 
 pub loop-i-preserved : goal.loop-i-preserved
 loop-i-preserved c = let s = c.args.s.now in let l = c.loop-i in let at = c.args.at in let v = l.invariant.0 in
-    (omega arith, (λ h. omega arith, (λ h. absurd (let z = l.invariant.1.1.0 h in omega arith), subst (λ (t : Bool). Says t (Zeros (drop (l.i - 1) s))) (sym c.both-good.ensures) (zeros_said s l.i (l.i - 1) (omega arith) (omega arith) l.good l.invariant.1.1.1))))
+    (omega arith, (λ h. omega arith, (λ h. absurd (let z = l.invariant.1.1.0 h in omega arith), zeros_said s l.i (l.i - 1) (omega arith) (omega arith) l.good l.invariant.1.1.1)))
 
 pub returns : goal.returns
 returns c = let l = c.loop-i in all_said c.args.s.now c.args.at l.i l.good (omega arith) l.invariant.1.0 l.invariant.1.1.0 l.invariant.1.1.1

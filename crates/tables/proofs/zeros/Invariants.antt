@@ -7,6 +7,3 @@ use Rattle.tables.proofs.zeros.Given as goal
 
 abbrev pub invariant-loop-i : goal.invariant-loop-i
 invariant-loop-i l = (l.i ≤ length l.s) × ((l.at ≤ length l.s → l.at ≤ l.i) × ((length l.s < l.at → l.i ≡ length l.s) × Says l.good (Zeros (drop l.i l.s))))
-
-abbrev pub decreases-loop-i : goal.decreases-loop-i
-decreases-loop-i l = l.i
