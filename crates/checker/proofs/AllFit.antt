@@ -20,6 +20,7 @@ use Rattle.nodes.specs.Scoped.{ScopedData, ScopedArguments}
 use Rattle.nodes.specs.Held.{SortsAt, func_width}
 use Rattle.nodes.specs.Views.{DataViews}
 use Rattle.nodes.proofs.Data.{datas_inside}
+use Rattle.std.specs.Prelude.{Some, None}
 use Rattle.checker.specs.declared.operators.Operator.{Operator}
 use Rattle.checker.specs.Fits.{Fits, ArgumentsFit, Inside, BoolsBefore}
 use Rattle.checker.specs.Known.{Around}
@@ -66,36 +67,36 @@ module _ (cells scope sizes funcs : List ℕ) (n : Outline) (x : Datum) where
       (subst (λ (k : Func). SortsAt k.takes funcs (func_width * x.number)) g row) (o.next_is ∙ enc_datas_append (list_of es) ds rest))
 
   -- what is no written function
-  module _ (t : x.tag ≡ function_tag) (h : n.funcs ≤ x.number) (r : Operator) (operator : OperatorSays x.number n.sorts r) where
-    pub no_function : r.there ≡ false → ArgumentsFitAt cells scope sizes funcs n x false
+  module _ (t : x.tag ≡ function_tag) (h : n.funcs ≤ x.number) where
+    pub no_function : OperatorSays x.number n.sorts None → ArgumentsFitAt cells scope sizes funcs n x false
     unfolding ArgumentsFit data_tag data_number
-    no_function z w (val v) ds rest sc o = absurd (omega (arith, o.tag_is))
-    no_function z w (var i) ds rest sc o = absurd (omega (arith, o.tag_is))
-    no_function z w (app f es) ds rest sc o = λ k.
+    no_function operator w (val v) ds rest sc o = absurd (omega (arith, o.tag_is))
+    no_function operator w (var i) ds rest sc o = absurd (omega (arith, o.tag_is))
+    no_function operator w (app f es) ds rest sc o = λ k.
         let c = w.known.func_count in
-        said_no r.there (operator w.sig w.known.sizes_are.sort_count (omega arith)).is_there z (subst (IsFunc w.sig) (sym o.number_is) k.0)
+        operator w.sig w.known.sizes_are.sort_count (omega arith) (subst (IsFunc w.sig) (sym o.number_is) k.0)
 
-    pub operator_uneven : (x.kids ≡ r.count → ⊥) → ArgumentsFitAt cells scope sizes funcs n x false
+    pub operator_uneven : (r : Operator) → OperatorSays x.number n.sorts (Some r) → (x.kids ≡ r.count → ⊥) → ArgumentsFitAt cells scope sizes funcs n x false
     unfolding ArgumentsFit data_tag data_number data_kids
-    operator_uneven z w (val v) ds rest sc o = absurd (omega (arith, o.tag_is))
-    operator_uneven z w (var i) ds rest sc o = absurd (omega (arith, o.tag_is))
-    operator_uneven z w (app f es) ds rest sc o = λ k.
+    operator_uneven r operator z w (val v) ds rest sc o = absurd (omega (arith, o.tag_is))
+    operator_uneven r operator z w (var i) ds rest sc o = absurd (omega (arith, o.tag_is))
+    operator_uneven r operator z w (app f es) ds rest sc o = λ k.
         let c = w.known.func_count in
         let q : (function_at w.sig f).takes ≡ replicate r.count r.sort =
         ap (λ (k : ℕ). (function_at w.sig k).takes) (sym o.number_is) ∙ (operator w.sig w.known.sizes_are.sort_count (omega arith)).takes_are in
         z (o.kids_is ∙ each_length (Fits w.sig w.vars) (list_of es) (function_at w.sig f).takes k.1 ∙ ap length q ∙ length-replicate r.count r.sort)
 
-    pub operator_fits : r.there ≡ true → x.kids ≡ r.count → (s : Bool) → EveryFitsAt cells scope sizes funcs n x.next x.kids r.sort s → ArgumentsFitAt cells scope sizes funcs n x s
+    pub operator_fits : (r : Operator) → OperatorSays x.number n.sorts (Some r) → x.kids ≡ r.count → (s : Bool) → EveryFitsAt cells scope sizes funcs n x.next x.kids r.sort s → ArgumentsFitAt cells scope sizes funcs n x s
     unfolding ArgumentsFit data_tag data_number data_kids ScopedData
-    operator_fits z m s fit w (val v) ds rest sc o = absurd (omega (arith, o.tag_is))
-    operator_fits z m s fit w (var i) ds rest sc o = absurd (omega (arith, o.tag_is))
-    operator_fits z m s fit w (app f es) ds rest sc o =
+    operator_fits r operator m s fit w (val v) ds rest sc o = absurd (omega (arith, o.tag_is))
+    operator_fits r operator m s fit w (var i) ds rest sc o = absurd (omega (arith, o.tag_is))
+    operator_fits r operator m s fit w (app f es) ds rest sc o =
         let c = w.known.func_count in
         let y = operator w.sig w.known.sizes_are.sort_count (omega arith) in
         let F = Fits w.sig w.vars in
         let q : (function_at w.sig f).takes ≡ replicate (length (list_of es)) r.sort =
         ap (λ (k : ℕ). (function_at w.sig k).takes) (sym o.number_is) ∙ y.takes_are ∙ ap (λ (k : ℕ). replicate k r.sort) (sym m ∙ o.kids_is) in
-        says_both s (Each F (list_of es) (function_at w.sig f).takes) (subst (IsFunc w.sig) o.number_is (said_yes r.there y.is_there z))
+        says_both s (Each F (list_of es) (function_at w.sig f).takes) (subst (IsFunc w.sig) o.number_is y.is_there)
         (says_as s (λ k. subst (Each F (list_of es)) (sym q) (one_sort_each F r.sort (list_of es) k)) (λ k. each_one_sort F r.sort (list_of es) (subst (Each F (list_of es)) q k))
         (fit w (list_of es) (enc_datas ds ++ rest) (scoped_list w.level es sc) (sym o.kids_is) (o.next_is ∙ enc_datas_append (list_of es) ds rest)))
 

@@ -23,6 +23,7 @@ use Rattle.nodes.specs.Scoped.{ScopedData}
 use Rattle.nodes.specs.Held.{SortsAt, func_width}
 use Rattle.nodes.specs.Views.{DataViews, SkipsData}
 use Rattle.nodes.proofs.Data.{datas_inside}
+use Rattle.std.specs.Prelude.{Some, None}
 use Rattle.checker.specs.declared.operators.Operator.{Operator}
 use Rattle.checker.specs.Fits.{Fits}
 use Rattle.checker.specs.Known.{KnownSizes, Around}
@@ -78,26 +79,25 @@ module _ (cells scope sizes funcs : List ℕ) (n : Outline) (at sort : ℕ) wher
           says_both (eqb z sort) ((function_at w.sig f).gives ≡ sort) (written_there w.sig f (omega arith) (omega arith))
           (subst (λ (k : ℕ). Says (eqb z sort) (k ≡ sort)) q (says_eq z sort))
 
-      module _ (h : n.funcs ≤ x.number) (r : Operator) (operator : OperatorSays x.number n.sorts r) where
-        pub fits_none : r.there ≡ false → FitsAt cells scope sizes funcs n at sort false
+      module _ (h : n.funcs ≤ x.number) where
+        pub fits_none : OperatorSays x.number n.sorts None → FitsAt cells scope sizes funcs n at sort false
         unfolding Fits data_tag data_number
-        fits_none z w (val v) ds rest sc e = absurd (no_value (vw (val v) ds rest e).tag_is)
-        fits_none z w (var i) ds rest sc e = absurd (no_variable (vw (var i) ds rest e).tag_is)
-        fits_none z w (app f es) ds rest sc e = λ k.
+        fits_none operator w (val v) ds rest sc e = absurd (no_value (vw (val v) ds rest e).tag_is)
+        fits_none operator w (var i) ds rest sc e = absurd (no_variable (vw (var i) ds rest e).tag_is)
+        fits_none operator w (app f es) ds rest sc e = λ k.
             let c = w.known.func_count in
-            said_no r.there (operator w.sig w.known.sizes_are.sort_count (omega arith)).is_there z
-            (subst (IsFunc w.sig) (sym (vw (app f es) ds rest e).number_is) k.0)
+            operator w.sig w.known.sizes_are.sort_count (omega arith) (subst (IsFunc w.sig) (sym (vw (app f es) ds rest e).number_is) k.0)
 
-        pub fits_operator : r.there ≡ true → FitsAt cells scope sizes funcs n at sort (eqb sort Bool_sort)
+        pub fits_operator : (r : Operator) → OperatorSays x.number n.sorts (Some r) → FitsAt cells scope sizes funcs n at sort (eqb sort Bool_sort)
         unfolding Fits data_tag data_number
-        fits_operator z w (val v) ds rest sc e = absurd (no_value (vw (val v) ds rest e).tag_is)
-        fits_operator z w (var i) ds rest sc e = absurd (no_variable (vw (var i) ds rest e).tag_is)
-        fits_operator z w (app f es) ds rest sc e =
+        fits_operator r operator w (val v) ds rest sc e = absurd (no_value (vw (val v) ds rest e).tag_is)
+        fits_operator r operator w (var i) ds rest sc e = absurd (no_variable (vw (var i) ds rest e).tag_is)
+        fits_operator r operator w (app f es) ds rest sc e =
             let c = w.known.func_count in
             let o = operator w.sig w.known.sizes_are.sort_count (omega arith) in
             let g = o.gives_Bool in
             subst (λ (k : ℕ). Says (eqb sort Bool_sort) (IsFunc w.sig k × ((function_at w.sig k).gives ≡ sort))) (vw (app f es) ds rest e).number_is
-            (says_both (eqb sort Bool_sort) ((function_at w.sig x.number).gives ≡ sort) (said_yes r.there o.is_there z)
+            (says_both (eqb sort Bool_sort) ((function_at w.sig x.number).gives ≡ sort) o.is_there
             (says_as (eqb sort Bool_sort) (λ k. g ∙ sym k) (λ k. sym k ∙ g) (says_eq sort Bool_sort)))
 
 -- the place after one term

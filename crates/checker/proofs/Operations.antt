@@ -1,6 +1,6 @@
 -- What the number of a function is: of a written one, of an operator that is there, of none. By the cases of the definition.
 use mathlib.Core.Path.{◌≡◌, refl, sym, ap, subst, ◌∙◌}
-use mathlib.Core.Bool.{true, false}
+use Rattle.std.specs.Prelude.{Some, None}
 use Prim.Native.Nat.{ℕ, ◌+◌, ◌-◌, ◌<◌, ◌≤◌}
 use native.Mathlib.Omega.{arith}
 use lib.Dec.{ltb}
@@ -19,46 +19,51 @@ written_there S f h l = rw (written_number f h) l
 
 -- by the operation that a number stands for
 module _ (S : Sig) (f : ℕ) (r : Operator) where
-  operates : (o : Operation) → operation f ≡ o → Says r.there (IsOperation S o) → (function S o).takes ≡ replicate r.count r.sort → (function S o).gives ≡ Bool_sort → Operates S f r
+  operates : (o : Operation) → operation f ≡ o → IsOperation S o → (function S o).takes ≡ replicate r.count r.sort → (function S o).gives ≡ Bool_sort → Operates S f r
   unfolding function_at
   operates o e a b c = record {
-    is_there = subst (λ (p : Operation). Says r.there (IsOperation S p)) (sym e) a;
+    is_there = subst (λ (p : Operation). IsOperation S p) (sym e) a;
     takes_are = subst (λ (p : Operation). (function S p).takes ≡ replicate r.count r.sort) (sym e) b;
     gives_Bool = subst (λ (p : Operation). (function S p).gives ≡ Bool_sort) (sym e) c;
   }
 
 module _ (S : Sig) (f : ℕ) where
-  pub not_operates : f ≡ not_number → Operates S f (record { there = true; count = 1; sort = Bool_sort })
+  pub not_operates : f ≡ not_number → Operates S f (record { count = 1; sort = Bool_sort })
   unfolding operation operator IsOperation function
   not_operates e = operates S f _ Operation.not (ap operation e) tt refl refl
 
-  pub and_operates : f ≡ and_number → Operates S f (record { there = true; count = 2; sort = Bool_sort })
+  pub and_operates : f ≡ and_number → Operates S f (record { count = 2; sort = Bool_sort })
   unfolding operation operator IsOperation function
   and_operates e = operates S f _ Operation.and (ap operation e) tt refl refl
 
-  pub or_operates : f ≡ or_number → Operates S f (record { there = true; count = 2; sort = Bool_sort })
+  pub or_operates : f ≡ or_number → Operates S f (record { count = 2; sort = Bool_sort })
   unfolding operation operator IsOperation function
   or_operates e = operates S f _ Operation.or (ap operation e) tt refl refl
 
 module _ (f m : ℕ) where
-  pub operator_equal : first_equal ≤ f → OperatorSays f m (record { there = ltb (f - first_equal) m; count = 2; sort = f - first_equal })
+  pub operator_equal : first_equal ≤ f → f - first_equal < m → OperatorSays f m (Some (record { count = 2; sort = f - first_equal }))
   unfolding IsOperation function
-  operator_equal h S k l =
+  operator_equal h i S k l =
       let e : f ≡ first_equal + (f - first_equal) = omega arith in
-      operates S f _ (Operation.equal (f - first_equal)) (ap operation e ∙ equal_number (f - first_equal))
-      (subst (λ (j : ℕ). Says (ltb (f - first_equal) m) (f - first_equal < j)) k (says_lt (f - first_equal) m)) refl refl
+      operates S f _ (Operation.equal (f - first_equal)) (ap operation e ∙ equal_number (f - first_equal)) (omega arith) refl refl
 
-  pub operator_none : f < first_equal → (f ≡ not_number → ⊥) → (f ≡ and_number → ⊥) → (f ≡ or_number → ⊥) → OperatorSays f m (record { there = false; count = 0; sort = Bool_sort })
-  unfolding IsOperation function func
+  -- `==` at a sort that is not there, and a number behind the written functions'
+  pub equal_none : first_equal ≤ f → m ≤ f - first_equal → OperatorSays f m None
+  unfolding IsOperation
+  equal_none h i S k l =
+      let e : f ≡ first_equal + (f - first_equal) = omega arith in
+      let o : operation f ≡ Operation.equal (f - first_equal) = ap operation e ∙ equal_number (f - first_equal) in
+      λ there. let y : f - first_equal < length S.sorts = subst (λ (p : Operation). IsOperation S p) o there in omega arith
+
+  pub operator_none : f < first_equal → (f ≡ not_number → ⊥) → (f ≡ and_number → ⊥) → (f ≡ or_number → ⊥) → OperatorSays f m None
+  unfolding IsOperation
   operator_none h a b c S k l = go (operation f) (seen f) refl
     where
-      go : (o : Operation) → Seen f o → operation f ≡ o → Operates S f (record { there = false; count = 0; sort = Bool_sort })
-      go (Operation.written g) (as_written i) e =
-          let d : get_or S.funcs f no_func ≡ no_func = get_or-eq_default S.funcs no_func l in
-          operates S f _ (Operation.written f) e (λ z. omega arith) (ap (λ (x : Func). x.takes) d) (ap (λ (x : Func). x.gives) d)
-      go Operation.not (as_not i) e = absurd (a i)
-      go Operation.and (as_and i) e = absurd (b i)
-      go Operation.or (as_or i) e = absurd (c i)
-      go (Operation.equal D) (as_equal E i) e = absurd (omega arith)
-      go Operation.unsorted (as_unsorted i) e = operates S f _ Operation.unsorted e (λ z. z) refl refl
-      go Operation.unsorted (as_none i j) e = operates S f _ Operation.unsorted e (λ z. z) refl refl
+      go : (o : Operation) → Seen f o → operation f ≡ o → IsFunc S f → ⊥
+      go (Operation.written g) (as_written i) e there = let y : f < length S.funcs = subst (λ (p : Operation). IsOperation S p) e there in omega arith
+      go Operation.not (as_not i) e there = a i
+      go Operation.and (as_and i) e there = b i
+      go Operation.or (as_or i) e there = c i
+      go (Operation.equal D) (as_equal E i) e there = omega arith
+      go Operation.unsorted (as_unsorted i) e there = subst (λ (p : Operation). IsOperation S p) e there
+      go Operation.unsorted (as_none i j) e there = subst (λ (p : Operation). IsOperation S p) e there

@@ -1,5 +1,5 @@
 -- What the code of question 8 says, function by function: for every term whose cells stand at a place.
-use Rattle.std.specs.Prelude.{◌≡◌, List, ◌∷◌, ◌++◌, Bool, true, ℕ, ◌+◌, ◌<◌, ◌≤◌, length, drop, set, replicate}
+use Rattle.std.specs.Prelude.{◌≡◌, List, ◌∷◌, ◌++◌, Bool, ℕ, Option, MatchOption, ◌+◌, ◌<◌, ◌≤◌, length, drop, set, replicate}
 use Rattle.std.proofs.Math.ListN.{get_elem?}
 use Rattle.pcrl.specs.Limits.{frame_width, max_arity}
 use Rattle.pcrl.specs.Tests.{Each, Every}
@@ -21,20 +21,20 @@ use Rattle.checker.specs.Known.{KnownSizes, KnownSheet, InScope, Around}
 abbrev pub start_limit : ℕ
 start_limit = 1048576
 
--- what function f is: is it there, how many data does it take, all of one sort? It gives Bool.
+-- what function f is: it is there, takes so many data, all of one sort, and gives Bool
 pub record Operates (S : Sig) (f : ℕ) (r : Operator) : Type 0 where
-  pub is_there : Says r.there (IsFunc S f)
+  pub is_there : IsFunc S f
   pub takes_are : (function_at S f).takes ≡ replicate r.count r.sort
   pub gives_Bool : (function_at S f).gives ≡ Bool_sort
 
--- a number that is no written function's, where there are m sorts
-abbrev pub OperatorSays : ℕ → ℕ → Operator → Type 0
-OperatorSays f m r = (S : Sig) → m ≡ length S.sorts → length S.funcs ≤ f → Operates S f r
+-- a number that is no written function's, where there are m sorts: an operator's, or none's
+abbrev pub OperatorSays : ℕ → ℕ → Option Operator → Type 0
+OperatorSays f m r = (S : Sig) → m ≡ length S.sorts → length S.funcs ≤ f → MatchOption r (IsFunc S f → ⊥) (Operates S f)
 
 -- a node that takes r Bools, if any, has as many arguments
 abbrev pub TakesBools : Datum → ℕ → Type 0
 TakesBools d r =
-    0 < r → (d.tag ≡ function_tag) × (d.kids ≡ r) × ((S : Sig) → Operates S d.number (record { there = true; count = r; sort = Bool_sort }))
+    0 < r → (d.tag ≡ function_tag) × (d.kids ≡ r) × ((S : Sig) → Operates S d.number (record { count = r; sort = Bool_sort }))
 
 -- Where count data terms stand at one place and k at another, and then the same ones: the first fit Bool if and only if the others do.
 abbrev pub BoolsAt : List ℕ → ℕ → ℕ → ℕ → ℕ → Type 0

@@ -51,11 +51,10 @@ pub fn fits(
     if d.number < n.funcs {
         return cell(funcs, FUNC_ROW * d.number + GIVES) == sort;
     }
-    let o = operator_of(d.number, n.sorts);
-    if !o.there {
-        return false;
+    match operator_of(d.number, n.sorts) {
+        Some(_) => sort == BOOL,
+        None => false,
     }
-    sort == BOOL
 }
 
 // Do as many data terms as a row has sorts fit these sorts, one by one?
@@ -77,15 +76,13 @@ pub fn each_fits(
         return false;
     }
     let mut p = given.at;
-    let mut i: usize = 0;
-    while i < count {
+    for i in 0..count {
         let sort = cell(row, start + 1 + i);
         if !fits(cells, p, sort, scope, sizes, funcs, n) {
             return false;
         }
-        i += 1;
         // behind the last one nothing is looked at
-        if i == count {
+        if i + 1 == count {
             return true;
         }
         p = skip_data(cells, p, 1);
@@ -105,18 +102,17 @@ pub fn every_fits(
 ) -> bool
     ensures { EveryFitsAt cells.now scope.now sizes.now funcs.now n given.at given.count sort result }
 {
+    let count = given.count;
     let mut p = given.at;
-    let mut need = given.count;
-    while need > 0 {
+    for i in 0..count {
         if !fits(cells, p, sort, scope, sizes, funcs, n) {
             return false;
         }
         // behind the last one nothing is looked at
-        if need == 1 {
+        if i + 1 == count {
             return true;
         }
         p = skip_data(cells, p, 1);
-        need -= 1;
     }
     true
 }
@@ -133,10 +129,9 @@ pub fn operator_fits(
     requires { (d.tag ≡ function_tag) × (n.funcs ≤ d.number) }
     ensures { ArgumentsFitAt cells.now scope.now sizes.now funcs.now n d result }
 {
-    let o = operator_of(d.number, n.sorts);
-    if !o.there {
+    let Some(o) = operator_of(d.number, n.sorts) else {
         return false;
-    }
+    };
     if d.kids != o.count {
         return false;
     }
@@ -203,8 +198,7 @@ pub fn all_fit(
             return false;
         }
         let d = data_at(cells, p);
-        let takes = bools(d);
-        if takes > 0 {
+        if let Some(takes) = bools(d) {
             let r = run_of(cells, d.next, takes);
             let taken = Given {
                 at: r.next,

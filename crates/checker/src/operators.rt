@@ -1,5 +1,5 @@
 // Operators: functions that every sheet has. Each takes data of one sort, and gives Bool.
-ghost use Rattle.std.specs.Prelude.{◌≤◌};
+ghost use Rattle.std.specs.Prelude.{◌≤◌, ◌<◌, IfSome};
 ghost use Rattle.nodes.specs.Layout.{cell_limit};
 ghost use Rattle.checker.specs.Sorts.{OperatorSays, TakesBools, BoolsAt};
 
@@ -7,81 +7,63 @@ use elements::CELL_LIMIT;
 use limits::BOOL;
 use nodes::{AND, Datum, EQUAL, FUNCTION, NOT, OR, data_at};
 
-// What a number stands for that is no written function's: is there an operator, how many data does it take, and of which sort?
+// An operator: how many data it takes, and of which sort.
 #[derive(Clone, Copy)]
 pub struct Operator {
-    pub there: bool,
     pub count: usize,
     pub sort: usize,
 }
 
-// The operator of a number, if there is one: `==` stands only at a sort that the sheet has.
-pub fn operator_of(number: usize, sorts: usize) -> Operator
+// The operator of a number that is no written function's, if there is one: `==` stands only at a sort that the sheet has.
+pub fn operator_of(number: usize, sorts: usize) -> Option<Operator>
     ensures { OperatorSays number sorts result }
 {
     if number >= EQUAL {
         let sort = number - EQUAL;
-        return Operator {
-            there: sort < sorts,
+        if sort >= sorts {
+            return None;
+        }
+        return Some(Operator {
             count: 2,
             sort: sort,
-        };
+        });
     }
     if number == NOT {
-        return Operator {
-            there: true,
+        return Some(Operator {
             count: 1,
             sort: BOOL,
-        };
+        });
     }
-    if number == AND {
-        return Operator {
-            there: true,
+    if number == AND || number == OR {
+        return Some(Operator {
             count: 2,
             sort: BOOL,
-        };
+        });
     }
-    if number == OR {
-        return Operator {
-            there: true,
-            count: 2,
-            sort: BOOL,
-        };
-    }
-    Operator {
-        there: false,
-        count: 0,
-        sort: BOOL,
-    }
+    None
 }
 
-// How many Bools a node takes: 0 for any but `!`, `/\` and `\/` with all their arguments.
-pub fn bools(d: Datum) -> usize
-    ensures upper_bound { result ≤ 2 }
-    ensures takes_bools { TakesBools d result }
+// How many Bools a node takes: none but `!`, `/\` and `\/` with all their arguments takes any.
+pub fn bools(d: Datum) -> Option<usize>
+    ensures upper_bound { IfSome result (λ r. (0 < r) × (r ≤ 2)) }
+    ensures takes_bools { IfSome result (TakesBools d) }
 {
     if d.number < NOT {
-        return 0;
+        return None;
     }
     if d.tag != FUNCTION {
-        return 0;
+        return None;
     }
-    if d.number == NOT {
-        if d.kids == 1 {
-            return 1;
-        }
-        return 0;
+    if d.number == NOT && d.kids == 1 {
+        return Some(1);
     }
     if d.kids != 2 {
-        return 0;
+        return None;
     }
-    if d.number == AND {
-        return 2;
+    if d.number == AND || d.number == OR {
+        return Some(2);
     }
-    if d.number == OR {
-        return 2;
-    }
-    0
+    None
 }
 
 // Where a run of operators ends, and how many data terms behind it they take.
@@ -108,13 +90,12 @@ pub fn run_of(cells: &[u16], at: usize, count: usize) -> OperatorRun
             };
         }
         let d = data_at(cells, p);
-        let takes = bools(d);
-        if takes == 0 {
+        let Some(takes) = bools(d) else {
             return OperatorRun {
                 count: left,
                 next: p,
             };
-        }
+        };
         left = left - 1 + takes;
         p = d.next;
     }

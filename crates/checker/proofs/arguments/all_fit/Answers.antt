@@ -26,23 +26,23 @@ returns-then-not-every_fits c =
     let args = c.args in
     let here = c.loop-need in
     let d = c.data_at-d in
-    let t = c.bools-takes in
+    let t = c.in-Some in
     let r = c.run_of-r in
     let f = c.every_fits in
-    run_failed args.cells.now args.scope.now args.sizes.now args.funcs.now args.n args.given.at args.given.count here.p here.need here.invariant.1 left d.result d.ensures.data_views t.result t.ensures.takes_bools (omega arith) r.result.next r.result.count r.ensures.bools_at f.result f.ensures c.if-not-every_fits.true
+    run_failed args.cells.now args.scope.now args.sizes.now args.funcs.now args.n args.given.at args.given.count here.p here.need here.invariant.1 left d.result d.ensures.data_views t.takes t.ensures.takes_bools t.ensures.upper_bound.0 r.result.next r.result.count r.ensures.bools_at f.result f.ensures c.if-not-every_fits.true
 
-pub loop-need-preserved-then-takes-gt0 : goal.loop-need-preserved-then-takes-gt0
-loop-need-preserved-then-takes-gt0 c =
+pub loop-need-preserved-in-Some : goal.loop-need-preserved-in-Some
+loop-need-preserved-in-Some c =
     let left : 0 < c.loop-need.need = omega arith in
     let many : c.run_of-r.result.count ≤ cell_limit = c.run_of-r.ensures.at_le_next.1 in
     let few : c.loop-need.need ≤ length c.args.cells.now = omega arith in
     let args = c.args in
     let here = c.loop-need in
     let d = c.data_at-d in
-    let t = c.bools-takes in
+    let t = c.in-Some in
     let r = c.run_of-r in
     let f = c.every_fits in
-    (omega arith, run_passed args.cells.now args.scope.now args.sizes.now args.funcs.now args.n args.given.at args.given.count here.p here.need here.invariant.1 left d.result d.ensures.data_views t.result t.ensures.takes_bools (omega arith) r.result.next r.result.count r.ensures.bools_at f.result f.ensures c.if-not-every_fits.false)
+    (omega arith, run_passed args.cells.now args.scope.now args.sizes.now args.funcs.now args.n args.given.at args.given.count here.p here.need here.invariant.1 left d.result d.ensures.data_views t.takes t.ensures.takes_bools t.ensures.upper_bound.0 r.result.next r.result.count r.ensures.bools_at f.result f.ensures c.if-not-every_fits.false)
 
 pub returns-then-not-arguments_fit : goal.returns-then-not-arguments_fit
 returns-then-not-arguments_fit c =

@@ -1,5 +1,4 @@
 -- `fits`: a value below the size, a variable of the sort, a function that gives it; an operator gives Bool.
-use borrow.Author.Tests.{not-true, not-false}
 use native.Mathlib.Omega.{arith}
 use mathlib.Core.Bool.{false}
 use Rattle.checker.proofs.EachFits.{fits_stuck, fits_value, fits_variable, fits_function, fits_none, fits_operator}
@@ -27,14 +26,14 @@ returns-then-d-n c =
     let d = c.data_at-d in
     fits_function args.cells.now args.scope.now args.sizes.now args.funcs.now args.n args.at args.sort d.result d.ensures.data_views (λ z. omega arith) (λ z. omega arith) (omega arith) c.cell-then-d-n.result c.cell-then-d-n.ensures.0
 
-pub returns-then-not-o : goal.returns-then-not-o
-returns-then-not-o c =
+pub returns-in-Some : goal.returns-in-Some
+returns-in-Some c =
     let args = c.args in
     let d = c.data_at-d in
-    fits_none args.cells.now args.scope.now args.sizes.now args.funcs.now args.n args.at args.sort d.result d.ensures.data_views (λ z. omega arith) (λ z. omega arith) (omega arith) c.operator_of-o.result c.operator_of-o.ensures (not-true _ c.if-not-o.true)
+    fits_operator args.cells.now args.scope.now args.sizes.now args.funcs.now args.n args.at args.sort d.result d.ensures.data_views (λ z. omega arith) (λ z. omega arith) (omega arith) c.in-Some.field-0 c.in-Some.ensures
 
-pub returns : goal.returns
-returns c =
+pub returns-in-None : goal.returns-in-None
+returns-in-None c =
     let args = c.args in
     let d = c.data_at-d in
-    fits_operator args.cells.now args.scope.now args.sizes.now args.funcs.now args.n args.at args.sort d.result d.ensures.data_views (λ z. omega arith) (λ z. omega arith) (omega arith) c.operator_of-o.result c.operator_of-o.ensures (not-false _ c.if-not-o.false)
+    fits_none args.cells.now args.scope.now args.sizes.now args.funcs.now args.n args.at args.sort d.result d.ensures.data_views (λ z. omega arith) (λ z. omega arith) (omega arith) c.in-None.ensures

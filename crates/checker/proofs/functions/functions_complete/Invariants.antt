@@ -4,4 +4,3 @@ use Rattle.checker.proofs.functions.functions_complete.Given as goal
 
 abbrev pub invariant-loop-f : goal.invariant-loop-f
 invariant-loop-f l = (l.f ≤ l.n.funcs) × CompleteSoFar l.funcs l.values l.places l.sizes l.n l.f
-

@@ -9,4 +9,3 @@ use Rattle.checker.proofs.sorts.params_of.Given as goal
 
 abbrev pub invariant-loop-i : goal.invariant-loop-i
 invariant-loop-i l = ((l.i ≤ frame_width) × (length l.sorts ≡ max_scope)) × ParamsSoFar l.procs (proc_width * l.k) l.i l.sorts
-
