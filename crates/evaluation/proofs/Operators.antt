@@ -1,4 +1,5 @@
 -- Operators: which answers of the code are theirs.
+use mir.Val.{bool_byte}
 use mathlib.Core.Path.{◌≡◌, refl}
 use mathlib.Core.Bool.{Bool, true, false}
 use Prim.Native.Nat.{ℕ, zero, suc, ◌-◌, ◌≤◌}
@@ -55,16 +56,16 @@ module _ (n x y z r : ℕ) where
 
 -- BY A TEST OF THE FIRST, OR OF BOTH
 
-pub not_by : (x : ℕ) → pick (eqb x 0) 1 0 ≡ not_of x
+pub not_by : (x : ℕ) → bool_byte (eqb x 0) ≡ not_of x
 unfolding not_of
 not_by zero = refl
 not_by (suc x) = rw (ne_eqb (suc x) 0 (λ h. omega arith)) refl
 
-pub same_by : (x y : ℕ) → pick (eqb x y) 1 0 ≡ same_of x y
+pub same_by : (x y : ℕ) → bool_byte (eqb x y) ≡ same_of x y
 unfolding same_of
 same_by x y = go (eqb x y)
   where
-    go : (b : Bool) → pick {A = ℕ} b 1 0 ≡ elim b as (λ x. ℕ) [ true ↦ 1 | false ↦ 0 ]
+    go : (b : Bool) → bool_byte b ≡ elim b as (λ x. ℕ) [ true ↦ 1 | false ↦ 0 ]
     go true = refl
     go false = refl
 

@@ -26,9 +26,7 @@ pub fn fill(rows: &mut [u8], d: usize, b: u8)
     ensures { RowPut lane_count rows.old d (λ i. b) rows.new }
 {
     let r = d * LANES;
-    for i in 0..LANES {
-        rows[r + i] = b;
-    }
+    rows[r..r + LANES].fill(b);
 }
 
 // Row d is what each lane has for a variable.
@@ -37,9 +35,7 @@ pub fn copy(from: &[u8], rows: &mut [u8], d: usize)
     ensures { RowPut lane_count rows.old d (λ i. get_or from.now i 0) rows.new }
 {
     let r = d * LANES;
-    for i in 0..LANES {
-        rows[r + i] = from[i];
-    }
+    rows[r..r + LANES].copy_from_slice(&from[..LANES]);
 }
 
 // No lane of row t is higher.
@@ -67,7 +63,7 @@ fn one(s: &[u8], q: usize, rows: &mut [u8], t: usize, d: usize, n: usize)
     }
 }
 
-// The same where all places that the row names are in the stream.
+// The same where all places that the row names are in the stream: a loop of its own, since a test of each place would slow it.
 fn one_inside(s: &[u8], q: usize, rows: &mut [u8], t: usize, d: usize, n: usize)
     requires { ((i : ℕ) → i < lane_count → q + lane rows.old t i < length s.now) × ((q < 262144) × ((t ≤ 18) × ((d < row_count) × ((row_room ≤ length rows.old) × (n ≤ lane_count))))) }
     ensures { RowPut n rows.old d (λ i. get_or s.now (q + lane rows.old t i) 0) rows.new }
@@ -92,7 +88,7 @@ fn two(s: &[u8], q: usize, width: u8, rows: &mut [u8], t: usize, d: usize, n: us
     }
 }
 
-// The same for the lanes from k on where all places are in the stream; the places first, so that the compiler makes them 8 at a time.
+// The same for the lanes from k on where all places are in the stream: no test, and the places first, so that the compiler makes them 8 at a time.
 fn two_part(s: &[u8], q: usize, width: u8, rows: &mut [u8], t: usize, d: usize, k: usize)
     requires { ((i : ℕ) → k ≤ i → i < k + 16 → q + (lane rows.old t i * width + lane rows.old (t + 1) i) < length s.now) × ((k + 16 ≤ lane_count) × ((q < 131072) × ((t ≤ row_count) × ((d < row_count) × (row_room ≤ length rows.old))))) }
     ensures { Putting rows.old d (λ i. get_or s.now (q + (lane rows.old t i * width + lane rows.old (t + 1) i)) 0) k (k + 16) rows.new }
@@ -114,10 +110,8 @@ fn two_inside(s: &[u8], q: usize, width: u8, rows: &mut [u8], t: usize, d: usize
     requires { ((i : ℕ) → i < lane_count → q + (lane rows.old t i * width + lane rows.old (t + 1) i) < length s.now) × ((q < 131072) × ((t ≤ row_count) × ((d < row_count) × ((row_room ≤ length rows.old) × (n ≤ lane_count))))) }
     ensures { RowPut n rows.old d (λ i. get_or s.now (q + (lane rows.old t i * width + lane rows.old (t + 1) i)) 0) rows.new }
 {
-    let mut i: usize = 0;
-    while i < n {
+    for i in (0..n).step_by(PART) {
         two_part(s, q, width, rows, t, d, i);
-        i += PART;
     }
 }
 

@@ -45,22 +45,16 @@ fn arguments(s: &[u8], funcs: &[u16], b: u8) -> usize
     operator_arguments(n)
 }
 
-fn bit(t: bool) -> u8
-    ensures { result ≡ pick t 1 0 }
-{
-    if t { 1 } else { 0 }
-}
-
 // What an operator is worth where the values behind it begin with x, y and z.
 fn operator_worth(n: usize, x: u8, y: u8, z: u8) -> u8
     requires { operator_code ≤ n }
     ensures { result ≡ operator_worth (n - operator_code) x y z }
 {
     if n == NOT {
-        return bit(x == 0);
+        return u8::from(x == 0);
     }
     if n == EQUAL {
-        return bit(y == z);
+        return u8::from(y == z);
     }
     if n == AND {
         if x == 0 {

@@ -5,10 +5,10 @@ use Rattle.evaluation.proofs.Operators.{worth_not, worth_equal, worth_and, worth
 use Rattle.evaluation.proofs.operator_worth.Goals as goal
 
 pub returns-then-n-eq-NOT : goal.returns-then-n-eq-NOT
-returns-then-n-eq-NOT c = let a = c.args in worth_not a.n a.x a.y a.z _ (omega arith) (c.bit.ensures ∙ not_by a.x)
+returns-then-n-eq-NOT c = let a = c.args in worth_not a.n a.x a.y a.z _ (omega arith) (c.from.ensures ∙ not_by a.x)
 
 pub returns-then-n-eq-EQUAL : goal.returns-then-n-eq-EQUAL
-returns-then-n-eq-EQUAL c = let a = c.args in worth_equal a.n a.x a.y a.z _ (omega arith) (c.bit-then-n-eq-EQUAL.ensures ∙ same_by a.y a.z)
+returns-then-n-eq-EQUAL c = let a = c.args in worth_equal a.n a.x a.y a.z _ (omega arith) (c.from-then-n-eq-EQUAL.ensures ∙ same_by a.y a.z)
 
 pub returns-then-x-eq0 : goal.returns-then-x-eq0
 returns-then-x-eq0 c = let a = c.args in worth_and a.n a.x a.y a.z 0 (omega arith) (and_no a.x a.y (omega arith))

@@ -30,3 +30,9 @@ shape_of-rows c = c.loop-i.invariant.1.0
 
 pub returns : goal.returns
 returns c = let a = c.args in let l = c.loop-i in put_all a.n a.rows.now a.d _ l.i l.rows (omega arith) (omega arith) l.invariant.1.1
+
+pub shape_of-rows-2 : goal.shape_of-rows-2
+shape_of-rows-2 c = c.two_part.auto.rows ∙ c.loop-i.invariant.1.0
+
+pub returns-2 : goal.returns-2
+returns-2 c = let a = c.args in let l = c.loop-i in put_all a.n a.rows.now a.d _ (l.i + 16) _ (omega arith) (omega arith) (put_join a.rows.now a.d (λ (m : ℕ). get_or a.s.now (a.q + (lane a.rows.now a.t m * a.width + lane a.rows.now (a.t + 1) m)) 0) (λ (m : ℕ). get_or a.s.now (a.q + (lane l.rows a.t m * a.width + lane l.rows (a.t + 1) m)) 0) l.i (l.i + 16) l.rows _ (omega arith) (λ m h k. ap (λ (x : ℕ). get_or a.s.now x 0) (same_pairs a.rows.now a.d _ 0 l.i l.rows l.invariant.1.1 a.q a.width a.t m h (omega arith))) l.invariant.1.1 c.two_part.ensures)

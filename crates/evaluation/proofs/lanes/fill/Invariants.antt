@@ -1,8 +1,0 @@
-use Prim.Native.Nat.{◌-◌, ◌*◌, ◌≤◌}
-use mathlib.Core.Path.{◌≡◌}
-use lib.ListN.{length}
-use Rattle.evaluation.specs.Rows.{Putting}
-use Rattle.evaluation.proofs.lanes.fill.Given as goal
-
-abbrev pub invariant-loop-i : goal.invariant-loop-i
-invariant-loop-i l = (l.i ≤ 128) × ((l.r ≡ l.d * 128) × ((length l.rows ≡ length l.initial.rows) × Putting l.initial.rows l.d (λ n. l.b) 0 l.i l.rows))
