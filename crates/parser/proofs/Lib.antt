@@ -1,5 +1,6 @@
 mod Signs
 mod Writing
+mod Reaching
 mod Reading
 mod Going
 mod Words

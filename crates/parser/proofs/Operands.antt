@@ -10,12 +10,13 @@ use Rattle.pcrl.specs.Reader.{Got, missing, found, Reader, bind}
 use Rattle.pcrl.specs.Grammar.{on, data_term, conjunction, comparison}
 use Rattle.laws.specs.Places.{get_or_positive}
 use Rattle.parser.specs.Cells.{Symbol, ors, ands, first_ors, first_ands, symbol_of, more_ors, more_ands, enc_ors, enc_ands, enc_data, enc_conjunction, enc_comparison}
-use Rattle.parser.specs.Reading.{rest, left, Ahead, Put, Few, Writes, Reads}
-use Rattle.parser.specs.Reading as R
+use Rattle.parser.specs.Reading.{rest, left, Put, Few, Writes}
+use Rattle.parser.proofs.Reaching as R
 use Rattle.parser.proofs.Signs.{Sign, or_sign, and_sign}
 use Rattle.parser.proofs.Writing.{writes_cell, writes_then, writes_over}
 use Rattle.parser.proofs.Reading.{on_next, on_other, then_reads}
 use Rattle.parser.proofs.Words.{symbol_ors, symbol_ands}
+use Rattle.parser.proofs.Reaching.{After, Reaches}
 
 -- Where the definition's reader finds a value, its operands are written, and n stand behind the first; else `next` is past the end.
 pub data Counts (s toks : List ℕ) {A : Type 0} (enc : A → List Symbol) (more : A → ℕ) (w : ℕ) (o : List ℕ) (next w' : ℕ) (o' : List ℕ) (n : ℕ) : Got Token A → Type 0 where
@@ -42,14 +43,14 @@ module _ {s toks : List ℕ} {A : Type 0} {enc : A → List Symbol} {more : A �
   -- the count in the cell before them
   pub counted : (y : ℕ → Symbol) {x : Symbol} {w w₁ at₂ w₂ : ℕ} {o o₁ o₂ : List ℕ} {n v w₃ : ℕ} {o₃ : List ℕ} {P : Got Token A}
       → Writes s toks (x ∷ []) w o w₁ o₁ → Counts s toks enc more w₁ o₁ at₂ w₂ o₂ n P → (at₂ ≤ length toks → Few toks → symbol_of s v ≡ y n) → Put o₂ w v w₃ o₃
-      → Reads s toks (λ a. y (more a) ∷ enc a) w o at₂ w₂ o₃ P
+      → Reaches s toks (λ a. y (more a) ∷ enc a) w o at₂ w₂ o₃ P
   counted y b (lost l) k p = R.lost l
   counted y b (took {a} i u e) k p = R.took i (writes_over (writes_then b u) p (λ few. k i few ∙ ap y e))
 
 module _ (s toks : List ℕ) {A : Type 0} {enc : A → List Symbol} {more : A → ℕ} {w₀ : ℕ} {o₀ : List ℕ} {end w' : ℕ} {o' : List ℕ} {n : ℕ} where
   -- an operand, and then the others
   counts_bind : {I : Type 0} {encI : I → List Symbol} {P : Got Token I} (k : I → List Token → Got Token A) {w : ℕ} {o : List ℕ} {at w₁ : ℕ} {o₁ : List ℕ}
-      → Reads s toks encI w o at w₁ o₁ P → (length toks < at → length toks < end) → ((i : I) → at ≤ length toks → Writes s toks (encI i) w o w₁ o₁ → Counts s toks enc more w₀ o₀ end w' o' n (k i (rest s toks at))) → Counts s toks enc more w₀ o₀ end w' o' n (bind P k)
+      → Reaches s toks encI w o at w₁ o₁ P → (length toks < at → length toks < end) → ((i : I) → at ≤ length toks → Writes s toks (encI i) w o w₁ o₁ → Counts s toks enc more w₀ o₀ end w' o' n (k i (rest s toks at))) → Counts s toks enc more w₀ o₀ end w' o' n (bind P k)
   counts_bind k h f g = then_reads s toks (λ g. Counts s toks enc more w₀ o₀ end w' o' n g) k h (λ l. lost (f l)) g
 
   counts_next : {c : ℕ} {t : String} → Sign c t → (at : ℕ) (behind other : List Token → Got Token A) → get_or toks at 0 ≡ c → Counts s toks enc more w₀ o₀ end w' o' n (behind (rest s toks (at + 1))) → Counts s toks enc more w₀ o₀ end w' o' n (on t behind other (rest s toks at))
@@ -65,8 +66,8 @@ module _ (s toks : List ℕ) {A : Type 0} {enc : A → List Symbol} {more : A �
   counts_more k (took {a} i u e) g = g a i u e
 
 -- ---- `\/`
-module _ (s toks : List ℕ) (at : ℕ) {w at₂ w₂ : ℕ} {o o₂ : List ℕ} (a : Ahead (length toks) at at₂)
-    (h : (f : ℕ) → 5 * left toks at + 3 < f → Reads s toks enc_conjunction w o at₂ w₂ o₂ (conjunction f (rest s toks at))) where
+module _ (s toks : List ℕ) (at : ℕ) {w at₂ w₂ : ℕ} {o o₂ : List ℕ} (a : After (length toks) at at₂)
+    (h : (f : ℕ) → 5 * left toks at + 3 < f → Reaches s toks enc_conjunction w o at₂ w₂ o₂ (conjunction f (rest s toks at))) where
   pub or_last : (get_or toks at₂ 0 ≡ 133 → ⊥) → (f : ℕ) → 5 * left toks at + 4 < f → Counts s toks enc_ors more_ors w o at₂ w₂ o₂ 0 (data_term f (rest s toks at))
   unfolding data_term enc_ors more_ors
   or_last n zero l = absurd (omega arith)
@@ -85,7 +86,7 @@ module _ (s toks : List ℕ) (at : ℕ) {w at₂ w₂ : ℕ} {o o₂ : List ℕ}
 pub data_read : (s toks : List ℕ) (at : ℕ) {w w₁ at₂ w₂ n v w₃ : ℕ} {o o₁ o₂ o₃ : List ℕ} → Put o w first_ors w₁ o₁
     → ((f : ℕ) → 5 * left toks at + 4 < f → Counts s toks enc_ors more_ors w₁ o₁ at₂ w₂ o₂ n (data_term f (rest s toks at)))
     → (at₂ ≤ length toks → n < length toks) → (n < first_ors → v ≡ first_ors + n) → Put o₂ w v w₃ o₃
-    → (f : ℕ) → 5 * left toks at + 4 < f → Reads s toks enc_data w o at₂ w₂ o₃ (data_term f (rest s toks at))
+    → (f : ℕ) → 5 * left toks at + 4 < f → Reaches s toks enc_data w o at₂ w₂ o₃ (data_term f (rest s toks at))
 unfolding symbol_of
 data_read s toks at {n = n} p h b e q f l =
     counted ors (writes_cell p refl) (h f l)
@@ -96,8 +97,8 @@ data_read s toks at {n = n} p h b e q f l =
     q
 
 -- ---- `/\`
-module _ (s toks : List ℕ) (at : ℕ) {w at₂ w₂ : ℕ} {o o₂ : List ℕ} (a : Ahead (length toks) at at₂)
-    (h : (f : ℕ) → 5 * left toks at + 2 < f → Reads s toks enc_comparison w o at₂ w₂ o₂ (comparison f (rest s toks at))) where
+module _ (s toks : List ℕ) (at : ℕ) {w at₂ w₂ : ℕ} {o o₂ : List ℕ} (a : After (length toks) at at₂)
+    (h : (f : ℕ) → 5 * left toks at + 2 < f → Reaches s toks enc_comparison w o at₂ w₂ o₂ (comparison f (rest s toks at))) where
   pub and_last : (get_or toks at₂ 0 ≡ 132 → ⊥) → (f : ℕ) → 5 * left toks at + 3 < f → Counts s toks enc_ands more_ands w o at₂ w₂ o₂ 0 (conjunction f (rest s toks at))
   unfolding conjunction enc_ands more_ands
   and_last n zero l = absurd (omega arith)
@@ -116,7 +117,7 @@ module _ (s toks : List ℕ) (at : ℕ) {w at₂ w₂ : ℕ} {o o₂ : List ℕ}
 pub conjunction_read : (s toks : List ℕ) (at : ℕ) {w w₁ at₂ w₂ n v w₃ : ℕ} {o o₁ o₂ o₃ : List ℕ} → Put o w first_ands w₁ o₁
     → ((f : ℕ) → 5 * left toks at + 3 < f → Counts s toks enc_ands more_ands w₁ o₁ at₂ w₂ o₂ n (conjunction f (rest s toks at)))
     → (at₂ ≤ length toks → n < length toks) → (n < first_ors → v ≡ first_ands + n) → Put o₂ w v w₃ o₃
-    → (f : ℕ) → 5 * left toks at + 3 < f → Reads s toks enc_conjunction w o at₂ w₂ o₃ (conjunction f (rest s toks at))
+    → (f : ℕ) → 5 * left toks at + 3 < f → Reaches s toks enc_conjunction w o at₂ w₂ o₃ (conjunction f (rest s toks at))
 unfolding symbol_of
 conjunction_read s toks at {n = n} p h b e q f l =
     counted ands (writes_cell p refl) (h f l)

@@ -64,11 +64,11 @@ module _ (s toks : List ℕ) (o : List ℕ) (L : Lines) (end w' : ℕ) (o' : Lis
           let z = rest_past s toks end (omega arith) in
           subst (λ ts. Parses (whole (found R ts)) s (Some answer) o') (sym z) (tree bound R e u st (q ∙ ap (found R) z))
 
-  -- and none where it does not
-  pub parses_none : (end ≡ length toks → ⊥) → Sheeted s toks o L end w' o' (sheet bound (rest s toks 0)) → Parses (parse (tokens_of s toks)) s None o'
+  -- and none where it does not, whatever is left in the cells
+  pub parses_none : (out : List ℕ) → (end ≡ length toks → ⊥) → Sheeted s toks o L end w' o' (sheet bound (rest s toks 0)) → Parses (parse (tokens_of s toks)) s None out
   unfolding parse Parses rest whole
-  parses_none n h = by (sheet bound (tokens_of s toks)) h
+  parses_none out n h = by (sheet bound (tokens_of s toks)) h
     where
-      by : (g : Got Token RawSheet) → Sheeted s toks o L end w' o' g → Parses (whole g) s None o'
+      by : (g : Got Token RawSheet) → Sheeted s toks o L end w' o' g → Parses (whole g) s None out
       by g (gone l) = tt
-      by g (full {R} i u st) = subst (λ ts. Parses (whole (found R ts)) s None o') (sym (rest_next s toks end (omega arith))) tt
+      by g (full {R} i u st) = subst (λ ts. Parses (whole (found R ts)) s None out) (sym (rest_next s toks end (omega arith))) tt

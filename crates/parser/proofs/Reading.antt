@@ -15,18 +15,19 @@ use Rattle.laws.specs.Places.{get_or_positive}
 use Rattle.grammar.specs.Ahead.{on_sign}
 use Rattle.lexer.specs.Cells.{cell_token}
 use Rattle.parser.specs.Cells.{Symbol}
-use Rattle.parser.specs.Reading.{rest, left, Ahead, Onward, Writes, Expected, next, wrong, Reads, lost, took}
+use Rattle.parser.specs.Reading.{rest, left, Writes}
 use Rattle.parser.proofs.Signs.{Sign}
+use Rattle.parser.proofs.Reaching.{After, NotBefore, Meets, next, wrong, Reaches, lost, took}
 
 -- what is past the end stays there
-pub still_lost : {n at next : ℕ} → Ahead n at next → n < at → n < next
+pub still_lost : {n at next : ℕ} → After n at next → n < at → n < next
 still_lost a l = omega arith
 
 -- one step and the next
-pub ahead_then : (n at : ℕ) {next end : ℕ} → Ahead n at next → Ahead n next end → Ahead n at end
+pub ahead_then : (n at : ℕ) {next end : ℕ} → After n at next → After n next end → After n at end
 ahead_then n at a b = omega arith
 
-pub ahead_on : (n at : ℕ) {next end : ℕ} → Ahead n at next → Onward n next end → Ahead n at end
+pub ahead_on : (n at : ℕ) {next end : ℕ} → After n at next → NotBefore n next end → After n at end
 ahead_on n at a b = omega arith
 
 pub left_below : (toks : List ℕ) (at : ℕ) {f : ℕ} → length toks < f → left toks at < f
@@ -72,13 +73,13 @@ bind_assoc (found a ts) k l = refl
 -- any claim on what is read: one reader, and then another
 module _ (s toks : List ℕ) {B : Type 0} (G : Got Token B → Type 0) where
   pub then_reads : {A : Type 0} {encA : A → List Symbol} {at : ℕ} {P : Got Token A} (k : A → List Token → Got Token B) {w : ℕ} {o : List ℕ} {w₁ : ℕ} {o₁ : List ℕ}
-      → Reads s toks encA w o at w₁ o₁ P → (length toks < at → G missing) → ((a : A) → at ≤ length toks → Writes s toks (encA a) w o w₁ o₁ → G (k a (rest s toks at))) → G (bind P k)
+      → Reaches s toks encA w o at w₁ o₁ P → (length toks < at → G missing) → ((a : A) → at ≤ length toks → Writes s toks (encA a) w o w₁ o₁ → G (k a (rest s toks at))) → G (bind P k)
   unfolding bind
   then_reads k (lost l) f g = f l
   then_reads k (took {a} i u) f g = g a i u
 
   -- a sign has to stand next
-  pub then_expect : {c : ℕ} {t : String} → Sign c t → (at : ℕ) {e : ℕ} → Expected toks at c e → (k : Unit {0} → List Token → Got Token B) → (length toks < e → G missing)
+  pub then_expect : {c : ℕ} {t : String} → Sign c t → (at : ℕ) {e : ℕ} → Meets toks at c e → (k : Unit {0} → List Token → Got Token B) → (length toks < e → G missing)
       → (e ≤ length toks → G (k tt (rest s toks e))) → G (bind (expect t (rest s toks at)) k)
   unfolding expect bind fail
   then_expect {c} {t} S at (next h) k f g =
@@ -90,21 +91,21 @@ module _ (s toks : List ℕ) {B : Type 0} (G : Got Token B → Type 0) where
 module _ {s toks : List ℕ} {B : Type 0} {enc : B → List Symbol} {w₀ : ℕ} {o₀ : List ℕ} {end w' : ℕ} {o' : List ℕ} where
   -- one reader, and then another
   pub reads_bind : {A : Type 0} {encA : A → List Symbol} {P : Got Token A} (k : A → List Token → Got Token B) {w : ℕ} {o : List ℕ} {at w₁ : ℕ} {o₁ : List ℕ}
-      → Reads s toks encA w o at w₁ o₁ P → (length toks < at → length toks < end)
-      → ((a : A) → at ≤ length toks → Writes s toks (encA a) w o w₁ o₁ → Reads s toks enc w₀ o₀ end w' o' (k a (rest s toks at))) → Reads s toks enc w₀ o₀ end w' o' (bind P k)
-  reads_bind k h f g = then_reads s toks (λ x. Reads s toks enc w₀ o₀ end w' o' x) k h (λ l. lost (f l)) g
+      → Reaches s toks encA w o at w₁ o₁ P → (length toks < at → length toks < end)
+      → ((a : A) → at ≤ length toks → Writes s toks (encA a) w o w₁ o₁ → Reaches s toks enc w₀ o₀ end w' o' (k a (rest s toks at))) → Reaches s toks enc w₀ o₀ end w' o' (bind P k)
+  reads_bind k h f g = then_reads s toks (λ x. Reaches s toks enc w₀ o₀ end w' o' x) k h (λ l. lost (f l)) g
 
   -- a sign stands next
   pub reads_next : {c : ℕ} {t : String} → Sign c t → (at : ℕ) (behind other : List Token → Got Token B) → get_or toks at 0 ≡ c
-      → Reads s toks enc w₀ o₀ end w' o' (behind (rest s toks (at + 1))) → Reads s toks enc w₀ o₀ end w' o' (on t behind other (rest s toks at))
-  reads_next S at behind other e h = subst (λ g. Reads s toks enc w₀ o₀ end w' o' g) (sym (on_next S s toks at behind other e)) h
+      → Reaches s toks enc w₀ o₀ end w' o' (behind (rest s toks (at + 1))) → Reaches s toks enc w₀ o₀ end w' o' (on t behind other (rest s toks at))
+  reads_next S at behind other e h = subst (λ g. Reaches s toks enc w₀ o₀ end w' o' g) (sym (on_next S s toks at behind other e)) h
 
   -- it does not
   pub reads_other : {c : ℕ} {t : String} → Sign c t → (at : ℕ) (behind other : List Token → Got Token B) → (get_or toks at 0 ≡ c → ⊥)
-      → Reads s toks enc w₀ o₀ end w' o' (other (rest s toks at)) → Reads s toks enc w₀ o₀ end w' o' (on t behind other (rest s toks at))
-  reads_other S at behind other n h = subst (λ g. Reads s toks enc w₀ o₀ end w' o' g) (sym (on_other S s toks at behind other n)) h
+      → Reaches s toks enc w₀ o₀ end w' o' (other (rest s toks at)) → Reaches s toks enc w₀ o₀ end w' o' (on t behind other (rest s toks at))
+  reads_other S at behind other n h = subst (λ g. Reaches s toks enc w₀ o₀ end w' o' g) (sym (on_other S s toks at behind other n)) h
 
   -- a sign has to stand next
-  pub reads_expect : {c : ℕ} {t : String} → Sign c t → (at : ℕ) {e : ℕ} → Expected toks at c e → (k : Unit {0} → List Token → Got Token B) → (length toks < e → length toks < end)
-      → (e ≤ length toks → Reads s toks enc w₀ o₀ end w' o' (k tt (rest s toks e))) → Reads s toks enc w₀ o₀ end w' o' (bind (expect t (rest s toks at)) k)
-  reads_expect S at x k f g = then_expect s toks (λ y. Reads s toks enc w₀ o₀ end w' o' y) S at x k (λ l. lost (f l)) g
+  pub reads_expect : {c : ℕ} {t : String} → Sign c t → (at : ℕ) {e : ℕ} → Meets toks at c e → (k : Unit {0} → List Token → Got Token B) → (length toks < e → length toks < end)
+      → (e ≤ length toks → Reaches s toks enc w₀ o₀ end w' o' (k tt (rest s toks e))) → Reaches s toks enc w₀ o₀ end w' o' (bind (expect t (rest s toks at)) k)
+  reads_expect S at x k f g = then_expect s toks (λ y. Reaches s toks enc w₀ o₀ end w' o' y) S at x k (λ l. lost (f l)) g

@@ -13,13 +13,14 @@ use Rattle.pcrl.specs.Reader.{Got, missing, found, bind, Reader, all}
 use Rattle.pcrl.specs.Grammar.{lines}
 use Rattle.laws.specs.Places.{get_or_positive}
 use Rattle.parser.specs.Cells.{Symbol}
-use Rattle.parser.specs.Reading.{rest, left, Ahead, Onward, Put, Few, Writes, Expected, Reads}
-use Rattle.parser.specs.Runs.{Placed, Ran, lost, took}
+use Rattle.parser.specs.Reading.{rest, left, Put, Few, Writes}
+use Rattle.parser.specs.Runs.{Placed}
 use Rattle.parser.specs.Kinds.{kind_of, sort_kind, func_kind, act_kind, proc_kind}
 use Rattle.parser.specs.declared.Run.{Run}
 use Rattle.parser.proofs.Signs.{Sign, semicolon_sign, sort_sign, func_sign, act_sign, proc_sign}
 use Rattle.parser.proofs.Writing.{writes_nothing, writes_then}
 use Rattle.parser.proofs.Reading.{on_next, on_other, then_reads, then_expect}
+use Rattle.parser.proofs.Reaching.{After, NotBefore, Meets, Reaches, Runs, stray, ran}
 
 pub sort_kind_is : (c : ℕ) → c ≡ 160 → kind_of c ≡ sort_kind
 unfolding kind_of
@@ -70,9 +71,9 @@ placed_one {A} {enc} {l} {ls} {w} {w₂} {n} {p} {p₂} h e = record {
 -- ---- runs
 -- What is read from `at` on, at every bound above the tokens left, follows from what is read from `from` on, if that is no place past the end.
 pub record RunGoes (s toks : List ℕ) {A : Type 0} (enc : A → List Symbol) (word : String) (line : Reader Token A) (at w n : ℕ) (o p : List ℕ) (from v m : ℕ) (o₁ p₁ : List ℕ) : Type 0 where
-  pub on : {r : Run} {o' p' : List ℕ} → Onward (length toks) from r.at
-      → (from ≤ length toks → (g : ℕ) → left toks from < g → Ran s toks enc v o₁ m p₁ r o' p' (lines word line g (rest s toks from)))
-      → (f : ℕ) → left toks at < f → Ran s toks enc w o n p r o' p' (lines word line f (rest s toks at))
+  pub on : {r : Run} {o' p' : List ℕ} → NotBefore (length toks) from r.at
+      → (from ≤ length toks → (g : ℕ) → left toks from < g → Runs s toks enc v o₁ m p₁ r o' p' (lines word line g (rest s toks from)))
+      → (f : ℕ) → left toks at < f → Runs s toks enc w o n p r o' p' (lines word line f (rest s toks at))
 
 module _ {s toks : List ℕ} {A : Type 0} {enc : A → List Symbol} {word : String} {line : Reader Token A} {at w n : ℕ} {o p : List ℕ} where
   pub run_start : at ≤ length toks → RunGoes s toks enc word line at w n o p at w n o p
@@ -83,21 +84,21 @@ module _ {s toks : List ℕ} {A : Type 0} {enc : A → List Symbol} {word : Stri
   run_then h b k = record { on = λ a x. h.on (omega arith) (λ i. k.on a x) }
 
 module _ {c : ℕ} {word : String} (S : Sign c word) {A : Type 0} {enc : A → List Symbol} (line : Reader Token A) (s toks : List ℕ) (at w n : ℕ) (o p : List ℕ) where
-  pub run_none : at ≤ length toks → (get_or toks at 0 ≡ c → ⊥) → (f : ℕ) → left toks at < f → Ran s toks enc w o n p (record { at = at; w = w; count = n }) o p (lines word line f (rest s toks at))
+  pub run_none : at ≤ length toks → (get_or toks at 0 ≡ c → ⊥) → (f : ℕ) → left toks at < f → Runs s toks enc w o n p (record { at = at; w = w; count = n }) o p (lines word line f (rest s toks at))
   unfolding lines all
   run_none i m zero l = absurd (omega arith)
   run_none i m (suc f) l =
-      subst (λ g. Ran s toks enc w o n p (record { at = at; w = w; count = n }) o p g) (sym (on_other S s toks at _ _ m))
-      (took i writes_nothing (omega arith) (λ few room big. record { kept = λ j k. refl; new = λ j k. absurd (omega arith) }))
+      subst (λ g. Runs s toks enc w o n p (record { at = at; w = w; count = n }) o p g) (sym (on_other S s toks at _ _ m))
+      (ran i writes_nothing (omega arith) (λ few room big. record { kept = λ j k. refl; new = λ j k. absurd (omega arith) }))
 
-  module _ {v w₁ : ℕ} {p₁ : List ℕ} (e : get_or toks at 0 ≡ c) (sv : w < 65536 → v ≡ w) (q : Put p n v w₁ p₁) {at₂ w₂ : ℕ} {o₂ : List ℕ} (h : Reads s toks enc w o at₂ w₂ o₂ (line (rest s toks (at + 1))))
-      {at₃ : ℕ} (a₃ : Ahead (length toks) at₂ at₃) (x : Expected toks at₂ 59 at₃) (b : at < at₃) {r : Run} {o₃ p₃ : List ℕ} (a₄ : Onward (length toks) at₃ r.at)
-      (hs : at₃ ≤ length toks → (f : ℕ) → left toks at₃ < f → Ran s toks enc w₂ o₂ (n + 1) p₁ r o₃ p₃ (lines word line f (rest s toks at₃))) where
+  module _ {v w₁ : ℕ} {p₁ : List ℕ} (e : get_or toks at 0 ≡ c) (sv : w < 65536 → v ≡ w) (q : Put p n v w₁ p₁) {at₂ w₂ : ℕ} {o₂ : List ℕ} (h : Reaches s toks enc w o at₂ w₂ o₂ (line (rest s toks (at + 1))))
+      {at₃ : ℕ} (a₃ : After (length toks) at₂ at₃) (x : Meets toks at₂ 59 at₃) (b : at < at₃) {r : Run} {o₃ p₃ : List ℕ} (a₄ : NotBefore (length toks) at₃ r.at)
+      (hs : at₃ ≤ length toks → (f : ℕ) → left toks at₃ < f → Runs s toks enc w₂ o₂ (n + 1) p₁ r o₃ p₃ (lines word line f (rest s toks at₃))) where
     -- a line before the others
-    run_cons : (l : A) → Writes s toks (enc l) w o w₂ o₂ → (g : Got Token (List A)) → Ran s toks enc w₂ o₂ (n + 1) p₁ r o₃ p₃ g → Ran s toks enc w o n p r o₃ p₃ (bind g (λ ls ts. found (l ∷ ls) ts))
+    run_cons : (l : A) → Writes s toks (enc l) w o w₂ o₂ → (g : Got Token (List A)) → Runs s toks enc w₂ o₂ (n + 1) p₁ r o₃ p₃ g → Runs s toks enc w o n p r o₃ p₃ (bind g (λ ls ts. found (l ∷ ls) ts))
     unfolding bind all
-    run_cons l u missing (lost m) = lost m
-    run_cons l u (found ls ts) (took i z k pl) = took {ls = l ∷ ls} i (writes_then u z) (omega arith) placed
+    run_cons l u missing (stray m) = stray m
+    run_cons l u (found ls ts) (ran i z k pl) = ran {ls = l ∷ ls} i (writes_then u z) (omega arith) placed
       where
         placed : Few toks → w + length (enc l ++ all enc ls) ≤ length o → length o < 65536 → Placed enc (l ∷ ls) w n p p₃
         placed few room big =
@@ -107,13 +108,13 @@ module _ {c : ℕ} {word : String} (S : Sign c word) {A : Type 0} {enc : A → L
             let a₂ = a.next in
             placed_one (subst (λ p. Placed enc ls w₂ (n + 1) p p₃) (q.cells ∙ ap (set p n) (sv (omega arith))) (pl few (omega arith) (omega arith))) a.next
 
-    pub run_more : (f : ℕ) → left toks at < f → Ran s toks enc w o n p r o₃ p₃ (lines word line f (rest s toks at))
+    pub run_more : (f : ℕ) → left toks at < f → Runs s toks enc w o n p r o₃ p₃ (lines word line f (rest s toks at))
     unfolding lines
     run_more zero l = absurd (omega arith)
     run_more (suc f) l =
         let t = S.some in
         let d = get_or_positive toks at (omega arith) in
-        subst (λ g. Ran s toks enc w o n p r o₃ p₃ g) (sym (on_next S s toks at _ _ e))
-        (then_reads s toks (λ g. Ran s toks enc w o n p r o₃ p₃ g) _ h (λ k. lost (omega arith))
-        (λ y i u. then_expect s toks (λ g. Ran s toks enc w o n p r o₃ p₃ g) semicolon_sign at₂ x _ (λ k. lost (omega arith))
+        subst (λ g. Runs s toks enc w o n p r o₃ p₃ g) (sym (on_next S s toks at _ _ e))
+        (then_reads s toks (λ g. Runs s toks enc w o n p r o₃ p₃ g) _ h (λ k. stray (omega arith))
+        (λ y i u. then_expect s toks (λ g. Runs s toks enc w o n p r o₃ p₃ g) semicolon_sign at₂ x _ (λ k. stray (omega arith))
         (λ j. run_cons y u (lines word line f (rest s toks at₃)) (hs j f (omega arith)))))

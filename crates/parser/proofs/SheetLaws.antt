@@ -10,8 +10,8 @@ use Rattle.pcrl.specs.Reader.{Got, missing, found, bind, test, keep, all}
 use Rattle.pcrl.specs.Tree.{RawSheet}
 use Rattle.pcrl.specs.Grammar.{sort_line, func_line, act_line, proc_line, init_line, lines, sheet}
 use Rattle.parser.specs.Cells.{Symbol, enc_sort, enc_func, enc_act, enc_proc, enc_init, enc_sheet}
-use Rattle.parser.specs.Reading.{rest, Ahead, Onward, Few, Writes, Expected, Reads}
-use Rattle.parser.specs.Runs.{Placed, Ran, lost, took}
+use Rattle.parser.specs.Reading.{rest, Few, Writes}
+use Rattle.parser.specs.Runs.{Placed}
 use Rattle.parser.specs.Parses.{Stands, Kept}
 use Rattle.parser.specs.declared.Run.{Run}
 use Rattle.parser.specs.declared.Lines.{Lines}
@@ -19,15 +19,16 @@ use Rattle.parser.proofs.Signs.{init_sign, semicolon_sign}
 use Rattle.parser.proofs.Writing.{writes_then}
 use Rattle.parser.proofs.Reading.{still_lost, bind_assoc, then_reads, then_expect}
 use Rattle.parser.proofs.Places.{stands_behind, kept_behind}
+use Rattle.parser.proofs.Reaching.{After, NotBefore, Meets, Reaches, Runs, stray, ran}
 
 -- a run of lines, and then another reader
 module _ (s toks : List ℕ) {B : Type 0} (G : Got Token B → Type 0) {A : Type 0} {enc : A → List Symbol} (k : List A → List Token → Got Token B) {w : ℕ} {o : List ℕ} {n : ℕ} {p : List ℕ} {r : Run} {o' p' : List ℕ} where
-  then_run : {P : Got Token (List A)} → Ran s toks enc w o n p r o' p' P → (length toks < r.at → G missing)
+  then_run : {P : Got Token (List A)} → Runs s toks enc w o n p r o' p' P → (length toks < r.at → G missing)
       → ((ls : List A) → r.at ≤ length toks → Writes s toks (all enc ls) w o r.w o' → r.count ≡ n + length ls → (Few toks → w + length (all enc ls) ≤ length o → length o < 65536 → Placed enc ls w n p p') → G (k ls (rest s toks r.at)))
       → G (bind P k)
   unfolding bind
-  then_run (lost l) f g = f l
-  then_run (took {ls} i u c pl) f g = g ls i u c pl
+  then_run (stray l) f g = f l
+  then_run (ran {ls} i u c pl) f g = g ls i u c pl
 
 -- "at least one"
 some_kept : {A B : Type 0} (G : Got Token B → Type 0) (ls : List A) (ts : List Token) (k : List A → List Token → Got Token B) → (length ls ≡ 0 → G missing) → (0 < length ls → G (k ls ts))
@@ -56,7 +57,7 @@ abbrev pub gathered : Run → Run → Run → Run → List ℕ → List ℕ → 
 gathered a b c d q₁ q₂ q₃ q₄ i =
     record { sorts = q₁; funcs = q₂; acts = q₃; procs = q₄; sort_count = a.count; func_count = b.count; act_count = c.count; proc_count = d.count; init = i }
 
-on_lost : {n at next : ℕ} → Onward n at next → n < at → n < next
+on_lost : {n at next : ℕ} → NotBefore n at next → n < at → n < next
 on_lost a l = omega arith
 
 -- the pieces of a sheet, each written behind the one before
@@ -108,14 +109,14 @@ module _ (R : RawSheet) (a b c d : Run) {s toks o o₁ o₂ o₃ o₄ o₅ p₁ 
       }
 
 module _ (s toks : List ℕ) (f : ℕ) (a b c d : Run) {o o₁ o₂ o₃ o₄ o₅ p₁ p₂ p₃ p₄ q₁ q₂ q₃ q₄ : List ℕ} {at₅ at₆ at₇ at₈ w₇ i : ℕ}
-    (h₁ : Ran s toks enc_sort 0 o 0 p₁ a o₁ q₁ (lines "sort" sort_line f (rest s toks 0)))
-    (b₂ : Onward (length toks) a.at b.at) (h₂ : a.at ≤ length toks → Ran s toks enc_func a.w o₁ 0 p₂ b o₂ q₂ (lines "func" (func_line f) f (rest s toks a.at)))
-    (b₃ : Onward (length toks) b.at c.at) (h₃ : b.at ≤ length toks → Ran s toks enc_act b.w o₂ 0 p₃ c o₃ q₃ (lines "act" act_line f (rest s toks b.at)))
-    (b₄ : Onward (length toks) c.at d.at) (h₄ : c.at ≤ length toks → Ran s toks enc_proc c.w o₃ 0 p₄ d o₄ q₄ (lines "proc" (proc_line f) f (rest s toks c.at)))
+    (h₁ : Runs s toks enc_sort 0 o 0 p₁ a o₁ q₁ (lines "sort" sort_line f (rest s toks 0)))
+    (b₂ : NotBefore (length toks) a.at b.at) (h₂ : a.at ≤ length toks → Runs s toks enc_func a.w o₁ 0 p₂ b o₂ q₂ (lines "func" (func_line f) f (rest s toks a.at)))
+    (b₃ : NotBefore (length toks) b.at c.at) (h₃ : b.at ≤ length toks → Runs s toks enc_act b.w o₂ 0 p₃ c o₃ q₃ (lines "act" act_line f (rest s toks b.at)))
+    (b₄ : NotBefore (length toks) c.at d.at) (h₄ : c.at ≤ length toks → Runs s toks enc_proc c.w o₃ 0 p₄ d o₄ q₄ (lines "proc" (proc_line f) f (rest s toks c.at)))
     (m₀ : d.count ≡ 0 → length toks < at₅) (m₁ : 0 < d.count → at₅ ≡ d.at)
-    (a₆ : Ahead (length toks) at₅ at₆) (x₆ : Expected toks at₅ 164 at₆)
-    (a₇ : Ahead (length toks) at₆ at₇) (h₇ : Reads s toks enc_init d.w o₄ at₇ w₇ o₅ (init_line f (rest s toks at₆)))
-    (a₈ : Ahead (length toks) at₇ at₈) (x₈ : Expected toks at₇ 59 at₈)
+    (a₆ : After (length toks) at₅ at₆) (x₆ : Meets toks at₅ 164 at₆)
+    (a₇ : After (length toks) at₆ at₇) (h₇ : at₆ ≤ length toks → Reaches s toks enc_init d.w o₄ at₇ w₇ o₅ (init_line f (rest s toks at₆)))
+    (a₈ : After (length toks) at₇ at₈) (x₈ : Meets toks at₇ 59 at₈)
     (l₁ : length q₁ ≤ length p₁) (l₂ : length q₂ ≤ length p₂) (l₃ : length q₃ ≤ length p₃) (l₄ : length q₄ ≤ length p₄) (iv : d.w < 65536 → i ≡ d.w) where
   lost₆ : length toks < at₆ → length toks < at₈
   lost₆ l = still_lost a₈ (still_lost a₇ l)
@@ -143,8 +144,8 @@ module _ (s toks : List ℕ) (f : ℕ) (a b c d : Run) {o o₁ o₂ o₃ o₄ o�
       (λ acts j₃ u₃ k₃ f₃. subst Goal (sym (bind_assoc (lines "proc" (proc_line f) f (rest s toks c.at)) _ _))
       (then_run s toks Goal _ (h₄ j₃) (λ l. gone (lost₄ l))
       (λ procs j₄ u₄ k₄ f₄. some_kept Goal procs (rest s toks d.at) _ (λ z. gone (lost₅ (m₀ (omega arith))))
-      (λ z. then_expect s toks Goal init_sign d.at (subst (λ k. Expected toks k 164 at₆) (m₁ (omega arith)) x₆) _ (λ l. gone (lost₆ l))
-      (λ j₆. then_reads s toks Goal _ h₇ (λ l. gone (still_lost a₈ l))
+      (λ z. then_expect s toks Goal init_sign d.at (subst (λ k. Meets toks k 164 at₆) (m₁ (omega arith)) x₆) _ (λ l. gone (lost₆ l))
+      (λ j₆. then_reads s toks Goal _ (h₇ j₆) (λ l. gone (still_lost a₈ l))
       (λ start j₇ u₅. then_expect s toks Goal semicolon_sign at₇ x₈ _ gone
       (λ j₈. full j₈ (writes_then u₁ (writes_then u₂ (writes_then u₃ (writes_then u₄ u₅))))
       (settled (record { sorts = sorts; funcs = funcs; acts = acts; procs = procs; start = start }) a b c d u₁ u₂ u₃ u₄ u₅ k₁ k₂ k₃ k₄ l₁ l₂ l₃ l₄ f₁ f₂ f₃ f₄ iv))))))))))

@@ -14,10 +14,11 @@ use Rattle.pcrl.specs.Grammar.{a_name, a_numeral, on_numeral}
 use Rattle.laws.specs.Places.{get_or_positive}
 use Rattle.lexer.specs.Cells.{spelling, cell_token}
 use Rattle.parser.specs.Cells.{Symbol, token, ors, ands, first_ors, first_ands, symbol_of, enc_name, enc_numeral}
-use Rattle.parser.specs.Reading.{rest, Put, Writes, Reads, lost, took}
+use Rattle.parser.specs.Reading.{rest, Put, Writes}
 use Rattle.lexer.proofs.Cells.{cell_sign, numeral_cell, name_cell}
 use Rattle.parser.proofs.Writing.{writes_cell, writes_known}
 use Rattle.parser.proofs.Reading.{rest_next, rest_past}
+use Rattle.parser.proofs.Reaching.{Reaches, lost, took}
 
 -- the name of a cell
 abbrev pub name_at : List ℕ → ℕ → Name
@@ -114,37 +115,37 @@ module _ (s toks : List ℕ) (at : ℕ) where
 
 -- ---- what follows a name or a numeral
 module _ (s toks : List ℕ) {A : Type 0} {enc : A → List Symbol} {w : ℕ} {o : List ℕ} {end w' : ℕ} {o' : List ℕ} (at : ℕ) where
-  pub reads_at_name : (k : Name → List Token → Got Token A) → 1024 ≤ get_or toks at 0 → Reads s toks enc w o end w' o' (k (name_at s (get_or toks at 0)) (rest s toks (at + 1)))
-      → Reads s toks enc w o end w' o' (bind (a_name (rest s toks at)) k)
+  pub reads_at_name : (k : Name → List Token → Got Token A) → 1024 ≤ get_or toks at 0 → Reaches s toks enc w o end w' o' (k (name_at s (get_or toks at 0)) (rest s toks (at + 1)))
+      → Reaches s toks enc w o end w' o' (bind (a_name (rest s toks at)) k)
   unfolding bind
-  reads_at_name k h r = subst (λ g. Reads s toks enc w o end w' o' (bind g k)) (sym (name_next s toks at h)) r
+  reads_at_name k h r = subst (λ g. Reaches s toks enc w o end w' o' (bind g k)) (sym (name_next s toks at h)) r
 
-  pub reads_at_no_name : (k : Name → List Token → Got Token A) → get_or toks at 0 < 1024 → length toks < end → Reads s toks enc w o end w' o' (bind (a_name (rest s toks at)) k)
+  pub reads_at_no_name : (k : Name → List Token → Got Token A) → get_or toks at 0 < 1024 → length toks < end → Reaches s toks enc w o end w' o' (bind (a_name (rest s toks at)) k)
   unfolding bind
-  reads_at_no_name k h l = subst (λ g. Reads s toks enc w o end w' o' (bind g k)) (sym (name_missing s toks at h)) (lost l)
+  reads_at_no_name k h l = subst (λ g. Reaches s toks enc w o end w' o' (bind g k)) (sym (name_missing s toks at h)) (lost l)
 
   module _ (y : ℕ → List Token → Got Token A) (other : List Token → Got Token A) where
-    pub reads_on_numeral : 256 ≤ get_or toks at 0 → get_or toks at 0 < 1024 → Reads s toks enc w o end w' o' (y (get_or toks at 0 - 256) (rest s toks (at + 1))) → Reads s toks enc w o end w' o' (on_numeral y other (rest s toks at))
-    reads_on_numeral g h r = subst (λ g. Reads s toks enc w o end w' o' g) (sym (on_numeral_next s toks at y other g h)) r
+    pub reads_on_numeral : 256 ≤ get_or toks at 0 → get_or toks at 0 < 1024 → Reaches s toks enc w o end w' o' (y (get_or toks at 0 - 256) (rest s toks (at + 1))) → Reaches s toks enc w o end w' o' (on_numeral y other (rest s toks at))
+    reads_on_numeral g h r = subst (λ g. Reaches s toks enc w o end w' o' g) (sym (on_numeral_next s toks at y other g h)) r
 
-    pub reads_past_numeral : 1024 ≤ get_or toks at 0 → Reads s toks enc w o end w' o' (other (rest s toks at)) → Reads s toks enc w o end w' o' (on_numeral y other (rest s toks at))
-    reads_past_numeral h r = subst (λ g. Reads s toks enc w o end w' o' g) (sym (on_numeral_high s toks at y other h)) r
+    pub reads_past_numeral : 1024 ≤ get_or toks at 0 → Reaches s toks enc w o end w' o' (other (rest s toks at)) → Reaches s toks enc w o end w' o' (on_numeral y other (rest s toks at))
+    reads_past_numeral h r = subst (λ g. Reaches s toks enc w o end w' o' g) (sym (on_numeral_high s toks at y other h)) r
 
-    pub reads_before_numeral : get_or toks at 0 < 256 → Reads s toks enc w o end w' o' (other (rest s toks at)) → Reads s toks enc w o end w' o' (on_numeral y other (rest s toks at))
-    reads_before_numeral h r = subst (λ g. Reads s toks enc w o end w' o' g) (sym (on_numeral_low s toks at y other h)) r
+    pub reads_before_numeral : get_or toks at 0 < 256 → Reaches s toks enc w o end w' o' (other (rest s toks at)) → Reaches s toks enc w o end w' o' (on_numeral y other (rest s toks at))
+    reads_before_numeral h r = subst (λ g. Reaches s toks enc w o end w' o' g) (sym (on_numeral_low s toks at y other h)) r
 
 -- ---- what the readers of one token answer
 module _ (s toks : List ℕ) (at : ℕ) {w v w' : ℕ} {o o' : List ℕ} (p : Put o w v w' o') (e : v ≡ get_or toks at 0) where
-  pub reads_name : 1024 ≤ get_or toks at 0 → Reads s toks enc_name w o (at + 1) w' o' (a_name (rest s toks at))
+  pub reads_name : 1024 ≤ get_or toks at 0 → Reaches s toks enc_name w o (at + 1) w' o' (a_name (rest s toks at))
   reads_name h =
       let l = get_or_positive toks at (omega arith) in
-      subst (λ g. Reads s toks enc_name w o (at + 1) w' o' g) (sym (name_next s toks at h)) (took (omega arith) (writes_name at p e h))
+      subst (λ g. Reaches s toks enc_name w o (at + 1) w' o' g) (sym (name_next s toks at h)) (took (omega arith) (writes_name at p e h))
 
-  pub reads_numeral : 256 ≤ get_or toks at 0 → get_or toks at 0 < 1024 → Reads s toks enc_numeral w o (at + 1) w' o' (a_numeral (rest s toks at))
+  pub reads_numeral : 256 ≤ get_or toks at 0 → get_or toks at 0 < 1024 → Reaches s toks enc_numeral w o (at + 1) w' o' (a_numeral (rest s toks at))
   reads_numeral g h =
       let l = get_or_positive toks at (omega arith) in
-      subst (λ g. Reads s toks enc_numeral w o (at + 1) w' o' g) (sym (numeral_next s toks at g h)) (took (omega arith) (writes_cell p (ap (symbol_of s) e ∙ symbol_numeral s (get_or toks at 0) g h)))
+      subst (λ g. Reaches s toks enc_numeral w o (at + 1) w' o' g) (sym (numeral_next s toks at g h)) (took (omega arith) (writes_cell p (ap (symbol_of s) e ∙ symbol_numeral s (get_or toks at 0) g h)))
 
 -- a reader that finds nothing
-pub reads_missing : {s toks : List ℕ} {A : Type 0} {enc : A → List Symbol} {w : ℕ} {o : List ℕ} {end w' : ℕ} {o' : List ℕ} {g : Got Token A} → g ≡ missing → length toks < end → Reads s toks enc w o end w' o' g
-reads_missing {s} {toks} {A} {enc} {w} {o} {end} {w'} {o'} {g} e l = subst (λ g. Reads s toks enc w o end w' o' g) (sym e) (lost l)
+pub reads_missing : {s toks : List ℕ} {A : Type 0} {enc : A → List Symbol} {w : ℕ} {o : List ℕ} {end w' : ℕ} {o' : List ℕ} {g : Got Token A} → g ≡ missing → length toks < end → Reaches s toks enc w o end w' o' g
+reads_missing {s} {toks} {A} {enc} {w} {o} {end} {w'} {o'} {g} e l = subst (λ g. Reaches s toks enc w o end w' o' g) (sym e) (lost l)

@@ -1,5 +1,5 @@
 // One token read, one cell written. No reader asks for room: a cell past the end is not written.
-ghost use Rattle.std.specs.Prelude.{◌≡◌, ◌+◌, ◌≤◌, ◌<◌, length};
+ghost use Rattle.std.specs.Prelude.{◌≡◌, ◌+◌, ◌≤◌, ◌<◌, length, IfSome};
 ghost use Rattle.pcrl.specs.Grammar.{a_name, a_numeral};
 ghost use Rattle.parser.specs.Cells.{first_ors, first_ands, enc_name, enc_numeral};
 ghost use Rattle.parser.specs.Reading.{Ahead, Put, Expected, Read};
@@ -31,49 +31,46 @@ pub fn lost(toks: &[u16], w: usize) -> Step
 }
 
 // The sign stands next: the place behind it.
-pub fn expect(toks: &[u16], at: usize, sign: u16) -> usize
+pub fn expect(toks: &[u16], at: usize, sign: u16) -> Option<usize>
     requires { 0 < sign }
-    ensures ahead { Ahead (length toks.now) at result }
+    ensures ahead { IfSome result (Ahead (length toks.now) at) }
     ensures read { Expected toks.now at sign result }
 {
     if peek(toks, at) == sign {
-        at + 1
+        Some(at + 1)
     } else {
-        toks.len() + 1
+        None
     }
 }
 
 // A name stands next: its cell is written.
-pub fn name(toks: &[u16], at: usize, out: &mut [u16], w: usize) -> Step
-    ensures ahead { Ahead (length toks.now) at result.at }
+pub fn name(toks: &[u16], at: usize, out: &mut [u16], w: usize) -> Option<Step>
+    ensures ahead { IfSome result (λ r. Ahead (length toks.now) at r.at) }
     ensures read { Read 0 enc_name (λ f. a_name) toks.now at w out.old result out.new }
 {
     let t = peek(toks, at);
     if t < lexer::FIRST_NAME {
-        return lost(toks, w);
+        return None;
     }
-    Step {
+    Some(Step {
         at: at + 1,
         w: put(out, w, t),
-    }
+    })
 }
 
 // A numeral stands next: its cell is written.
-pub fn numeral(toks: &[u16], at: usize, out: &mut [u16], w: usize) -> Step
-    ensures ahead { Ahead (length toks.now) at result.at }
+pub fn numeral(toks: &[u16], at: usize, out: &mut [u16], w: usize) -> Option<Step>
+    ensures ahead { IfSome result (λ r. Ahead (length toks.now) at r.at) }
     ensures read { Read 0 enc_numeral (λ f. a_numeral) toks.now at w out.old result out.new }
 {
     let t = peek(toks, at);
-    if t < lexer::FIRST_NUMERAL {
-        return lost(toks, w);
+    if t < lexer::FIRST_NUMERAL || t >= lexer::FIRST_NAME {
+        return None;
     }
-    if t >= lexer::FIRST_NAME {
-        return lost(toks, w);
-    }
-    Step {
+    Some(Step {
         at: at + 1,
         w: put(out, w, t),
-    }
+    })
 }
 
 // Counts are below this, so that those of both kinds are told apart.

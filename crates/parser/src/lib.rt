@@ -15,9 +15,9 @@ pub mod sheet; // the lines of a sheet
 use cells::expect;
 use elements::short;
 use limits::{MAX_ACTIONS, MAX_FUNCTIONS, MAX_PROCESSES, MAX_SORTS};
-use sheet::{init_line, lines_of, some_lines};
+use sheet::{init_line, lines_of};
 
-// A place among the tokens and the next free cell. A wrong form is a place past the end, which every later reader keeps.
+// A place among the tokens and the next free cell.
 #[derive(Clone, Copy)]
 pub struct Step {
     pub at: usize,
@@ -62,14 +62,17 @@ pub fn parse(toks: &[u16], out: &mut [u16]) -> Option<Parsed>
     let mut funcs = [0u16; MAX_FUNCTIONS];
     let mut acts = [0u16; MAX_ACTIONS];
     let mut procs = [0u16; MAX_PROCESSES];
-    let a = lines_of(lexer::SORT, toks, 0, out, 0, &mut sorts, 0);
-    let b = lines_of(lexer::FUNC, toks, a.at, out, a.w, &mut funcs, 0);
-    let c = lines_of(lexer::ACT, toks, b.at, out, b.w, &mut acts, 0);
-    let d = lines_of(lexer::PROC, toks, c.at, out, c.w, &mut procs, 0);
-    let p = some_lines(toks, d.at, d.count);
-    let i = expect(toks, p, lexer::INIT);
-    let e = init_line(toks, i, out, d.w);
-    let end = expect(toks, e.at, lexer::SEMICOLON);
+    let a = lines_of(lexer::SORT, toks, 0, out, 0, &mut sorts, 0)?;
+    let b = lines_of(lexer::FUNC, toks, a.at, out, a.w, &mut funcs, 0)?;
+    let c = lines_of(lexer::ACT, toks, b.at, out, b.w, &mut acts, 0)?;
+    let d = lines_of(lexer::PROC, toks, c.at, out, c.w, &mut procs, 0)?;
+    // "at least one proc"
+    if d.count == 0 {
+        return None;
+    }
+    let i = expect(toks, d.at, lexer::INIT)?;
+    let e = init_line(toks, i, out, d.w)?;
+    let end = expect(toks, e.at, lexer::SEMICOLON)?;
     if end != toks.len() {
         return None;
     }

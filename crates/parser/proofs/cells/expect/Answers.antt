@@ -2,7 +2,7 @@
 use mathlib.Core.Path.{sym, ◌∙◌}
 use native.Mathlib.Omega.{arith}
 use Rattle.laws.specs.Places.{get_or_positive}
-use Rattle.parser.specs.Reading.{next, wrong}
+use Rattle.parser.specs.Reading.{stands, other}
 use Rattle.parser.proofs.cells.expect.Goals as goal
 
 pub overflow_add-result : goal.overflow_add-result
@@ -12,12 +12,8 @@ overflow_add-result c =
 
 pub returns-then-peek-sign : goal.returns-then-peek-sign
 returns-then-peek-sign c =
-    let at-peek = c.peek in
-    let at-if1 = c.if-peek-sign in
-    record { ahead = omega arith; read = next (sym at-peek.ensures ∙ at-if1.true) }
+    let l = get_or_positive c.args.toks.now c.args.at (omega arith) in
+    record { ahead = omega arith; read = stands (sym c.peek.ensures ∙ c.if-peek-sign.true) }
 
 pub returns-else-peek-sign : goal.returns-else-peek-sign
-returns-else-peek-sign c =
-    let at-if1 = c.if-peek-sign in
-    let at-peek = c.peek in
-    record { ahead = omega arith; read = wrong (λ e. at-if1.false (at-peek.ensures ∙ e)) }
+returns-else-peek-sign c = record { ahead = tt; read = other (λ e. c.if-peek-sign.false (c.peek.ensures ∙ e)) }

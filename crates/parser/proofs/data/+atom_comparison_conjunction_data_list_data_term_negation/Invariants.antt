@@ -28,11 +28,11 @@ decreases-data_term l = 5 * (length l.toks.now - l.at) + 4
 abbrev pub decreases-negation : goal.decreases-negation
 decreases-negation l = 5 * (length l.toks.now - l.at) + 1
 
-abbrev pub invariant-conjunction-loop-out : goal.invariant-conjunction-loop-out
-invariant-conjunction-loop-out l = (l.n + l.at ≤ l.from) × ((s : List ℕ) → Joins s l.toks enc_ands more_ands G.conjunction (λ p. 5 * left l.toks p + 3) l.at l.initial.v l.initial.out l.from l.v l.out l.n)
+abbrev pub invariant-conjunction-loop-a : goal.invariant-conjunction-loop-a
+invariant-conjunction-loop-a l = (l.n + l.at ≤ l.from) × ((s : List ℕ) → Joins s l.toks enc_ands more_ands G.conjunction (λ p. 5 * left l.toks p + 3) l.at l.initial.v l.initial.out l.from l.v l.out l.n)
 
-abbrev pub decreases-conjunction-loop-out : goal.decreases-conjunction-loop-out
-decreases-conjunction-loop-out l = length l.toks - l.from
+abbrev pub decreases-conjunction-loop-a : goal.decreases-conjunction-loop-a
+decreases-conjunction-loop-a l = length l.toks - l.from
 
 abbrev pub invariant-data_list-loop-a : goal.invariant-data_list-loop-a
 invariant-data_list-loop-a l = (l.at ≤ l.from) × ((s : List ℕ) → Goes s l.toks enc_datas G.data_list (λ p. 5 * left l.toks p + 5) l.at l.w l.initial.out l.from l.v l.out)
@@ -40,11 +40,11 @@ invariant-data_list-loop-a l = (l.at ≤ l.from) × ((s : List ℕ) → Goes s l
 abbrev pub decreases-data_list-loop-a : goal.decreases-data_list-loop-a
 decreases-data_list-loop-a l = length l.toks - l.from
 
-abbrev pub invariant-data_term-loop-out : goal.invariant-data_term-loop-out
-invariant-data_term-loop-out l = (l.n + l.at ≤ l.from) × ((s : List ℕ) → Joins s l.toks enc_ors more_ors G.data_term (λ p. 5 * left l.toks p + 4) l.at l.initial.v l.initial.out l.from l.v l.out l.n)
+abbrev pub invariant-data_term-loop-a : goal.invariant-data_term-loop-a
+invariant-data_term-loop-a l = (l.n + l.at ≤ l.from) × ((s : List ℕ) → Joins s l.toks enc_ors more_ors G.data_term (λ p. 5 * left l.toks p + 4) l.at l.initial.v l.initial.out l.from l.v l.out l.n)
 
-abbrev pub decreases-data_term-loop-out : goal.decreases-data_term-loop-out
-decreases-data_term-loop-out l = length l.toks - l.from
+abbrev pub decreases-data_term-loop-a : goal.decreases-data_term-loop-a
+decreases-data_term-loop-a l = length l.toks - l.from
 
 abbrev pub invariant-negation-loop-out : goal.invariant-negation-loop-out
 invariant-negation-loop-out l = (l.at ≤ l.from) × ((s : List ℕ) → Goes s l.toks enc_negation G.negation (λ p. 5 * left l.toks p + 1) l.at l.w l.initial.out l.from l.v l.out)

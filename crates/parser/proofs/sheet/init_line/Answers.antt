@@ -1,43 +1,32 @@
 -- `sheet::init_line` meets its contract: a call whose names all have brackets is the definition's init line.
 use mathlib.Core.Path.{◌∙◌}
 use native.Mathlib.Omega.{arith}
+use Rattle.parser.proofs.Reaching.{reaches, some_answer, no_answer, none_answer}
 use Rattle.parser.proofs.InitRead.{init_lost, init_read, init_refused}
 use Rattle.parser.proofs.sheet.init_line.Goals as goal
 
-pub shape_of-out-then-toks-a : goal.shape_of-out-then-toks-a
-shape_of-out-then-toks-a c = c.named-a.auto.out ∙ c.put-v.auto.out
+pub returns-in_err-a-clause-read : goal.returns-in_err-a-clause-read
+returns-in_err-a-clause-read c =
+    rw c.from_residual.ensures (λ s f l. no_answer (omega arith) (init_lost s c.args.toks.now c.args.at c.put-v.ensures (λ g k. reaches (c.in_err-a.ensures.read s g k)) (omega arith) f l))
 
-pub returns-then-toks-a : goal.returns-then-toks-a
-returns-then-toks-a c =
-    let at_named = c.named-a in
-    let at-put = c.put-v in record {
-      ahead = at_named.ensures.ahead;
-      read = λ s. init_lost s c.args.toks.now c.args.at at-put.ensures (at_named.ensures.read s) (omega arith);
-    }
+pub shape_of-out-then-not-all_called : goal.shape_of-out-then-not-all_called
+shape_of-out-then-not-all_called c =
+    c.named.auto.out ∙ c.put-v.auto.out
 
-pub shape_of-out-then-all_called : goal.shape_of-out-then-all_called
-shape_of-out-then-all_called c = c.named-a.auto.out ∙ c.put-v.auto.out
-
-pub returns-then-all_called : goal.returns-then-all_called
-returns-then-all_called c =
-    let at_named = c.named-a in
-    let at-put = c.put-v in
-    let at-all-called = c.all_called in
-    let at-if2 = c.if-all_called in record {
-      ahead = at_named.ensures.ahead;
-      read = λ s. init_read s c.args.toks.now c.args.at at-put.ensures (at_named.ensures.read s) (omega arith) (at-all-called.ensures s) at-if2.true;
+pub returns-then-not-all_called : goal.returns-then-not-all_called
+returns-then-not-all_called c =
+    record {
+      ahead = tt;
+      read = λ s f l. none_answer (init_refused s c.args.toks.now c.args.at c.put-v.ensures (λ g k. reaches (c.in_ok-a.ensures.read s g k)) (omega (arith, c.in_ok-a.ensures.ahead)) (c.all_called.ensures s) c.if-not-all_called.true (omega arith) f l);
     }
 
 pub shape_of-out : goal.shape_of-out
-shape_of-out c = c.named-a.auto.out ∙ c.put-v.auto.out
+shape_of-out c =
+    c.named.auto.out ∙ c.put-v.auto.out
 
 pub returns : goal.returns
 returns c =
-    let at-put = c.put-v in
-    let at_named = c.named-a in
-    let at-all-called = c.all_called in
-    let at-if2 = c.if-all_called in
-    let at-lost = c.lost in record {
-      ahead = omega arith;
-      read = λ s. init_refused s c.args.toks.now c.args.at at-put.ensures (at_named.ensures.read s) (omega arith) (at-all-called.ensures s) at-if2.false at-lost.ensures;
+    record {
+      ahead = c.in_ok-a.ensures.ahead;
+      read = λ s f l. some_answer _ (omega (arith, c.in_ok-a.ensures.ahead)) (init_read s c.args.toks.now c.args.at c.put-v.ensures (λ g k. reaches (c.in_ok-a.ensures.read s g k)) (omega (arith, c.in_ok-a.ensures.ahead)) (c.all_called.ensures s) c.if-not-all_called.false f l);
     }

@@ -1,79 +1,66 @@
 -- `sheet::parameters` meets its contract. The invariant: the reader goes on from a later place.
 use lib.Dec.{lit<}
 use mathlib.Core.Path.{sym, ◌∙◌, refl}
+use mathlib.Core.List.{[]}
+use Prim.Native.Nat.{◌+◌}
 use native.Mathlib.Omega.{arith}
 use lib.ListN.{length}
 use Rattle.laws.specs.Places.{get_or_positive}
-use Rattle.parser.proofs.Reading.{ahead_then}
+use Rattle.parser.proofs.Reaching.{past_end, past_meets, put_any, meets, reaches, some_answer, no_answer}
 use Rattle.parser.proofs.Going.{goes_start, goes_then}
 use Rattle.parser.proofs.LineLaws.{parameters_last, parameters_more}
 use Rattle.parser.proofs.sheet.parameters.Goals as goal
 
-pub loop-out-init : goal.loop-out-init
-loop-out-init c = (omega arith, refl, λ s. goes_start)
-
-pub expect-c-requires : goal.expect-c-requires
-expect-c-requires c = lit< tt
+pub loop-x-init : goal.loop-x-init
+loop-x-init c =
+    (omega arith, refl, λ s. goes_start)
 
 pub expect-requires : goal.expect-requires
-expect-requires c = lit< tt
+expect-requires c =
+    lit< tt
+
+pub expect-requires-then-peek-ne-COMMA : goal.expect-requires-then-peek-ne-COMMA
+expect-requires-then-peek-ne-COMMA c =
+    lit< tt
+
+pub returns-in_err-x-clause-read : goal.returns-in_err-x-clause-read
+returns-in_err-x-clause-read c =
+    rw c.from_residual.ensures (λ s f l. no_answer (omega arith) ((c.loop-x.invariant.2 s).on (parameters_last s c.args.toks.now c.loop-x.from {at₃ = length c.args.toks.now + 1} {at₄ = length c.args.toks.now + 1} {w₄ = 0} {o₄ = []} c.put-u.ensures (omega arith) (reaches (c.in_err-x.ensures.read s 1 (omega arith))) (omega arith) (past_meets c.args.toks.now 58 (omega arith)) (omega arith) (λ i. absurd (omega arith)) (past_end c.args.toks.now 44 (omega arith)) (omega arith) (past_meets c.args.toks.now 41 (omega arith)) (put_any _ _ 18)) f l))
+
+pub returns-in_err-c-clause-read : goal.returns-in_err-c-clause-read
+returns-in_err-c-clause-read c =
+    rw c.from_residual-in_err-c.ensures (λ s f l. no_answer (omega arith) ((c.loop-x.invariant.2 s).on (parameters_last s c.args.toks.now c.loop-x.from {at₄ = length c.args.toks.now + 1} {w₄ = 0} {o₄ = []} c.put-u.ensures (omega (arith, c.in_ok-x.ensures.ahead)) (reaches (c.in_ok-x.ensures.read s 1 (omega arith))) (omega (arith, c.in_ok-x.ensures.ahead)) (meets c.in_err-c.ensures.read) (omega arith) (λ i. absurd (omega arith)) (past_end c.args.toks.now 44 (omega arith)) (omega arith) (past_meets c.args.toks.now 41 (omega arith)) (put_any _ _ 18)) f l))
+
+pub returns-in_err-d-clause-read : goal.returns-in_err-d-clause-read
+returns-in_err-d-clause-read c =
+    rw c.from_residual-in_err-d.ensures (λ s f l. no_answer (omega arith) ((c.loop-x.invariant.2 s).on (parameters_last s c.args.toks.now c.loop-x.from c.put-u.ensures (omega (arith, c.in_ok-x.ensures.ahead)) (reaches (c.in_ok-x.ensures.read s 1 (omega arith))) (omega (arith, c.in_ok-x.ensures.ahead, c.in_ok-c.ensures.ahead)) (meets c.in_ok-c.ensures.read) (omega arith) (λ i. (reaches (c.in_err-d.ensures.read s 1 (omega arith)))) (past_end c.args.toks.now 44 (omega arith)) (omega arith) (past_meets c.args.toks.now 41 (omega arith)) (put_any _ _ 18)) f l))
+
+pub returns-in_err-at-clause-read : goal.returns-in_err-at-clause-read
+returns-in_err-at-clause-read c =
+    rw c.from_residual-in_err-at.ensures (λ s f l. no_answer (omega arith) ((c.loop-x.invariant.2 s).on (parameters_last s c.args.toks.now c.loop-x.from c.put-u.ensures (omega (arith, c.in_ok-x.ensures.ahead)) (reaches (c.in_ok-x.ensures.read s 1 (omega arith))) (omega (arith, c.in_ok-x.ensures.ahead, c.in_ok-c.ensures.ahead)) (meets c.in_ok-c.ensures.read) (omega (arith, c.in_ok-d.ensures.ahead)) (λ i. (reaches (c.in_ok-d.ensures.read s 1 (omega arith)))) (λ e. c.if-peek-ne-COMMA.true (c.peek.ensures ∙ e)) (omega (arith, c.in_ok-d.ensures.ahead)) (meets c.in_err-at.ensures.read) (put_any _ _ 18)) f l))
 
 pub shape_of-out-then-peek-ne-COMMA : goal.shape_of-out-then-peek-ne-COMMA
 shape_of-out-then-peek-ne-COMMA c =
-    let at-loop = c.loop-out in
-    let at-put = c.put-u in
-    let at_name = c.name-x in
-    let at-name2 = c.name-d in
-    let at-put2 = c.put in
-    omega (arith, at-loop.invariant.1, at-put.auto.out, at_name.auto.out, at-name2.auto.out, at-put2.auto.out)
+    omega (arith, c.loop-x.invariant.1, c.put-u.auto.out, c.name.auto.out, c.name-in-loop-x.auto.out, c.put.auto.out)
 
 pub returns-then-peek-ne-COMMA : goal.returns-then-peek-ne-COMMA
 returns-then-peek-ne-COMMA c =
-    let at-loop = c.loop-out in
-    let at-put = c.put-u in
-    let at_name = c.name-x in
-    let at-expect = c.expect-c in
-    let at-name2 = c.name-d in
-    let at-peek = c.peek in
-    let at-if1 = c.if-peek-ne-COMMA in
-    let at-expect2 = c.expect in
-    let at-put2 = c.put in
-    let a = ahead_then (length c.args.toks.now) at-loop.from at_name.ensures.ahead at-expect.ensures.ahead in
-    let h = ahead_then (length c.args.toks.now) at-loop.from a at-name2.ensures.ahead in record {
-      ahead = omega (arith, at-expect2.ensures.ahead);
-      read = λ s. (at-loop.invariant.2 s).on (parameters_last s c.args.toks.now at-loop.from at-put.ensures at_name.ensures.ahead (at_name.ensures.read s 1 (omega arith)) at-expect.ensures.ahead at-expect.ensures.read at-name2.ensures.ahead (at-name2.ensures.read s 1 (omega arith)) (λ e. at-if1.true (at-peek.ensures ∙ e)) at-expect2.ensures.ahead at-expect2.ensures.read at-put2.ensures);
+    record {
+      ahead = omega (arith, c.in_ok-x.ensures.ahead, c.in_ok-c.ensures.ahead, c.in_ok-d.ensures.ahead, c.in_ok-at.ensures.ahead);
+      read = λ s f l. some_answer _ (omega (arith, c.in_ok-at.ensures.ahead)) ((c.loop-x.invariant.2 s).on (parameters_last s c.args.toks.now c.loop-x.from c.put-u.ensures (omega (arith, c.in_ok-x.ensures.ahead)) (reaches (c.in_ok-x.ensures.read s 1 (omega arith))) (omega (arith, c.in_ok-x.ensures.ahead, c.in_ok-c.ensures.ahead)) (meets c.in_ok-c.ensures.read) (omega (arith, c.in_ok-d.ensures.ahead)) (λ i. (reaches (c.in_ok-d.ensures.read s 1 (omega arith)))) (λ e. c.if-peek-ne-COMMA.true (c.peek.ensures ∙ e)) (omega (arith, c.in_ok-d.ensures.ahead, c.in_ok-at.ensures.ahead)) (meets c.in_ok-at.ensures.read) c.put.ensures) f l);
     }
 
 pub overflow_add-from : goal.overflow_add-from
 overflow_add-from c =
-    let at-name2 = c.name-d in
-    let l = get_or_positive c.args.toks.now at-name2.result.at (omega arith) in
-    omega arith
+    let l = get_or_positive c.args.toks.now c.in_ok-d.d.at (omega arith) in omega arith
 
-pub loop-out-smaller : goal.loop-out-smaller
-loop-out-smaller c =
-    let at-loop = c.loop-out in
-    let at_name = c.name-x in
-    let at-expect = c.expect-c in
-    let at-name2 = c.name-d in
-    let l = get_or_positive c.args.toks.now at-name2.result.at (omega arith) in
-    let a = ahead_then (length c.args.toks.now) at-loop.from at_name.ensures.ahead at-expect.ensures.ahead in
-    let h = ahead_then (length c.args.toks.now) at-loop.from a at-name2.ensures.ahead in
-    omega arith
+pub loop-x-smaller : goal.loop-x-smaller
+loop-x-smaller c =
+    let l = get_or_positive c.args.toks.now c.in_ok-d.d.at (omega arith) in omega (arith, c.in_ok-x.ensures.ahead, c.in_ok-c.ensures.ahead, c.in_ok-d.ensures.ahead)
 
-pub loop-out-preserved : goal.loop-out-preserved
-loop-out-preserved c =
-    let at-loop = c.loop-out in
-    let at-put = c.put-u in
-    let at_name = c.name-x in
-    let at-expect = c.expect-c in
-    let at-name2 = c.name-d in
-    let at-peek = c.peek in
-    let at-if1 = c.if-peek-ne-COMMA in
-    let l = get_or_positive c.args.toks.now at-name2.result.at (omega arith) in
-    let a = ahead_then (length c.args.toks.now) at-loop.from at_name.ensures.ahead at-expect.ensures.ahead in
-    let h = ahead_then (length c.args.toks.now) at-loop.from a at-name2.ensures.ahead in (
-      omega arith,
-      omega (arith, at-loop.invariant.1, at-put.auto.out, at_name.auto.out, at-name2.auto.out),
-      λ s. goes_then (at-loop.invariant.2 s) (record { on = parameters_more s c.args.toks.now at-loop.from at-put.ensures at_name.ensures.ahead (at_name.ensures.read s 1 (omega arith)) at-expect.ensures.ahead at-expect.ensures.read at-name2.ensures.ahead (at-name2.ensures.read s 1 (omega arith)) (sym at-peek.ensures ∙ at-if1.false) }),
-    )
+pub loop-x-preserved : goal.loop-x-preserved
+loop-x-preserved c = (
+  omega (arith, c.in_ok-x.ensures.ahead, c.in_ok-c.ensures.ahead, c.in_ok-d.ensures.ahead),
+  omega (arith, c.loop-x.invariant.1, c.put-u.auto.out, c.name.auto.out, c.name-in-loop-x.auto.out),
+  λ s. goes_then (c.loop-x.invariant.2 s) (record { on = parameters_more s c.args.toks.now c.loop-x.from c.put-u.ensures (omega (arith, c.in_ok-x.ensures.ahead)) (reaches (c.in_ok-x.ensures.read s 1 (omega arith))) (omega (arith, c.in_ok-x.ensures.ahead, c.in_ok-c.ensures.ahead)) (meets c.in_ok-c.ensures.read) (omega (arith, c.in_ok-d.ensures.ahead)) (λ i. (reaches (c.in_ok-d.ensures.read s 1 (omega arith)))) (sym c.peek.ensures ∙ c.if-peek-ne-COMMA.false) }),
+)

@@ -8,8 +8,8 @@ use Rattle.parser.specs.Reading.{left}
 use Rattle.parser.proofs.Going.{Goes}
 use Rattle.parser.proofs.sheet.parameters.Given as goal
 
-abbrev pub invariant-loop-out : goal.invariant-loop-out
-invariant-loop-out l = (l.at ≤ l.from) × (length l.out ≡ length l.initial.out) × ((s : List ℕ) → Goes s l.toks (enc_items enc_param) G.parameters (left l.toks) l.at l.w l.initial.out l.from l.v l.out)
+abbrev pub invariant-loop-x : goal.invariant-loop-x
+invariant-loop-x l = (l.at ≤ l.from) × (length l.out ≡ length l.initial.out) × ((s : List ℕ) → Goes s l.toks (enc_items enc_param) G.parameters (left l.toks) l.at l.w l.initial.out l.from l.v l.out)
 
-abbrev pub decreases-loop-out : goal.decreases-loop-out
-decreases-loop-out l = length l.toks - l.from
+abbrev pub decreases-loop-x : goal.decreases-loop-x
+decreases-loop-x l = length l.toks - l.from

@@ -1,25 +1,38 @@
 -- `sheet::proc_line` meets its contract: a straight run of readers.
 use lib.Dec.{lit<}
 use mathlib.Core.Path.{◌∙◌}
+use mathlib.Core.List.{[]}
+use Prim.Native.Nat.{◌+◌}
 use native.Mathlib.Omega.{arith}
-use Rattle.parser.proofs.Reading.{ahead_then, ahead_on}
-use Rattle.parser.proofs.LineLaws.{proc_read}
 use lib.ListN.{length}
+use Rattle.std.proofs.lemmas.Option.{IfSome_then}
+use Rattle.parser.proofs.Reaching.{past_meets, meets, reaches, after, answer, none_answer}
+use Rattle.parser.proofs.LineLaws.{proc_read}
 use Rattle.parser.proofs.sheet.proc_line.Goals as goal
 
-pub expect-e-requires : goal.expect-e-requires
-expect-e-requires c = lit< tt
+pub expect-requires : goal.expect-requires
+expect-requires c =
+    lit< tt
+
+pub returns-in_err-x-clause-read : goal.returns-in_err-x-clause-read
+returns-in_err-x-clause-read c =
+    rw c.from_residual.ensures (λ s f l. none_answer (proc_read s c.args.toks.now c.args.at {at₃ = length c.args.toks.now + 1} {w₃ = 0} {at₄ = length c.args.toks.now + 1} {at₅ = length c.args.toks.now + 1} {w₅ = 0} {o₃ = []} {o₅ = []} c.put-v.ensures (reaches (c.in_err-x.ensures.read s 1 (omega arith))) (omega arith) (λ i. absurd (omega arith)) (omega arith) (past_meets c.args.toks.now 61 (omega arith)) (omega arith) (λ i. absurd (omega arith)) f l))
+
+pub returns-in_err-h-clause-read : goal.returns-in_err-h-clause-read
+returns-in_err-h-clause-read c =
+    rw c.from_residual-in_err-h.ensures (λ s f l. none_answer (proc_read s c.args.toks.now c.args.at {at₄ = length c.args.toks.now + 1} {at₅ = length c.args.toks.now + 1} {w₅ = 0} {o₅ = []} c.put-v.ensures (reaches (c.in_ok-x.ensures.read s 1 (omega arith))) (omega arith) (λ i g k. reaches (c.in_err-h.ensures.read i s g k)) (omega arith) (past_meets c.args.toks.now 61 (omega arith)) (omega arith) (λ i. absurd (omega arith)) f l))
+
+pub returns-in_err-e-clause-read : goal.returns-in_err-e-clause-read
+returns-in_err-e-clause-read c =
+    rw c.from_residual-in_err-e.ensures (λ s f l. none_answer (proc_read s c.args.toks.now c.args.at {at₅ = length c.args.toks.now + 1} {w₅ = 0} {o₅ = []} c.put-v.ensures (reaches (c.in_ok-x.ensures.read s 1 (omega arith))) (omega (arith, c.in_ok-h.ensures.onward)) (λ i g k. reaches (c.in_ok-h.ensures.read i s g k)) (omega (arith, c.in_ok-x.ensures.ahead, c.in_ok-h.ensures.onward, c.in_ok-h.ensures.onward.1 (omega (arith, c.in_ok-x.ensures.ahead)))) (meets c.in_err-e.ensures.read) (omega arith) (λ i. absurd (omega arith)) f l))
 
 pub shape_of-out : goal.shape_of-out
-shape_of-out c = c.choice.auto.out ∙ c.params-h.auto.out ∙ c.name-x.auto.out ∙ c.put-v.auto.out
+shape_of-out c =
+    c.choice.auto.out ∙ c.params.auto.out ∙ c.name.auto.out ∙ c.put-v.auto.out
 
 pub returns : goal.returns
 returns c =
-    let at_name = c.name-x in
-    let at-params = c.params-h in
-    let at-expect = c.expect-e in
-    let at-choice = c.choice in
-    let at-put = c.put-v in record {
-      ahead = ahead_then (length c.args.toks.now) c.args.at (ahead_then (length c.args.toks.now) c.args.at (ahead_on (length c.args.toks.now) c.args.at at_name.ensures.ahead at-params.ensures.onward) at-expect.ensures.ahead) at-choice.ensures.ahead;
-      read = λ s. proc_read s c.args.toks.now c.args.at at-put.ensures (at_name.ensures.read s 1 (omega arith)) at-params.ensures.onward (λ i. at-params.ensures.read i s) at-expect.ensures.ahead at-expect.ensures.read at-choice.ensures.ahead (at-choice.ensures.read s);
+    record {
+      ahead = IfSome_then c.choice.result c.choice.ensures.ahead (λ x p. omega (arith, c.in_ok-x.ensures.ahead, c.in_ok-h.ensures.onward.0, c.in_ok-e.ensures.ahead));
+      read = λ s f l. answer _ c.choice.result c.choice.ensures.ahead (proc_read s c.args.toks.now c.args.at c.put-v.ensures (reaches (c.in_ok-x.ensures.read s 1 (omega arith))) (omega (arith, c.in_ok-h.ensures.onward.0)) (λ i g k. reaches (c.in_ok-h.ensures.read i s g k)) (omega (arith, c.in_ok-e.ensures.ahead)) (meets c.in_ok-e.ensures.read) (after _ _ c.choice.result c.choice.ensures.ahead) (λ i. (λ g k. reaches (c.choice.ensures.read s g k))) f l);
     }
