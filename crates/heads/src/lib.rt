@@ -19,14 +19,10 @@ pub mod walk; // one walk over the term and the right sides that it calls at the
 use contexts::{CONDITIONS, Spot};
 use elements::BYTE_LIMIT;
 use following::CALLS;
-use limits::{MAX_SUMMANDS, MAX_VARIABLES};
+use limits::MAX_VARIABLES;
 use refusals::Refusal;
 use remembered::REMEMBERED;
-use waiting::LATER;
-use walk::walk;
-
-// Cells for the heads of an equation: each second side that waits has one of them.
-const LATERS: usize = MAX_SUMMANDS * LATER;
+use walk::{LATERS, Work, walk};
 
 // All heads of a term written as summands, one behind another; behind the slots of the variables in scope there is room for those that a
 // summand adds. Not every one has the limits, or there is no room for them: an Err says which.
@@ -49,12 +45,14 @@ pub fn write_heads(
     ensures w_le_w { IfOk result (λ v. (w ≤ v) × (v ≤ length out.old)) }
     ensures heads_written { HeadsWritten cells.now starts.now counts.now firsts.now fuel at c slots.old n m heads w out.old result out.new }
 {
-    let mut vars = [0u8; MAX_VARIABLES];
-    let mut conds = [0u8; CONDITIONS];
-    let mut after = [0u8; CALLS];
-    let mut calls = [0u8; CALLS];
-    let mut later = [0u16; LATERS];
-    let mut remembered = [0u16; REMEMBERED];
+    let mut work = Work {
+        vars: [0u8; MAX_VARIABLES],
+        conds: [0u8; CONDITIONS],
+        after: [0u8; CALLS],
+        calls: [0u8; CALLS],
+        later: [0u16; LATERS],
+        remembered: [0u16; REMEMBERED],
+    };
     let s = Spot {
         at: at,
         fuel: fuel,
@@ -75,15 +73,10 @@ pub fn write_heads(
         s,
         heads,
         &mut *slots,
-        &mut vars,
-        &mut conds,
-        &mut after,
-        &mut calls,
-        &mut later,
+        &mut work,
         0,
         &mut *out,
         w,
-        &mut remembered,
     )
 }
 

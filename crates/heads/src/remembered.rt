@@ -1,6 +1,7 @@
 // What is found from a place on, remembered in some cells.
 ghost use Rattle.std.specs.Prelude.{◌≡◌, true, ◌<◌, length, IfSome};
-ghost use Rattle.heads.specs.Memory.{entry_cells, entries, memory_room, Finds, found, entry_at, Remembers, EntryPut, Fitting, FoundFor};
+ghost use Rattle.heads.specs.Progress.{memory_room};
+ghost use Rattle.heads.specs.Memory.{entry_cells, entries, Finds, found, entry_at, Remembers, EntryPut, Fitting, FoundFor};
 
 use counting::Counted;
 use elements::{CELL_LIMIT, cell, short};

@@ -4,11 +4,14 @@ ghost use Rattle.std.specs.Prelude.{◌≡◌, ◌⊎◌, ◌*◌, ◌≤◌, le
 ghost use Rattle.contexts.specs.Spots.{arrays, Bound};
 ghost use Rattle.heads.specs.Stack.{later_cells, Steady};
 ghost use Rattle.heads.specs.Memory.{Remembers};
-ghost use Rattle.heads.specs.Progress.{Rooms, Looked, Leaf, Parting, Inner, Bounded, start, WrittenBy, aside_turn, place, IfInto, Chosen, Resumed, Nearer, Turned};
+ghost use Rattle.heads.specs.Progress.{Looked, Leaf, Parting, Inner, Bounded, start, WrittenBy, aside_turn, place, IfInto, Sized, Chosen, Resumed, Nearer, Turned};
 
 use crate::alternatives::{Ahead, choice, look, second_side};
+use crate::remembered::REMEMBERED;
 use crate::waiting::{LATER, later_at, put_later};
-use contexts::{Side, Spot};
+use contexts::{CONDITIONS, Side, Spot};
+use following::CALLS;
+use limits::{MAX_SUMMANDS, MAX_VARIABLES};
 use nodes::Node;
 use refusals::Refusal;
 
@@ -29,6 +32,22 @@ struct Turn {
 enum Next {
     Over(usize),
     Into(Turn),
+}
+
+// Cells for the second sides that wait: each has a head of its own.
+pub const LATERS: usize = MAX_SUMMANDS * LATER;
+
+// What a walk works in: the variables, conditions and calls around it, the calls of one part, the second sides that wait, and what is
+// remembered.
+#[derive(Drop)]
+pub struct Work {
+    pub vars: [u8; MAX_VARIABLES],
+    pub conds: [u8; CONDITIONS],
+    pub after: [u8; CALLS],
+    pub calls: [u8; CALLS],
+    pub later: [u16; LATERS],
+    pub remembered: [u16; REMEMBERED],
+    ghost sized: { Sized vars conds after calls later remembered },
 }
 
 // Neither a leaf (an action or a call) nor a choice: the walk goes one step down.
@@ -136,21 +155,16 @@ fn leaf(
     g: Ahead,
     heads: usize,
     slots: &[u8],
-    vars: &mut [u8],
-    conds: &mut [u8],
-    after: &mut [u8],
-    calls: &mut [u8],
-    later: &mut [u16],
+    work: &mut Work,
     q: usize,
     out: &mut [u8],
     w: usize,
-    remembered: &mut [u16],
 ) -> Result<usize, Refusal>
-    requires bound { Bound (length calls.old) (length slots.now) g.s × Rooms (length vars.old) (length conds.old) (length after.old) (length calls.old) × (w ≤ length out.old) × (later_cells * q ≤ length later.old) }
-    requires looked { Looked cells.now counts.now g × Leaf g.d.kind × Remembers cells.now counts.now remembered.old }
-    ensures w_le_w { IfOk result (λ v. (w ≤ v) × (v ≤ length out.old)) × (take (later_cells * q) later.new ≡ take (later_cells * q) later.old) }
-    ensures written_by { WrittenBy cells.now starts.now counts.now firsts.now (start g.s (arrays slots.now vars.old conds.old calls.old) w out.old heads q (length later.old)) result (arrays slots.now vars.new conds.new calls.new) out.new }
-    ensures remembers { Remembers cells.now counts.now remembered.new }
+    requires bound { Bound (length work.old.calls) (length slots.now) g.s × (w ≤ length out.old) × (later_cells * q ≤ length work.old.later) }
+    requires looked { Looked cells.now counts.now g × Leaf g.d.kind × Remembers cells.now counts.now work.old.remembered }
+    ensures w_le_w { IfOk result (λ v. (w ≤ v) × (v ≤ length out.old)) × (take (later_cells * q) work.new.later ≡ take (later_cells * q) work.old.later) }
+    ensures written_by { WrittenBy cells.now starts.now counts.now firsts.now (start g.s (arrays slots.now work.old.vars work.old.conds work.old.calls) w out.old heads q (length work.old.later)) result (arrays slots.now work.new.vars work.new.conds work.new.calls) out.new }
+    ensures remembers { Remembers cells.now counts.now work.new.remembered }
 {
     if g.d.kind == nodes::ATOM {
         return contexts::emit(
@@ -158,10 +172,10 @@ fn leaf(
             g.d,
             g.s,
             slots,
-            &*vars,
-            &*conds,
-            &mut *after,
-            &*calls,
+            &work.vars,
+            &work.conds,
+            &mut work.after,
+            &work.calls,
             &mut *out,
             w,
         );
@@ -171,22 +185,7 @@ fn leaf(
         return Err(Refusal::NotWithin);
     };
     walk(
-        cells,
-        starts,
-        counts,
-        firsts,
-        r,
-        heads,
-        &mut mine,
-        &mut *vars,
-        &mut *conds,
-        &mut *after,
-        &mut *calls,
-        &mut *later,
-        q,
-        &mut *out,
-        w,
-        &mut *remembered,
+        cells, starts, counts, firsts, r, heads, &mut mine, &mut *work, q, &mut *out, w,
     )
 }
 
@@ -201,46 +200,26 @@ fn next_turn(
     heads: usize,
     left: usize,
     slots: &[u8],
-    vars: &mut [u8],
-    conds: &mut [u8],
-    after: &mut [u8],
-    calls: &mut [u8],
-    later: &mut [u16],
+    work: &mut Work,
     q0: usize,
     q: usize,
     out: &mut [u8],
     w: usize,
-    remembered: &mut [u16],
 ) -> Result<Next, Refusal>
-    requires steady { Steady (length calls.old) (length slots.now) g.s.fuel q0 g.s q later.old × Rooms (length vars.old) (length conds.old) (length after.old) (length calls.old) × (w ≤ length out.old) }
-    requires looked { Looked cells.now counts.now g × (Leaf g.d.kind ⊎ Parting g.d.kind) × Remembers cells.now counts.now remembered.old }
-    ensures w_le_w { IfOk result (λ n. (w ≤ place n) × (place n ≤ length out.old)) × (take (later_cells * q0) later.new ≡ take (later_cells * q0) later.old) }
-    ensures stays_steady { IfInto result (λ k. Steady (length calls.old) (length slots.now) g.s.fuel q0 k.t k.q later.new × Nearer g.s left k) }
-    ensures turned { Turned cells.now starts.now counts.now firsts.now q0 g.s heads left q w (arrays slots.now vars.old conds.old calls.old) later.old out.old result (arrays slots.now vars.new conds.new calls.new) later.new out.new }
-    ensures remembers { Remembers cells.now counts.now remembered.new }
+    requires steady { Steady (length work.old.calls) (length slots.now) g.s.fuel q0 g.s q work.old.later × (w ≤ length out.old) }
+    requires looked { Looked cells.now counts.now g × (Leaf g.d.kind ⊎ Parting g.d.kind) × Remembers cells.now counts.now work.old.remembered }
+    ensures w_le_w { IfOk result (λ n. (w ≤ place n) × (place n ≤ length out.old)) × (take (later_cells * q0) work.new.later ≡ take (later_cells * q0) work.old.later) }
+    ensures stays_steady { IfInto result (λ k. Steady (length work.old.calls) (length slots.now) g.s.fuel q0 k.t k.q work.new.later × Nearer g.s left k) }
+    ensures turned { Turned cells.now starts.now counts.now firsts.now q0 g.s heads left q w (arrays slots.now work.old.vars work.old.conds work.old.calls) work.old.later out.old result (arrays slots.now work.new.vars work.new.conds work.new.calls) work.new.later out.new }
+    ensures remembers { Remembers cells.now counts.now work.new.remembered }
 {
     if choice(g.d.kind) {
-        return chosen(g, heads, left, &mut *later, q, w);
+        return chosen(g, heads, left, &mut work.later, q, w);
     }
     let v = leaf(
-        cells,
-        starts,
-        counts,
-        firsts,
-        g,
-        heads,
-        slots,
-        &mut *vars,
-        &mut *conds,
-        &mut *after,
-        &mut *calls,
-        &mut *later,
-        q,
-        &mut *out,
-        w,
-        &mut *remembered,
+        cells, starts, counts, firsts, g, heads, slots, &mut *work, q, &mut *out, w,
     )?;
-    resumed(cells, &*later, g, heads, left, q0, q, v)
+    resumed(cells, &work.later, g, heads, left, q0, q, v)
 }
 
 // The heads of the term at s0 in its context, one after another: the place behind them.
@@ -253,20 +232,15 @@ pub fn walk(
     s0: Spot,
     heads0: usize,
     slots: &mut [u8],
-    vars: &mut [u8],
-    conds: &mut [u8],
-    after: &mut [u8],
-    calls: &mut [u8],
-    later: &mut [u16],
+    work: &mut Work,
     q0: usize,
     out: &mut [u8],
     w: usize,
-    remembered: &mut [u16],
 ) -> Result<usize, Refusal>
-    requires { Bound (length calls.old) (length slots.old) s0 × Rooms (length vars.old) (length conds.old) (length after.old) (length calls.old) × (w ≤ length out.old) × (later_cells * q0 ≤ length later.old) × Remembers cells.now counts.now remembered.old }
-    ensures w_le_w { IfOk result (λ v. (w ≤ v) × (v ≤ length out.old)) × (take (later_cells * q0) later.new ≡ take (later_cells * q0) later.old) }
-    ensures written_by { WrittenBy cells.now starts.now counts.now firsts.now (start s0 (arrays slots.old vars.old conds.old calls.old) w out.old heads0 q0 (length later.old)) result (arrays slots.new vars.new conds.new calls.new) out.new }
-    ensures remembers { Remembers cells.now counts.now remembered.new }
+    requires { Bound (length work.old.calls) (length slots.old) s0 × (w ≤ length out.old) × (later_cells * q0 ≤ length work.old.later) × Remembers cells.now counts.now work.old.remembered }
+    ensures w_le_w { IfOk result (λ v. (w ≤ v) × (v ≤ length out.old)) × (take (later_cells * q0) work.new.later ≡ take (later_cells * q0) work.old.later) }
+    ensures written_by { WrittenBy cells.now starts.now counts.now firsts.now (start s0 (arrays slots.old work.old.vars work.old.conds work.old.calls) w out.old heads0 q0 (length work.old.later)) result (arrays slots.new work.new.vars work.new.conds work.new.calls) out.new }
+    ensures remembers { Remembers cells.now counts.now work.new.remembered }
 {
     let mut s = s0;
     let mut heads = heads0;
@@ -274,7 +248,7 @@ pub fn walk(
     let mut q = q0;
     let mut v = w;
     while s.at < cells.len() {
-        let g = look(cells, counts, s, heads, &mut *remembered);
+        let g = look(cells, counts, s, heads, &mut work.remembered);
         if inner(g.d.kind) {
             let Some(t) = contexts::step(
                 cells,
@@ -282,39 +256,24 @@ pub fn walk(
                 g.s,
                 second_side(g),
                 &mut *slots,
-                &mut *vars,
-                &mut *after,
-                &mut *calls,
+                &mut work.vars,
+                &mut work.after,
+                &mut work.calls,
             ) else {
                 return Err(Refusal::NotWithin);
             };
             s = t;
         } else {
             let turn = next_turn(
-                cells,
-                starts,
-                counts,
-                firsts,
-                g,
-                heads,
-                left,
-                &*slots,
-                &mut *vars,
-                &mut *conds,
-                &mut *after,
-                &mut *calls,
-                &mut *later,
-                q0,
-                q,
-                &mut *out,
-                v,
-                &mut *remembered,
+                cells, starts, counts, firsts, g, heads, left, &*slots, &mut *work, q0, q,
+                &mut *out, v,
             )?;
             let k = match turn {
                 Next::Over(end) => return Ok(end),
                 Next::Into(k) => k,
             };
-            let Some(side) = contexts::down_side(cells, k.d, k.t, k.e, &*slots, &mut *conds) else {
+            let Some(side) = contexts::down_side(cells, k.d, k.t, k.e, &*slots, &mut work.conds)
+            else {
                 return Err(Refusal::NotWithin);
             };
             s = side;

@@ -47,6 +47,12 @@ on-from {a} {b} {c} h g = omega arith
 itself : {a : ℕ} → a ≤ a
 itself {a} = omega arith
 
+all-of : {a b : ℕ} → a ≡ b → b ≤ a
+all-of {a} {b} e = omega arith
+
+no-more : {a b : ℕ} → a ≡ b → a ≤ b
+no-more {a} {b} e = omega arith
+
 terms : {n : ℕ} → calls_room ≤ n → terms_room ≤ n
 terms {n} h = omega arith
 
@@ -72,10 +78,10 @@ into_both (Err e) P Q p q = tt
 
 pub leaf-emit-requires : goal.leaf-emit-requires
 leaf-emit-requires t c =
-    let rooms = c.requires.bound.1 in
+    let sized = c.args.work.now.sized in
     record {
       bound = (c.requires.bound.0, c.if-g-eq-ATOM.true, c.requires.looked.0.views);
-      rooms = (rooms.vars_room, rooms.conds_fit, terms rooms.after_fit, rooms.calls_fit, c.requires.bound.2);
+      rooms = (all-of sized.vars_long, all-of sized.conds_long, terms (all-of sized.after_long), no-more sized.calls_long, c.requires.bound.1);
     }
 
 pub leaf-returns-then-g-eq-ATOM : goal.leaf-returns-then-g-eq-ATOM
@@ -100,7 +106,7 @@ leaf-returns-in_default t c =
     let is = is_call a.g.d.kind c.requires.looked.1 c.if-g-eq-ATOM.false in
     record {
       w_le_w = (tt, refl);
-      written_by = call_fails a.cells.now a.starts.now a.counts.now a.firsts.now a.g.s a.g.d c.requires.looked.0.views is a.slots.now a.vars.now a.conds.now a.calls.now c.down_call.new.mine a.w a.out.now a.heads a.q (length a.later.now) c.in_default.ensures.call_down NotWithin;
+      written_by = call_fails a.cells.now a.starts.now a.counts.now a.firsts.now a.g.s a.g.d c.requires.looked.0.views is a.slots.now a.work.now.vars a.work.now.conds a.work.now.calls c.down_call.new.mine a.w a.out.now a.heads a.q (length a.work.now.later) c.in_default.ensures.call_down NotWithin;
       remembers = c.requires.looked.2;
     }
 
@@ -109,7 +115,7 @@ leaf-walk-requires t c =
     let a = c.args in
     let y = c.in-Some.ensures.fuel_value in
     let em : length c.down_call.new.mine ≡ call_room = c.down_call.auto.mine in
-    (call-falls a.g.s.fuel c.in-Some.r.fuel c.decreases y.0, (subst (λ (x : ℕ). Bound (length a.calls.now) x c.in-Some.r) (sym em) (y.1 (length a.calls.now) (length a.slots.now) c.requires.bound.0), c.requires.bound.1, c.requires.bound.2, c.requires.bound.3, c.requires.looked.2))
+    (call-falls a.g.s.fuel c.in-Some.r.fuel c.decreases y.0, (subst (λ (x : ℕ). Bound (length a.work.now.calls) x c.in-Some.r) (sym em) (y.1 (length a.work.now.calls) (length a.slots.now) c.requires.bound.0), c.requires.bound.1, c.requires.bound.2, c.requires.looked.2))
 
 pub leaf-returns : goal.leaf-returns
 leaf-returns t c =
@@ -118,7 +124,7 @@ leaf-returns t c =
     let wk = c.walk.ensures in
     record {
       w_le_w = wk.w_le_w;
-      written_by = call_out a.cells.now a.starts.now a.counts.now a.firsts.now a.g.s a.g.d c.requires.looked.0.views is a.slots.now a.vars.now a.conds.now a.calls.now c.down_call.new.mine a.w a.out.now a.heads a.q (length a.later.now) c.in-Some.r c.in-Some.ensures.call_down c.walk.result c.walk.new.slots c.walk.new.vars c.walk.new.conds c.walk.new.calls c.walk.new.out wk.written_by;
+      written_by = call_out a.cells.now a.starts.now a.counts.now a.firsts.now a.g.s a.g.d c.requires.looked.0.views is a.slots.now a.work.now.vars a.work.now.conds a.work.now.calls c.down_call.new.mine a.w a.out.now a.heads a.q (length a.work.now.later) c.in-Some.r c.in-Some.ensures.call_down c.walk.result c.walk.new.slots c.walk.new.work.vars c.walk.new.work.conds c.walk.new.work.calls c.walk.new.out wk.written_by;
       remembers = wk.remembers;
     }
 
@@ -126,25 +132,23 @@ pub next_turn-chosen-requires : goal.next_turn-chosen-requires
 next_turn-chosen-requires t c =
     let a = c.args in
     let y = c.requires.steady.0 in
-    let rooms = c.requires.steady.1 in
-    ((length a.calls.now, length a.slots.now, rooms.calls_fit, y.bound), y.high)
+    ((length a.work.now.calls, length a.slots.now, no-more a.work.now.sized.calls_long, y.bound), y.high)
 
 pub next_turn-returns-then-choice : goal.next_turn-returns-then-choice
 next_turn-returns-then-choice t c =
     let a = c.args in
     let y = c.requires.steady.0 in
-    let rooms = c.requires.steady.1 in
-    let fits = c.requires.steady.2 in
-    let lk = length a.calls.now in
+    let fits = c.requires.steady.1 in
+    let lk = length a.work.now.calls in
     let ls = length a.slots.now in
-    let l = a.later.now in
+    let l = a.work.now.later in
     let o = a.out.now in
-    let B = arrays a.slots.now a.vars.now a.conds.now a.calls.now in
+    let B = arrays a.slots.now a.work.now.vars a.work.now.conds a.work.now.calls in
     let ch = c.chosen.ensures in
     let z = ch.1 a.cells.now a.counts.now c.requires.looked.0 (c.choice.ensures.0 c.if-choice.true) in
     record {
       w_le_w = (IfOk-weaker c.chosen.result _ _ (λ n e. (up_to {a = a.w} itself e, under fits e)) ch.0.0, kept_front (later_cells * a.q0) (later_cells * a.q) l c.chosen.new.later (front y.low) ch.0.1);
-      stays_steady = into_both c.chosen.result _ _ (z.1 lk ls a.g.s.fuel a.q0 rooms.calls_fit y) z.0;
+      stays_steady = into_both c.chosen.result _ _ (z.1 lk ls a.g.s.fuel a.q0 (no-more a.work.now.sized.calls_long) y) z.0;
       turned = λ S eq on. z.2 a.starts.now a.firsts.now B o S on;
       remembers = c.requires.looked.2;
     }
@@ -153,23 +157,23 @@ pub next_turn-leaf-requires : goal.next_turn-leaf-requires
 next_turn-leaf-requires t c =
     let a = c.args in
     let y = c.requires.steady.0 in
-    (leaf-falls a.g.s.fuel c.decreases, ((y.bound, c.requires.steady.1, c.requires.steady.2, y.high), (c.requires.looked.0, leaf_kind a.g.d.kind c.requires.looked.1 (c.choice.ensures.1 c.if-choice.false), c.requires.looked.2)))
+    (leaf-falls a.g.s.fuel c.decreases, ((y.bound, c.requires.steady.1, y.high), (c.requires.looked.0, leaf_kind a.g.d.kind c.requires.looked.1 (c.choice.ensures.1 c.if-choice.false), c.requires.looked.2)))
 
 pub next_turn-resumed-requires : goal.next_turn-resumed-requires
-next_turn-resumed-requires t c = up_to c.requires.steady.0.high c.leaf.auto.later
+next_turn-resumed-requires t c = up_to c.requires.steady.0.high (omega arith)
 
 pub next_turn-returns-in_err-v : goal.next_turn-returns-in_err-v
 next_turn-returns-in_err-v t c =
     let a = c.args in
     let y = c.requires.steady.0 in
-    let l = a.later.now in
+    let l = a.work.now.later in
     let o = a.out.now in
-    let B = arrays a.slots.now a.vars.now a.conds.now a.calls.now in
+    let B = arrays a.slots.now a.work.now.vars a.work.now.conds a.work.now.calls in
     let lf = c.in_err-v.ensures in
-    let l' = c.leaf.new.later in
+    let l' = c.leaf.new.work.later in
     let o' = c.leaf.new.out in
-    let el : length l' ≡ length l = c.leaf.auto.later in
-    let C = arrays a.slots.now c.leaf.new.vars c.leaf.new.conds c.leaf.new.calls in
+    let el : length l' ≡ length l = (omega arith) in
+    let C = arrays a.slots.now c.leaf.new.work.vars c.leaf.new.work.conds c.leaf.new.work.calls in
     let p = err_from_is_err_and c.from_residual.result c.from_residual.ensures.1 in
     rw (p.1, p.2) record {
       w_le_w = (tt, kept_front (later_cells * a.q0) (later_cells * a.q) l l' (front y.low) lf.w_le_w.1);
@@ -182,19 +186,19 @@ pub next_turn-returns : goal.next_turn-returns
 next_turn-returns t c =
     let a = c.args in
     let y = c.requires.steady.0 in
-    let lk = length a.calls.now in
+    let lk = length a.work.now.calls in
     let ls = length a.slots.now in
-    let l = a.later.now in
+    let l = a.work.now.later in
     let o = a.out.now in
-    let B = arrays a.slots.now a.vars.now a.conds.now a.calls.now in
+    let B = arrays a.slots.now a.work.now.vars a.work.now.conds a.work.now.calls in
     let v = c.in_ok-v.v in
     let lf = c.in_ok-v.ensures in
     let rs = c.resumed.ensures in
-    let l' = c.leaf.new.later in
+    let l' = c.leaf.new.work.later in
     let o' = c.leaf.new.out in
-    let el : length l' ≡ length l = c.leaf.auto.later in
+    let el : length l' ≡ length l = (omega arith) in
     let eo : length o' ≡ length o = c.leaf.auto.out in
-    let C = arrays a.slots.now c.leaf.new.vars c.leaf.new.conds c.leaf.new.calls in
+    let C = arrays a.slots.now c.leaf.new.work.vars c.leaf.new.work.conds c.leaf.new.work.calls in
     record {
       w_le_w = (IfOk-weaker c.resumed.result _ _ (λ n e. (up_to lf.w_le_w.0.0 e, under lf.w_le_w.0.1 e)) rs.w_value, kept_front (later_cells * a.q0) (later_cells * a.q) l l' (front y.low) lf.w_le_w.1);
       stays_steady = rs.resumed.0 lk ls a.g.s.fuel (steady_later lk ls a.g.s.fuel a.q0 a.g.s a.q l y l' el lf.w_le_w.1);
@@ -213,13 +217,13 @@ next_turn-returns t c =
 pub walk-loop-s-init : goal.walk-loop-s-init
 walk-loop-s-init t c =
     let a = c.args in
-    let B₀ = arrays a.slots.now a.vars.now a.conds.now a.calls.now in
+    let B₀ = arrays a.slots.now a.work.now.vars a.work.now.conds a.work.now.calls in
     let pre = c.requires in (
-      (refl, refl, refl, refl, refl, refl, refl, refl),
-      (itself, pre.2, refl),
-      steady_start (length a.calls.now) (length a.slots.now) a.s0.fuel a.q0 a.s0 a.q0 a.later.now pre.0 refl pre.3,
-      goes_start a.cells.now a.starts.now a.counts.now a.firsts.now a.s0 B₀ a.w a.out.now a.heads0 a.q0 a.later.now pre.2,
-      pre.4,
+      (refl, refl),
+      (itself, pre.1, refl),
+      steady_start (length a.work.now.calls) (length a.slots.now) a.s0.fuel a.q0 a.s0 a.q0 a.work.now.later pre.0 refl pre.2,
+      goes_start a.cells.now a.starts.now a.counts.now a.firsts.now a.s0 B₀ a.w a.out.now a.heads0 a.q0 a.work.now.later pre.1,
+      pre.3,
     )
 
 pub walk-look-g-requires : goal.walk-look-g-requires
@@ -234,19 +238,18 @@ walk-second_side-requires t c = c.look-g.ensures.past.small c.loop-s.invariant.2
 pub walk-step-requires : goal.walk-step-requires
 walk-step-requires t c =
     let a = c.args in
-    let rooms = c.requires.1 in
     let here = c.loop-s in
     let i = here.invariant in
     let y = i.2 in
     let g = c.look-g.result in
     let lo = c.look-g.ensures.looked in
     let past = c.look-g.ensures.past in
-    let lk = length here.calls in
+    let lk = length here.work.calls in
     let ls = length here.slots in
-    let ys = steady_to lk ls a.s0.fuel a.q0 here.s here.q here.later y g.s (past.stays lk ls y.bound) past.fuel_same in
+    let ys = steady_to lk ls a.s0.fuel a.q0 here.s here.q here.work.later y g.s (past.stays lk ls y.bound) past.fuel_same in
     record {
       place = (lo.inside, lo.on, lo.views, ys.bound);
-      rooms = (up_to rooms.vars_room i.0.1, up_to rooms.after_fit i.0.3, c.second_side.ensures.1, rest_at a.cells.now a.counts.now g c.second_side.result lo c.second_side.ensures);
+      rooms = (all-of here.work.sized.vars_long, all-of here.work.sized.after_long, c.second_side.ensures.1, rest_at a.cells.now a.counts.now g c.second_side.result lo c.second_side.ensures);
     }
 
 pub walk-loop-s-smaller-then-inner : goal.walk-loop-s-smaller-then-inner
@@ -261,46 +264,45 @@ walk-loop-s-smaller-then-inner t c =
 pub walk-loop-s-preserved-then-inner : goal.walk-loop-s-preserved-then-inner
 walk-loop-s-preserved-then-inner t c =
     let a = c.args in
-    let B₀ = arrays a.slots.now a.vars.now a.conds.now a.calls.now in
-    let S = start a.s0 B₀ a.w a.out.now a.heads0 a.q0 (length a.later.now) in
+    let B₀ = arrays a.slots.now a.work.now.vars a.work.now.conds a.work.now.calls in
+    let S = start a.s0 B₀ a.w a.out.now a.heads0 a.q0 (length a.work.now.later) in
     let here = c.loop-s in
     let i = here.invariant in
-    let B = arrays here.slots here.vars here.conds here.calls in
+    let B = arrays here.slots here.work.vars here.work.conds here.work.calls in
     let y = i.2 in
     let g = c.look-g.result in
     let past = c.look-g.ensures.past in
-    let lk = length here.calls in
+    let lk = length here.work.calls in
     let ls = length here.slots in
-    let ys = steady_to lk ls a.s0.fuel a.q0 here.s here.q here.later y g.s (past.stays lk ls y.bound) past.fuel_same in
+    let ys = steady_to lk ls a.s0.fuel a.q0 here.s here.q here.work.later y g.s (past.stays lk ls y.bound) past.fuel_same in
     let s' = c.in-Some.t in
     let sp = c.in-Some.ensures in
     let new = c.step.new in
     let n = c.inner.ensures.0 c.if-inner.true in
     let es : length new.slots ≡ ls = c.step.auto.slots in
     let ec : length new.calls ≡ lk = c.step.auto.calls in (
-      (es ∙ i.0.0, c.step.auto.vars ∙ i.0.1, i.0.2, c.step.auto.after ∙ i.0.3, ec ∙ i.0.4, i.0.5, i.0.6, c.look-g.auto.remembered ∙ i.0.7),
+      (es ∙ i.0.0, i.0.1),
       (i.1.0, i.1.1, i.1.2),
-      steady_lengths lk (length new.calls) ls (length new.slots) a.s0.fuel a.q0 s' here.q here.later (sym ec) (sym es) (steady_to lk ls a.s0.fuel a.q0 g.s here.q here.later ys s' sp.bound sp.fuel_value.0),
-      goes_step a.cells.now a.starts.now a.counts.now a.firsts.now S g.s here.heads here.left here.q here.v B here.later here.out (goes_past a.cells.now a.starts.now a.counts.now a.firsts.now S here.s here.heads here.left here.q here.v B here.later here.out i.3 g.s past) s' (arrays new.slots new.vars here.conds new.calls) (sp.step_down here.conds a.starts.now a.counts.now a.firsts.now n.0 n.1 n.2 n.3) sp.fuel_value.0,
+      steady_lengths lk (length new.calls) ls (length new.slots) a.s0.fuel a.q0 s' here.q here.work.later (sym ec) (sym es) (steady_to lk ls a.s0.fuel a.q0 g.s here.q here.work.later ys s' sp.bound sp.fuel_value.0),
+      goes_step a.cells.now a.starts.now a.counts.now a.firsts.now S g.s here.heads here.left here.q here.v B here.work.later here.out (goes_past a.cells.now a.starts.now a.counts.now a.firsts.now S here.s here.heads here.left here.q here.v B here.work.later here.out i.3 g.s past) s' (arrays new.slots new.vars here.work.conds new.calls) (sp.step_down here.work.conds a.starts.now a.counts.now a.firsts.now n.0 n.1 n.2 n.3) sp.fuel_value.0,
       c.look-g.ensures.remembers,
     )
 
 pub walk-next_turn-requires : goal.walk-next_turn-requires
 walk-next_turn-requires t c =
     let a = c.args in
-    let rooms = c.requires.1 in
     let here = c.loop-s in
     let i = here.invariant in
     let y = i.2 in
     let g = c.look-g.result in
     let lo = c.look-g.ensures.looked in
     let past = c.look-g.ensures.past in
-    let lk = length here.calls in
+    let lk = length here.work.calls in
     let ls = length here.slots in
-    let ys = steady_to lk ls a.s0.fuel a.q0 here.s here.q here.later y g.s (past.stays lk ls y.bound) past.fuel_same in (
+    let ys = steady_to lk ls a.s0.fuel a.q0 here.s here.q here.work.later y g.s (past.stays lk ls y.bound) past.fuel_same in (
       turn-falls {f = a.s0.fuel} c.decreases ys.fuel_is,
       (
-        (steady_own lk ls a.s0.fuel a.q0 g.s here.q here.later ys, record { vars_room = up_to rooms.vars_room i.0.1; conds_fit = up_to rooms.conds_fit i.0.2; after_fit = up_to rooms.after_fit i.0.3; calls_fit = under rooms.calls_fit i.0.4 }, up_to i.1.1 i.0.6),
+        (steady_own lk ls a.s0.fuel a.q0 g.s here.q here.work.later ys, up_to i.1.1 i.0.1),
         (lo, c.inner.ensures.1 c.if-inner.false, c.look-g.ensures.remembers),
       ),
     )
@@ -308,65 +310,64 @@ walk-next_turn-requires t c =
 pub walk-returns-in_default : goal.walk-returns-in_default
 walk-returns-in_default t c =
     let a = c.args in
-    let B₀ = arrays a.slots.now a.vars.now a.conds.now a.calls.now in
-    let S = start a.s0 B₀ a.w a.out.now a.heads0 a.q0 (length a.later.now) in
+    let B₀ = arrays a.slots.now a.work.now.vars a.work.now.conds a.work.now.calls in
+    let S = start a.s0 B₀ a.w a.out.now a.heads0 a.q0 (length a.work.now.later) in
     let here = c.loop-s in
     let i = here.invariant in
-    let B = arrays here.slots here.vars here.conds here.calls in
+    let B = arrays here.slots here.work.vars here.work.conds here.work.calls in
     let g = c.look-g.result in
     let past = c.look-g.ensures.past in
     let new = c.step.new in
     let n = c.inner.ensures.0 c.if-inner.true in
     record {
       w_le_w = (tt, i.1.2);
-      written_by = goes_nowhere a.cells.now a.starts.now a.counts.now a.firsts.now S g.s here.heads here.left here.q here.v B here.later here.out (goes_past a.cells.now a.starts.now a.counts.now a.firsts.now S here.s here.heads here.left here.q here.v B here.later here.out i.3 g.s past) (arrays new.slots new.vars here.conds new.calls) (c.in_default.ensures.step_down here.conds a.starts.now a.counts.now a.firsts.now n.0 n.1 n.2 n.3) NotWithin;
+      written_by = goes_nowhere a.cells.now a.starts.now a.counts.now a.firsts.now S g.s here.heads here.left here.q here.v B here.work.later here.out (goes_past a.cells.now a.starts.now a.counts.now a.firsts.now S here.s here.heads here.left here.q here.v B here.work.later here.out i.3 g.s past) (arrays new.slots new.vars here.work.conds new.calls) (c.in_default.ensures.step_down here.work.conds a.starts.now a.counts.now a.firsts.now n.0 n.1 n.2 n.3) NotWithin;
       remembers = c.look-g.ensures.remembers;
     }
 
 pub walk-returns-in_err-turn : goal.walk-returns-in_err-turn
 walk-returns-in_err-turn t c =
     let a = c.args in
-    let B₀ = arrays a.slots.now a.vars.now a.conds.now a.calls.now in
-    let S = start a.s0 B₀ a.w a.out.now a.heads0 a.q0 (length a.later.now) in
+    let B₀ = arrays a.slots.now a.work.now.vars a.work.now.conds a.work.now.calls in
+    let S = start a.s0 B₀ a.w a.out.now a.heads0 a.q0 (length a.work.now.later) in
     let here = c.loop-s in
     let i = here.invariant in
-    let B = arrays here.slots here.vars here.conds here.calls in
+    let B = arrays here.slots here.work.vars here.work.conds here.work.calls in
     let g = c.look-g.result in
     let past = c.look-g.ensures.past in
     let nt = c.in_err-turn.ensures in
     let p = err_from_is_err_and c.from_residual.result c.from_residual.ensures.1 in
     rw (p.1, p.2) record {
       w_le_w = (tt, nt.w_le_w.1 ∙ i.1.2);
-      written_by = nt.turned S refl (goes_past a.cells.now a.starts.now a.counts.now a.firsts.now S here.s here.heads here.left here.q here.v B here.later here.out i.3 g.s past);
+      written_by = nt.turned S refl (goes_past a.cells.now a.starts.now a.counts.now a.firsts.now S here.s here.heads here.left here.q here.v B here.work.later here.out i.3 g.s past);
       remembers = nt.remembers;
     }
 
 pub walk-returns-in-Over : goal.walk-returns-in-Over
 walk-returns-in-Over t c =
     let a = c.args in
-    let B₀ = arrays a.slots.now a.vars.now a.conds.now a.calls.now in
-    let S = start a.s0 B₀ a.w a.out.now a.heads0 a.q0 (length a.later.now) in
+    let B₀ = arrays a.slots.now a.work.now.vars a.work.now.conds a.work.now.calls in
+    let S = start a.s0 B₀ a.w a.out.now a.heads0 a.q0 (length a.work.now.later) in
     let here = c.loop-s in
     let i = here.invariant in
-    let B = arrays here.slots here.vars here.conds here.calls in
+    let B = arrays here.slots here.work.vars here.work.conds here.work.calls in
     let g = c.look-g.result in
     let past = c.look-g.ensures.past in
     let nt = rw c.in-Over.is at c.in_ok-turn.ensures in
     record {
-      w_le_w = ((then i.1.0 nt.w_le_w.0.0, over nt.w_le_w.0.1 i.0.6), nt.w_le_w.1 ∙ i.1.2);
-      written_by = nt.turned S refl (goes_past a.cells.now a.starts.now a.counts.now a.firsts.now S here.s here.heads here.left here.q here.v B here.later here.out i.3 g.s past);
+      w_le_w = ((then i.1.0 nt.w_le_w.0.0, over nt.w_le_w.0.1 i.0.1), nt.w_le_w.1 ∙ i.1.2);
+      written_by = nt.turned S refl (goes_past a.cells.now a.starts.now a.counts.now a.firsts.now S here.s here.heads here.left here.q here.v B here.work.later here.out i.3 g.s past);
       remembers = nt.remembers;
     }
 
 pub walk-down_side-requires : goal.walk-down_side-requires
 walk-down_side-requires t c =
-    let rooms = c.requires.1 in
     let here = c.loop-s in
     let i = here.invariant in
     let nt = rw c.in-Into.is at c.in_ok-turn.ensures in
     let k = c.in-Into.k in
     let b = nt.stays_steady.0.bound in
-    (b.lc_few, up_to (up_to rooms.conds_fit i.0.2) c.next_turn.auto.conds, slots-in k.t.n k.t.nv (length here.slots) b.n_room b.nv_few)
+    (b.lc_few, all-of c.next_turn.new.work.sized.conds_long, slots-in k.t.n k.t.nv (length here.slots) b.n_room b.nv_few)
 
 pub walk-loop-s-smaller : goal.walk-loop-s-smaller
 walk-loop-s-smaller t c =
@@ -384,17 +385,17 @@ walk-loop-s-smaller t c =
 pub walk-loop-s-preserved : goal.walk-loop-s-preserved
 walk-loop-s-preserved t c =
     let a = c.args in
-    let B₀ = arrays a.slots.now a.vars.now a.conds.now a.calls.now in
-    let S = start a.s0 B₀ a.w a.out.now a.heads0 a.q0 (length a.later.now) in
+    let B₀ = arrays a.slots.now a.work.now.vars a.work.now.conds a.work.now.calls in
+    let S = start a.s0 B₀ a.w a.out.now a.heads0 a.q0 (length a.work.now.later) in
     let here = c.loop-s in
     let i = here.invariant in
-    let B = arrays here.slots here.vars here.conds here.calls in
+    let B = arrays here.slots here.work.vars here.work.conds here.work.calls in
     let y = i.2 in
     let g = c.look-g.result in
     let past = c.look-g.ensures.past in
-    let lk = length here.calls in
+    let lk = length here.work.calls in
     let ls = length here.slots in
-    let ys = steady_to lk ls a.s0.fuel a.q0 here.s here.q here.later y g.s (past.stays lk ls y.bound) past.fuel_same in
+    let ys = steady_to lk ls a.s0.fuel a.q0 here.s here.q here.work.later y g.s (past.stays lk ls y.bound) past.fuel_same in
     let k = c.in-Into.k in
     let nt = rw c.in-Into.is at c.in_ok-turn.ensures in
     let new = c.next_turn.new in
@@ -402,22 +403,22 @@ walk-loop-s-preserved t c =
     let s' = c.in-Some-down_side.side in
     let sd = c.in-Some-down_side.ensures in
     let z = nt.stays_steady in
-    let ec : length new.calls ≡ lk = kept.calls in (
-      (i.0.0, kept.vars ∙ i.0.1, c.down_side.auto.conds ∙ kept.conds ∙ i.0.2, kept.after ∙ i.0.3, ec ∙ i.0.4, kept.later ∙ i.0.5, kept.out ∙ i.0.6, kept.remembered ∙ c.look-g.auto.remembered ∙ i.0.7),
-      (then i.1.0 nt.w_le_w.0.0, over nt.w_le_w.0.1 i.0.6, nt.w_le_w.1 ∙ i.1.2),
-      steady_back (length new.calls) ls a.s0.fuel g.s.fuel a.q0 s' k.q new.later ys.fuel_is (steady_lengths lk (length new.calls) ls ls g.s.fuel a.q0 s' k.q new.later (sym ec) refl (steady_to lk ls g.s.fuel a.q0 k.t k.q new.later z.0 s' (sd.stays z.1.0 lk ls z.0.bound) sd.fuel_value.0)),
-      toward_down a.cells.now a.starts.now a.counts.now a.firsts.now S k here.slots new.vars new.conds new.calls new.later new.out (nt.turned S refl (goes_past a.cells.now a.starts.now a.counts.now a.firsts.now S here.s here.heads here.left here.q here.v B here.later here.out i.3 g.s past)) c.down_side.new.conds s' sd.side_down sd.fuel_value.0,
+    let ec : length new.work.calls ≡ lk = omega arith in (
+      (i.0.0, kept.out ∙ i.0.1),
+      (then i.1.0 nt.w_le_w.0.0, over nt.w_le_w.0.1 i.0.1, nt.w_le_w.1 ∙ i.1.2),
+      steady_back (length new.work.calls) ls a.s0.fuel g.s.fuel a.q0 s' k.q new.work.later ys.fuel_is (steady_lengths lk (length new.work.calls) ls ls g.s.fuel a.q0 s' k.q new.work.later (sym ec) refl (steady_to lk ls g.s.fuel a.q0 k.t k.q new.work.later z.0 s' (sd.stays z.1.0 lk ls z.0.bound) sd.fuel_value.0)),
+      toward_down a.cells.now a.starts.now a.counts.now a.firsts.now S k here.slots new.work.vars new.work.conds new.work.calls new.work.later new.out (nt.turned S refl (goes_past a.cells.now a.starts.now a.counts.now a.firsts.now S here.s here.heads here.left here.q here.v B here.work.later here.out i.3 g.s past)) c.down_side.new.conds s' sd.side_down sd.fuel_value.0,
       nt.remembers,
     )
 
 pub walk-returns-in_default-down_side : goal.walk-returns-in_default-down_side
 walk-returns-in_default-down_side t c =
     let a = c.args in
-    let B₀ = arrays a.slots.now a.vars.now a.conds.now a.calls.now in
-    let S = start a.s0 B₀ a.w a.out.now a.heads0 a.q0 (length a.later.now) in
+    let B₀ = arrays a.slots.now a.work.now.vars a.work.now.conds a.work.now.calls in
+    let S = start a.s0 B₀ a.w a.out.now a.heads0 a.q0 (length a.work.now.later) in
     let here = c.loop-s in
     let i = here.invariant in
-    let B = arrays here.slots here.vars here.conds here.calls in
+    let B = arrays here.slots here.work.vars here.work.conds here.work.calls in
     let g = c.look-g.result in
     let past = c.look-g.ensures.past in
     let k = c.in-Into.k in
@@ -425,19 +426,19 @@ walk-returns-in_default-down_side t c =
     let new = c.next_turn.new in
     record {
       w_le_w = (tt, nt.w_le_w.1 ∙ i.1.2);
-      written_by = toward_nowhere a.cells.now a.starts.now a.counts.now a.firsts.now S k here.slots new.vars new.conds new.calls new.later new.out (nt.turned S refl (goes_past a.cells.now a.starts.now a.counts.now a.firsts.now S here.s here.heads here.left here.q here.v B here.later here.out i.3 g.s past)) c.down_side.new.conds c.in_default-down_side.ensures.side_down NotWithin;
+      written_by = toward_nowhere a.cells.now a.starts.now a.counts.now a.firsts.now S k here.slots new.work.vars new.work.conds new.work.calls new.work.later new.out (nt.turned S refl (goes_past a.cells.now a.starts.now a.counts.now a.firsts.now S here.s here.heads here.left here.q here.v B here.work.later here.out i.3 g.s past)) c.down_side.new.conds c.in_default-down_side.ensures.side_down NotWithin;
       remembers = nt.remembers;
     }
 
 pub walk-returns : goal.walk-returns
 walk-returns t c =
     let a = c.args in
-    let S = start a.s0 (arrays a.slots.now a.vars.now a.conds.now a.calls.now) a.w a.out.now a.heads0 a.q0 (length a.later.now) in
+    let S = start a.s0 (arrays a.slots.now a.work.now.vars a.work.now.conds a.work.now.calls) a.w a.out.now a.heads0 a.q0 (length a.work.now.later) in
     let here = c.loop-s in
     let i = here.invariant in
-    let B = arrays here.slots here.vars here.conds here.calls in
+    let B = arrays here.slots here.work.vars here.work.conds here.work.calls in
     record {
       w_le_w = (tt, i.1.2);
-      written_by = goes_stuck a.cells.now a.starts.now a.counts.now a.firsts.now S here.s here.heads here.left here.q here.v B here.later here.out i.3 c.loop-s-test.false (Err NotWithin) B here.out;
+      written_by = goes_stuck a.cells.now a.starts.now a.counts.now a.firsts.now S here.s here.heads here.left here.q here.v B here.work.later here.out i.3 c.loop-s-test.false (Err NotWithin) B here.out;
       remembers = i.4;
     }

@@ -20,11 +20,11 @@ decreases-walk l = 3 * l.s0.fuel + 2
 
 abbrev pub invariant-walk-loop-s : goal.invariant-walk-loop-s
 invariant-walk-loop-s l =
-    ((length l.slots ≡ length l.initial.slots) × (length l.vars ≡ length l.initial.vars) × (length l.conds ≡ length l.initial.conds) × (length l.after ≡ length l.initial.after) × (length l.calls ≡ length l.initial.calls) × (length l.later ≡ length l.initial.later) × (length l.out ≡ length l.initial.out) × (length l.remembered ≡ length l.initial.remembered))
-    × ((l.w ≤ l.v) × (l.v ≤ length l.initial.out) × (take (later_cells * l.q0) l.later ≡ take (later_cells * l.q0) l.initial.later))
-    × Steady (length l.calls) (length l.slots) l.initial.s.fuel l.q0 l.s l.q l.later
-    × (Onward l.cells l.starts l.counts l.firsts (start l.initial.s (arrays l.initial.slots l.initial.vars l.initial.conds l.initial.calls) l.w l.initial.out l.heads0 l.q0 (length l.initial.later)) l.s l.heads l.left l.q l.v (arrays l.slots l.vars l.conds l.calls) l.later l.out)
-    × Remembers l.cells l.counts l.remembered
+    ((length l.slots ≡ length l.initial.slots) × (length l.out ≡ length l.initial.out))
+    × ((l.w ≤ l.v) × (l.v ≤ length l.initial.out) × (take (later_cells * l.q0) l.work.later ≡ take (later_cells * l.q0) l.initial.work.later))
+    × Steady (length l.work.calls) (length l.slots) l.initial.s.fuel l.q0 l.s l.q l.work.later
+    × (Onward l.cells l.starts l.counts l.firsts (start l.initial.s (arrays l.initial.slots l.initial.work.vars l.initial.work.conds l.initial.work.calls) l.w l.initial.out l.heads0 l.q0 (length l.initial.work.later)) l.s l.heads l.left l.q l.v (arrays l.slots l.work.vars l.work.conds l.work.calls) l.work.later l.out)
+    × Remembers l.cells l.counts l.work.remembered
 
 abbrev pub decreases-walk-loop-s : goal.decreases-walk-loop-s
 decreases-walk-loop-s l = weigh (length l.cells) l.left l.s.at
