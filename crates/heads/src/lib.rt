@@ -22,7 +22,7 @@ use following::CALLS;
 use limits::MAX_VARIABLES;
 use refusals::Refusal;
 use remembered::REMEMBERED;
-use walk::{LATERS, Work, walk};
+use walk::{LATERS, Sheet, Work, walk};
 
 // All heads of a term written as summands, one behind another; behind the slots of the variables in scope there is room for those that a
 // summand adds. Not every one has the limits, or there is no room for them: an Err says which.
@@ -65,19 +65,13 @@ pub fn write_heads(
         nk: 0,
         top: CALLS,
     };
-    walk(
+    let sheet = Sheet {
         cells,
         starts,
         counts,
         firsts,
-        s,
-        heads,
-        &mut *slots,
-        &mut work,
-        0,
-        &mut *out,
-        w,
-    )
+    };
+    walk(sheet, s, heads, &mut *slots, &mut work, 0, &mut *out, w)
 }
 
 // How many heads a term has, where `fuel` calls may be followed.

@@ -34,6 +34,15 @@ enum Next {
     Into(Turn),
 }
 
+// A sheet in its cells: where the right sides start, how many heads they have, and the numbers of their first new equations.
+#[derive(Clone, Copy)]
+pub struct Sheet<'a> {
+    pub cells: &'a [u16],
+    pub starts: &'a [u16],
+    pub counts: &'a [u16],
+    pub firsts: &'a [u8],
+}
+
 // Cells for the second sides that wait: each has a head of its own.
 pub const LATERS: usize = MAX_SUMMANDS * LATER;
 
@@ -148,10 +157,7 @@ fn resumed(
 // The head of an action, or the heads of a call: those of the process's right side.
 #[cycle(leaf_next_turn_walk)]
 fn leaf(
-    cells: &[u16],
-    starts: &[u16],
-    counts: &[u16],
-    firsts: &[u8],
+    sheet: Sheet<'_>,
     g: Ahead,
     heads: usize,
     slots: &[u8],
@@ -161,14 +167,14 @@ fn leaf(
     w: usize,
 ) -> Result<usize, Refusal>
     requires bound { Bound (length work.old.calls) (length slots.now) g.s × (w ≤ length out.old) × (later_cells * q ≤ length work.old.later) }
-    requires looked { Looked cells.now counts.now g × Leaf g.d.kind × Remembers cells.now counts.now work.old.remembered }
+    requires looked { Looked sheet.cells.now sheet.counts.now g × Leaf g.d.kind × Remembers sheet.cells.now sheet.counts.now work.old.remembered }
     ensures w_le_w { IfOk result (λ v. (w ≤ v) × (v ≤ length out.old)) × (take (later_cells * q) work.new.later ≡ take (later_cells * q) work.old.later) }
-    ensures written_by { WrittenBy cells.now starts.now counts.now firsts.now (start g.s (arrays slots.now work.old.vars work.old.conds work.old.calls) w out.old heads q (length work.old.later)) result (arrays slots.now work.new.vars work.new.conds work.new.calls) out.new }
-    ensures remembers { Remembers cells.now counts.now work.new.remembered }
+    ensures written_by { WrittenBy sheet.entry.cells.now sheet.entry.starts.now sheet.entry.counts.now sheet.entry.firsts.now (start g.s (arrays slots.now work.old.vars work.old.conds work.old.calls) w out.old heads q (length work.old.later)) result (arrays slots.now work.new.vars work.new.conds work.new.calls) out.new }
+    ensures remembers { Remembers sheet.entry.cells.now sheet.entry.counts.now work.new.remembered }
 {
     if g.d.kind == nodes::ATOM {
         return contexts::emit(
-            cells,
+            sheet.cells,
             g.d,
             g.s,
             slots,
@@ -181,21 +187,24 @@ fn leaf(
         );
     }
     let mut mine = [0u8; contexts::MINE];
-    let Some(r) = contexts::down_call(cells, starts, firsts, g.d, g.s, slots, &mut mine) else {
+    let Some(r) = contexts::down_call(
+        sheet.cells,
+        sheet.starts,
+        sheet.firsts,
+        g.d,
+        g.s,
+        slots,
+        &mut mine,
+    ) else {
         return Err(Refusal::NotWithin);
     };
-    walk(
-        cells, starts, counts, firsts, r, heads, &mut mine, &mut *work, q, &mut *out, w,
-    )
+    walk(sheet, r, heads, &mut mine, &mut *work, q, &mut *out, w)
 }
 
 // Into a choice, or on after a leaf that is written.
 #[cycle(leaf_next_turn_walk)]
 fn next_turn(
-    cells: &[u16],
-    starts: &[u16],
-    counts: &[u16],
-    firsts: &[u8],
+    sheet: Sheet<'_>,
     g: Ahead,
     heads: usize,
     left: usize,
@@ -207,28 +216,23 @@ fn next_turn(
     w: usize,
 ) -> Result<Next, Refusal>
     requires steady { Steady (length work.old.calls) (length slots.now) g.s.fuel q0 g.s q work.old.later × (w ≤ length out.old) }
-    requires looked { Looked cells.now counts.now g × (Leaf g.d.kind ⊎ Parting g.d.kind) × Remembers cells.now counts.now work.old.remembered }
+    requires looked { Looked sheet.cells.now sheet.counts.now g × (Leaf g.d.kind ⊎ Parting g.d.kind) × Remembers sheet.cells.now sheet.counts.now work.old.remembered }
     ensures w_le_w { IfOk result (λ n. (w ≤ place n) × (place n ≤ length out.old)) × (take (later_cells * q0) work.new.later ≡ take (later_cells * q0) work.old.later) }
     ensures stays_steady { IfInto result (λ k. Steady (length work.old.calls) (length slots.now) g.s.fuel q0 k.t k.q work.new.later × Nearer g.s left k) }
-    ensures turned { Turned cells.now starts.now counts.now firsts.now q0 g.s heads left q w (arrays slots.now work.old.vars work.old.conds work.old.calls) work.old.later out.old result (arrays slots.now work.new.vars work.new.conds work.new.calls) work.new.later out.new }
-    ensures remembers { Remembers cells.now counts.now work.new.remembered }
+    ensures turned { Turned sheet.entry.cells.now sheet.entry.starts.now sheet.entry.counts.now sheet.entry.firsts.now q0 g.s heads left q w (arrays slots.now work.old.vars work.old.conds work.old.calls) work.old.later out.old result (arrays slots.now work.new.vars work.new.conds work.new.calls) work.new.later out.new }
+    ensures remembers { Remembers sheet.entry.cells.now sheet.entry.counts.now work.new.remembered }
 {
     if choice(g.d.kind) {
         return chosen(g, heads, left, &mut work.later, q, w);
     }
-    let v = leaf(
-        cells, starts, counts, firsts, g, heads, slots, &mut *work, q, &mut *out, w,
-    )?;
-    resumed(cells, &work.later, g, heads, left, q0, q, v)
+    let v = leaf(sheet, g, heads, slots, &mut *work, q, &mut *out, w)?;
+    resumed(sheet.cells, &work.later, g, heads, left, q0, q, v)
 }
 
 // The heads of the term at s0 in its context, one after another: the place behind them.
 #[cycle(leaf_next_turn_walk)]
 pub fn walk(
-    cells: &[u16],
-    starts: &[u16],
-    counts: &[u16],
-    firsts: &[u8],
+    sheet: Sheet<'_>,
     s0: Spot,
     heads0: usize,
     slots: &mut [u8],
@@ -237,21 +241,21 @@ pub fn walk(
     out: &mut [u8],
     w: usize,
 ) -> Result<usize, Refusal>
-    requires { Bound (length work.old.calls) (length slots.old) s0 × (w ≤ length out.old) × (later_cells * q0 ≤ length work.old.later) × Remembers cells.now counts.now work.old.remembered }
+    requires { Bound (length work.old.calls) (length slots.old) s0 × (w ≤ length out.old) × (later_cells * q0 ≤ length work.old.later) × Remembers sheet.cells.now sheet.counts.now work.old.remembered }
     ensures w_le_w { IfOk result (λ v. (w ≤ v) × (v ≤ length out.old)) × (take (later_cells * q0) work.new.later ≡ take (later_cells * q0) work.old.later) }
-    ensures written_by { WrittenBy cells.now starts.now counts.now firsts.now (start s0 (arrays slots.old work.old.vars work.old.conds work.old.calls) w out.old heads0 q0 (length work.old.later)) result (arrays slots.new work.new.vars work.new.conds work.new.calls) out.new }
-    ensures remembers { Remembers cells.now counts.now work.new.remembered }
+    ensures written_by { WrittenBy sheet.entry.cells.now sheet.entry.starts.now sheet.entry.counts.now sheet.entry.firsts.now (start s0 (arrays slots.old work.old.vars work.old.conds work.old.calls) w out.old heads0 q0 (length work.old.later)) result (arrays slots.new work.new.vars work.new.conds work.new.calls) out.new }
+    ensures remembers { Remembers sheet.entry.cells.now sheet.entry.counts.now work.new.remembered }
 {
     let mut s = s0;
     let mut heads = heads0;
     let mut left = heads0;
     let mut q = q0;
     let mut v = w;
-    while s.at < cells.len() {
-        let g = look(cells, counts, s, heads, &mut work.remembered);
+    while s.at < sheet.cells.len() {
+        let g = look(sheet.cells, sheet.counts, s, heads, &mut work.remembered);
         if inner(g.d.kind) {
             let Some(t) = contexts::step(
-                cells,
+                sheet.cells,
                 g.d,
                 g.s,
                 second_side(g),
@@ -265,15 +269,20 @@ pub fn walk(
             s = t;
         } else {
             let turn = next_turn(
-                cells, starts, counts, firsts, g, heads, left, &*slots, &mut *work, q0, q,
-                &mut *out, v,
+                sheet, g, heads, left, &*slots, &mut *work, q0, q, &mut *out, v,
             )?;
             let k = match turn {
                 Next::Over(end) => return Ok(end),
                 Next::Into(k) => k,
             };
-            let Some(side) = contexts::down_side(cells, k.d, k.t, k.e, &*slots, &mut work.conds)
-            else {
+            let Some(side) = contexts::down_side(
+                sheet.cells,
+                k.d,
+                k.t,
+                k.e,
+                &*slots,
+                &mut work.conds,
+            ) else {
                 return Err(Refusal::NotWithin);
             };
             s = side;

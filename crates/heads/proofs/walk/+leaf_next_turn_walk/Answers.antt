@@ -90,7 +90,7 @@ leaf-returns-then-g-eq-ATOM t c =
     let em = c.emit.ensures in
     record {
       w_le_w = (em.w_le_w, refl);
-      written_by = λ H F hs rd sp ro. em.emits a.starts.now a.counts.now a.firsts.now H F hs rd sp;
+      written_by = λ H F hs rd sp ro. em.emits a.sheet.starts.now a.sheet.counts.now a.sheet.firsts.now H F hs rd sp;
       remembers = c.requires.looked.2;
     }
 
@@ -106,7 +106,7 @@ leaf-returns-in_default t c =
     let is = is_call a.g.d.kind c.requires.looked.1 c.if-g-eq-ATOM.false in
     record {
       w_le_w = (tt, refl);
-      written_by = call_fails a.cells.now a.starts.now a.counts.now a.firsts.now a.g.s a.g.d c.requires.looked.0.views is a.slots.now a.work.now.vars a.work.now.conds a.work.now.calls c.down_call.new.mine a.w a.out.now a.heads a.q (length a.work.now.later) c.in_default.ensures.call_down NotWithin;
+      written_by = call_fails a.sheet.cells.now a.sheet.starts.now a.sheet.counts.now a.sheet.firsts.now a.g.s a.g.d c.requires.looked.0.views is a.slots.now a.work.now.vars a.work.now.conds a.work.now.calls c.down_call.new.mine a.w a.out.now a.heads a.q (length a.work.now.later) c.in_default.ensures.call_down NotWithin;
       remembers = c.requires.looked.2;
     }
 
@@ -124,7 +124,7 @@ leaf-returns t c =
     let wk = c.walk.ensures in
     record {
       w_le_w = wk.w_le_w;
-      written_by = call_out a.cells.now a.starts.now a.counts.now a.firsts.now a.g.s a.g.d c.requires.looked.0.views is a.slots.now a.work.now.vars a.work.now.conds a.work.now.calls c.down_call.new.mine a.w a.out.now a.heads a.q (length a.work.now.later) c.in-Some.r c.in-Some.ensures.call_down c.walk.result c.walk.new.slots c.walk.new.work.vars c.walk.new.work.conds c.walk.new.work.calls c.walk.new.out wk.written_by;
+      written_by = call_out a.sheet.cells.now a.sheet.starts.now a.sheet.counts.now a.sheet.firsts.now a.g.s a.g.d c.requires.looked.0.views is a.slots.now a.work.now.vars a.work.now.conds a.work.now.calls c.down_call.new.mine a.w a.out.now a.heads a.q (length a.work.now.later) c.in-Some.r c.in-Some.ensures.call_down c.walk.result c.walk.new.slots c.walk.new.work.vars c.walk.new.work.conds c.walk.new.work.calls c.walk.new.out wk.written_by;
       remembers = wk.remembers;
     }
 
@@ -145,11 +145,11 @@ next_turn-returns-then-choice t c =
     let o = a.out.now in
     let B = arrays a.slots.now a.work.now.vars a.work.now.conds a.work.now.calls in
     let ch = c.chosen.ensures in
-    let z = ch.1 a.cells.now a.counts.now c.requires.looked.0 (c.choice.ensures.0 c.if-choice.true) in
+    let z = ch.1 a.sheet.cells.now a.sheet.counts.now c.requires.looked.0 (c.choice.ensures.0 c.if-choice.true) in
     record {
       w_le_w = (IfOk-weaker c.chosen.result _ _ (λ n e. (up_to {a = a.w} itself e, under fits e)) ch.0.0, kept_front (later_cells * a.q0) (later_cells * a.q) l c.chosen.new.later (front y.low) ch.0.1);
       stays_steady = into_both c.chosen.result _ _ (z.1 lk ls a.g.s.fuel a.q0 (no-more a.work.now.sized.calls_long) y) z.0;
-      turned = λ S eq on. z.2 a.starts.now a.firsts.now B o S on;
+      turned = λ S eq on. z.2 a.sheet.starts.now a.sheet.firsts.now B o S on;
       remembers = c.requires.looked.2;
     }
 
@@ -178,7 +178,7 @@ next_turn-returns-in_err-v t c =
     rw (p.1, p.2) record {
       w_le_w = (tt, kept_front (later_cells * a.q0) (later_cells * a.q) l l' (front y.low) lf.w_le_w.1);
       stays_steady = tt;
-      turned = λ S eq on. resume_fails a.cells.now a.starts.now a.counts.now a.firsts.now S a.g.s a.heads a.left a.q a.w B C l' o o' (length l) el (goes_later a.cells.now a.starts.now a.counts.now a.firsts.now S a.g.s a.heads a.left a.q a.w B l o on l' y.high el lf.w_le_w.1) _ lf.written_by;
+      turned = λ S eq on. resume_fails a.sheet.cells.now a.sheet.starts.now a.sheet.counts.now a.sheet.firsts.now S a.g.s a.heads a.left a.q a.w B C l' o o' (length l) el (goes_later a.sheet.cells.now a.sheet.starts.now a.sheet.counts.now a.sheet.firsts.now S a.g.s a.heads a.left a.q a.w B l o on l' y.high el lf.w_le_w.1) _ lf.written_by;
       remembers = lf.remembers;
     }
 
@@ -202,12 +202,12 @@ next_turn-returns t c =
     record {
       w_le_w = (IfOk-weaker c.resumed.result _ _ (λ n e. (up_to lf.w_le_w.0.0 e, under lf.w_le_w.0.1 e)) rs.w_value, kept_front (later_cells * a.q0) (later_cells * a.q) l l' (front y.low) lf.w_le_w.1);
       stays_steady = rs.resumed.0 lk ls a.g.s.fuel (steady_later lk ls a.g.s.fuel a.q0 a.g.s a.q l y l' el lf.w_le_w.1);
-      turned = λ S eq on. rs.resumed.1 a.starts.now a.counts.now a.firsts.now C o' S eq (record {
+      turned = λ S eq on. rs.resumed.1 a.sheet.starts.now a.sheet.counts.now a.sheet.firsts.now C o' S eq (record {
         before = B;
         v = a.w;
         o = o;
-        onward = goes_later a.cells.now a.starts.now a.counts.now a.firsts.now S a.g.s a.heads a.left a.q a.w B l o on l' y.high el lf.w_le_w.1;
-        written = subst (λ (n : ℕ). WrittenBy a.cells.now a.starts.now a.counts.now a.firsts.now (start a.g.s B a.w o a.heads a.q n) (Ok v) C o') (sym el) lf.written_by;
+        onward = goes_later a.sheet.cells.now a.sheet.starts.now a.sheet.counts.now a.sheet.firsts.now S a.g.s a.heads a.left a.q a.w B l o on l' y.high el lf.w_le_w.1;
+        written = subst (λ (n : ℕ). WrittenBy a.sheet.cells.now a.sheet.starts.now a.sheet.counts.now a.sheet.firsts.now (start a.g.s B a.w o a.heads a.q n) (Ok v) C o') (sym el) lf.written_by;
         inside = up_to lf.w_le_w.0.1 eo;
         same = eo;
       });
@@ -222,7 +222,7 @@ walk-loop-s-init t c =
       (refl, refl),
       (itself, pre.1, refl),
       steady_start (length a.work.now.calls) (length a.slots.now) a.s0.fuel a.q0 a.s0 a.q0 a.work.now.later pre.0 refl pre.2,
-      goes_start a.cells.now a.starts.now a.counts.now a.firsts.now a.s0 B₀ a.w a.out.now a.heads0 a.q0 a.work.now.later pre.1,
+      goes_start a.sheet.cells.now a.sheet.starts.now a.sheet.counts.now a.sheet.firsts.now a.s0 B₀ a.w a.out.now a.heads0 a.q0 a.work.now.later pre.1,
       pre.3,
     )
 
@@ -249,7 +249,7 @@ walk-step-requires t c =
     let ys = steady_to lk ls a.s0.fuel a.q0 here.s here.q here.work.later y g.s (past.stays lk ls y.bound) past.fuel_same in
     record {
       place = (lo.inside, lo.on, lo.views, ys.bound);
-      rooms = (all-of here.work.sized.vars_long, all-of here.work.sized.after_long, c.second_side.ensures.1, rest_at a.cells.now a.counts.now g c.second_side.result lo c.second_side.ensures);
+      rooms = (all-of here.work.sized.vars_long, all-of here.work.sized.after_long, c.second_side.ensures.1, rest_at a.sheet.cells.now a.sheet.counts.now g c.second_side.result lo c.second_side.ensures);
     }
 
 pub walk-loop-s-smaller-then-inner : goal.walk-loop-s-smaller-then-inner
@@ -259,7 +259,7 @@ walk-loop-s-smaller-then-inner t c =
     let past = c.look-g.ensures.past in
     let s' = c.in-Some.t in
     let sp = c.in-Some.ensures in
-    weigh_less (length a.cells.now) here.left here.left here.s.at s'.at c.loop-s-test.true (inr (refl, on-from past.further sp.fuel_value.1))
+    weigh_less (length a.sheet.cells.now) here.left here.left here.s.at s'.at c.loop-s-test.true (inr (refl, on-from past.further sp.fuel_value.1))
 
 pub walk-loop-s-preserved-then-inner : goal.walk-loop-s-preserved-then-inner
 walk-loop-s-preserved-then-inner t c =
@@ -284,7 +284,7 @@ walk-loop-s-preserved-then-inner t c =
       (es ∙ i.0.0, i.0.1),
       (i.1.0, i.1.1, i.1.2),
       steady_lengths lk (length new.calls) ls (length new.slots) a.s0.fuel a.q0 s' here.q here.work.later (sym ec) (sym es) (steady_to lk ls a.s0.fuel a.q0 g.s here.q here.work.later ys s' sp.bound sp.fuel_value.0),
-      goes_step a.cells.now a.starts.now a.counts.now a.firsts.now S g.s here.heads here.left here.q here.v B here.work.later here.out (goes_past a.cells.now a.starts.now a.counts.now a.firsts.now S here.s here.heads here.left here.q here.v B here.work.later here.out i.3 g.s past) s' (arrays new.slots new.vars here.work.conds new.calls) (sp.step_down here.work.conds a.starts.now a.counts.now a.firsts.now n.0 n.1 n.2 n.3) sp.fuel_value.0,
+      goes_step a.sheet.cells.now a.sheet.starts.now a.sheet.counts.now a.sheet.firsts.now S g.s here.heads here.left here.q here.v B here.work.later here.out (goes_past a.sheet.cells.now a.sheet.starts.now a.sheet.counts.now a.sheet.firsts.now S here.s here.heads here.left here.q here.v B here.work.later here.out i.3 g.s past) s' (arrays new.slots new.vars here.work.conds new.calls) (sp.step_down here.work.conds a.sheet.starts.now a.sheet.counts.now a.sheet.firsts.now n.0 n.1 n.2 n.3) sp.fuel_value.0,
       c.look-g.ensures.remembers,
     )
 
@@ -321,7 +321,7 @@ walk-returns-in_default t c =
     let n = c.inner.ensures.0 c.if-inner.true in
     record {
       w_le_w = (tt, i.1.2);
-      written_by = goes_nowhere a.cells.now a.starts.now a.counts.now a.firsts.now S g.s here.heads here.left here.q here.v B here.work.later here.out (goes_past a.cells.now a.starts.now a.counts.now a.firsts.now S here.s here.heads here.left here.q here.v B here.work.later here.out i.3 g.s past) (arrays new.slots new.vars here.work.conds new.calls) (c.in_default.ensures.step_down here.work.conds a.starts.now a.counts.now a.firsts.now n.0 n.1 n.2 n.3) NotWithin;
+      written_by = goes_nowhere a.sheet.cells.now a.sheet.starts.now a.sheet.counts.now a.sheet.firsts.now S g.s here.heads here.left here.q here.v B here.work.later here.out (goes_past a.sheet.cells.now a.sheet.starts.now a.sheet.counts.now a.sheet.firsts.now S here.s here.heads here.left here.q here.v B here.work.later here.out i.3 g.s past) (arrays new.slots new.vars here.work.conds new.calls) (c.in_default.ensures.step_down here.work.conds a.sheet.starts.now a.sheet.counts.now a.sheet.firsts.now n.0 n.1 n.2 n.3) NotWithin;
       remembers = c.look-g.ensures.remembers;
     }
 
@@ -339,7 +339,7 @@ walk-returns-in_err-turn t c =
     let p = err_from_is_err_and c.from_residual.result c.from_residual.ensures.1 in
     rw (p.1, p.2) record {
       w_le_w = (tt, nt.w_le_w.1 ∙ i.1.2);
-      written_by = nt.turned S refl (goes_past a.cells.now a.starts.now a.counts.now a.firsts.now S here.s here.heads here.left here.q here.v B here.work.later here.out i.3 g.s past);
+      written_by = nt.turned S refl (goes_past a.sheet.cells.now a.sheet.starts.now a.sheet.counts.now a.sheet.firsts.now S here.s here.heads here.left here.q here.v B here.work.later here.out i.3 g.s past);
       remembers = nt.remembers;
     }
 
@@ -356,7 +356,7 @@ walk-returns-in-Over t c =
     let nt = rw c.in-Over.is at c.in_ok-turn.ensures in
     record {
       w_le_w = ((then i.1.0 nt.w_le_w.0.0, over nt.w_le_w.0.1 i.0.1), nt.w_le_w.1 ∙ i.1.2);
-      written_by = nt.turned S refl (goes_past a.cells.now a.starts.now a.counts.now a.firsts.now S here.s here.heads here.left here.q here.v B here.work.later here.out i.3 g.s past);
+      written_by = nt.turned S refl (goes_past a.sheet.cells.now a.sheet.starts.now a.sheet.counts.now a.sheet.firsts.now S here.s here.heads here.left here.q here.v B here.work.later here.out i.3 g.s past);
       remembers = nt.remembers;
     }
 
@@ -380,7 +380,7 @@ walk-loop-s-smaller t c =
     let s' = c.in-Some-down_side.side in
     let sd = c.in-Some-down_side.ensures in
     let near = nt.stays_steady.1 in
-    weigh_less (length a.cells.now) here.left k.left here.s.at s'.at c.loop-s-test.true (nearer here.left k.left here.s.at g.s.at k.e.at s'.at past.further sd.fuel_value.1 near.1)
+    weigh_less (length a.sheet.cells.now) here.left k.left here.s.at s'.at c.loop-s-test.true (nearer here.left k.left here.s.at g.s.at k.e.at s'.at past.further sd.fuel_value.1 near.1)
 
 pub walk-loop-s-preserved : goal.walk-loop-s-preserved
 walk-loop-s-preserved t c =
@@ -407,7 +407,7 @@ walk-loop-s-preserved t c =
       (i.0.0, kept.out ∙ i.0.1),
       (then i.1.0 nt.w_le_w.0.0, over nt.w_le_w.0.1 i.0.1, nt.w_le_w.1 ∙ i.1.2),
       steady_back (length new.work.calls) ls a.s0.fuel g.s.fuel a.q0 s' k.q new.work.later ys.fuel_is (steady_lengths lk (length new.work.calls) ls ls g.s.fuel a.q0 s' k.q new.work.later (sym ec) refl (steady_to lk ls g.s.fuel a.q0 k.t k.q new.work.later z.0 s' (sd.stays z.1.0 lk ls z.0.bound) sd.fuel_value.0)),
-      toward_down a.cells.now a.starts.now a.counts.now a.firsts.now S k here.slots new.work.vars new.work.conds new.work.calls new.work.later new.out (nt.turned S refl (goes_past a.cells.now a.starts.now a.counts.now a.firsts.now S here.s here.heads here.left here.q here.v B here.work.later here.out i.3 g.s past)) c.down_side.new.conds s' sd.side_down sd.fuel_value.0,
+      toward_down a.sheet.cells.now a.sheet.starts.now a.sheet.counts.now a.sheet.firsts.now S k here.slots new.work.vars new.work.conds new.work.calls new.work.later new.out (nt.turned S refl (goes_past a.sheet.cells.now a.sheet.starts.now a.sheet.counts.now a.sheet.firsts.now S here.s here.heads here.left here.q here.v B here.work.later here.out i.3 g.s past)) c.down_side.new.conds s' sd.side_down sd.fuel_value.0,
       nt.remembers,
     )
 
@@ -426,7 +426,7 @@ walk-returns-in_default-down_side t c =
     let new = c.next_turn.new in
     record {
       w_le_w = (tt, nt.w_le_w.1 ∙ i.1.2);
-      written_by = toward_nowhere a.cells.now a.starts.now a.counts.now a.firsts.now S k here.slots new.work.vars new.work.conds new.work.calls new.work.later new.out (nt.turned S refl (goes_past a.cells.now a.starts.now a.counts.now a.firsts.now S here.s here.heads here.left here.q here.v B here.work.later here.out i.3 g.s past)) c.down_side.new.conds c.in_default-down_side.ensures.side_down NotWithin;
+      written_by = toward_nowhere a.sheet.cells.now a.sheet.starts.now a.sheet.counts.now a.sheet.firsts.now S k here.slots new.work.vars new.work.conds new.work.calls new.work.later new.out (nt.turned S refl (goes_past a.sheet.cells.now a.sheet.starts.now a.sheet.counts.now a.sheet.firsts.now S here.s here.heads here.left here.q here.v B here.work.later here.out i.3 g.s past)) c.down_side.new.conds c.in_default-down_side.ensures.side_down NotWithin;
       remembers = nt.remembers;
     }
 
@@ -439,6 +439,6 @@ walk-returns t c =
     let B = arrays here.slots here.work.vars here.work.conds here.work.calls in
     record {
       w_le_w = (tt, i.1.2);
-      written_by = goes_stuck a.cells.now a.starts.now a.counts.now a.firsts.now S here.s here.heads here.left here.q here.v B here.work.later here.out i.3 c.loop-s-test.false (Err NotWithin) B here.out;
+      written_by = goes_stuck a.sheet.cells.now a.sheet.starts.now a.sheet.counts.now a.sheet.firsts.now S here.s here.heads here.left here.q here.v B here.work.later here.out i.3 c.loop-s-test.false (Err NotWithin) B here.out;
       remembers = i.4;
     }

@@ -23,8 +23,8 @@ invariant-walk-loop-s l =
     ((length l.slots ≡ length l.initial.slots) × (length l.out ≡ length l.initial.out))
     × ((l.w ≤ l.v) × (l.v ≤ length l.initial.out) × (take (later_cells * l.q0) l.work.later ≡ take (later_cells * l.q0) l.initial.work.later))
     × Steady (length l.work.calls) (length l.slots) l.initial.s.fuel l.q0 l.s l.q l.work.later
-    × (Onward l.cells l.starts l.counts l.firsts (start l.initial.s (arrays l.initial.slots l.initial.work.vars l.initial.work.conds l.initial.work.calls) l.w l.initial.out l.heads0 l.q0 (length l.initial.work.later)) l.s l.heads l.left l.q l.v (arrays l.slots l.work.vars l.work.conds l.work.calls) l.work.later l.out)
-    × Remembers l.cells l.counts l.work.remembered
+    × (Onward l.sheet.cells.now l.sheet.starts.now l.sheet.counts.now l.sheet.firsts.now (start l.initial.s (arrays l.initial.slots l.initial.work.vars l.initial.work.conds l.initial.work.calls) l.w l.initial.out l.heads0 l.q0 (length l.initial.work.later)) l.s l.heads l.left l.q l.v (arrays l.slots l.work.vars l.work.conds l.work.calls) l.work.later l.out)
+    × Remembers l.sheet.cells.now l.sheet.counts.now l.work.remembered
 
 abbrev pub decreases-walk-loop-s : goal.decreases-walk-loop-s
-decreases-walk-loop-s l = weigh (length l.cells) l.left l.s.at
+decreases-walk-loop-s l = weigh (length l.sheet.cells.now) l.left l.s.at
