@@ -1,11 +1,10 @@
 -- Questions 12 to 14 from their parts, and what each answer says.
-use mathlib.Core.Path.{◌≡◌, refl, sym, ap, ◌∙◌, subst}
+use mathlib.Core.Path.{◌≡◌, refl, sym, ap, subst}
 use mathlib.Core.List.{List}
-use mathlib.Core.Bool.{true, false}
 use mathlib.Core.Option.{Option, none, some}
 use Prim.Native.Nat.{ℕ, ◌≤◌}
 use native.Mathlib.Omega.{arith}
-use Rattle.std.specs.Prelude.{Ok, Err}
+use Rattle.std.specs.Prelude.{Ok, Err, Some, None}
 use lib.ListN.{length, take}
 use Rattle.pcrl.specs.Result as R
 use Rattle.pcrl.specs.Result.{refused, accepted, question, question_of, after}
@@ -13,9 +12,8 @@ use Rattle.pcrl.specs.Table.{Table}
 use Rattle.pcrl.specs.Right.{RightTable}
 use Rattle.pcrl.specs.Blocks.{right_length?, right_blocks?, stream_of, table_read}
 use Rattle.pcrl.specs.Answers.{stream_read, table_checked}
-use Rattle.tables.specs.declared.Tabled.{Tabled}
 use Rattle.tables.specs.Indexed.{Indexed, TableRead}
-use Rattle.tables.proofs.Known.{read_right}
+use Rattle.tables.proofs.Known.{read_right, table_none, table_some}
 use Rattle.refusals.specs.declared.Refusal.{Refusal}
 use Rattle.refusals.specs.declared.Refusal.TheVariants.{NoTable}
 use Rattle.refusals.specs.Numbers.{number_of}
@@ -45,32 +43,23 @@ table_number f n e = go (stream_read f) refl e
     go (refused m) q e = let z : m ≡ n = cc in let h = stream_number f m q in omega arith
     go (accepted s) q e = go_table (table_read s) e
 
-clash : true ≡ false → ⊥
-clash e = let z : ◌≡◌ {A = ℕ} 0 1 = cc in omega arith
-
 module _ (f : List ℕ) (out : List ℕ) where
   -- refused by 12 or 13
   pub no_stream : (e : Refusal) → stream_read f ≡ refused (number_of e) → Loads (table_checked f) out (Err e)
   unfolding table_checked after Answered
   no_stream e h = rw h refl
 
-  module _ (s : List ℕ) (t : Tabled) (stream : stream_read f ≡ accepted s) (read : TableRead (table_read s) s t) where
+  module _ (s : List ℕ) (stream : stream_read f ≡ accepted s) where
     -- refused by 14
-    pub no_table : t.ok ≡ false → Loads (table_checked f) out (Err NoTable)
-    unfolding table_checked after question_of TableRead Answered
-    no_table e = rw stream (go (table_read s) read)
-      where
-        go : (o : Option Table) → TableRead o s t → Loads (question_of 14 o (λ T. accepted T)) out (Err NoTable)
-        go none k = refl
-        go (some T) k = absurd (clash (sym k.0 ∙ e))
+    pub no_table : TableRead (table_read s) s None → Loads (table_checked f) out (Err NoTable)
+    unfolding table_checked after question_of Answered
+    no_table read = rw (stream, table_none (table_read s) s read) refl
 
-    pub loaded : (l : Loaded) → t.ok ≡ true → l.count ≤ length out → s ≡ take l.count out → l.index ≡ t.index → Loads (table_checked f) out (Ok l)
-    unfolding table_checked after question_of TableRead Answered
-    loaded l e b is x = rw stream (go (table_read s) refl read)
-      where
-        go : (o : Option Table) → table_read s ≡ o → TableRead o s t → Loads (question_of 14 o (λ T. accepted T)) out (Ok l)
-        go none q k = absurd (clash (sym e ∙ k))
-        go (some T) q k = (b, (read_right s T q, subst (λ (m : List ℕ). Indexed T m l.index) is (subst (Indexed T s) (sym x) k.1)))
+    pub loaded : (l : Loaded) → TableRead (table_read s) s (Some l.index) → l.count ≤ length out → s ≡ take l.count out → Loads (table_checked f) out (Ok l)
+    unfolding table_checked after question_of Answered
+    loaded l read b is =
+        let (T, there, x) = table_some (table_read s) s l.index read in
+        rw (stream, there) (b, (read_right s T there, subst (λ (m : List ℕ). Indexed T m l.index) is x))
 
 -- what a load says
 pub load_refused : (x : R.Result Table) (s : List ℕ) (e : Refusal) → Loads x s (Err e) → x ≡ refused (number_of e)

@@ -39,13 +39,12 @@ pub fn load(file: &[u8], stream: &mut [u8]) -> Result<Loaded, Refusal>
     ensures { Loads (table_checked file.now) stream.new result }
 {
     let count = blocks::read_file(file, stream)?;
-    let table = tables::read_table(&stream[0..count]);
-    if !table.ok {
+    let Some(index) = tables::read_table(&stream[0..count]) else {
         return Err(Refusal::NoTable);
-    }
+    };
     Ok(Loaded {
         count: count,
-        index: table.index,
+        index: index,
     })
 }
 

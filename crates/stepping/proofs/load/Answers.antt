@@ -3,7 +3,6 @@ use native.Mathlib.Omega.{arith}
 use mathlib.Core.Path.{◌≡◌, refl}
 use Prim.Native.Nat.{◌-◌}
 use lib.ListN.{take, length-take}
-use borrow.Author.Tests.{not-true, not-false}
 use Rattle.std.proofs.lemmas.Result.{err_from_is_err_and}
 use Rattle.blocks.proofs.RoundTrip.{opens_accepted, opens_refused}
 use Rattle.stepping.proofs.Loading.{no_stream, no_table, loaded}
@@ -17,19 +16,17 @@ returns-in_err-count c =
 pub slice_bounds-read_table-end : goal.slice_bounds-read_table-end
 slice_bounds-read_table-end c = (opens_accepted _ _ c.read_file.new.out c.in_ok-count.ensures).2
 
-pub read_table-table-requires : goal.read_table-table-requires
-read_table-table-requires c = rw (length-take (c.in_ok-count.count - 0) c.read_file.new.out) (omega (arith, c.read_file.auto.out, c.requires.1))
+pub read_table-requires : goal.read_table-requires
+read_table-requires c = rw (length-take (c.in_ok-count.count - 0) c.read_file.new.out) (omega (arith, c.read_file.auto.out, c.requires.1))
 
-pub returns-then-not-table : goal.returns-then-not-table
-returns-then-not-table c =
+pub returns-in_default : goal.returns-in_default
+returns-in_default c =
     let opened = opens_accepted _ _ c.read_file.new.out c.in_ok-count.ensures in
     let whole : c.in_ok-count.count - 0 ≡ c.in_ok-count.count = omega arith in
-    let table = c.read_table-table in
-    no_table _ _ (take c.in_ok-count.count c.read_file.new.out) table.result opened.0 (rw whole at table.ensures) (not-true _ c.if-not-table.true)
+    no_table _ _ (take c.in_ok-count.count c.read_file.new.out) opened.0 (rw whole at c.in_default.ensures)
 
 pub returns : goal.returns
 returns c =
     let opened = opens_accepted _ _ c.read_file.new.out c.in_ok-count.ensures in
     let whole : c.in_ok-count.count - 0 ≡ c.in_ok-count.count = omega arith in
-    let table = c.read_table-table in
-    loaded _ _ (take c.in_ok-count.count c.read_file.new.out) table.result opened.0 (rw whole at table.ensures) _ (not-false _ c.if-not-table.false) opened.2 refl refl
+    loaded _ _ (take c.in_ok-count.count c.read_file.new.out) opened.0 (record { count = c.in_ok-count.count; index = c.in-Some.index }) (rw whole at c.in-Some.ensures) opened.2 refl
