@@ -7,8 +7,8 @@ ghost use Rattle.assignments.specs.Conditions.{env, code, Finds};
 ghost use Rattle.assignments.specs.Parting.{Standing, part_met, Part, Gapped};
 
 use crate::one_part::{find_from, find_in};
-use crate::{Gap, PerSum, PerVariable, block_size, grain};
-use limits::{MAX_CONDITIONS, VARIABLES};
+use crate::{Conditions, Gap, PerSum, PerVariable, block_size, grain};
+use limits::VARIABLES;
 
 // Assignments of a variable before a gap, one in it and one behind it, at the fewest: two values each.
 const FEWEST: usize = 8;
@@ -25,19 +25,13 @@ pub fn term_low(s: &[u8], from: usize, end: usize, p: usize) -> usize
 }
 
 // The lowest variable from p on that any of the conditions names.
-fn lowest(
-    s: &[u8],
-    froms: &[usize; MAX_CONDITIONS],
-    ends: &[usize; MAX_CONDITIONS],
-    n: usize,
-    p: usize,
-) -> usize
-    requires { n ≤ max_conditions }
-    ensures { ((i : ℕ) → i < n → Standing s.now froms.now ends.now i) → (i : ℕ) → i < n → result ≤ foot p (code s.now (get_or froms.now i 0) (get_or ends.now i 0)) }
+fn lowest(s: &[u8], c: &Conditions, p: usize) -> usize
+    requires { c.now.count ≤ max_conditions }
+    ensures { ((i : ℕ) → i < c.now.count → Standing s.now c.now.froms c.now.ends i) → (i : ℕ) → i < c.now.count → result ≤ foot p (code s.now (get_or c.now.froms i 0) (get_or c.now.ends i 0)) }
 {
     let mut low: usize = VARIABLES;
-    for i in 0..n {
-        low = low.min(term_low(s, froms[i], ends[i], p));
+    for i in 0..c.count {
+        low = low.min(term_low(s, c.froms[i], c.ends[i], p));
     }
     low
 }
@@ -47,20 +41,18 @@ fn gap_at(
     s: &[u8],
     p: usize,
     z: PerSum,
-    froms: &[usize; MAX_CONDITIONS],
-    ends: &[usize; MAX_CONDITIONS],
-    n: usize,
+    c: &Conditions,
     g: usize,
     round: usize,
     h: usize,
 ) -> Option<Gap>
-    requires { (p ≤ frame_width) × ((n ≤ max_conditions) × (Sizes z.at × (h < max_variables))) }
-    ensures { IfSome result (λ t. ((0 < t.behind) × ((t.behind ≤ t.before) × (t.before ≤ 65536))) × ((blocks : List ℕ) → ((i : ℕ) → i < n → Standing s.now froms.now ends.now i) → Gapped s.now p z.at froms.now ends.now blocks n round t.before t.behind)) }
+    requires { (p ≤ frame_width) × ((c.now.count ≤ max_conditions) × (Sizes z.at × (h < max_variables))) }
+    ensures { IfSome result (λ t. ((0 < t.behind) × ((t.behind ≤ t.before) × (t.before ≤ 65536))) × ((blocks : List ℕ) → ((i : ℕ) → i < c.now.count → Standing s.now c.now.froms c.now.ends i) → Gapped s.now p z.at c.now.froms c.now.ends blocks c.now.count round t.before t.behind)) }
 {
     let w = block_size(z, h);
     if w < round {
         if g < block_size(z, h + 1) {
-            let b = grain(z, lowest(s, froms, ends, n, p + h), p);
+            let b = grain(z, lowest(s, c, p + h), p);
             if b < w {
                 return Some(Gap {
                     before: w,
@@ -73,27 +65,18 @@ fn gap_at(
 }
 
 // The gap, if there is one: of four variables it is the second, the third, or both.
-pub fn gap_of(
-    s: &[u8],
-    p: usize,
-    z: PerSum,
-    froms: &[usize; MAX_CONDITIONS],
-    ends: &[usize; MAX_CONDITIONS],
-    n: usize,
-    g: usize,
-    round: usize,
-) -> Option<Gap>
-    requires { (p ≤ frame_width) × ((n ≤ max_conditions) × Sizes z.at) }
-    ensures { IfSome result (λ t. ((0 < t.behind) × ((t.behind ≤ t.before) × (t.before ≤ 65536))) × ((blocks : List ℕ) → ((i : ℕ) → i < n → Standing s.now froms.now ends.now i) → Gapped s.now p z.at froms.now ends.now blocks n round t.before t.behind)) }
+pub fn gap_of(s: &[u8], p: usize, z: PerSum, c: &Conditions, g: usize, round: usize) -> Option<Gap>
+    requires { (p ≤ frame_width) × ((c.now.count ≤ max_conditions) × Sizes z.at) }
+    ensures { IfSome result (λ t. ((0 < t.behind) × ((t.behind ≤ t.before) × (t.before ≤ 65536))) × ((blocks : List ℕ) → ((i : ℕ) → i < c.now.count → Standing s.now c.now.froms c.now.ends i) → Gapped s.now p z.at c.now.froms c.now.ends blocks c.now.count round t.before t.behind)) }
 {
     if round < FEWEST {
         return None;
     }
-    let x = gap_at(s, p, z, froms, ends, n, g, round, 1);
+    let x = gap_at(s, p, z, c, g, round, 1);
     if x.is_some() {
         return x;
     }
-    gap_at(s, p, z, froms, ends, n, g, round, 2)
+    gap_at(s, p, z, c, g, round, 2)
 }
 
 // The k-th of the assignments below `total` that meet the conditions asked, where there is a gap:
@@ -104,17 +87,14 @@ fn find_around(
     params: PerVariable,
     p: usize,
     z: PerSum,
-    froms: &[usize; MAX_CONDITIONS],
-    ends: &[usize; MAX_CONDITIONS],
-    blocks: &[u32; MAX_CONDITIONS],
-    n: usize,
+    c: &Conditions,
     g: usize,
     t: Gap,
     total: usize,
     k: u64,
 ) -> Result<usize, u64>
-    requires { (p ≤ frame_width) × (((i : ℕ) → p ≤ i → get_or params.at i 0 ≡ 0) × ((n ≤ max_conditions) × (Sizes z.at × ((total ≤ 65536) × ((0 < g) × ((g ≤ 65536) × ((0 < t.behind) × ((t.behind ≤ t.before) × (t.before ≤ 65536))))))))) }
-    ensures { IfOk result (λ at. at ≤ 196608) × (IfErr result (λ left. left ≤ k) × ((l m : ℕ) → g ≡ product (drop l z.at) → total ≡ product (drop m z.at) → ((i : ℕ) → i < n → Part s.now p z.at froms.now ends.now blocks.now g i) → Gapped s.now p z.at froms.now ends.now blocks.now n total t.before t.behind → Finds (places (λ j. part_met s.now funcs.now froms.now ends.now blocks.now n (env p params.at (digits_of z.at j))) total 0) k result)) }
+    requires { (p ≤ frame_width) × (((i : ℕ) → p ≤ i → get_or params.at i 0 ≡ 0) × ((c.now.count ≤ max_conditions) × (Sizes z.at × ((total ≤ 65536) × ((0 < g) × ((g ≤ 65536) × ((0 < t.behind) × ((t.behind ≤ t.before) × (t.before ≤ 65536))))))))) }
+    ensures { IfOk result (λ at. at ≤ 196608) × (IfErr result (λ left. left ≤ k) × ((l m : ℕ) → g ≡ product (drop l z.at) → total ≡ product (drop m z.at) → ((i : ℕ) → i < c.now.count → Part s.now p z.at c.now.froms c.now.ends c.now.blocks g i) → Gapped s.now p z.at c.now.froms c.now.ends c.now.blocks c.now.count total t.before t.behind → Finds (places (λ j. part_met s.now funcs.now c.now.froms c.now.ends c.now.blocks c.now.count (env p params.at (digits_of z.at j))) total 0) k result)) }
 {
     let w = t.before;
     let b = t.behind;
@@ -123,16 +103,14 @@ fn find_around(
     let mut left = k;
     while j < total {
         let to = j + b;
-        let rest = match find_from(
-            s, funcs, params, p, z, froms, ends, blocks, n, g, j, to, left,
-        ) {
+        let rest = match find_from(s, funcs, params, p, z, c, g, j, to, left) {
             Ok(at) => return Ok(at),
             Err(rest) => rest,
         };
         let m = left - rest;
         if left / rounds < m {
             let i = left % m;
-            let at = find_from(s, funcs, params, p, z, froms, ends, blocks, n, g, j, to, i)?;
+            let at = find_from(s, funcs, params, p, z, c, g, j, to, i)?;
             return Ok((left / m) as usize * b + at);
         }
         left -= m * rounds;
@@ -148,22 +126,17 @@ pub fn find_once(
     params: PerVariable,
     p: usize,
     z: PerSum,
-    froms: &[usize; MAX_CONDITIONS],
-    ends: &[usize; MAX_CONDITIONS],
-    blocks: &[u32; MAX_CONDITIONS],
-    n: usize,
+    c: &Conditions,
     g: usize,
     t: Option<Gap>,
     round: usize,
     k: u64,
 ) -> Result<usize, u64>
-    requires { (p ≤ frame_width) × (((i : ℕ) → p ≤ i → get_or params.at i 0 ≡ 0) × ((n ≤ max_conditions) × (Sizes z.at × ((round ≤ 65536) × ((0 < g) × ((g ≤ 65536) × IfSome t (λ t. (0 < t.behind) × ((t.behind ≤ t.before) × (t.before ≤ 65536))))))))) }
-    ensures { IfOk result (λ at. at ≤ 196608) × (IfErr result (λ left. left ≤ k) × ((l m : ℕ) → g ≡ product (drop l z.at) → round ≡ product (drop m z.at) → ((i : ℕ) → i < n → Part s.now p z.at froms.now ends.now blocks.now g i) → IfSome t (λ t. Gapped s.now p z.at froms.now ends.now blocks.now n round t.before t.behind) → Finds (places (λ j. part_met s.now funcs.now froms.now ends.now blocks.now n (env p params.at (digits_of z.at j))) round 0) k result)) }
+    requires { (p ≤ frame_width) × (((i : ℕ) → p ≤ i → get_or params.at i 0 ≡ 0) × ((c.now.count ≤ max_conditions) × (Sizes z.at × ((round ≤ 65536) × ((0 < g) × ((g ≤ 65536) × IfSome t (λ t. (0 < t.behind) × ((t.behind ≤ t.before) × (t.before ≤ 65536))))))))) }
+    ensures { IfOk result (λ at. at ≤ 196608) × (IfErr result (λ left. left ≤ k) × ((l m : ℕ) → g ≡ product (drop l z.at) → round ≡ product (drop m z.at) → ((i : ℕ) → i < c.now.count → Part s.now p z.at c.now.froms c.now.ends c.now.blocks g i) → IfSome t (λ t. Gapped s.now p z.at c.now.froms c.now.ends c.now.blocks c.now.count round t.before t.behind) → Finds (places (λ j. part_met s.now funcs.now c.now.froms c.now.ends c.now.blocks c.now.count (env p params.at (digits_of z.at j))) round 0) k result)) }
 {
     match t {
-        Some(gap) => find_around(
-            s, funcs, params, p, z, froms, ends, blocks, n, g, gap, round, k,
-        ),
-        None => find_in(s, funcs, params, p, z, froms, ends, blocks, n, g, round, k),
+        Some(gap) => find_around(s, funcs, params, p, z, c, g, gap, round, k),
+        None => find_in(s, funcs, params, p, z, c, g, round, k),
     }
 }

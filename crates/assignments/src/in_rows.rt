@@ -8,9 +8,9 @@ ghost use Rattle.assignments.specs.Lanes.{Came};
 
 use crate::one_part::next;
 use crate::strips::by_strips;
-use crate::{PerSum, PerVariable, Reached, block_size};
+use crate::{Conditions, PerSum, PerVariable, Reached, block_size};
 use evaluation::lanes::{LANES, MARK_ROOM, ROW_ROOM};
-use limits::{MAX_CONDITIONS, MAX_VARIABLES};
+use limits::MAX_VARIABLES;
 
 // So many blocks are enough to look for rows, and a row has so many at the fewest.
 const MANY: usize = 16;
@@ -76,17 +76,14 @@ pub fn find_rows(
     params: PerVariable,
     p: usize,
     z: PerSum,
-    froms: &[usize; MAX_CONDITIONS],
-    ends: &[usize; MAX_CONDITIONS],
-    blocks: &[u32; MAX_CONDITIONS],
-    n: usize,
+    c: &Conditions,
     g: usize,
     from: usize,
     to: usize,
     k: u64,
 ) -> Result<usize, Reached>
-    requires { (p ≤ frame_width) × (((i : ℕ) → p ≤ i → get_or params.at i 0 ≡ 0) × ((n ≤ max_conditions) × (Sizes z.at × ((to ≤ 131072) × ((0 < g) × (g ≤ 65536)))))) }
-    ensures { IfOk result (λ at. at ≤ to) × (IfErr result (λ r. from ≤ r.at) × (IfErr result (λ r. r.left ≤ k) × ((l : ℕ) → g ≡ product (drop l z.at) → ((i : ℕ) → i < n → Part s.now p z.at froms.now ends.now blocks.now g i) → Came (λ j. part_met s.now funcs.now froms.now ends.now blocks.now n (env p params.at (digits_of z.at j))) to from k result))) }
+    requires { (p ≤ frame_width) × (((i : ℕ) → p ≤ i → get_or params.at i 0 ≡ 0) × ((c.now.count ≤ max_conditions) × (Sizes z.at × ((to ≤ 131072) × ((0 < g) × (g ≤ 65536)))))) }
+    ensures { IfOk result (λ at. at ≤ to) × (IfErr result (λ r. from ≤ r.at) × (IfErr result (λ r. r.left ≤ k) × ((l : ℕ) → g ≡ product (drop l z.at) → ((i : ℕ) → i < c.now.count → Part s.now p z.at c.now.froms c.now.ends c.now.blocks g i) → Came (λ j. part_met s.now funcs.now c.now.froms c.now.ends c.now.blocks c.now.count (env p params.at (digits_of z.at j))) to from k result))) }
 {
     let here = Reached { at: from, left: k };
     let Some(l) = row_level(z, g) else {
@@ -105,7 +102,7 @@ pub fn find_rows(
     let mut fast = [0u8; LANES];
     let mut met = [0u8; LANES];
     by_strips(
-        s, funcs, params, p, z, froms, ends, blocks, n, g, l, u, w, from, to, k, &mut rows,
-        &mut marks, &mut slow, &mut fast, &mut met,
+        s, funcs, params, p, z, c, g, l, u, w, from, to, k, &mut rows, &mut marks, &mut slow,
+        &mut fast, &mut met,
     )
 }

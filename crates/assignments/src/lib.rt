@@ -180,27 +180,21 @@ pub fn find(
     params: PerVariable,
     p: usize,
     sizes: PerSum,
-    c: Conditions,
+    c: &Conditions,
     k: u64,
 ) -> Result<usize, u64>
-    requires { (p ≤ frame_width) × (((i : ℕ) → p ≤ i → get_or params.at i 0 ≡ 0) × ((c.count ≤ max_conditions) × Sizes sizes.at)) }
-    ensures { ((i : ℕ) → i < c.count → Ready s.now p sizes.at c.froms c.ends c.blocks c.reach c.low i) → Finds (places (λ j. met s.now funcs.now c.froms c.ends c.count (env p params.at (digits_of sizes.at j))) (product sizes.at) 0) k result }
+    requires { (p ≤ frame_width) × (((i : ℕ) → p ≤ i → get_or params.at i 0 ≡ 0) × ((c.now.count ≤ max_conditions) × Sizes sizes.at)) }
+    ensures { ((i : ℕ) → i < c.now.count → Ready s.now p sizes.at c.now.froms c.now.ends c.now.blocks c.now.reach c.now.low i) → Finds (places (λ j. met s.now funcs.now c.now.froms c.now.ends c.now.count (env p params.at (digits_of sizes.at j))) (product sizes.at) 0) k result }
 {
-    let froms = c.froms;
-    let ends = c.ends;
-    let blocks = c.blocks;
-    let n = c.count;
-    if n == 0 {
+    if c.count == 0 {
         return find_any(sizes, k);
     }
     let g = grain(sizes, c.reach, p);
     let round = grain(sizes, c.low, p);
-    if 1 < n {
-        if let Some(t) = split(s, p, sizes, &froms, &ends, &blocks, n, g, c.low) {
-            return find_parted(s, funcs, params, p, sizes, &froms, &ends, n, t, g, round, k);
+    if 1 < c.count {
+        if let Some(t) = split(s, p, sizes, c, g, c.low) {
+            return find_parted(s, funcs, params, p, sizes, c, t, g, round, k);
         }
     }
-    find_rounds(
-        s, funcs, params, p, sizes, &froms, &ends, &blocks, n, g, round, k,
-    )
+    find_rounds(s, funcs, params, p, sizes, c, g, round, k)
 }

@@ -7,8 +7,7 @@ ghost use Rattle.assignments.specs.Conditions.{env, holds, tried_of, Tested, Fin
 ghost use Rattle.assignments.specs.Parting.{Standing, asked, part_met, Part};
 
 use crate::in_rows::{find_rows, first_row};
-use crate::{PerSum, PerVariable, environment, values, wide_block};
-use limits::MAX_CONDITIONS;
+use crate::{Conditions, PerSum, PerVariable, environment, values, wide_block};
 
 // The first number of the next block of d.
 pub fn next(j: usize, d: usize) -> usize
@@ -36,22 +35,13 @@ fn tried(s: &[u8], funcs: &[u16], e: &[u8], from: usize, end: usize, block: u32,
 }
 
 // The block of a condition that fails, the largest of such blocks; `least` if none is larger. A condition with a block no larger than that is not asked.
-pub fn test(
-    s: &[u8],
-    funcs: &[u16],
-    e: &[u8],
-    froms: &[usize; MAX_CONDITIONS],
-    ends: &[usize; MAX_CONDITIONS],
-    blocks: &[u32; MAX_CONDITIONS],
-    n: usize,
-    least: u32,
-) -> u32
-    requires { n ≤ max_conditions }
-    ensures { ((i : ℕ) → i < n → Standing s.now froms.now ends.now i) → Tested (asked s.now funcs.now froms.now ends.now blocks.now e.now) blocks.now least n result }
+pub fn test(s: &[u8], funcs: &[u16], e: &[u8], c: &Conditions, least: u32) -> u32
+    requires { c.now.count ≤ max_conditions }
+    ensures { ((i : ℕ) → i < c.now.count → Standing s.now c.now.froms c.now.ends i) → Tested (asked s.now funcs.now c.now.froms c.now.ends c.now.blocks e.now) c.now.blocks least c.now.count result }
 {
     let mut out = least;
-    for i in 0..n {
-        out = tried(s, funcs, e, froms[i], ends[i], blocks[i], out);
+    for i in 0..c.count {
+        out = tried(s, funcs, e, c.froms[i], c.ends[i], c.blocks[i], out);
     }
     out
 }
@@ -63,26 +53,21 @@ pub fn find_from(
     params: PerVariable,
     p: usize,
     z: PerSum,
-    froms: &[usize; MAX_CONDITIONS],
-    ends: &[usize; MAX_CONDITIONS],
-    blocks: &[u32; MAX_CONDITIONS],
-    n: usize,
+    c: &Conditions,
     g: usize,
     from: usize,
     to: usize,
     k: u64,
 ) -> Result<usize, u64>
-    requires { (p ≤ frame_width) × (((i : ℕ) → p ≤ i → get_or params.at i 0 ≡ 0) × ((n ≤ max_conditions) × (Sizes z.at × ((to ≤ 131072) × ((0 < g) × (g ≤ 65536)))))) }
-    ensures { IfOk result (λ at. at ≤ to) × (IfErr result (λ left. left ≤ k) × ((l : ℕ) → g ≡ product (drop l z.at) → ((i : ℕ) → i < n → Part s.now p z.at froms.now ends.now blocks.now g i) → Finds (places (λ j. part_met s.now funcs.now froms.now ends.now blocks.now n (env p params.at (digits_of z.at j))) (to - from) from) k result)) }
+    requires { (p ≤ frame_width) × (((i : ℕ) → p ≤ i → get_or params.at i 0 ≡ 0) × ((c.now.count ≤ max_conditions) × (Sizes z.at × ((to ≤ 131072) × ((0 < g) × (g ≤ 65536)))))) }
+    ensures { IfOk result (λ at. at ≤ to) × (IfErr result (λ left. left ≤ k) × ((l : ℕ) → g ≡ product (drop l z.at) → ((i : ℕ) → i < c.now.count → Part s.now p z.at c.now.froms c.now.ends c.now.blocks g i) → Finds (places (λ j. part_met s.now funcs.now c.now.froms c.now.ends c.now.blocks c.now.count (env p params.at (digits_of z.at j))) (to - from) from) k result)) }
 {
     let mut j = from;
     let mut left = k;
     let mut start = first_row(z, g, from, to);
     while j < to {
         if start <= j {
-            let r = match find_rows(
-                s, funcs, params, p, z, froms, ends, blocks, n, g, j, to, left,
-            ) {
+            let r = match find_rows(s, funcs, params, p, z, c, g, j, to, left) {
                 Ok(at) => return Ok(at),
                 Err(r) => r,
             };
@@ -93,7 +78,7 @@ pub fn find_from(
         }
         let e = environment(params, p, values(z, j));
         let a = e.at;
-        let d = test(s, funcs, &a, froms, ends, blocks, n, 0);
+        let d = test(s, funcs, &a, c, 0);
         if d == 0 {
             let r = next(j, g).min(to);
             let m = (r - j) as u64;
@@ -116,18 +101,13 @@ pub fn find_in(
     params: PerVariable,
     p: usize,
     z: PerSum,
-    froms: &[usize; MAX_CONDITIONS],
-    ends: &[usize; MAX_CONDITIONS],
-    blocks: &[u32; MAX_CONDITIONS],
-    n: usize,
+    c: &Conditions,
     g: usize,
     total: usize,
     k: u64,
 ) -> Result<usize, u64>
-    requires { (p ≤ frame_width) × (((i : ℕ) → p ≤ i → get_or params.at i 0 ≡ 0) × ((n ≤ max_conditions) × (Sizes z.at × ((total ≤ 65536) × ((0 < g) × (g ≤ 65536)))))) }
-    ensures { IfOk result (λ at. at ≤ 65536) × (IfErr result (λ left. left ≤ k) × ((l : ℕ) → g ≡ product (drop l z.at) → ((i : ℕ) → i < n → Part s.now p z.at froms.now ends.now blocks.now g i) → Finds (places (λ j. part_met s.now funcs.now froms.now ends.now blocks.now n (env p params.at (digits_of z.at j))) total 0) k result)) }
+    requires { (p ≤ frame_width) × (((i : ℕ) → p ≤ i → get_or params.at i 0 ≡ 0) × ((c.now.count ≤ max_conditions) × (Sizes z.at × ((total ≤ 65536) × ((0 < g) × (g ≤ 65536)))))) }
+    ensures { IfOk result (λ at. at ≤ 65536) × (IfErr result (λ left. left ≤ k) × ((l : ℕ) → g ≡ product (drop l z.at) → ((i : ℕ) → i < c.now.count → Part s.now p z.at c.now.froms c.now.ends c.now.blocks g i) → Finds (places (λ j. part_met s.now funcs.now c.now.froms c.now.ends c.now.blocks c.now.count (env p params.at (digits_of z.at j))) total 0) k result)) }
 {
-    find_from(
-        s, funcs, params, p, z, froms, ends, blocks, n, g, 0, total, k,
-    )
+    find_from(s, funcs, params, p, z, c, g, 0, total, k)
 }

@@ -6,8 +6,7 @@ ghost use Rattle.assignments.specs.Conditions.{env, Finds};
 ghost use Rattle.assignments.specs.Parting.{part_met, Part, Above};
 
 use crate::gaps::{find_once, gap_of};
-use crate::{PerSum, PerVariable, block_size};
-use limits::MAX_CONDITIONS;
+use crate::{Conditions, PerSum, PerVariable, block_size};
 
 // The k-th of all assignments that meet the conditions asked, or how much of k is left: they say the same again after each round.
 pub fn find_rounds(
@@ -16,22 +15,17 @@ pub fn find_rounds(
     params: PerVariable,
     p: usize,
     z: PerSum,
-    froms: &[usize; MAX_CONDITIONS],
-    ends: &[usize; MAX_CONDITIONS],
-    blocks: &[u32; MAX_CONDITIONS],
-    n: usize,
+    c: &Conditions,
     g: usize,
     round: usize,
     k: u64,
 ) -> Result<usize, u64>
-    requires { (p ≤ frame_width) × (((i : ℕ) → p ≤ i → get_or params.at i 0 ≡ 0) × ((n ≤ max_conditions) × (Sizes z.at × ((round ≤ 65536) × ((0 < round) × ((0 < g) × (g ≤ 65536))))))) }
-    ensures { IfOk result (λ at. at ≤ 262144) × (IfErr result (λ left. left ≤ k) × ((l low : ℕ) → g ≡ product (drop l z.at) → round ≡ product (drop (low - p) z.at) → ((i : ℕ) → i < n → Part s.now p z.at froms.now ends.now blocks.now g i) → Above s.now p froms.now ends.now blocks.now n low → Finds (places (λ j. part_met s.now funcs.now froms.now ends.now blocks.now n (env p params.at (digits_of z.at j))) (product z.at) 0) k result)) }
+    requires { (p ≤ frame_width) × (((i : ℕ) → p ≤ i → get_or params.at i 0 ≡ 0) × ((c.now.count ≤ max_conditions) × (Sizes z.at × ((round ≤ 65536) × ((0 < round) × ((0 < g) × (g ≤ 65536))))))) }
+    ensures { IfOk result (λ at. at ≤ 262144) × (IfErr result (λ left. left ≤ k) × ((l low : ℕ) → g ≡ product (drop l z.at) → round ≡ product (drop (low - p) z.at) → ((i : ℕ) → i < c.now.count → Part s.now p z.at c.now.froms c.now.ends c.now.blocks g i) → Above s.now p c.now.froms c.now.ends c.now.blocks c.now.count low → Finds (places (λ j. part_met s.now funcs.now c.now.froms c.now.ends c.now.blocks c.now.count (env p params.at (digits_of z.at j))) (product z.at) 0) k result)) }
 {
     let total = block_size(z, 0);
-    let t = gap_of(s, p, z, froms, ends, n, g, round);
-    let left = match find_once(
-        s, funcs, params, p, z, froms, ends, blocks, n, g, t, round, k,
-    ) {
+    let t = gap_of(s, p, z, c, g, round);
+    let left = match find_once(s, funcs, params, p, z, c, g, t, round, k) {
         Ok(at) => return Ok(at),
         Err(left) => left,
     };
@@ -48,8 +42,6 @@ pub fn find_rounds(
         return Err(k - m * rounds);
     }
     let i = k % m;
-    let at = find_once(
-        s, funcs, params, p, z, froms, ends, blocks, n, g, t, round, i,
-    )?;
+    let at = find_once(s, funcs, params, p, z, c, g, t, round, i)?;
     Ok((q as usize) * round + at)
 }

@@ -10,10 +10,11 @@ ghost use Rattle.assignments.specs.Lanes.{inner, Sifted, RowMet, Strip, Lent, Ro
 
 use crate::in_rows::narrow;
 use crate::one_part::{next, test};
-use crate::{PerSum, PerVariable, Reached, block_size, environment, values, wide_block};
+use crate::{
+    Conditions, PerSum, PerVariable, Reached, block_size, environment, values, wide_block,
+};
 use elements::wide;
 use evaluation::lanes::LANES;
-use limits::MAX_CONDITIONS;
 
 // Of the lanes that are kept, those in which a condition holds, if it is asked and its block is less than w: false only if there are none; or they are not known.
 fn row_tried(
@@ -77,23 +78,34 @@ fn row_test(
     slow: &[u8],
     fast: &[u8],
     lanes: usize,
-    froms: &[usize; MAX_CONDITIONS],
-    ends: &[usize; MAX_CONDITIONS],
-    blocks: &[u32; MAX_CONDITIONS],
-    n: usize,
+    c: &Conditions,
     w: u32,
     rows: &mut [u8],
     marks: &mut [u8],
     met: &mut [u8],
 ) -> Option<bool>
-    requires { (n ≤ max_conditions) × (Lent rows.old marks.old slow.now fast.now met.old × (lanes ≤ lane_count)) }
-    ensures { ((i : ℕ) → i < n → Standing s.now froms.now ends.now i) → u < length e.now → v < length e.now → Marked rows.old marks.old → Zeros rows.old → Marked rows.new marks.new × (Zeros rows.new × (((i : ℕ) → i < lanes → get_or met.old i 0 ≡ 1) → IfSome result (λ left. RowMet lanes (λ i. inner s.now funcs.now froms.now ends.now blocks.now w (lane_env e.now u v slow.now fast.now i)) n met.new left))) }
+    requires { (c.now.count ≤ max_conditions) × (Lent rows.old marks.old slow.now fast.now met.old × (lanes ≤ lane_count)) }
+    ensures { ((i : ℕ) → i < c.now.count → Standing s.now c.now.froms c.now.ends i) → u < length e.now → v < length e.now → Marked rows.old marks.old → Zeros rows.old → Marked rows.new marks.new × (Zeros rows.new × (((i : ℕ) → i < lanes → get_or met.old i 0 ≡ 1) → IfSome result (λ left. RowMet lanes (λ i. inner s.now funcs.now c.now.froms c.now.ends c.now.blocks w (lane_env e.now u v slow.now fast.now i)) c.now.count met.new left))) }
 {
     let mut some = true;
-    for i in 0..n {
+    for i in 0..c.count {
         some = row_tried(
-            s, funcs, e, u, v, slow, fast, lanes, froms[i], ends[i], blocks[i], w, some, rows,
-            marks, met,
+            s,
+            funcs,
+            e,
+            u,
+            v,
+            slow,
+            fast,
+            lanes,
+            c.froms[i],
+            c.ends[i],
+            c.blocks[i],
+            w,
+            some,
+            rows,
+            marks,
+            met,
         )?;
     }
     Some(some)
@@ -158,10 +170,7 @@ fn in_lanes(
     size: u8,
     first: u8,
     lanes: usize,
-    froms: &[usize; MAX_CONDITIONS],
-    ends: &[usize; MAX_CONDITIONS],
-    blocks: &[u32; MAX_CONDITIONS],
-    n: usize,
+    c: &Conditions,
     b: u32,
     g: usize,
     j: usize,
@@ -173,16 +182,14 @@ fn in_lanes(
     fast: &mut [u8],
     met: &mut [u8],
 ) -> Result<usize, Reached>
-    requires { ((j < to) × ((to ≤ 131072) × (g ≤ 65536))) × (((0 < size) × ((first ≤ 16) × (lanes ≤ lane_count))) × ((n ≤ max_conditions) × Lent rows.old marks.old slow.old fast.old met.old)) }
-    ensures { IfOk result (λ at. at ≤ to) × (IfErr result (λ r. j ≤ r.at) × (IfErr result (λ r. r.left ≤ k) × (((i : ℕ) → i < n → Standing s.now froms.now ends.now i) → u < length e.now → v < length e.now → Marked rows.old marks.old → Zeros rows.old → Marked rows.new marks.new × (Zeros rows.new × ((acc : ℕ → Bool) → ((sl fa me : List ℕ) → Strip size first lanes sl fa me → (i x : ℕ) → i < lanes → j + i * g ≤ x → x < j + i * g + g → acc x ≡ all_below n (inner s.now funcs.now froms.now ends.now blocks.now b (lane_env e.now u v sl fa i))) → Came acc to j k result))))) }
+    requires { ((j < to) × ((to ≤ 131072) × (g ≤ 65536))) × (((0 < size) × ((first ≤ 16) × (lanes ≤ lane_count))) × ((c.now.count ≤ max_conditions) × Lent rows.old marks.old slow.old fast.old met.old)) }
+    ensures { IfOk result (λ at. at ≤ to) × (IfErr result (λ r. j ≤ r.at) × (IfErr result (λ r. r.left ≤ k) × (((i : ℕ) → i < c.now.count → Standing s.now c.now.froms c.now.ends i) → u < length e.now → v < length e.now → Marked rows.old marks.old → Zeros rows.old → Marked rows.new marks.new × (Zeros rows.new × ((acc : ℕ → Bool) → ((sl fa me : List ℕ) → Strip size first lanes sl fa me → (i x : ℕ) → i < lanes → j + i * g ≤ x → x < j + i * g + g → acc x ≡ all_below c.now.count (inner s.now funcs.now c.now.froms c.now.ends c.now.blocks b (lane_env e.now u v sl fa i))) → Came acc to j k result))))) }
 {
     if to - j < lanes * g {
         return Err(Reached { at: j, left: k });
     }
     strip(slow, fast, met, size, first, lanes);
-    let some = row_test(
-        s, funcs, e, u, v, slow, fast, lanes, froms, ends, blocks, n, b, rows, marks, met,
-    );
+    let some = row_test(s, funcs, e, u, v, slow, fast, lanes, c, b, rows, marks, met);
     if some.is_none() {
         return Err(Reached { at: j, left: k });
     }
@@ -202,10 +209,7 @@ fn in_strip(
     params: PerVariable,
     p: usize,
     z: PerSum,
-    froms: &[usize; MAX_CONDITIONS],
-    ends: &[usize; MAX_CONDITIONS],
-    blocks: &[u32; MAX_CONDITIONS],
-    n: usize,
+    c: &Conditions,
     g: usize,
     l: usize,
     u: usize,
@@ -219,8 +223,8 @@ fn in_strip(
     fast: &mut [u8],
     met: &mut [u8],
 ) -> Result<usize, Reached>
-    requires { ((p ≤ frame_width) × (((i : ℕ) → p ≤ i → get_or params.at i 0 ≡ 0) × ((n ≤ max_conditions) × (Sizes z.at × ((to ≤ 131072) × ((0 < g) × (g ≤ 65536))))))) × ((j < to) × (Rowed z.at l u g w × Lent rows.old marks.old slow.old fast.old met.old)) }
-    ensures { IfOk result (λ at. at ≤ to) × (IfErr result (λ r. j ≤ r.at) × (IfErr result (λ r. r.left ≤ k) × (((i : ℕ) → i < n → Part s.now p z.at froms.now ends.now blocks.now g i) → Marked rows.old marks.old → Zeros rows.old → Marked rows.new marks.new × (Zeros rows.new × Came (λ j. part_met s.now funcs.now froms.now ends.now blocks.now n (env p params.at (digits_of z.at j))) to j k result)))) }
+    requires { ((p ≤ frame_width) × (((i : ℕ) → p ≤ i → get_or params.at i 0 ≡ 0) × ((c.now.count ≤ max_conditions) × (Sizes z.at × ((to ≤ 131072) × ((0 < g) × (g ≤ 65536))))))) × ((j < to) × (Rowed z.at l u g w × Lent rows.old marks.old slow.old fast.old met.old)) }
+    ensures { IfOk result (λ at. at ≤ to) × (IfErr result (λ r. j ≤ r.at) × (IfErr result (λ r. r.left ≤ k) × (((i : ℕ) → i < c.now.count → Part s.now p z.at c.now.froms c.now.ends c.now.blocks g i) → Marked rows.old marks.old → Zeros rows.old → Marked rows.new marks.new × (Zeros rows.new × Came (λ j. part_met s.now funcs.now c.now.froms c.now.ends c.now.blocks c.now.count (env p params.at (digits_of z.at j))) to j k result)))) }
 {
     if j % w != 0 {
         return Err(Reached { at: j, left: k });
@@ -228,7 +232,7 @@ fn in_strip(
     let b = narrow(block_size(z, u));
     let e = environment(params, p, values(z, j));
     let a = e.at;
-    let d = test(s, funcs, &a, froms, ends, blocks, n, b - 1);
+    let d = test(s, funcs, &a, c, b - 1);
     if b <= d {
         let at = next(j, wide_block(d));
         return Err(Reached { at: at, left: k });
@@ -249,10 +253,7 @@ fn in_strip(
         size,
         first,
         m * wide(size),
-        froms,
-        ends,
-        blocks,
-        n,
+        c,
         b,
         g,
         j,
@@ -273,10 +274,7 @@ pub fn by_strips(
     params: PerVariable,
     p: usize,
     z: PerSum,
-    froms: &[usize; MAX_CONDITIONS],
-    ends: &[usize; MAX_CONDITIONS],
-    blocks: &[u32; MAX_CONDITIONS],
-    n: usize,
+    c: &Conditions,
     g: usize,
     l: usize,
     u: usize,
@@ -290,15 +288,14 @@ pub fn by_strips(
     fast: &mut [u8],
     met: &mut [u8],
 ) -> Result<usize, Reached>
-    requires { ((p ≤ frame_width) × (((i : ℕ) → p ≤ i → get_or params.at i 0 ≡ 0) × ((n ≤ max_conditions) × (Sizes z.at × ((to ≤ 131072) × ((0 < g) × (g ≤ 65536))))))) × (Rowed z.at l u g w × Lent rows.old marks.old slow.old fast.old met.old) }
-    ensures { IfOk result (λ at. at ≤ to) × (IfErr result (λ r. from ≤ r.at) × (IfErr result (λ r. r.left ≤ k) × (((i : ℕ) → i < n → Part s.now p z.at froms.now ends.now blocks.now g i) → Marked rows.old marks.old → Zeros rows.old → Came (λ j. part_met s.now funcs.now froms.now ends.now blocks.now n (env p params.at (digits_of z.at j))) to from k result))) }
+    requires { ((p ≤ frame_width) × (((i : ℕ) → p ≤ i → get_or params.at i 0 ≡ 0) × ((c.now.count ≤ max_conditions) × (Sizes z.at × ((to ≤ 131072) × ((0 < g) × (g ≤ 65536))))))) × (Rowed z.at l u g w × Lent rows.old marks.old slow.old fast.old met.old) }
+    ensures { IfOk result (λ at. at ≤ to) × (IfErr result (λ r. from ≤ r.at) × (IfErr result (λ r. r.left ≤ k) × (((i : ℕ) → i < c.now.count → Part s.now p z.at c.now.froms c.now.ends c.now.blocks g i) → Marked rows.old marks.old → Zeros rows.old → Came (λ j. part_met s.now funcs.now c.now.froms c.now.ends c.now.blocks c.now.count (env p params.at (digits_of z.at j))) to from k result))) }
 {
     let mut j = from;
     let mut left = k;
     while j < to {
         let r = match in_strip(
-            s, funcs, params, p, z, froms, ends, blocks, n, g, l, u, w, j, to, left, rows, marks,
-            slow, fast, met,
+            s, funcs, params, p, z, c, g, l, u, w, j, to, left, rows, marks, slow, fast, met,
         ) {
             Ok(at) => return Ok(at),
             Err(r) => r,

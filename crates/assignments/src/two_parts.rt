@@ -8,35 +8,25 @@ ghost use Rattle.assignments.specs.Parting.{Apart};
 use crate::gaps::term_low;
 use crate::one_part::find_in;
 use crate::rounds::find_rounds;
-use crate::{Parts, PerSum, PerVariable, block_size, grain, wide_block};
+use crate::{Conditions, Parts, PerSum, PerVariable, block_size, grain, wide_block};
 use limits::{MAX_CONDITIONS, VARIABLES};
 
 // The conditions in two parts: blocks of the early ones, which are of b assignments at least, and of the late ones; 0 for a condition that is not of the part.
 // `grain`: the early ones change only between blocks of it; `low`: the late ones name no sum variable before it. No parts, if that is below level l.
-fn parted(
-    s: &[u8],
-    p: usize,
-    froms: &[usize; MAX_CONDITIONS],
-    ends: &[usize; MAX_CONDITIONS],
-    blocks: &[u32; MAX_CONDITIONS],
-    n: usize,
-    b: usize,
-    total: usize,
-    l: usize,
-) -> Option<Parts>
-    requires { (p ≤ frame_width) × ((n ≤ max_conditions) × ((0 < b) × ((0 < total) × ((total ≤ 65536) × (l ≤ max_variables))))) }
-    ensures { IfSome result (λ t. ((0 < t.grain) × (t.grain ≤ 65536)) × ((sizes : List ℕ) (reach low : ℕ) → Sizes sizes → length sizes ≡ max_variables → total ≡ product sizes → b ≡ product (drop l sizes) → ((i : ℕ) → i < n → Ready s.now p sizes froms.now ends.now blocks.now reach low i) → Apart s.now p sizes froms.now ends.now blocks.now n t)) }
+fn parted(s: &[u8], p: usize, c: &Conditions, b: usize, total: usize, l: usize) -> Option<Parts>
+    requires { (p ≤ frame_width) × ((c.now.count ≤ max_conditions) × ((0 < b) × ((0 < total) × ((total ≤ 65536) × (l ≤ max_variables))))) }
+    ensures { IfSome result (λ t. ((0 < t.grain) × (t.grain ≤ 65536)) × ((sizes : List ℕ) (reach low : ℕ) → Sizes sizes → length sizes ≡ max_variables → total ≡ product sizes → b ≡ product (drop l sizes) → ((i : ℕ) → i < c.now.count → Ready s.now p sizes c.now.froms c.now.ends c.now.blocks reach low i) → Apart s.now p sizes c.now.froms c.now.ends c.now.blocks c.now.count t)) }
 {
     let mut early = [0u32; MAX_CONDITIONS];
     let mut late = [0u32; MAX_CONDITIONS];
     let mut grain = total;
     let mut low: usize = VARIABLES;
-    for i in 0..n {
-        let d = blocks[i];
+    for i in 0..c.count {
+        let d = c.blocks[i];
         let w = wide_block(d);
         if w < b {
             late[i] = d;
-            low = low.min(term_low(s, froms[i], ends[i], p));
+            low = low.min(term_low(s, c.froms[i], c.ends[i], p));
         } else {
             early[i] = d;
             grain = grain.min(w);
@@ -59,21 +49,18 @@ fn apart_at(
     s: &[u8],
     p: usize,
     sizes: PerSum,
-    froms: &[usize; MAX_CONDITIONS],
-    ends: &[usize; MAX_CONDITIONS],
-    blocks: &[u32; MAX_CONDITIONS],
-    n: usize,
+    c: &Conditions,
     g: usize,
     low: usize,
     l: usize,
 ) -> Option<Parts>
-    requires { (p ≤ frame_width) × ((n ≤ max_conditions) × (Sizes sizes.at × (l ≤ max_variables))) }
-    ensures { IfSome result (λ t. ((0 < t.grain) × (t.grain ≤ 65536)) × ((reach low : ℕ) → ((i : ℕ) → i < n → Ready s.now p sizes.at froms.now ends.now blocks.now reach low i) → Apart s.now p sizes.at froms.now ends.now blocks.now n t)) }
+    requires { (p ≤ frame_width) × ((c.now.count ≤ max_conditions) × (Sizes sizes.at × (l ≤ max_variables))) }
+    ensures { IfSome result (λ t. ((0 < t.grain) × (t.grain ≤ 65536)) × ((reach low : ℕ) → ((i : ℕ) → i < c.now.count → Ready s.now p sizes.at c.now.froms c.now.ends c.now.blocks reach low i) → Apart s.now p sizes.at c.now.froms c.now.ends c.now.blocks c.now.count t)) }
 {
     let b = block_size(sizes, l);
     if low < p + l {
         if g < b {
-            return parted(s, p, froms, ends, blocks, n, b, block_size(sizes, 0), l);
+            return parted(s, p, c, b, block_size(sizes, 0), l);
         }
     }
     None
@@ -84,25 +71,22 @@ pub fn split(
     s: &[u8],
     p: usize,
     sizes: PerSum,
-    froms: &[usize; MAX_CONDITIONS],
-    ends: &[usize; MAX_CONDITIONS],
-    blocks: &[u32; MAX_CONDITIONS],
-    n: usize,
+    c: &Conditions,
     g: usize,
     low: usize,
 ) -> Option<Parts>
-    requires { (p ≤ frame_width) × ((n ≤ max_conditions) × Sizes sizes.at) }
-    ensures { IfSome result (λ t. ((0 < t.grain) × (t.grain ≤ 65536)) × ((reach low : ℕ) → ((i : ℕ) → i < n → Ready s.now p sizes.at froms.now ends.now blocks.now reach low i) → Apart s.now p sizes.at froms.now ends.now blocks.now n t)) }
+    requires { (p ≤ frame_width) × ((c.now.count ≤ max_conditions) × Sizes sizes.at) }
+    ensures { IfSome result (λ t. ((0 < t.grain) × (t.grain ≤ 65536)) × ((reach low : ℕ) → ((i : ℕ) → i < c.now.count → Ready s.now p sizes.at c.now.froms c.now.ends c.now.blocks reach low i) → Apart s.now p sizes.at c.now.froms c.now.ends c.now.blocks c.now.count t)) }
 {
-    let x = apart_at(s, p, sizes, froms, ends, blocks, n, g, low, 2);
+    let x = apart_at(s, p, sizes, c, g, low, 2);
     if x.is_some() {
         return x;
     }
-    let y = apart_at(s, p, sizes, froms, ends, blocks, n, g, low, 3);
+    let y = apart_at(s, p, sizes, c, g, low, 3);
     if y.is_some() {
         return y;
     }
-    apart_at(s, p, sizes, froms, ends, blocks, n, g, low, 1)
+    apart_at(s, p, sizes, c, g, low, 1)
 }
 
 // The k-th assignment that meets the conditions of both parts: each block that the early ones accept has in it what the late ones accept of one.
@@ -112,25 +96,27 @@ pub fn find_parted(
     params: PerVariable,
     p: usize,
     z: PerSum,
-    froms: &[usize; MAX_CONDITIONS],
-    ends: &[usize; MAX_CONDITIONS],
-    n: usize,
+    c: &Conditions,
     t: Parts,
     g: usize,
     round: usize,
     k: u64,
 ) -> Result<usize, u64>
-    requires { (p ≤ frame_width) × (((i : ℕ) → p ≤ i → get_or params.at i 0 ≡ 0) × ((n ≤ max_conditions) × (Sizes z.at × ((round ≤ 65536) × ((0 < round) × ((0 < g) × ((g ≤ 65536) × ((0 < t.grain) × (t.grain ≤ 65536))))))))) }
-    ensures { (blocks : List ℕ) (reach low : ℕ) → g ≡ product (drop (reach - p) z.at) → round ≡ product (drop (low - p) z.at) → ((i : ℕ) → i < n → Ready s.now p z.at froms.now ends.now blocks reach low i) → Apart s.now p z.at froms.now ends.now blocks n t → Finds (places (λ j. met s.now funcs.now froms.now ends.now n (env p params.at (digits_of z.at j))) (product z.at) 0) k result }
+    requires { (p ≤ frame_width) × (((i : ℕ) → p ≤ i → get_or params.at i 0 ≡ 0) × ((c.now.count ≤ max_conditions) × (Sizes z.at × ((round ≤ 65536) × ((0 < round) × ((0 < g) × ((g ≤ 65536) × ((0 < t.grain) × (t.grain ≤ 65536))))))))) }
+    ensures { (blocks : List ℕ) (reach low : ℕ) → g ≡ product (drop (reach - p) z.at) → round ≡ product (drop (low - p) z.at) → ((i : ℕ) → i < c.now.count → Ready s.now p z.at c.now.froms c.now.ends blocks reach low i) → Apart s.now p z.at c.now.froms c.now.ends blocks c.now.count t → Finds (places (λ j. met s.now funcs.now c.now.froms c.now.ends c.now.count (env p params.at (digits_of z.at j))) (product z.at) 0) k result }
 {
-    let early = t.early;
-    let late = t.late;
+    let mut early = *c;
+    let blocks = t.early;
+    early.blocks = blocks;
+    let mut late = *c;
+    let blocks = t.late;
+    late.blocks = blocks;
     let d = t.grain;
     let b = grain(z, t.low, p);
     let w = b as u64;
     let total = block_size(z, 0) as u64;
     // More is asked for than there is, so what is left says how many are met.
-    let left = match find_in(s, funcs, params, p, z, froms, ends, &late, n, g, b, w) {
+    let left = match find_in(s, funcs, params, p, z, &late, g, b, w) {
         Ok(_) => return Err(k),
         Err(left) => left,
     };
@@ -139,9 +125,9 @@ pub fn find_parted(
         return Err(k);
     }
     let q = (k / m).min(total) * w;
-    match find_rounds(s, funcs, params, p, z, froms, ends, &early, n, d, round, q) {
+    match find_rounds(s, funcs, params, p, z, &early, d, round, q) {
         Ok(first) => {
-            let at = find_in(s, funcs, params, p, z, froms, ends, &late, n, g, b, k % m)?;
+            let at = find_in(s, funcs, params, p, z, &late, g, b, k % m)?;
             Ok(first + at)
         }
         Err(rest) => Err(k - (q - rest) / w * m),

@@ -188,10 +188,9 @@ fn seek(
         }
     } else {
         let c = opening::conditions(s, funcs, at, p, z);
-        let end = c.end;
         Sought {
-            found: assignments::find(s, funcs, first, p, z, c, k),
-            end: end,
+            found: assignments::find(s, funcs, first, p, z, &c, k),
+            end: c.end,
         }
     }
 }

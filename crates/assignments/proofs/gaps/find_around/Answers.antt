@@ -35,9 +35,9 @@ returns-in-Ok c = let q = c.requires in (
     λ l m ge te part gapped. let a = c.args in let here = c.loop-j in let len = per_sum_length a.z _ c.well_formed.1.1.1.1.0 in
         let positive : (i : ℕ) → i < length a.z.at → 0 < get_or a.z.at i 0 = λ i h. (c.requires.1.1.1.0 i (omega arith)).0 in
         let few : a.p ≤ length a.params.at = let w = per_variable_length a.params _ c.well_formed.1.1.0 in omega (arith, c.requires.0) in
-        let acc : ℕ → Bool = λ i. part_met a.s.now a.funcs.now a.froms.now a.ends.now a.blocks.now a.n (env a.p a.params.at (digits_of a.z.at i)) in
+        let acc : ℕ → Bool = λ i. part_met a.s.now a.funcs.now a.c.now.froms a.c.now.ends a.c.now.blocks a.c.now.count (env a.p a.params.at (digits_of a.z.at i)) in
         let turn = here.invariant.1 l m ge te part gapped in
-        from_first acc a.total a.k (Ok c.in-Ok.at) (around_first acc here.j a.t.behind (a.t.before / a.t.behind) a.t.before (turn_whole a.s.now a.funcs.now a.froms.now a.ends.now a.blocks.now a.n a.p a.z.at a.params.at few positive a.total a.t.before a.t.behind gapped m te a.k here.j here.left turn c.loop-j-test.true) (rounds_pos a.t.before a.t.behind c.requires.1.1.1.1.1.1.1.0 c.requires.1.1.1.1.1.1.1.1.0) (turn_same a.s.now a.funcs.now a.froms.now a.ends.now a.blocks.now a.n a.p a.z.at a.params.at few positive a.total a.t.before a.t.behind gapped m te a.k here.j here.left turn c.loop-j-test.true) a.total 0 a.k here.left (turn_fits a.s.now a.funcs.now a.froms.now a.ends.now a.blocks.now a.n a.p a.z.at a.params.at few positive a.total a.t.before a.t.behind gapped m te a.k here.j here.left turn c.loop-j-test.true) turn.2 c.in-Ok.at (c.in-Ok.ensures.1.1 l ge part)),
+        from_first acc a.total a.k (Ok c.in-Ok.at) (around_first acc here.j a.t.behind (a.t.before / a.t.behind) a.t.before (turn_whole a.s.now a.funcs.now a.c.now.froms a.c.now.ends a.c.now.blocks a.c.now.count a.p a.z.at a.params.at few positive a.total a.t.before a.t.behind gapped m te a.k here.j here.left turn c.loop-j-test.true) (rounds_pos a.t.before a.t.behind c.requires.1.1.1.1.1.1.1.0 c.requires.1.1.1.1.1.1.1.1.0) (turn_same a.s.now a.funcs.now a.c.now.froms a.c.now.ends a.c.now.blocks a.c.now.count a.p a.z.at a.params.at few positive a.total a.t.before a.t.behind gapped m te a.k here.j here.left turn c.loop-j-test.true) a.total 0 a.k here.left (turn_fits a.s.now a.funcs.now a.c.now.froms a.c.now.ends a.c.now.blocks a.c.now.count a.p a.z.at a.params.at few positive a.total a.t.before a.t.behind gapped m te a.k here.j here.left turn c.loop-j-test.true) turn.2 c.in-Ok.at (c.in-Ok.ensures.1.1 l ge part)),
   ),
 )
 
@@ -64,9 +64,9 @@ returns-in_err-at c = let p = err_from_is_err_and c.from_residual.result c.from_
     λ l m ge te part gapped. let a = c.args in let here = c.loop-j in let len = per_sum_length a.z _ c.well_formed.1.1.1.1.0 in
         let positive : (i : ℕ) → i < length a.z.at → 0 < get_or a.z.at i 0 = λ i h. (c.requires.1.1.1.0 i (omega arith)).0 in
         let few : a.p ≤ length a.params.at = let w = per_variable_length a.params _ c.well_formed.1.1.0 in omega (arith, c.requires.0) in
-        let acc : ℕ → Bool = λ i. part_met a.s.now a.funcs.now a.froms.now a.ends.now a.blocks.now a.n (env a.p a.params.at (digits_of a.z.at i)) in
+        let acc : ℕ → Bool = λ i. part_met a.s.now a.funcs.now a.c.now.froms a.c.now.ends a.c.now.blocks a.c.now.count (env a.p a.params.at (digits_of a.z.at i)) in
         let turn = here.invariant.1 l m ge te part gapped in
-        absurd (around_later acc here.j a.t.behind (a.t.before / a.t.behind) a.t.before (turn_whole a.s.now a.funcs.now a.froms.now a.ends.now a.blocks.now a.n a.p a.z.at a.params.at few positive a.total a.t.before a.t.behind gapped m te a.k here.j here.left turn c.loop-j-test.true) (rounds_pos a.t.before a.t.behind c.requires.1.1.1.1.1.1.1.0 c.requires.1.1.1.1.1.1.1.1.0) (turn_same a.s.now a.funcs.now a.froms.now a.ends.now a.blocks.now a.n a.p a.z.at a.params.at few positive a.total a.t.before a.t.behind gapped m te a.k here.j here.left turn c.loop-j-test.true) a.total 0 a.k here.left (turn_fits a.s.now a.funcs.now a.froms.now a.ends.now a.blocks.now a.n a.p a.z.at a.params.at few positive a.total a.t.before a.t.behind gapped m te a.k here.j here.left turn c.loop-j-test.true) turn.2 c.in-Err.rest (c.in-Err.ensures.1.1 l ge part) (here.left - c.in-Err.rest) refl c.if-left-rounds.true (Err _) (c.in_err-at.ensures.1.1 l ge part)),
+        absurd (around_later acc here.j a.t.behind (a.t.before / a.t.behind) a.t.before (turn_whole a.s.now a.funcs.now a.c.now.froms a.c.now.ends a.c.now.blocks a.c.now.count a.p a.z.at a.params.at few positive a.total a.t.before a.t.behind gapped m te a.k here.j here.left turn c.loop-j-test.true) (rounds_pos a.t.before a.t.behind c.requires.1.1.1.1.1.1.1.0 c.requires.1.1.1.1.1.1.1.1.0) (turn_same a.s.now a.funcs.now a.c.now.froms a.c.now.ends a.c.now.blocks a.c.now.count a.p a.z.at a.params.at few positive a.total a.t.before a.t.behind gapped m te a.k here.j here.left turn c.loop-j-test.true) a.total 0 a.k here.left (turn_fits a.s.now a.funcs.now a.c.now.froms a.c.now.ends a.c.now.blocks a.c.now.count a.p a.z.at a.params.at few positive a.total a.t.before a.t.behind gapped m te a.k here.j here.left turn c.loop-j-test.true) turn.2 c.in-Err.rest (c.in-Err.ensures.1.1 l ge part) (here.left - c.in-Err.rest) refl c.if-left-rounds.true (Err _) (c.in_err-at.ensures.1.1 l ge part)),
   ),
 )
 
@@ -78,9 +78,9 @@ returns-then-left-rounds c = let q = c.requires in (
     λ l m ge te part gapped. let a = c.args in let here = c.loop-j in let len = per_sum_length a.z _ c.well_formed.1.1.1.1.0 in
         let positive : (i : ℕ) → i < length a.z.at → 0 < get_or a.z.at i 0 = λ i h. (c.requires.1.1.1.0 i (omega arith)).0 in
         let few : a.p ≤ length a.params.at = let w = per_variable_length a.params _ c.well_formed.1.1.0 in omega (arith, c.requires.0) in
-        let acc : ℕ → Bool = λ i. part_met a.s.now a.funcs.now a.froms.now a.ends.now a.blocks.now a.n (env a.p a.params.at (digits_of a.z.at i)) in
+        let acc : ℕ → Bool = λ i. part_met a.s.now a.funcs.now a.c.now.froms a.c.now.ends a.c.now.blocks a.c.now.count (env a.p a.params.at (digits_of a.z.at i)) in
         let turn = here.invariant.1 l m ge te part gapped in
-        from_first acc a.total a.k _ (around_later acc here.j a.t.behind (a.t.before / a.t.behind) a.t.before (turn_whole a.s.now a.funcs.now a.froms.now a.ends.now a.blocks.now a.n a.p a.z.at a.params.at few positive a.total a.t.before a.t.behind gapped m te a.k here.j here.left turn c.loop-j-test.true) (rounds_pos a.t.before a.t.behind c.requires.1.1.1.1.1.1.1.0 c.requires.1.1.1.1.1.1.1.1.0) (turn_same a.s.now a.funcs.now a.froms.now a.ends.now a.blocks.now a.n a.p a.z.at a.params.at few positive a.total a.t.before a.t.behind gapped m te a.k here.j here.left turn c.loop-j-test.true) a.total 0 a.k here.left (turn_fits a.s.now a.funcs.now a.froms.now a.ends.now a.blocks.now a.n a.p a.z.at a.params.at few positive a.total a.t.before a.t.behind gapped m te a.k here.j here.left turn c.loop-j-test.true) turn.2 c.in-Err.rest (c.in-Err.ensures.1.1 l ge part) (here.left - c.in-Err.rest) refl c.if-left-rounds.true (Ok c.in_ok-at.at) (c.in_ok-at.ensures.1.1 l ge part)),
+        from_first acc a.total a.k _ (around_later acc here.j a.t.behind (a.t.before / a.t.behind) a.t.before (turn_whole a.s.now a.funcs.now a.c.now.froms a.c.now.ends a.c.now.blocks a.c.now.count a.p a.z.at a.params.at few positive a.total a.t.before a.t.behind gapped m te a.k here.j here.left turn c.loop-j-test.true) (rounds_pos a.t.before a.t.behind c.requires.1.1.1.1.1.1.1.0 c.requires.1.1.1.1.1.1.1.1.0) (turn_same a.s.now a.funcs.now a.c.now.froms a.c.now.ends a.c.now.blocks a.c.now.count a.p a.z.at a.params.at few positive a.total a.t.before a.t.behind gapped m te a.k here.j here.left turn c.loop-j-test.true) a.total 0 a.k here.left (turn_fits a.s.now a.funcs.now a.c.now.froms a.c.now.ends a.c.now.blocks a.c.now.count a.p a.z.at a.params.at few positive a.total a.t.before a.t.behind gapped m te a.k here.j here.left turn c.loop-j-test.true) turn.2 c.in-Err.rest (c.in-Err.ensures.1.1 l ge part) (here.left - c.in-Err.rest) refl c.if-left-rounds.true (Ok c.in_ok-at.at) (c.in_ok-at.ensures.1.1 l ge part)),
   ),
 )
 
@@ -102,9 +102,9 @@ loop-j-preserved c = (
   λ l m ge te part gapped. let a = c.args in let here = c.loop-j in let len = per_sum_length a.z _ c.well_formed.1.1.1.1.0 in
       let positive : (i : ℕ) → i < length a.z.at → 0 < get_or a.z.at i 0 = λ i h. (c.requires.1.1.1.0 i (omega arith)).0 in
       let few : a.p ≤ length a.params.at = let w = per_variable_length a.params _ c.well_formed.1.1.0 in omega (arith, c.requires.0) in
-      let acc : ℕ → Bool = λ i. part_met a.s.now a.funcs.now a.froms.now a.ends.now a.blocks.now a.n (env a.p a.params.at (digits_of a.z.at i)) in
+      let acc : ℕ → Bool = λ i. part_met a.s.now a.funcs.now a.c.now.froms a.c.now.ends a.c.now.blocks a.c.now.count (env a.p a.params.at (digits_of a.z.at i)) in
       let turn = here.invariant.1 l m ge te part gapped in
-      turn_next a.s.now a.funcs.now a.froms.now a.ends.now a.blocks.now a.n a.p a.z.at a.params.at few positive a.total a.t.before a.t.behind gapped m te a.k here.j here.left turn c.loop-j-test.true (here.left - (c.loop-j.left - c.in-Err.rest) * (a.t.before / a.t.behind)) (around_past acc here.j a.t.behind (a.t.before / a.t.behind) a.t.before (turn_whole a.s.now a.funcs.now a.froms.now a.ends.now a.blocks.now a.n a.p a.z.at a.params.at few positive a.total a.t.before a.t.behind gapped m te a.k here.j here.left turn c.loop-j-test.true) (rounds_pos a.t.before a.t.behind c.requires.1.1.1.1.1.1.1.0 c.requires.1.1.1.1.1.1.1.1.0) (turn_same a.s.now a.funcs.now a.froms.now a.ends.now a.blocks.now a.n a.p a.z.at a.params.at few positive a.total a.t.before a.t.behind gapped m te a.k here.j here.left turn c.loop-j-test.true) a.total 0 a.k here.left (turn_fits a.s.now a.funcs.now a.froms.now a.ends.now a.blocks.now a.n a.p a.z.at a.params.at few positive a.total a.t.before a.t.behind gapped m te a.k here.j here.left turn c.loop-j-test.true) turn.2 c.in-Err.rest (c.in-Err.ensures.1.1 l ge part) (here.left - c.in-Err.rest) refl c.if-left-rounds.false),
+      turn_next a.s.now a.funcs.now a.c.now.froms a.c.now.ends a.c.now.blocks a.c.now.count a.p a.z.at a.params.at few positive a.total a.t.before a.t.behind gapped m te a.k here.j here.left turn c.loop-j-test.true (here.left - (c.loop-j.left - c.in-Err.rest) * (a.t.before / a.t.behind)) (around_past acc here.j a.t.behind (a.t.before / a.t.behind) a.t.before (turn_whole a.s.now a.funcs.now a.c.now.froms a.c.now.ends a.c.now.blocks a.c.now.count a.p a.z.at a.params.at few positive a.total a.t.before a.t.behind gapped m te a.k here.j here.left turn c.loop-j-test.true) (rounds_pos a.t.before a.t.behind c.requires.1.1.1.1.1.1.1.0 c.requires.1.1.1.1.1.1.1.1.0) (turn_same a.s.now a.funcs.now a.c.now.froms a.c.now.ends a.c.now.blocks a.c.now.count a.p a.z.at a.params.at few positive a.total a.t.before a.t.behind gapped m te a.k here.j here.left turn c.loop-j-test.true) a.total 0 a.k here.left (turn_fits a.s.now a.funcs.now a.c.now.froms a.c.now.ends a.c.now.blocks a.c.now.count a.p a.z.at a.params.at few positive a.total a.t.before a.t.behind gapped m te a.k here.j here.left turn c.loop-j-test.true) turn.2 c.in-Err.rest (c.in-Err.ensures.1.1 l ge part) (here.left - c.in-Err.rest) refl c.if-left-rounds.false),
 )
 
 pub returns : goal.returns
@@ -115,7 +115,7 @@ returns c = (
     λ l m ge te part gapped. let a = c.args in let here = c.loop-j in let len = per_sum_length a.z _ c.well_formed.1.1.1.1.0 in
         let positive : (i : ℕ) → i < length a.z.at → 0 < get_or a.z.at i 0 = λ i h. (c.requires.1.1.1.0 i (omega arith)).0 in
         let few : a.p ≤ length a.params.at = let w = per_variable_length a.params _ c.well_formed.1.1.0 in omega (arith, c.requires.0) in
-        let acc : ℕ → Bool = λ i. part_met a.s.now a.funcs.now a.froms.now a.ends.now a.blocks.now a.n (env a.p a.params.at (digits_of a.z.at i)) in
+        let acc : ℕ → Bool = λ i. part_met a.s.now a.funcs.now a.c.now.froms a.c.now.ends a.c.now.blocks a.c.now.count (env a.p a.params.at (digits_of a.z.at i)) in
         let turn = here.invariant.1 l m ge te part gapped in
         from_first acc a.total a.k _ (none_left acc a.total 0 a.k here.j here.left c.loop-j-test.false turn.2),
   ),

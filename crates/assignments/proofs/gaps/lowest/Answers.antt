@@ -15,7 +15,7 @@ pub loop-i-preserved : goal.loop-i-preserved
 loop-i-preserved c = let a = c.args in let here = c.loop-i in (
   omega arith,
   λ st.
-      last_or (λ (m : ℕ). c.min-low.result ≤ foot a.p (code a.s.now (get_or a.froms.now m 0) (get_or a.ends.now m 0))) here.i
+      last_or (λ (m : ℕ). c.min-low.result ≤ foot a.p (code a.s.now (get_or a.c.now.froms m 0) (get_or a.c.now.ends m 0))) here.i
       (let y = st here.i c.loop-i-test.true in let z = c.term_low.ensures y.some_term y.inside in omega (arith, c.min-low.ensures, min-le_right here.low c.term_low.result))
       (λ m h. let z = here.invariant.1 st m h in omega (arith, c.min-low.ensures, min-le_left here.low c.term_low.result)),
 )

@@ -34,8 +34,8 @@ returns-in-Ok c = (
     λ l low e z part above. let a = c.args in let len = per_sum_length a.z _ c.well_formed.1.1.1.1.0 in
         let positive : (i : ℕ) → i < length a.z.at → 0 < get_or a.z.at i 0 = λ i h. (c.requires.1.1.1.0 i (omega arith)).0 in
         let few : a.p ≤ length a.params.at = let w = per_variable_length a.params _ c.well_formed.1.1.0 in omega (arith, c.requires.0) in
-        let gapped = gap_known a.s.now a.p a.z.at a.froms.now a.ends.now a.blocks.now a.n a.round c.gap_of-t.result c.gap_of-t.ensures (λ i k. (part i k).standing) in
-        search_first a.s.now a.funcs.now a.froms.now a.ends.now a.blocks.now a.n a.p low a.z.at a.params.at few positive above a.round z a.k c.in-Ok.at (c.in-Ok.ensures.1.1 l (low - a.p) e z part gapped),
+        let gapped = gap_known a.s.now a.p a.z.at a.c.now.froms a.c.now.ends a.c.now.blocks a.c.now.count a.round c.gap_of-t.result c.gap_of-t.ensures (λ i k. (part i k).standing) in
+        search_first a.s.now a.funcs.now a.c.now.froms a.c.now.ends a.c.now.blocks a.c.now.count a.p low a.z.at a.params.at few positive above a.round z a.k c.in-Ok.at (c.in-Ok.ensures.1.1 l (low - a.p) e z part gapped),
   ),
 )
 
@@ -47,8 +47,8 @@ returns-then-m-eq0 c = (
     λ l low e z part above. let a = c.args in let len = per_sum_length a.z _ c.well_formed.1.1.1.1.0 in
         let positive : (i : ℕ) → i < length a.z.at → 0 < get_or a.z.at i 0 = λ i h. (c.requires.1.1.1.0 i (omega arith)).0 in
         let few : a.p ≤ length a.params.at = let w = per_variable_length a.params _ c.well_formed.1.1.0 in omega (arith, c.requires.0) in
-        let gapped = gap_known a.s.now a.p a.z.at a.froms.now a.ends.now a.blocks.now a.n a.round c.gap_of-t.result c.gap_of-t.ensures (λ i k. (part i k).standing) in
-        search_none a.s.now a.funcs.now a.froms.now a.ends.now a.blocks.now a.n a.p low a.z.at a.params.at few positive above a.round z a.k c.in-Err.left (c.in-Err.ensures.1.1 l (low - a.p) e z part gapped) (a.k - c.in-Err.left) refl (omega arith),
+        let gapped = gap_known a.s.now a.p a.z.at a.c.now.froms a.c.now.ends a.c.now.blocks a.c.now.count a.round c.gap_of-t.result c.gap_of-t.ensures (λ i k. (part i k).standing) in
+        search_none a.s.now a.funcs.now a.c.now.froms a.c.now.ends a.c.now.blocks a.c.now.count a.p low a.z.at a.params.at few positive above a.round z a.k c.in-Err.left (c.in-Err.ensures.1.1 l (low - a.p) e z part gapped) (a.k - c.in-Err.left) refl (omega arith),
   ),
 )
 
@@ -60,8 +60,8 @@ returns-then-round-total c = (
     λ l low e z part above. let a = c.args in let len = per_sum_length a.z _ c.well_formed.1.1.1.1.0 in
         let positive : (i : ℕ) → i < length a.z.at → 0 < get_or a.z.at i 0 = λ i h. (c.requires.1.1.1.0 i (omega arith)).0 in
         let few : a.p ≤ length a.params.at = let w = per_variable_length a.params _ c.well_formed.1.1.0 in omega (arith, c.requires.0) in
-        let gapped = gap_known a.s.now a.p a.z.at a.froms.now a.ends.now a.blocks.now a.n a.round c.gap_of-t.result c.gap_of-t.ensures (λ i k. (part i k).standing) in
-        search_whole a.s.now a.funcs.now a.froms.now a.ends.now a.blocks.now a.n a.p low a.z.at a.params.at few positive above a.round z a.k (Err c.in-Err.left) (c.in-Err.ensures.1.1 l (low - a.p) e z part gapped) (omega (arith, c.block_size-total.ensures.0)),
+        let gapped = gap_known a.s.now a.p a.z.at a.c.now.froms a.c.now.ends a.c.now.blocks a.c.now.count a.round c.gap_of-t.result c.gap_of-t.ensures (λ i k. (part i k).standing) in
+        search_whole a.s.now a.funcs.now a.c.now.froms a.c.now.ends a.c.now.blocks a.c.now.count a.p low a.z.at a.params.at few positive above a.round z a.k (Err c.in-Err.left) (c.in-Err.ensures.1.1 l (low - a.p) e z part gapped) (omega (arith, c.block_size-total.ensures.0)),
   ),
 )
 
@@ -82,8 +82,8 @@ returns-then-rounds-q c = (
     λ l low e z part above. let a = c.args in let len = per_sum_length a.z _ c.well_formed.1.1.1.1.0 in
         let positive : (i : ℕ) → i < length a.z.at → 0 < get_or a.z.at i 0 = λ i h. (c.requires.1.1.1.0 i (omega arith)).0 in
         let few : a.p ≤ length a.params.at = let w = per_variable_length a.params _ c.well_formed.1.1.0 in omega (arith, c.requires.0) in
-        let gapped = gap_known a.s.now a.p a.z.at a.froms.now a.ends.now a.blocks.now a.n a.round c.gap_of-t.result c.gap_of-t.ensures (λ i k. (part i k).standing) in
-        search_past a.s.now a.funcs.now a.froms.now a.ends.now a.blocks.now a.n a.p low a.z.at a.params.at few positive above a.round z a.k c.in-Err.left (c.in-Err.ensures.1.1 l (low - a.p) e z part gapped) (a.k - c.in-Err.left) refl (omega arith) (c.block_size-total.result / a.round) (ap (λ (x : ℕ). x / a.round) c.block_size-total.ensures.0) (omega arith),
+        let gapped = gap_known a.s.now a.p a.z.at a.c.now.froms a.c.now.ends a.c.now.blocks a.c.now.count a.round c.gap_of-t.result c.gap_of-t.ensures (λ i k. (part i k).standing) in
+        search_past a.s.now a.funcs.now a.c.now.froms a.c.now.ends a.c.now.blocks a.c.now.count a.p low a.z.at a.params.at few positive above a.round z a.k c.in-Err.left (c.in-Err.ensures.1.1 l (low - a.p) e z part gapped) (a.k - c.in-Err.left) refl (omega arith) (c.block_size-total.result / a.round) (ap (λ (x : ℕ). x / a.round) c.block_size-total.ensures.0) (omega arith),
   ),
 )
 
@@ -98,8 +98,8 @@ returns-in_err-at c = let p = err_from_is_err_and c.from_residual.result c.from_
     λ l low e z part above. let a = c.args in let len = per_sum_length a.z _ c.well_formed.1.1.1.1.0 in
         let positive : (i : ℕ) → i < length a.z.at → 0 < get_or a.z.at i 0 = λ i h. (c.requires.1.1.1.0 i (omega arith)).0 in
         let few : a.p ≤ length a.params.at = let w = per_variable_length a.params _ c.well_formed.1.1.0 in omega (arith, c.requires.0) in
-        let gapped = gap_known a.s.now a.p a.z.at a.froms.now a.ends.now a.blocks.now a.n a.round c.gap_of-t.result c.gap_of-t.ensures (λ i k. (part i k).standing) in
-        absurd (search_later a.s.now a.funcs.now a.froms.now a.ends.now a.blocks.now a.n a.p low a.z.at a.params.at few positive above a.round z a.k c.in-Err.left (c.in-Err.ensures.1.1 l (low - a.p) e z part gapped) (a.k - c.in-Err.left) refl (omega arith) (c.block_size-total.result / a.round) (ap (λ (x : ℕ). x / a.round) c.block_size-total.ensures.0) (omega arith) (Err _) (c.in_err-at.ensures.1.1 l (low - a.p) e z part gapped)),
+        let gapped = gap_known a.s.now a.p a.z.at a.c.now.froms a.c.now.ends a.c.now.blocks a.c.now.count a.round c.gap_of-t.result c.gap_of-t.ensures (λ i k. (part i k).standing) in
+        absurd (search_later a.s.now a.funcs.now a.c.now.froms a.c.now.ends a.c.now.blocks a.c.now.count a.p low a.z.at a.params.at few positive above a.round z a.k c.in-Err.left (c.in-Err.ensures.1.1 l (low - a.p) e z part gapped) (a.k - c.in-Err.left) refl (omega arith) (c.block_size-total.result / a.round) (ap (λ (x : ℕ). x / a.round) c.block_size-total.ensures.0) (omega arith) (Err _) (c.in_err-at.ensures.1.1 l (low - a.p) e z part gapped)),
   ),
 )
 
@@ -117,7 +117,7 @@ returns c = let h : c.args.k / (c.args.k - c.in-Err.left) ≤ (c.block_size-tota
     λ l low e z part above. let a = c.args in let len = per_sum_length a.z _ c.well_formed.1.1.1.1.0 in
         let positive : (i : ℕ) → i < length a.z.at → 0 < get_or a.z.at i 0 = λ i h. (c.requires.1.1.1.0 i (omega arith)).0 in
         let few : a.p ≤ length a.params.at = let w = per_variable_length a.params _ c.well_formed.1.1.0 in omega (arith, c.requires.0) in
-        let gapped = gap_known a.s.now a.p a.z.at a.froms.now a.ends.now a.blocks.now a.n a.round c.gap_of-t.result c.gap_of-t.ensures (λ i k. (part i k).standing) in
-        search_later a.s.now a.funcs.now a.froms.now a.ends.now a.blocks.now a.n a.p low a.z.at a.params.at few positive above a.round z a.k c.in-Err.left (c.in-Err.ensures.1.1 l (low - a.p) e z part gapped) (a.k - c.in-Err.left) refl (omega arith) (c.block_size-total.result / a.round) (ap (λ (x : ℕ). x / a.round) c.block_size-total.ensures.0) (omega arith) (Ok c.in_ok-at.at) (c.in_ok-at.ensures.1.1 l (low - a.p) e z part gapped),
+        let gapped = gap_known a.s.now a.p a.z.at a.c.now.froms a.c.now.ends a.c.now.blocks a.c.now.count a.round c.gap_of-t.result c.gap_of-t.ensures (λ i k. (part i k).standing) in
+        search_later a.s.now a.funcs.now a.c.now.froms a.c.now.ends a.c.now.blocks a.c.now.count a.p low a.z.at a.params.at few positive above a.round z a.k c.in-Err.left (c.in-Err.ensures.1.1 l (low - a.p) e z part gapped) (a.k - c.in-Err.left) refl (omega arith) (c.block_size-total.result / a.round) (ap (λ (x : ℕ). x / a.round) c.block_size-total.ensures.0) (omega arith) (Ok c.in_ok-at.at) (c.in_ok-at.ensures.1.1 l (low - a.p) e z part gapped),
   ),
 )

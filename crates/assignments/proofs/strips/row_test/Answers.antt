@@ -22,7 +22,7 @@ loop-i-preserved c = let a = c.args in let l = c.loop-i in let k = c.row_tried i
         let o = r l.i (omega arith) in
         let q = l.invariant.1.1 r h j w z in
         let t = c.in_ok-some.ensures o.some_term o.inside h j q.0 q.1.0 in
-        (t.0, (t.1.0, λ m. let y = q.1.1 m in met_more a.lanes (λ (x m : ℕ). inner a.s.now a.funcs.now a.froms.now a.ends.now a.blocks.now a.w (lane_env a.e.now a.u a.v a.slow.now a.fast.now x) m) l.i l.met _ l.some c.in_ok-some.some y (t.1.1 y.none))),
+        (t.0, (t.1.0, λ m. let y = q.1.1 m in met_more a.lanes (λ (x m : ℕ). inner a.s.now a.funcs.now a.c.now.froms a.c.now.ends a.c.now.blocks a.w (lane_env a.e.now a.u a.v a.slow.now a.fast.now x) m) l.i l.met _ l.some c.in_ok-some.some y (t.1.1 y.none))),
   ),
 )
 
@@ -43,4 +43,4 @@ pub shape_of-met : goal.shape_of-met
 shape_of-met c = c.loop-i.invariant.1.0.1.1
 
 pub returns : goal.returns
-returns c = λ r h j w z. let a = c.args in let l = c.loop-i in let e : l.i ≡ a.n = omega arith in let q = l.invariant.1.1 r h j w z in (q.0, (q.1.0, λ o. subst (λ (x : ℕ). RowMet a.lanes (λ (y : ℕ). inner a.s.now a.funcs.now a.froms.now a.ends.now a.blocks.now a.w (lane_env a.e.now a.u a.v a.slow.now a.fast.now y)) x l.met l.some) e (q.1.1 o)))
+returns c = λ r h j w z. let a = c.args in let l = c.loop-i in let e : l.i ≡ a.c.now.count = omega arith in let q = l.invariant.1.1 r h j w z in (q.0, (q.1.0, λ o. subst (λ (x : ℕ). RowMet a.lanes (λ (y : ℕ). inner a.s.now a.funcs.now a.c.now.froms a.c.now.ends a.c.now.blocks a.w (lane_env a.e.now a.u a.v a.slow.now a.fast.now y)) x l.met l.some) e (q.1.1 o)))

@@ -16,13 +16,13 @@ pub returns-in-Ok : goal.returns-in-Ok
 returns-in-Ok c = λ blocks reach low ge re ready apart. let a = c.args in let len = per_sum_length a.z _ c.well_formed.1.1.1.1.0 in
     let positive : (i : ℕ) → i < length a.z.at → 0 < get_or a.z.at i 0 = λ i h. (c.requires.1.1.1.0 i (omega arith)).0 in
     let few : a.p ≤ length a.params.at = let w = per_variable_length a.params _ c.well_formed.1.1.0 in omega (arith, c.requires.0) in
-    absurd (parts_counted a.s.now a.funcs.now a.froms.now a.ends.now blocks a.n a.p reach low a.z.at a.params.at positive ready few a.t apart c.grain-b.result c.grain-b.ensures.0 _ (c.in-Ok.ensures.1.1 (reach - a.p) ge (late_part a.s.now a.p a.z.at a.froms.now a.ends.now blocks a.n reach low positive ready a.t apart a.g ge)))
+    absurd (parts_counted a.s.now a.funcs.now a.c.now.froms a.c.now.ends blocks a.c.now.count a.p reach low a.z.at a.params.at positive ready few a.t apart c.grain-b.result c.grain-b.ensures.0 _ (c.in-Ok.ensures.1.1 (reach - a.p) ge (late_part a.s.now a.p a.z.at a.c.now.froms a.c.now.ends blocks a.c.now.count reach low positive ready a.t apart a.g ge)))
 
 pub returns-then-m-eq0 : goal.returns-then-m-eq0
 returns-then-m-eq0 c = λ blocks reach low ge re ready apart. let a = c.args in let len = per_sum_length a.z _ c.well_formed.1.1.1.1.0 in
     let positive : (i : ℕ) → i < length a.z.at → 0 < get_or a.z.at i 0 = λ i h. (c.requires.1.1.1.0 i (omega arith)).0 in
     let few : a.p ≤ length a.params.at = let w = per_variable_length a.params _ c.well_formed.1.1.0 in omega (arith, c.requires.0) in
-    parts_none a.s.now a.funcs.now a.froms.now a.ends.now blocks a.n a.p reach low a.z.at a.params.at positive ready few a.t apart c.grain-b.result c.grain-b.ensures.0 a.k c.in-Err.left (c.in-Err.ensures.1.1 (reach - a.p) ge (late_part a.s.now a.p a.z.at a.froms.now a.ends.now blocks a.n reach low positive ready a.t apart a.g ge)) (c.grain-b.result - c.in-Err.left) refl (omega arith)
+    parts_none a.s.now a.funcs.now a.c.now.froms a.c.now.ends blocks a.c.now.count a.p reach low a.z.at a.params.at positive ready few a.t apart c.grain-b.result c.grain-b.ensures.0 a.k c.in-Err.left (c.in-Err.ensures.1.1 (reach - a.p) ge (late_part a.s.now a.p a.z.at a.c.now.froms a.c.now.ends blocks a.c.now.count reach low positive ready a.t apart a.g ge)) (c.grain-b.result - c.in-Err.left) refl (omega arith)
 
 pub overflow_mul-q : goal.overflow_mul-q
 overflow_mul-q c = let h : c.min.result ≤ 65536 = omega (arith, c.min.ensures, c.block_size-total.ensures.1) in omega (arith, mul-le-mul h c.grain-b.ensures.1)
@@ -38,13 +38,13 @@ returns-in_err-at-in-Ok-find_rounds c = let p = err_from_is_err_and c.from_resid
     λ blocks reach low ge re ready apart. let a = c.args in let len = per_sum_length a.z _ c.well_formed.1.1.1.1.0 in
     let positive : (i : ℕ) → i < length a.z.at → 0 < get_or a.z.at i 0 = λ i h. (c.requires.1.1.1.0 i (omega arith)).0 in
     let few : a.p ≤ length a.params.at = let w = per_variable_length a.params _ c.well_formed.1.1.0 in omega (arith, c.requires.0) in
-    absurd (parts_found a.s.now a.funcs.now a.froms.now a.ends.now blocks a.n a.p reach low a.z.at a.params.at positive ready few a.t apart c.grain-b.result c.grain-b.ensures.0 a.k c.in-Err.left (c.in-Err.ensures.1.1 (reach - a.p) ge (late_part a.s.now a.p a.z.at a.froms.now a.ends.now blocks a.n reach low positive ready a.t apart a.g ge)) (c.grain-b.result - c.in-Err.left) refl (omega arith) c.min.result (c.min.ensures ∙ ap (λ (x : ℕ). min (a.k / (c.grain-b.result - c.in-Err.left)) x) c.block_size-total.ensures.0) c.in-Ok-find_rounds.first (c.in-Ok-find_rounds.ensures.1.1 apart.level low apart.grain_is re (early_part a.s.now a.p a.z.at a.froms.now a.ends.now blocks a.n reach low positive ready a.t apart) (early_above a.s.now a.p a.z.at a.froms.now a.ends.now blocks a.n reach low positive ready a.t apart)) (Err _) (c.in_err-at-in-Ok-find_rounds.ensures.1.1 (reach - a.p) ge (late_part a.s.now a.p a.z.at a.froms.now a.ends.now blocks a.n reach low positive ready a.t apart a.g ge))))
+    absurd (parts_found a.s.now a.funcs.now a.c.now.froms a.c.now.ends blocks a.c.now.count a.p reach low a.z.at a.params.at positive ready few a.t apart c.grain-b.result c.grain-b.ensures.0 a.k c.in-Err.left (c.in-Err.ensures.1.1 (reach - a.p) ge (late_part a.s.now a.p a.z.at a.c.now.froms a.c.now.ends blocks a.c.now.count reach low positive ready a.t apart a.g ge)) (c.grain-b.result - c.in-Err.left) refl (omega arith) c.min.result (c.min.ensures ∙ ap (λ (x : ℕ). min (a.k / (c.grain-b.result - c.in-Err.left)) x) c.block_size-total.ensures.0) c.in-Ok-find_rounds.first (c.in-Ok-find_rounds.ensures.1.1 apart.level low apart.grain_is re (early_part a.s.now a.p a.z.at a.c.now.froms a.c.now.ends blocks a.c.now.count reach low positive ready a.t apart) (early_above a.s.now a.p a.z.at a.c.now.froms a.c.now.ends blocks a.c.now.count reach low positive ready a.t apart)) (Err _) (c.in_err-at-in-Ok-find_rounds.ensures.1.1 (reach - a.p) ge (late_part a.s.now a.p a.z.at a.c.now.froms a.c.now.ends blocks a.c.now.count reach low positive ready a.t apart a.g ge))))
 
 pub returns-in_ok-at-in-Ok-find_rounds : goal.returns-in_ok-at-in-Ok-find_rounds
 returns-in_ok-at-in-Ok-find_rounds c = λ blocks reach low ge re ready apart. let a = c.args in let len = per_sum_length a.z _ c.well_formed.1.1.1.1.0 in
     let positive : (i : ℕ) → i < length a.z.at → 0 < get_or a.z.at i 0 = λ i h. (c.requires.1.1.1.0 i (omega arith)).0 in
     let few : a.p ≤ length a.params.at = let w = per_variable_length a.params _ c.well_formed.1.1.0 in omega (arith, c.requires.0) in
-    parts_found a.s.now a.funcs.now a.froms.now a.ends.now blocks a.n a.p reach low a.z.at a.params.at positive ready few a.t apart c.grain-b.result c.grain-b.ensures.0 a.k c.in-Err.left (c.in-Err.ensures.1.1 (reach - a.p) ge (late_part a.s.now a.p a.z.at a.froms.now a.ends.now blocks a.n reach low positive ready a.t apart a.g ge)) (c.grain-b.result - c.in-Err.left) refl (omega arith) c.min.result (c.min.ensures ∙ ap (λ (x : ℕ). min (a.k / (c.grain-b.result - c.in-Err.left)) x) c.block_size-total.ensures.0) c.in-Ok-find_rounds.first (c.in-Ok-find_rounds.ensures.1.1 apart.level low apart.grain_is re (early_part a.s.now a.p a.z.at a.froms.now a.ends.now blocks a.n reach low positive ready a.t apart) (early_above a.s.now a.p a.z.at a.froms.now a.ends.now blocks a.n reach low positive ready a.t apart)) (Ok c.in_ok-at-in-Ok-find_rounds.at) (c.in_ok-at-in-Ok-find_rounds.ensures.1.1 (reach - a.p) ge (late_part a.s.now a.p a.z.at a.froms.now a.ends.now blocks a.n reach low positive ready a.t apart a.g ge))
+    parts_found a.s.now a.funcs.now a.c.now.froms a.c.now.ends blocks a.c.now.count a.p reach low a.z.at a.params.at positive ready few a.t apart c.grain-b.result c.grain-b.ensures.0 a.k c.in-Err.left (c.in-Err.ensures.1.1 (reach - a.p) ge (late_part a.s.now a.p a.z.at a.c.now.froms a.c.now.ends blocks a.c.now.count reach low positive ready a.t apart a.g ge)) (c.grain-b.result - c.in-Err.left) refl (omega arith) c.min.result (c.min.ensures ∙ ap (λ (x : ℕ). min (a.k / (c.grain-b.result - c.in-Err.left)) x) c.block_size-total.ensures.0) c.in-Ok-find_rounds.first (c.in-Ok-find_rounds.ensures.1.1 apart.level low apart.grain_is re (early_part a.s.now a.p a.z.at a.c.now.froms a.c.now.ends blocks a.c.now.count reach low positive ready a.t apart) (early_above a.s.now a.p a.z.at a.c.now.froms a.c.now.ends blocks a.c.now.count reach low positive ready a.t apart)) (Ok c.in_ok-at-in-Ok-find_rounds.at) (c.in_ok-at-in-Ok-find_rounds.ensures.1.1 (reach - a.p) ge (late_part a.s.now a.p a.z.at a.c.now.froms a.c.now.ends blocks a.c.now.count reach low positive ready a.t apart a.g ge))
 
 pub overflow_mul-result : goal.overflow_mul-result
 overflow_mul-result c = record { fits = passed_fits c.grain-b.result c.min.result c.in-Err-find_rounds.rest c.args.k (c.grain-b.result - c.in-Err.left) _ (omega (arith, c.min.ensures)) c.ranges.k.fits }
@@ -56,4 +56,4 @@ pub returns-in-Err-find_rounds : goal.returns-in-Err-find_rounds
 returns-in-Err-find_rounds c = λ blocks reach low ge re ready apart. let a = c.args in let len = per_sum_length a.z _ c.well_formed.1.1.1.1.0 in
     let positive : (i : ℕ) → i < length a.z.at → 0 < get_or a.z.at i 0 = λ i h. (c.requires.1.1.1.0 i (omega arith)).0 in
     let few : a.p ≤ length a.params.at = let w = per_variable_length a.params _ c.well_formed.1.1.0 in omega (arith, c.requires.0) in
-    parts_past a.s.now a.funcs.now a.froms.now a.ends.now blocks a.n a.p reach low a.z.at a.params.at positive ready few a.t apart c.grain-b.result c.grain-b.ensures.0 a.k c.in-Err.left (c.in-Err.ensures.1.1 (reach - a.p) ge (late_part a.s.now a.p a.z.at a.froms.now a.ends.now blocks a.n reach low positive ready a.t apart a.g ge)) (c.grain-b.result - c.in-Err.left) refl (omega arith) c.min.result (c.min.ensures ∙ ap (λ (x : ℕ). min (a.k / (c.grain-b.result - c.in-Err.left)) x) c.block_size-total.ensures.0) c.in-Err-find_rounds.rest (c.in-Err-find_rounds.ensures.1.1 apart.level low apart.grain_is re (early_part a.s.now a.p a.z.at a.froms.now a.ends.now blocks a.n reach low positive ready a.t apart) (early_above a.s.now a.p a.z.at a.froms.now a.ends.now blocks a.n reach low positive ready a.t apart))
+    parts_past a.s.now a.funcs.now a.c.now.froms a.c.now.ends blocks a.c.now.count a.p reach low a.z.at a.params.at positive ready few a.t apart c.grain-b.result c.grain-b.ensures.0 a.k c.in-Err.left (c.in-Err.ensures.1.1 (reach - a.p) ge (late_part a.s.now a.p a.z.at a.c.now.froms a.c.now.ends blocks a.c.now.count reach low positive ready a.t apart a.g ge)) (c.grain-b.result - c.in-Err.left) refl (omega arith) c.min.result (c.min.ensures ∙ ap (λ (x : ℕ). min (a.k / (c.grain-b.result - c.in-Err.left)) x) c.block_size-total.ensures.0) c.in-Err-find_rounds.rest (c.in-Err-find_rounds.ensures.1.1 apart.level low apart.grain_is re (early_part a.s.now a.p a.z.at a.c.now.froms a.c.now.ends blocks a.c.now.count reach low positive ready a.t apart) (early_above a.s.now a.p a.z.at a.c.now.froms a.c.now.ends blocks a.c.now.count reach low positive ready a.t apart))

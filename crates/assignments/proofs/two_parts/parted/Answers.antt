@@ -11,7 +11,7 @@ use Rattle.assignments.proofs.two_parts.parted.Goals as goal
 use Rattle.assignments.proofs.two_parts.parted.Goals.{then-w-b, else-w-b}
 
 pub loop-i-init : goal.loop-i-init
-loop-i-init c = let a = c.args in (refl, (refl, (c.requires.1.1.1.0, (c.requires.1.1.1.1.0, (parting_none a.s.now a.p a.froms.now a.ends.now a.blocks.now a.n a.b _ _ _ _ (zeros max_conditions) (zeros max_conditions), λ sizes reach lowest e r. (0, e))))))
+loop-i-init c = let a = c.args in (refl, (refl, (c.requires.1.1.1.0, (c.requires.1.1.1.1.0, (parting_none a.s.now a.p a.c.now.froms a.c.now.ends a.c.now.blocks a.c.now.count a.b _ _ _ _ (zeros max_conditions) (zeros max_conditions), λ sizes reach lowest e r. (0, e))))))
 
 pub loop-i-preserved : goal.loop-i-preserved
 loop-i-preserved c = let a = c.args in let l = c.loop-i in let v = l.invariant in
@@ -25,7 +25,7 @@ loop-i-preserved c = let a = c.args in let l = c.loop-i in let v = l.invariant i
             (
               v.1.1.1.0,
               (
-                parting_late a.s.now a.p a.froms.now a.ends.now a.blocks.now a.n a.b l.early l.late l.grain l.low l.i v.1.1.1.1.0 (get_or a.blocks.now l.i 0) c.wide_block-w.result refl c.wide_block-w.ensures.0 c.loop-i-test.true (omega (arith, v.1.0, c.requires.1.0)) w.if-w-b.true w.term_low.result w.min-low.result w.term_low.ensures w.min-low.ensures,
+                parting_late a.s.now a.p a.c.now.froms a.c.now.ends a.c.now.blocks a.c.now.count a.b l.early l.late l.grain l.low l.i v.1.1.1.1.0 (get_or a.c.now.blocks l.i 0) c.wide_block-w.result refl c.wide_block-w.ensures.0 c.loop-i-test.true (omega (arith, v.1.0, c.requires.1.0)) w.if-w-b.true w.term_low.result w.min-low.result w.term_low.ensures w.min-low.ensures,
                 v.1.1.1.1.1,
               ),
             ),
@@ -41,8 +41,8 @@ loop-i-preserved c = let a = c.args in let l = c.loop-i in let v = l.invariant i
             (
               omega (arith, w.min-grain.ensures, v.1.1.1.0),
               (
-                parting_early a.s.now a.p a.froms.now a.ends.now a.blocks.now a.n a.b l.early l.late l.grain l.low l.i v.1.1.1.1.0 (get_or a.blocks.now l.i 0) c.wide_block-w.result refl c.wide_block-w.ensures.0 c.loop-i-test.true (omega (arith, v.0, c.requires.1.0)) (omega arith) w.min-grain.result w.min-grain.ensures,
-                λ sizes reach lowest e r. grain_more sizes l.grain c.wide_block-w.result (get_or a.blocks.now l.i 0) (peak (code a.s.now (get_or a.froms.now l.i 0) (get_or a.ends.now l.i 0)) - a.p) w.min-grain.result c.wide_block-w.ensures.0 (r l.i c.loop-i-test.true).block_is w.min-grain.ensures (v.1.1.1.1.1 sizes reach lowest e r),
+                parting_early a.s.now a.p a.c.now.froms a.c.now.ends a.c.now.blocks a.c.now.count a.b l.early l.late l.grain l.low l.i v.1.1.1.1.0 (get_or a.c.now.blocks l.i 0) c.wide_block-w.result refl c.wide_block-w.ensures.0 c.loop-i-test.true (omega (arith, v.0, c.requires.1.0)) (omega arith) w.min-grain.result w.min-grain.ensures,
+                λ sizes reach lowest e r. grain_more sizes l.grain c.wide_block-w.result (get_or a.c.now.blocks l.i 0) (peak (code a.s.now (get_or a.c.now.froms l.i 0) (get_or a.c.now.ends l.i 0)) - a.p) w.min-grain.result c.wide_block-w.ensures.0 (r l.i c.loop-i-test.true).block_is w.min-grain.ensures (v.1.1.1.1.1 sizes reach lowest e r),
               ),
             ),
           ),
@@ -54,5 +54,5 @@ pub returns-then-apart : goal.returns-then-apart
 returns-then-apart c = let a = c.args in let l = c.loop-i in let v = l.invariant in (
   (v.1.1.0, v.1.1.1.0),
   λ sizes reach lowest z len et eb ready.
-      parting_all a.s.now a.p sizes a.froms.now a.ends.now a.blocks.now a.n a.b a.l reach lowest _ l.i (λ i h. (z i (omega arith)).0) ready eb c.if-apart.true (omega arith) (v.1.1.1.1.1 sizes reach lowest et ready) v.1.1.1.1.0,
+      parting_all a.s.now a.p sizes a.c.now.froms a.c.now.ends a.c.now.blocks a.c.now.count a.b a.l reach lowest _ l.i (λ i h. (z i (omega arith)).0) ready eb c.if-apart.true (omega arith) (v.1.1.1.1.1 sizes reach lowest et ready) v.1.1.1.1.0,
 )
