@@ -10,7 +10,7 @@ use native.Mathlib.Numerals.{add-one}
 use borrow.Author.Tests.{eq-eqb, ne_eqb}
 use lib.Dec.{eqb}
 use lib.ListN
-use lib.ListN.{length, get_or, set, length-map, get_or-eq_default}
+use lib.ListN.{length, drop, get_or, set, length-map, get_or-eq_default}
 use lib.Seq.{get_or-set_same, get_or-set_other}
 use Rattle.pcrl.specs.Tests.{and, or, Every}
 use Rattle.pcrl.specs.Sheet.{Process, Sheet, no_process}
@@ -23,26 +23,23 @@ use Rattle.nodes.specs.Held.{HeldProcs}
 use Rattle.nodes.specs.Bits.{set_width, bit}
 use Rattle.nodes.proofs.Bits.{zero_bit}
 use Rattle.checker.specs.declared.circles.Heads.{Heads}
-use Rattle.checker.specs.Circles.{is_in, SetOf, PlacesOf, HeadsAt, HeadsOf, HeadsThere, AllPassed, next_round, NextRound, PassedAfter, numbers_below}
+use Rattle.checker.specs.Circles.{is_in, SetOf, PlacesOf, HeadsAt, SetsAt, HeadsOf, HeadsThere, AllPassed, next_round, NextRound, PassedAfter, numbers_below}
 use Rattle.checker.proofs.Sets.{or_comm, same_truth, passes_all, all_passes, in_every}
 use Rattle.checker.proofs.Heads.{heads_there}
 
 -- ---- the processes at the head of each right side
-abbrev pub HeadsSoFar : List ℕ → List ℕ → Outline → ℕ → List ℕ → Type 0
-HeadsSoFar cells starts n k sets = (H : Sheet) (procs : List ℕ) → HeldProcs H procs cells starts n → HeadsOf H k sets
-
-pub heads_more : (cells starts : List ℕ) (n : Outline) (k : ℕ) (sets : List ℕ) (r : Heads) → k < n.procs → k < length sets → HeadsAt cells (get_or starts k 0) r
-    → HeadsSoFar cells starts n k sets → HeadsSoFar cells starts n (k + 1) (set sets k r.set)
-heads_more cells starts n k sets r a b h before H procs held j l = go (ℕ_discrete j k)
+pub sets_more : (cells starts : List ℕ) (k at : ℕ) (sets : List ℕ) (r : Heads) → k < length sets → at ≡ get_or starts k 0 → HeadsAt cells at r → SetsAt cells starts k sets → SetsAt cells starts (k + 1) (set sets k r.set)
+sets_more cells starts k at sets r inside z found so_far j h p rest e = go (ℕ_discrete j k)
   where
-    go : Dec (j ≡ k) → SetOf (get_or (set sets k r.set) j 0) (at_head (get_or H.procs j no_process).right)
-    go (yes e) =
-        let t = (held.proc_at k a).right in
-        subst (λ (x : ℕ). SetOf (get_or (set sets k r.set) x 0) (at_head (get_or H.procs x no_process).right)) (sym e)
-        (subst (λ (x : ℕ). SetOf x (at_head (get_or H.procs k no_process).right)) (sym (get_or-set_same sets k r.set 0 b)) (h false (get_or H.procs k no_process).right t.0 t.1).0)
-    go (no ne) =
-        let z : j ≢ k = ne in
-        subst (λ (x : ℕ). SetOf x (at_head (get_or H.procs j no_process).right)) (sym (get_or-set_other sets k j r.set 0 ne)) (before H procs held j (omega arith))
+    go : Dec (j ≡ k) → SetOf (get_or (set sets k r.set) j 0) (at_head p)
+    go (yes y) =
+        subst (λ (x : ℕ). SetOf (get_or (set sets k r.set) x 0) (at_head p)) (sym y)
+        (subst (λ (x : ℕ). SetOf x (at_head p)) (sym (get_or-set_same sets k r.set 0 inside)) (found false p rest (ap (λ (x : ℕ). drop x cells) (z ∙ ap (λ (i : ℕ). get_or starts i 0) (sym y)) ∙ e)).0)
+    go (no n) = let y : j ≢ k = n in subst (λ (x : ℕ). SetOf x (at_head p)) (sym (get_or-set_other sets k j r.set 0 n)) (so_far j (omega arith) p rest e)
+
+-- of a sheet that is held
+pub sets_held : (H : Sheet) (procs cells starts : List ℕ) (n : Outline) (sets : List ℕ) → HeldProcs H procs cells starts n → SetsAt cells starts n.procs sets → HeadsOf H n.procs sets
+sets_held H procs cells starts n sets held found k l = let t = (held.proc_at k l).right in found k l (get_or H.procs k no_process).right t.0 t.1
 
 pub held_there : (H : Sheet) (procs cells starts : List ℕ) (n : Outline) → HeldProcs H procs cells starts n → HeadsThere H n.procs
 held_there H procs cells starts n held k l = heads_there n.procs (length (get_or H.procs k no_process).params) (get_or H.procs k no_process).right (held.proc_at k l).scoped

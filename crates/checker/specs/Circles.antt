@@ -38,6 +38,10 @@ WithCall m kind number r = (p : Proc) → kind ≡ kind_of p → number ≡ node
 abbrev pub HeadsAt : List ℕ → ℕ → Heads → Type 0
 HeadsAt cells at r = (b : Bool) (p : Proc) (rest : List ℕ) → drop at cells ≡ enc b p ++ rest → SetOf r.set (at_head p) × (drop r.next cells ≡ rest)
 
+-- the same of each of the first n terms that stand at `starts`
+abbrev pub SetsAt : List ℕ → List ℕ → ℕ → List ℕ → Type 0
+SetsAt cells starts n sets = (k : ℕ) → k < n → (p : Proc) (rest : List ℕ) → drop (get_or starts k 0) cells ≡ enc false p ++ rest → SetOf (get_or sets k 0) (at_head p)
+
 -- the processes at the head of each right side
 abbrev pub HeadsOf : Sheet → ℕ → List ℕ → Type 0
 HeadsOf H n sets = (k : ℕ) → k < n → SetOf (get_or sets k 0) (at_head (get_or H.procs k no_process).right)

@@ -6,7 +6,7 @@ ghost use Rattle.pcrl.specs.Tests.{and, or};
 ghost use Rattle.pcrl.specs.Circles.{guarded};
 ghost use Rattle.nodes.specs.Bits.{set_width, bit};
 ghost use Rattle.nodes.specs.Held.{HeldProcs};
-ghost use Rattle.checker.specs.Circles.{WithCall, HeadsAt, HeadsOf, AllPassed, NextRound, PassedAfter, SetOf, numbers_below};
+ghost use Rattle.checker.specs.Circles.{WithCall, HeadsAt, SetsAt, AllPassed, NextRound, PassedAfter, SetOf, numbers_below};
 
 use elements::cell;
 use limits::MAX_PROCESSES;
@@ -72,15 +72,15 @@ pub fn heads_of(cells: &[u16], at: usize) -> Heads
     Heads { set: set, next: p }
 }
 
-fn head_sets(cells: &[u16], starts: &[u16], n: Outline) -> HeadSets
-    requires { n.procs ≤ max_processes }
+// The processes at the head of each of the first n right sides.
+pub fn head_sets(cells: &[u16], starts: &[u16], n: usize) -> HeadSets
+    requires { n ≤ max_processes }
     ensures of_len { length result.of ≡ max_processes }
-    ensures heads_of { (H : Sheet) (procs : List ℕ) → HeldProcs H procs cells.now starts.now n → HeadsOf H n.procs result.of }
+    ensures sets_at { SetsAt cells.now starts.now n result.of }
 {
     let mut of = [0u32; MAX_PROCESSES];
-    for k in 0..n.procs {
-        let at = cell(starts, k);
-        let r = heads_of(cells, at);
+    for k in 0..n {
+        let r = heads_of(cells, cell(starts, k));
         of[k] = r.set;
     }
     HeadSets { of: of }
@@ -147,7 +147,7 @@ pub fn guarded_sheet(cells: &[u16], starts: &[u16], n: Outline) -> bool
     if n.procs > MAX_PROCESSES {
         return false;
     }
-    let sets = head_sets(cells, starts, n);
+    let sets = head_sets(cells, starts, n.procs);
     let passed = passed_after(sets, n.procs);
     all_passed(all_processes(n.procs), passed)
 }

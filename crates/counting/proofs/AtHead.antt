@@ -1,24 +1,21 @@
 -- The processes at the head: what a count hangs on, and sets of them as bits.
 use mathlib.Core.Path.{◌≡◌, refl, sym, ap, subst, ◌∙◌}
 use mathlib.Core.List.{List, ◌++◌}
-use mathlib.Core.Logic.{◌≢◌}
 use mathlib.Core.Bool.{Bool, true, false}
-use Prim.Native.Nat.{ℕ, ◌+◌, ◌*◌, ◌<◌}
+use Prim.Native.Nat.{ℕ, ◌+◌, ◌*◌}
 use native.Mathlib.Omega.{arith}
 use native.Mathlib.Decide.{ℕ_discrete}
 use borrow.Author.Tests.{eqb-true, eq-eqb, ne_eqb}
 use lib.Dec.{eqb}
 use lib.Bits.{bit_or}
-use lib.ListN.{length, drop, get_or, set}
-use lib.Seq.{get_or-set_same, get_or-set_other}
+use lib.ListN.{length, get_or}
 use Rattle.pcrl.specs.Tests.{or}
 use Rattle.pcrl.specs.Sheet.{Proc, delta, atom, alt, cond, sum, seq, call, Sheet, right}
 use Rattle.pcrl.specs.Circles.{at_head}
 use Rattle.laws.specs.Booleans.{or_false}
 use Rattle.nodes.specs.Bits.{bit}
 use Rattle.nodes.proofs.Bits.{or_bit, zero_bit}
-use Rattle.checker.specs.declared.circles.Heads.{Heads}
-use Rattle.checker.specs.Circles.{is_in, SetOf, HeadsAt, HeadsOf}
+use Rattle.checker.specs.Circles.{is_in, SetsAt, HeadsOf}
 use Rattle.checker.proofs.Sets.{or_true, is_in_append}
 use Rattle.counting.specs.Limits.{row_width, cut}
 use Rattle.counting.specs.Count.{count_by, cut_sum}
@@ -48,16 +45,9 @@ union_part a b e i h = ap (bit i) (sym (eqb-true (bit_or a b) b e)) ∙ or_bit i
 
 -- THE SETS OF ALL RIGHT SIDES
 
-pub heads_more : (H : Sheet) (cells starts : List ℕ) (k at : ℕ) (of : List ℕ) (r : Heads) → k < length of → k < length H.procs → at ≡ get_or starts k 0 → Placed H cells starts → HeadsAt cells at r → HeadsOf H k of
-    → HeadsOf H (k + 1) (set of k r.set)
+pub sets_placed : (H : Sheet) (cells starts : List ℕ) (n : ℕ) (sets : List ℕ) → length H.procs ≡ n → Placed H cells starts → SetsAt cells starts n sets → HeadsOf H n sets
 unfolding right
-heads_more H cells starts k at of r inside there z placed found so_far j h = go (ℕ_discrete j k)
-  where
-    go : Dec (j ≡ k) → SetOf (get_or (set of k r.set) j 0) (at_head (right H j))
-    go (yes e) =
-        let p = placed k there in
-        rw (e, get_or-set_same of k r.set 0 inside) (found false (right H k) p.0 (ap (λ (x : ℕ). drop x cells) z ∙ p.1)).0
-    go (no ne) = rw (get_or-set_other of k j r.set 0 ne) (so_far j (let y : j ≢ k = ne in omega arith))
+sets_placed H cells starts n sets e placed found k l = let p = placed k (omega arith) in found k l (right H k) p.0 p.1
 
 -- WHAT IS THE SAME IN TWO ROWS
 

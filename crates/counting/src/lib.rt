@@ -7,7 +7,7 @@ ghost use Rattle.checker.specs.Circles.{HeadsOf};
 ghost use Rattle.counting.specs.Limits.{most_heads, row_width, max_fuel, counts_room, cut, row};
 ghost use Rattle.counting.specs.Counting.{leaf_of, Counts, Placed, Tallied, PartOf, SameIn, Unchanged, NextCount};
 
-use checker::circles::{HeadSets, heads_of};
+use checker::circles::{HeadSets, head_sets};
 use elements::{cell, cut_sum};
 use limits::{MAX_PROCESSES, MAX_SUMMANDS};
 use nodes::with_bit;
@@ -102,20 +102,6 @@ pub fn count(cells: &[u16], at: usize, counts: &[u16], base: usize) -> Counted
         heads: n,
         own: m,
     }
-}
-
-// The processes at the head of each right side.
-fn head_sets(cells: &[u16], starts: &[u16], n: usize) -> HeadSets
-    requires { n ≤ row_width }
-    ensures of_len { length result.of ≡ row_width }
-    ensures heads_of { (H : Sheet) → length H.procs ≡ n → Placed H cells.now starts.now → HeadsOf H n result.of }
-{
-    let mut of = [0u32; ROW];
-    for k in 0..n {
-        let r = heads_of(cells, cell(starts, k));
-        of[k] = r.set;
-    }
-    HeadSets { of: of }
 }
 
 // Is there a row before row f, and is the first set part of the second?

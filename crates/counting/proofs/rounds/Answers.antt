@@ -5,7 +5,7 @@ use mathlib.Core.Path.{◌≡◌, sym, ap, subst, ◌∙◌}
 use mathlib.Core.List.{List}
 use lib.ListN.{length, get_or, length-replicate}
 use Rattle.counting.specs.Counting.{Tallied}
-use Rattle.counting.proofs.AtHead.{unchanged_next}
+use Rattle.counting.proofs.AtHead.{sets_placed, unchanged_next}
 use Rattle.counting.proofs.Rows.{tallied_none, zeros_none}
 use Rattle.counting.proofs.rounds.Goals as goal
 
@@ -19,7 +19,7 @@ loop-f-preserved c =
     let here = c.loop-f in
     let r = c.round in (
       (omega arith, r.auto.t ∙ here.invariant.0.1, unchanged_next r.new.t here.f c.unchanged-same.result c.unchanged-same.ensures),
-      λ H e few p. r.ensures H e p (c.head_sets-sets.ensures.heads_of H e p) here.invariant.0.2 (here.invariant.1 H e few p),
+      λ H e few p. r.ensures H e p (sets_placed H c.args.cells.now c.args.starts.now c.args.n c.head_sets-sets.result.of e p c.head_sets-sets.ensures.sets_at) here.invariant.0.2 (here.invariant.1 H e few p),
     )
 
 pub shape_of-t : goal.shape_of-t

@@ -1,8 +1,8 @@
-use Prim.Native.Nat.{◌-◌, ◌≤◌}
+use Prim.Native.Nat.{◌≤◌}
 use mathlib.Core.Path.{◌≡◌}
 use lib.ListN.{length}
-use Rattle.checker.proofs.Rounds.{HeadsSoFar}
+use Rattle.checker.specs.Circles.{SetsAt}
 use Rattle.checker.proofs.circles.head_sets.Given as goal
 
 abbrev pub invariant-loop-k : goal.invariant-loop-k
-invariant-loop-k l = ((l.k ≤ l.fn.n.procs) × (length l.of ≡ 16)) × HeadsSoFar l.cells l.starts l.fn.n l.k l.of
+invariant-loop-k l = ((l.k ≤ l.n) × (length l.of ≡ 16)) × SetsAt l.cells l.starts l.k l.of
