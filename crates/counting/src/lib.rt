@@ -8,7 +8,7 @@ ghost use Rattle.counting.specs.Limits.{most_heads, row_width, max_fuel, counts_
 ghost use Rattle.counting.specs.Counting.{leaf_of, Counts, Placed, Tallied, PartOf, SameIn, Unchanged, NextCount};
 
 use checker::circles::{HeadSets, head_sets};
-use elements::{cell, cut_sum};
+use elements::cell;
 use limits::{MAX_PROCESSES, MAX_SUMMANDS};
 use nodes::with_bit;
 
@@ -28,11 +28,12 @@ pub struct Counted {
     pub own: usize,
 }
 
+#[tactic(auto, unfolding(crate::specs::Limits::cut))]
 fn add(a: usize, b: usize) -> usize
     requires { a ≤ most_heads }
     ensures { (result ≡ cut (a + b)) × (result ≤ most_heads) }
 {
-    cut_sum(MOST, a, b)
+    a.saturating_add(b).min(MOST)
 }
 
 // The count of process k in the row at base, 0 past the row's end.

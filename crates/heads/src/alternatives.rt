@@ -140,10 +140,7 @@ fn weigh(work: usize, p: usize, next: usize) -> usize
     requires { work ≤ work_limit }
     ensures { result ≤ work_limit }
 {
-    if next <= p {
-        return work;
-    }
-    elements::cut_sum(WORK, work, next - p)
+    work.saturating_add(next.saturating_sub(p)).min(WORK)
 }
 
 // From a place on as long as one side of `+` has all heads.

@@ -40,9 +40,7 @@ pub fn copy(s: &[u8], from: usize, l: usize, out: &mut [u8], w: usize)
     requires { (from + l ≤ length s.now) × (w + l ≤ length out.old) }
     ensures { out.new ≡ paste out.old w (drop from s.now) l }
 {
-    for j in 0..l {
-        out[w + j] = s[from + j];
-    }
+    out[w..w + l].copy_from_slice(&s[from..from + l]);
 }
 
 // What one node comes to: a variable to the term in its slot.

@@ -1,6 +1,6 @@
 -- One part after another, however the sequences are nested. The measure is what is left of the cells.
 use native.Mathlib.Omega.{arith}
-use mathlib.Core.Path.{refl, sym, ap, ◌∙◌, subst}
+use mathlib.Core.Path.{refl, ◌∙◌}
 use Rattle.std.specs.Prelude.{None}
 use Rattle.following.proofs.Parts.{parts_start, parts_stuck, parts_done, parts_seq, parts_many, parts_on, parts_last, parts_long}
 use Rattle.following.proofs.put_calls.Goals as goal
