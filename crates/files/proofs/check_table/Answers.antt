@@ -3,39 +3,30 @@ use mathlib.Core.Path.{◌≡◌}
 use Prim.Native.Nat.{◌-◌}
 use native.Mathlib.Omega.{arith}
 use lib.ListN.{take, length-take}
+use Rattle.std.proofs.lemmas.Result.{err_from_is_err_and}
 use Rattle.blocks.proofs.RoundTrip.{opens_accepted, opens_refused}
-use Rattle.files.proofs.TableCheck.{no_stream, table_answer}
+use Rattle.files.proofs.TableCheck.{no_stream, no_table, table_there}
 use Rattle.files.proofs.check_table.Goals as goal
 
-pub returns-then-opened-ne0 : goal.returns-then-opened-ne0
-returns-then-opened-ne0 c =
-    let read = c.read_file-opened in
-    no_stream _ read.result.refused (opens_refused read.result read.new.out _ read.ensures (omega arith))
+pub returns-in_err-count : goal.returns-in_err-count
+returns-in_err-count c =
+    let p = err_from_is_err_and c.from_residual.result c.from_residual.ensures.1 in
+    rw (p.1, p.2) (no_stream _ _ (opens_refused _ _ c.read_file.new.out c.in_err-count.ensures))
 
 pub slice_bounds-read_table-end : goal.slice_bounds-read_table-end
-slice_bounds-read_table-end c =
-    let read = c.read_file-opened in
-    let opened = opens_accepted read.result read.new.out _ read.ensures (omega arith) in
-    omega (arith, opened.1)
+slice_bounds-read_table-end c = (opens_accepted _ _ c.read_file.new.out c.in_ok-count.ensures).2
 
-pub read_table-table-requires : goal.read_table-table-requires
-read_table-table-requires c =
-    let read = c.read_file-opened in
-    let opened = opens_accepted read.result read.new.out _ read.ensures (omega arith) in
-    rw (length-take (read.result.count - 0) read.new.out) (omega (arith, read.auto.out, c.requires.1))
+pub read_table-requires : goal.read_table-requires
+read_table-requires c = rw (length-take (c.in_ok-count.count - 0) c.read_file.new.out) (omega (arith, c.read_file.auto.out, c.requires.1))
 
-pub returns-then-table : goal.returns-then-table
-returns-then-table c =
-    let read = c.read_file-opened in
-    let opened = opens_accepted read.result read.new.out _ read.ensures (omega arith) in
-    let whole : read.result.count - 0 ≡ read.result.count = omega arith in
-    let table = c.read_table-table in
-    (table_answer _ (take read.result.count read.new.out) table.result opened.0 (rw whole at table.ensures)).0 c.if-table.true
+pub returns-in-Some : goal.returns-in-Some
+returns-in-Some c =
+    let opened = opens_accepted _ _ c.read_file.new.out c.in_ok-count.ensures in
+    let whole : c.in_ok-count.count - 0 ≡ c.in_ok-count.count = omega arith in
+    table_there _ (take c.in_ok-count.count c.read_file.new.out) _ opened.0 (rw whole at c.in-Some.ensures)
 
-pub returns-else-table : goal.returns-else-table
-returns-else-table c =
-    let read = c.read_file-opened in
-    let opened = opens_accepted read.result read.new.out _ read.ensures (omega arith) in
-    let whole : read.result.count - 0 ≡ read.result.count = omega arith in
-    let table = c.read_table-table in
-    (table_answer _ (take read.result.count read.new.out) table.result opened.0 (rw whole at table.ensures)).1 c.if-table.false
+pub returns-in-None : goal.returns-in-None
+returns-in-None c =
+    let opened = opens_accepted _ _ c.read_file.new.out c.in_ok-count.ensures in
+    let whole : c.in_ok-count.count - 0 ≡ c.in_ok-count.count = omega arith in
+    no_table _ (take c.in_ok-count.count c.read_file.new.out) opened.0 (rw whole at c.in-None.ensures)
