@@ -78,7 +78,7 @@ fn down_sum(d: Node, s: Spot, slots: &mut [u8], vars: &mut [u8]) -> Option<Spot>
     if n >= nodes::MAX_SCOPE {
         return None;
     }
-    put_variable(&mut *slots, n, s.m);
+    put_variable(slots, n, s.m);
     vars[nv] = (d.number % BYTE_LIMIT) as u8;
     Some(Spot {
         at: d.next,
@@ -114,7 +114,7 @@ pub fn down_side(
         return None;
     }
     conds[s.lc] = wanted(e.second);
-    let r = putting::put_term(cells, d.terms, slots, s.n, &mut *conds, s.lc + 1)?;
+    let r = putting::put_term(cells, d.terms, slots, s.n, conds, s.lc + 1)?;
     Some(Spot {
         at: e.at,
         c: e.c,
@@ -145,8 +145,8 @@ fn down_seq(
         e.c,
         slots,
         s.n,
-        &mut *after,
-        &mut *calls,
+        after,
+        calls,
         s.top,
         s.nk,
     )?;
@@ -179,7 +179,7 @@ pub fn down_call(
     if count > FRAME_WIDTH {
         return None;
     }
-    putting::put_slots(cells, d.terms, count, slots, s.n, &mut *mine);
+    putting::put_slots(cells, d.terms, count, slots, s.n, mine);
     let at = cell(starts, d.number);
     let c = cell(firsts, d.number);
     Some(Spot {
@@ -209,10 +209,10 @@ pub fn step(
     ensures step_down { (conds : List ℕ) → StepDown cells.now d s (arrays slots.old vars.old conds calls.old) result (arrays slots.new vars.new conds calls.new) }
 {
     if d.kind == nodes::SUM {
-        return down_sum(d, s, &mut *slots, &mut *vars);
+        return down_sum(d, s, slots, vars);
     }
     if d.kind == nodes::SEQ {
-        return down_seq(cells, d, s, e, &*slots, &mut *after, &mut *calls);
+        return down_seq(cells, d, s, e, &*slots, after, calls);
     }
     None
 }
@@ -224,7 +224,7 @@ fn piece(b: u8, s: &[u8], from: usize, l: usize, out: &mut [u8], w: usize) -> us
     ensures adds { Adds (b ∷ take l (drop from s.now)) w out.old result out.new }
 {
     out[w] = b;
-    putting::copy(s, from, l, &mut *out, w + 1);
+    putting::copy(s, from, l, out, w + 1);
     w + 1 + l
 }
 
@@ -260,7 +260,7 @@ pub fn emit(
     if count > MAX_ARITY {
         return Err(Refusal::NotWithin);
     }
-    let Some(la) = putting::put_terms(cells, d.terms, count, slots, s.n, &mut *terms, 0) else {
+    let Some(la) = putting::put_terms(cells, d.terms, count, slots, s.n, terms, 0) else {
         return Err(Refusal::NotWithin);
     };
     let nv = s.nv;
@@ -270,9 +270,9 @@ pub fn emit(
     if out.len() - w < 4 + nv + lc + la + lk {
         return Err(Refusal::NoRoom);
     }
-    let w1 = piece(nv as u8, vars, 0, nv, &mut *out, w);
-    let w2 = piece(s.nc as u8, conds, 0, lc, &mut *out, w1);
-    let w3 = piece(code_of(d.number), &*terms, 0, la, &mut *out, w2);
-    let w4 = piece(s.nk as u8, calls, top, lk, &mut *out, w3);
+    let w1 = piece(nv as u8, vars, 0, nv, out, w);
+    let w2 = piece(s.nc as u8, conds, 0, lc, out, w1);
+    let w3 = piece(code_of(d.number), &*terms, 0, la, out, w2);
+    let w4 = piece(s.nk as u8, calls, top, lk, out, w3);
     Ok(w4)
 }

@@ -171,7 +171,7 @@ pub fn rounds(cells: &[u16], starts: &[u16], n: usize, times: usize, t: &mut [u1
     let sets = head_sets(cells, starts, n);
     let mut same: u32 = 0;
     for f in 0..times {
-        round(cells, starts, n, f, sets, same, &mut *t);
+        round(cells, starts, n, f, sets, same, t);
         same = unchanged(&*t, n, f);
     }
 }

@@ -53,7 +53,7 @@ fn put_one(slots: &[u8], i: usize, out: &mut [u8], w: usize) -> Option<usize>
     if l > MAX_TERM {
         return None;
     }
-    putting::copy(slots, putting::SLOT * i + 2, l, &mut *out, w);
+    putting::copy(slots, putting::SLOT * i + 2, l, out, w);
     Some(w + l)
 }
 
@@ -77,7 +77,7 @@ fn put_marked(m: u32, slots: &[u8], n: usize, out: &mut [u8], w: usize) -> Optio
         if k >= FRAME_WIDTH {
             return None;
         }
-        v = put_one(slots, i, &mut *out, v)?;
+        v = put_one(slots, i, out, v)?;
         rest = (rest >> t) / 2;
         at = i + 1;
         k += 1;
@@ -107,11 +107,11 @@ fn put_call(
             return None;
         }
         out[w] = (d.number % BYTE_LIMIT) as u8;
-        return putting::put_terms(cells, d.terms, count, slots, n, &mut *out, w + 1);
+        return putting::put_terms(cells, d.terms, count, slots, n, out, w + 1);
     }
     let m = marking::marks(cells, at, n);
     out[w] = c as u8;
-    put_marked(m, slots, n, &mut *out, w + 1)
+    put_marked(m, slots, n, out, w + 1)
 }
 
 // The calls of a term that stands after a first part: a loop over its parts, however the sequences are nested.
@@ -147,7 +147,7 @@ fn put_calls(
         if k >= most {
             return None;
         }
-        let end = put_call(cells, p, e, slots, n, &mut *out, v)?;
+        let end = put_call(cells, p, e, slots, n, out, v)?;
         // the last part: where it ends does not matter
         if need == 1 {
             return Some(Calls { w: end, n: k + 1 });
@@ -180,9 +180,9 @@ pub fn push_calls(
     ensures pushes { Pushes cells.now at c slots.now n nk calls.old top result calls.new }
     ensures top_le_top { IfSome result (λ r. r.top ≤ top) × (drop top calls.new ≡ drop top calls.old) }
 {
-    let r = put_calls(cells, at, c, slots, n, MAX_CALLS - nk, &mut *after)?;
+    let r = put_calls(cells, at, c, slots, n, MAX_CALLS - nk, after)?;
     let l = r.w;
-    putting::copy(&*after, 0, l, &mut *calls, top - l);
+    putting::copy(&*after, 0, l, calls, top - l);
     Some(Pushed {
         top: top - l,
         n: nk + r.n,

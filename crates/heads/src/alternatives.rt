@@ -188,7 +188,7 @@ fn recall(
     }
     let f = reach(cells, counts, base, heads, at);
     if f.work >= WORK {
-        remember(cells, counts, &mut *remembered, at, base, heads, f);
+        remember(cells, counts, remembered, at, base, heads, f);
     }
     f
 }
@@ -221,7 +221,7 @@ pub fn look(cells: &[u16], counts: &[u16], s: Spot, heads: usize, remembered: &m
             a: none,
         };
     }
-    let f = recall(cells, counts, base, heads, s.at, &mut *remembered);
+    let f = recall(cells, counts, base, heads, s.at, remembered);
     let e = Side {
         second: true,
         at: f.at,

@@ -71,7 +71,7 @@ pub fn write_heads(
         counts,
         firsts,
     };
-    walk(sheet, s, heads, &mut *slots, &mut work, 0, &mut *out, w)
+    walk(sheet, s, heads, slots, &mut work, 0, out, w)
 }
 
 // How many heads a term has, where `fuel` calls may be followed.
@@ -118,11 +118,11 @@ pub fn write_summands(
         fuel,
         at,
         c,
-        &mut *slots,
+        slots,
         n,
         m,
         a,
-        &mut *out,
+        out,
         w + 1,
     )
 }

@@ -34,7 +34,7 @@ pub fn put_params(slots: &mut [u8], m: u32, n: usize)
     let mut k: usize = 0;
     for i in 0..n {
         let b = rest % 2;
-        putting::put_byte(&mut *slots, i, param_code(b, k));
+        putting::put_byte(slots, i, param_code(b, k));
         k += b as usize;
         rest = rest / 2;
     }

@@ -124,6 +124,6 @@ pub fn remember(
             short(f.a.heads),
             short(f.a.own),
         ];
-        put_entry(&mut *l, i, &e);
+        put_entry(l, i, &e);
     }
 }

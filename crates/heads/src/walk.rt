@@ -109,7 +109,7 @@ fn chosen(
     if later.len() - LATER * q < LATER {
         return Err(Refusal::NotWithin);
     }
-    put_later(&mut *later, q, g.s, e, heads - first);
+    put_later(later, q, g.s, e, heads - first);
     Ok(Next::Into(aside(g, f, first, left, q + 1, w)))
 }
 
@@ -182,7 +182,7 @@ fn leaf(
             &work.conds,
             &mut work.after,
             &work.calls,
-            &mut *out,
+            out,
             w,
         );
     }
@@ -198,7 +198,7 @@ fn leaf(
     ) else {
         return Err(Refusal::NotWithin);
     };
-    walk(sheet, r, heads, &mut mine, &mut *work, q, &mut *out, w)
+    walk(sheet, r, heads, &mut mine, work, q, out, w)
 }
 
 // Into a choice, or on after a leaf that is written.
@@ -225,7 +225,7 @@ fn next_turn(
     if choice(g.d.kind) {
         return chosen(g, heads, left, &mut work.later, q, w);
     }
-    let v = leaf(sheet, g, heads, slots, &mut *work, q, &mut *out, w)?;
+    let v = leaf(sheet, g, heads, slots, work, q, out, w)?;
     resumed(sheet.cells, &work.later, g, heads, left, q0, q, v)
 }
 
@@ -259,7 +259,7 @@ pub fn walk(
                 g.d,
                 g.s,
                 second_side(g),
-                &mut *slots,
+                slots,
                 &mut work.vars,
                 &mut work.after,
                 &mut work.calls,
@@ -269,7 +269,7 @@ pub fn walk(
             s = t;
         } else {
             let turn = next_turn(
-                sheet, g, heads, left, &*slots, &mut *work, q0, q, &mut *out, v,
+                sheet, g, heads, left, &*slots, work, q0, q, out, v,
             )?;
             let k = match turn {
                 Next::Over(end) => return Ok(end),

@@ -91,7 +91,7 @@ fn put_node(slots: &[u8], n: usize, tag: usize, number: usize, l: usize, out: &m
         out[v] = slots[from];
         return;
     }
-    copy(slots, from, l, &mut *out, v);
+    copy(slots, from, l, out, v);
 }
 
 // A data term written from w on: a loop over what is left of it. None: it has too many nodes.
@@ -125,7 +125,7 @@ pub fn put_term(
         if end > w + MAX_TERM {
             return None;
         }
-        put_node(slots, n, d.tag, d.number, s.bytes, &mut *out, v);
+        put_node(slots, n, d.tag, d.number, s.bytes, out, v);
         k += s.nodes;
         v = end;
         need = need - 1 + d.kids;
@@ -156,7 +156,7 @@ pub fn put_terms(
     let mut p = at;
     let mut v = w;
     for j in 0..count {
-        let r = put_term(cells, p, slots, n, &mut *out, v)?;
+        let r = put_term(cells, p, slots, n, out, v)?;
         p = r.next;
         v = r.w;
     }
@@ -181,7 +181,7 @@ fn put_slot(cells: &[u16], at: usize, slots: &[u8], n: usize, out: &mut [u8], j:
     ensures slot_put { SlotPut cells.now at slots.now n out.new (slot_width * j) result }
 {
     let b = SLOT * j;
-    let Some(r) = put_term(cells, at, slots, n, &mut *out, b + 2) else {
+    let Some(r) = put_term(cells, at, slots, n, out, b + 2) else {
         out[b] = LONG;
         return nodes::skip_data(cells, at, 1);
     };
@@ -197,6 +197,6 @@ pub fn put_slots(cells: &[u16], at: usize, count: usize, slots: &[u8], n: usize,
 {
     let mut p = at;
     for j in 0..count {
-        p = put_slot(cells, p, slots, n, &mut *out, j);
+        p = put_slot(cells, p, slots, n, out, j);
     }
 }
