@@ -139,17 +139,7 @@ fn down_seq(
     ensures fuel_value { IfSome result (λ r. (r.fuel ≡ s.fuel) × (r.at ≡ d.next)) }
     ensures seq_down { SeqDown cells.now d s e slots.now calls.old result calls.new }
 {
-    let r = following::push_calls(
-        cells,
-        e.at,
-        e.c,
-        slots,
-        s.n,
-        after,
-        calls,
-        s.top,
-        s.nk,
-    )?;
+    let r = following::push_calls(cells, e.at, e.c, slots, s.n, after, calls, s.top, s.nk)?;
     Some(Spot {
         at: d.next,
         nk: r.n,
@@ -183,10 +173,10 @@ pub fn down_call(
     let at = cell(starts, d.number);
     let c = cell(firsts, d.number);
     Some(Spot {
-        at: at,
+        at,
         fuel: s.fuel - 1,
         n: count,
-        c: c,
+        c,
         ..s
     })
 }
@@ -212,7 +202,7 @@ pub fn step(
         return down_sum(d, s, slots, vars);
     }
     if d.kind == nodes::SEQ {
-        return down_seq(cells, d, s, e, &*slots, after, calls);
+        return down_seq(cells, d, s, e, slots, after, calls);
     }
     None
 }
@@ -272,7 +262,7 @@ pub fn emit(
     }
     let w1 = piece(nv as u8, vars, 0, nv, out, w);
     let w2 = piece(s.nc as u8, conds, 0, lc, out, w1);
-    let w3 = piece(code_of(d.number), &*terms, 0, la, out, w2);
+    let w3 = piece(code_of(d.number), terms, 0, la, out, w2);
     let w4 = piece(s.nk as u8, calls, top, lk, out, w3);
     Ok(w4)
 }

@@ -144,7 +144,7 @@ fn round(
     let of = sets.of;
     for k in 0..n {
         let p = cell(starts, k);
-        let c = next_count(cells, p, &*t, f, k, of[k], same);
+        let c = next_count(cells, p, t, f, k, of[k], same);
         t[ROW * (f + 1) + k] = c as u16;
     }
 }
@@ -172,6 +172,6 @@ pub fn rounds(cells: &[u16], starts: &[u16], n: usize, times: usize, t: &mut [u1
     let mut same: u32 = 0;
     for f in 0..times {
         round(cells, starts, n, f, sets, same, t);
-        same = unchanged(&*t, n, f);
+        same = unchanged(t, n, f);
     }
 }

@@ -182,7 +182,7 @@ pub fn push_calls(
 {
     let r = put_calls(cells, at, c, slots, n, MAX_CALLS - nk, after)?;
     let l = r.w;
-    putting::copy(&*after, 0, l, calls, top - l);
+    putting::copy(after, 0, l, calls, top - l);
     Some(Pushed {
         top: top - l,
         n: nk + r.n,

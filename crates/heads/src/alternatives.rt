@@ -164,9 +164,9 @@ fn reach(cells: &[u16], counts: &[u16], base: usize, heads: usize, at: usize) ->
     }
     Arrival {
         at: p,
-        own: own,
+        own,
         next: d.next,
-        a: a,
+        a,
         work: weigh(work, p, a.next),
     }
 }
@@ -183,8 +183,8 @@ fn recall(
     requires { (at < length cells.now) × (base < cell_limit) × Remembers cells.now counts.now remembered.old }
     ensures { Finds cells.now counts.now base heads at result × Remembers cells.now counts.now remembered.new }
 {
-    if let Some(i) = find(&*remembered, at, base, heads) {
-        return found_at(&*remembered, i);
+    if let Some(i) = find(remembered, at, base, heads) {
+        return found_at(remembered, i);
     }
     let f = reach(cells, counts, base, heads, at);
     if f.work >= WORK {
@@ -215,11 +215,7 @@ pub fn look(cells: &[u16], counts: &[u16], s: Spot, heads: usize, remembered: &m
             heads: 0,
             own: 0,
         };
-        return Ahead {
-            s: s,
-            d: d,
-            a: none,
-        };
+        return Ahead { s, d, a: none };
     }
     let f = recall(cells, counts, base, heads, s.at, remembered);
     let e = Side {
@@ -234,5 +230,5 @@ pub fn look(cells: &[u16], counts: &[u16], s: Spot, heads: usize, remembered: &m
         return Ahead { s: t, d: b, a: m };
     }
     let a = first_part(cells, counts, base, b);
-    Ahead { s: t, d: b, a: a }
+    Ahead { s: t, d: b, a }
 }

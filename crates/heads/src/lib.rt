@@ -54,11 +54,11 @@ pub fn write_heads(
         remembered: [0u16; REMEMBERED],
     };
     let s = Spot {
-        at: at,
-        fuel: fuel,
-        n: n,
-        m: m,
-        c: c,
+        at,
+        fuel,
+        n,
+        m,
+        c,
         nv: 0,
         nc: 0,
         lc: 0,

@@ -57,7 +57,7 @@ pub fn found_at(l: &[u16], i: usize) -> Arrival
         at: cell(l, k + 3),
         own: cell(l, k + 4),
         next: cell(l, k + 5),
-        a: a,
+        a,
         work: 0,
     }
 }
@@ -112,7 +112,7 @@ pub fn remember(
     ensures { Remembers cells.now counts.now l.new }
 {
     if fits(p, base, heads, f) {
-        let i = free(&*l, p);
+        let i = free(l, p);
         let e = [
             short(p),
             short(base),

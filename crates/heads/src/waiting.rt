@@ -51,16 +51,16 @@ pub fn later_at(later: &[u16], q: usize, fuel: usize) -> Later
     let next = cell(later, i + 5);
     let z = cell(later, i + 6);
     let s = Spot {
-        at: at,
-        fuel: fuel,
+        at,
+        fuel,
         n: x / 64,
         m: x % 64,
         c: z / 256,
         nv: y / 256,
         nc: y / 16 % 16,
-        lc: lc,
+        lc,
         nk: y % 16,
-        top: top,
+        top,
     };
     let e = Side {
         second: true,
@@ -68,8 +68,8 @@ pub fn later_at(later: &[u16], q: usize, fuel: usize) -> Later
         c: z / 256,
     };
     Later {
-        s: s,
-        e: e,
+        s,
+        e,
         heads: z % 256,
     }
 }

@@ -73,11 +73,11 @@ fn aside(g: Ahead, e: Side, heads: usize, left: usize, q: usize, w: usize) -> Tu
     Turn {
         t: g.s,
         d: g.d,
-        e: e,
-        heads: heads,
-        left: left,
-        q: q,
-        w: w,
+        e,
+        heads,
+        left,
+        q,
+        w,
     }
 }
 
@@ -144,8 +144,8 @@ fn resumed(
     }
     let d = nodes::node_at(cells, t.at);
     Ok(Next::Into(Turn {
-        t: t,
-        d: d,
+        t,
+        d,
         e: l.e,
         heads: l.heads,
         left: left - heads,
@@ -268,21 +268,13 @@ pub fn walk(
             };
             s = t;
         } else {
-            let turn = next_turn(
-                sheet, g, heads, left, &*slots, work, q0, q, out, v,
-            )?;
+            let turn = next_turn(sheet, g, heads, left, slots, work, q0, q, out, v)?;
             let k = match turn {
                 Next::Over(end) => return Ok(end),
                 Next::Into(k) => k,
             };
-            let Some(side) = contexts::down_side(
-                sheet.cells,
-                k.d,
-                k.t,
-                k.e,
-                &*slots,
-                &mut work.conds,
-            ) else {
+            let Some(side) = contexts::down_side(sheet.cells, k.d, k.t, k.e, slots, &mut work.conds)
+            else {
                 return Err(Refusal::NotWithin);
             };
             s = side;
