@@ -1,4 +1,4 @@
-#![tactic(auto)]
+#![tactic(auto, using(laws::specs::Places::get_or_positive))]
 // Question 5: the tokens of a sheet to the cells of its tree, in prefix order (specs/Cells.antt).
 ghost use Rattle.std.specs.Prelude.{List, map, ℕ, ◌*◌, ◌≤◌, ◌<◌, length};
 ghost use Rattle.pcrl.specs.Grammar.{parse};

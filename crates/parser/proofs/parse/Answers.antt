@@ -1,9 +1,8 @@
 -- `parse` meets its contract: the runs of lines and the init line are those of the definition's `sheet`, with all the fuel that it has.
 use Prim.Native.Nat.{ℕ, ◌+◌, ◌*◌, ◌<◌}
-use mathlib.Core.Path.{◌≡◌, refl, ◌∙◌}
+use mathlib.Core.Path.{◌≡◌, refl}
 use mathlib.Core.List.{[], map}
 use native.Mathlib.Omega.{arith}
-use lib.Dec.{lit<}
 use lib.ListN.{length, length-map}
 use Rattle.lexer.specs.Cells.{cell_token}
 use Rattle.parser.specs.Kinds.{kind_of}
@@ -12,15 +11,6 @@ use Rattle.parser.proofs.Reading.{left_below}
 use Rattle.parser.proofs.SheetLaws.{sheet_read}
 use Rattle.parser.proofs.ParseLaws.{parses, parses_none}
 use Rattle.parser.proofs.parse.Goals as goal
-
-pub expect-requires : goal.expect-requires
-expect-requires c = lit< tt
-
-pub expect-requires-2 : goal.expect-requires-2
-expect-requires-2 c = lit< tt
-
-pub shape_of-out : goal.shape_of-out
-shape_of-out c = c.init_line.auto.out ∙ c.lines_of-4.auto.out ∙ c.lines_of-3.auto.out ∙ c.lines_of-2.auto.out ∙ c.lines_of.auto.out
 
 pub returns-in_err-a : goal.returns-in_err-a
 unfolding kind_of

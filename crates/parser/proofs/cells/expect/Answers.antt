@@ -5,11 +5,6 @@ use Rattle.laws.specs.Places.{get_or_positive}
 use Rattle.parser.specs.Reading.{stands, other}
 use Rattle.parser.proofs.cells.expect.Goals as goal
 
-pub overflow_add-result : goal.overflow_add-result
-overflow_add-result c =
-    let l = get_or_positive c.args.toks.now c.args.at (omega arith) in
-    omega arith
-
 pub returns-then-peek-sign : goal.returns-then-peek-sign
 returns-then-peek-sign c =
     let l = get_or_positive c.args.toks.now c.args.at (omega arith) in

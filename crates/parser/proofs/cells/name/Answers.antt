@@ -8,14 +8,6 @@ use Rattle.parser.proofs.cells.name.Goals as goal
 pub returns-then-t-lt-FIRST_NAME : goal.returns-then-t-lt-FIRST_NAME
 returns-then-t-lt-FIRST_NAME c = record { ahead = tt; read = λ s f l. missed (name_missing s c.args.toks.now c.args.at (omega arith)) }
 
-pub overflow_add-result : goal.overflow_add-result
-overflow_add-result c =
-    let l = get_or_positive c.args.toks.now c.args.at (omega arith) in
-    omega arith
-
-pub shape_of-out : goal.shape_of-out
-shape_of-out c = c.put.auto.out
-
 pub returns : goal.returns
 returns c =
     let l = get_or_positive c.args.toks.now c.args.at (omega arith) in record {

@@ -15,14 +15,6 @@ returns-then-t-lt-FIRST_NUMERAL c = record {
   ]);
 }
 
-pub overflow_add-result : goal.overflow_add-result
-overflow_add-result c =
-    let l = get_or_positive c.args.toks.now c.args.at (omega arith) in
-    omega arith
-
-pub shape_of-out : goal.shape_of-out
-shape_of-out c = c.put.auto.out
-
 pub returns : goal.returns
 returns c =
     let l = get_or_positive c.args.toks.now c.args.at (omega arith) in record {

@@ -4,22 +4,11 @@ use Prim.Native.Nat.{◌+◌}
 use lib.ListN.{length}
 use native.Mathlib.Omega.{arith}
 use Rattle.laws.specs.Places.{get_or_positive}
-use Rattle.std.proofs.lemmas.Option.{IfSome_then}
 use Rattle.parser.proofs.Reaching.{past_end, past_meets, put_any, meets, reaches, answer, some_answer, no_answer}
-use Rattle.parser.proofs.Going.{goes_start, goes_then}
-use Rattle.parser.proofs.Operands.{joins_start, joins_then, or_last, or_more, data_read, and_last, and_more, conjunction_read}
+use Rattle.parser.proofs.Going.{goes_then}
+use Rattle.parser.proofs.Operands.{joins_then, or_last, or_more, data_read, and_last, and_more, conjunction_read}
 use Rattle.parser.proofs.DataLaws.{comparison_alone, comparison_equal, negation_atom, negation_not, atom_nest, atom_none, atom_value, atom_variable, atom_apply, list_one, list_more}
 use Rattle.parser.proofs.data.+atom_comparison_conjunction_data_list_data_term_negation.Goals as goal
-
-pub atom-overflow_add-at : goal.atom-overflow_add-at
-atom-overflow_add-at t c =
-    let l = get_or_positive c.args.toks.now c.args.at (omega arith) in
-    omega arith
-
-pub atom-data_term-requires : goal.atom-data_term-requires
-atom-data_term-requires t c =
-    let l = get_or_positive c.args.toks.now c.args.at (omega arith) in
-    (omega arith, tt)
 
 pub atom-returns-in_err-a-clause-read : goal.atom-returns-in_err-a-clause-read
 atom-returns-in_err-a-clause-read t c =
@@ -29,10 +18,6 @@ pub atom-returns-in_err-at-clause-read : goal.atom-returns-in_err-at-clause-read
 atom-returns-in_err-at-clause-read t c =
     rw c.from_residual-in_err-at.ensures (λ s f l. no_answer (omega arith) (atom_nest s c.args.toks.now c.args.at (sym c.peek-t.ensures ∙ c.if-t-eq-OPEN.true) c.put-v.ensures (omega (arith, c.in_ok-a.ensures.ahead)) (λ g k. reaches (c.in_ok-a.ensures.read s g k)) (omega (arith, c.in_ok-a.ensures.ahead)) (meets c.in_err-at.ensures.read) f l))
 
-pub atom-returns-then-t-eq-OPEN-clause-ahead : goal.atom-returns-then-t-eq-OPEN-clause-ahead
-atom-returns-then-t-eq-OPEN-clause-ahead t c =
-    omega (arith, c.in_ok-a.ensures.ahead, c.in_ok-at.ensures.ahead)
-
 pub atom-returns-then-t-eq-OPEN-clause-read : goal.atom-returns-then-t-eq-OPEN-clause-read
 atom-returns-then-t-eq-OPEN-clause-read t c =
     λ s f l. some_answer _ (omega (arith, c.in_ok-at.ensures.ahead)) (atom_nest s c.args.toks.now c.args.at (sym c.peek-t.ensures ∙ c.if-t-eq-OPEN.true) c.put-v.ensures (omega (arith, c.in_ok-a.ensures.ahead)) (λ g k. reaches (c.in_ok-a.ensures.read s g k)) (omega (arith, c.in_ok-a.ensures.ahead, c.in_ok-at.ensures.ahead)) (meets c.in_ok-at.ensures.read) f l)
@@ -41,50 +26,15 @@ pub atom-returns-then-t-lt-FIRST_NUMERAL-clause-read : goal.atom-returns-then-t-
 atom-returns-then-t-lt-FIRST_NUMERAL-clause-read t c =
     λ s f l. no_answer (omega arith) (atom_none s c.args.toks.now c.args.at (λ e. c.if-t-eq-OPEN.false (c.peek-t.ensures ∙ e)) {end = length c.args.toks.now + 1} {w' = 0} {o' = c.args.out.now} (omega arith) (omega arith) f l)
 
-pub atom-overflow_add-result : goal.atom-overflow_add-result
-atom-overflow_add-result t c =
-    let l = get_or_positive c.args.toks.now c.args.at (omega arith) in
-    omega arith
-
-pub atom-returns-then-t-lt-FIRST_NAME-clause-ahead : goal.atom-returns-then-t-lt-FIRST_NAME-clause-ahead
-atom-returns-then-t-lt-FIRST_NAME-clause-ahead t c =
-    let l = get_or_positive c.args.toks.now c.args.at (omega arith) in
-    omega arith
-
 pub atom-returns-then-t-lt-FIRST_NAME-clause-read : goal.atom-returns-then-t-lt-FIRST_NAME-clause-read
 atom-returns-then-t-lt-FIRST_NAME-clause-read t c =
     let l = get_or_positive c.args.toks.now c.args.at (omega arith) in
     λ s f k. some_answer _ (omega arith) (atom_value s c.args.toks.now c.args.at c.peek-t.ensures c.put.ensures c.put-v-then-t-lt-FIRST_NAME.ensures (omega arith) (omega arith) f k)
 
-pub atom-overflow_add-p : goal.atom-overflow_add-p
-atom-overflow_add-p t c =
-    let l = get_or_positive c.args.toks.now c.args.at (omega arith) in
-    omega arith
-
-pub atom-returns-then-peek-ne-OPEN-clause-ahead : goal.atom-returns-then-peek-ne-OPEN-clause-ahead
-atom-returns-then-peek-ne-OPEN-clause-ahead t c =
-    let l = get_or_positive c.args.toks.now c.args.at (omega arith) in
-    omega arith
-
 pub atom-returns-then-peek-ne-OPEN-clause-read : goal.atom-returns-then-peek-ne-OPEN-clause-read
 atom-returns-then-peek-ne-OPEN-clause-read t c =
     let l = get_or_positive c.args.toks.now c.args.at (omega arith) in
     λ s f k. some_answer _ (omega arith) (atom_variable s c.args.toks.now c.args.at c.peek-t.ensures c.put-d.ensures c.put-x.ensures (omega arith) (λ e. c.if-peek-ne-OPEN.true (c.peek.ensures ∙ e)) f k)
-
-pub atom-overflow_add-p-2 : goal.atom-overflow_add-p-2
-atom-overflow_add-p-2 t c =
-    let l = get_or_positive c.args.toks.now (c.args.at + 1) (omega arith) in
-    omega arith
-
-pub atom-data_list-requires : goal.atom-data_list-requires
-atom-data_list-requires t c =
-    let l = get_or_positive c.args.toks.now (c.args.at + 1) (omega arith) in
-    (omega arith, tt)
-
-pub atom-returns-clause-ahead : goal.atom-returns-clause-ahead
-atom-returns-clause-ahead t c =
-    let l = get_or_positive c.args.toks.now (c.args.at + 1) (omega arith) in
-    IfSome_then c.data_list.result c.data_list.ensures.ahead (λ x p. omega arith)
 
 pub atom-returns-clause-read : goal.atom-returns-clause-read
 atom-returns-clause-read t c =
@@ -98,54 +48,17 @@ pub comparison-returns-then-peek-ne-SAME-clause-read : goal.comparison-returns-t
 comparison-returns-then-peek-ne-SAME-clause-read t c =
     λ s f l. some_answer _ (omega (arith, c.in_ok-a.ensures.ahead)) (comparison_alone s c.args.toks.now c.args.at c.put-v.ensures (omega (arith, c.in_ok-a.ensures.ahead)) (λ g k. reaches (c.in_ok-a.ensures.read s g k)) (λ e. c.if-peek-ne-SAME.true (c.peek.ensures ∙ e)) f l)
 
-pub comparison-overflow_add-a : goal.comparison-overflow_add-a
-comparison-overflow_add-a t c =
-    let l = get_or_positive c.args.toks.now c.in_ok-a.a.at (omega arith) in
-    omega arith
-
-pub comparison-negation-requires-2 : goal.comparison-negation-requires-2
-comparison-negation-requires-2 t c =
-    let l = get_or_positive c.args.toks.now c.in_ok-a.a.at (omega arith) in
-    (omega (arith, c.in_ok-a.ensures.ahead), tt)
-
-pub comparison-returns-clause-ahead : goal.comparison-returns-clause-ahead
-comparison-returns-clause-ahead t c =
-    IfSome_then c.negation-2.result c.negation-2.ensures.ahead (λ x p. omega (arith, c.in_ok-a.ensures.ahead))
-
 pub comparison-returns-clause-read : goal.comparison-returns-clause-read
 comparison-returns-clause-read t c =
     λ s f l. answer _ c.negation-2.result c.negation-2.ensures.ahead (comparison_equal s c.args.toks.now c.args.at c.put-v.ensures (omega (arith, c.in_ok-a.ensures.ahead)) (λ g k. reaches (c.in_ok-a.ensures.read s g k)) (sym c.peek.ensures ∙ c.if-peek-ne-SAME.false) c.put.ensures (λ g k. reaches (c.negation-2.ensures.read s g k)) f l)
-
-pub conjunction-loop-a-init : goal.conjunction-loop-a-init
-conjunction-loop-a-init t c =
-    (omega arith, λ s. joins_start)
 
 pub conjunction-returns-in_err-a-clause-read : goal.conjunction-returns-in_err-a-clause-read
 conjunction-returns-in_err-a-clause-read t c =
     rw c.from_residual.ensures (λ s f l. no_answer (omega arith) (conjunction_read s c.args.toks.now c.args.at c.put-v.ensures ((c.loop-a.invariant.1 s).on (and_last s c.args.toks.now c.loop-a.from (omega arith) (λ g k. reaches (c.in_err-a.ensures.read s g k)) (past_end c.args.toks.now 132 (omega arith)))) (λ i. absurd (omega arith)) (λ l. refl) (put_any _ c.args.w _) f l))
 
-pub conjunction-returns-then-peek-ne-AND-clause-ahead : goal.conjunction-returns-then-peek-ne-AND-clause-ahead
-conjunction-returns-then-peek-ne-AND-clause-ahead t c =
-    omega (arith, c.in_ok-a.ensures.ahead)
-
 pub conjunction-returns-then-peek-ne-AND-clause-read : goal.conjunction-returns-then-peek-ne-AND-clause-read
 conjunction-returns-then-peek-ne-AND-clause-read t c =
     λ s f l. some_answer _ (omega (arith, c.in_ok-a.ensures.ahead)) (conjunction_read s c.args.toks.now c.args.at c.put-v.ensures ((c.loop-a.invariant.1 s).on (and_last s c.args.toks.now c.loop-a.from (omega (arith, c.in_ok-a.ensures.ahead)) (λ g k. reaches (c.in_ok-a.ensures.read s g k)) (λ e. c.if-peek-ne-AND.true (c.peek.ensures ∙ e)))) (λ i. omega (arith, c.in_ok-a.ensures.ahead)) (λ l. omega (arith, c.counted.ensures (omega arith))) c.put.ensures f l)
-
-pub conjunction-overflow_add-from : goal.conjunction-overflow_add-from
-conjunction-overflow_add-from t c =
-    let l = get_or_positive c.args.toks.now c.in_ok-a.a.at (omega arith) in
-    omega arith
-
-pub conjunction-overflow_add-n : goal.conjunction-overflow_add-n
-conjunction-overflow_add-n t c =
-    let l = get_or_positive c.args.toks.now c.in_ok-a.a.at (omega arith) in
-    omega (arith, c.in_ok-a.ensures.ahead)
-
-pub conjunction-loop-a-smaller : goal.conjunction-loop-a-smaller
-conjunction-loop-a-smaller t c =
-    let l = get_or_positive c.args.toks.now c.in_ok-a.a.at (omega arith) in
-    omega (arith, c.in_ok-a.ensures.ahead)
 
 pub conjunction-loop-a-preserved : goal.conjunction-loop-a-preserved
 conjunction-loop-a-preserved t c =
@@ -154,36 +67,13 @@ conjunction-loop-a-preserved t c =
       λ s. joins_then (c.loop-a.invariant.1 s) (record { on = and_more s c.args.toks.now c.loop-a.from (omega (arith, c.in_ok-a.ensures.ahead)) (λ g k. reaches (c.in_ok-a.ensures.read s g k)) (sym c.peek.ensures ∙ c.if-peek-ne-AND.false) }),
     )
 
-pub data_term-loop-a-init : goal.data_term-loop-a-init
-data_term-loop-a-init t c =
-    (omega arith, λ s. joins_start)
-
 pub data_term-returns-in_err-a-clause-read : goal.data_term-returns-in_err-a-clause-read
 data_term-returns-in_err-a-clause-read t c =
     rw c.from_residual.ensures (λ s f l. no_answer (omega arith) (data_read s c.args.toks.now c.args.at c.put-v.ensures ((c.loop-a.invariant.1 s).on (or_last s c.args.toks.now c.loop-a.from (omega arith) (λ g k. reaches (c.in_err-a.ensures.read s g k)) (past_end c.args.toks.now 133 (omega arith)))) (λ i. absurd (omega arith)) (λ l. refl) (put_any _ c.args.w _) f l))
 
-pub data_term-returns-then-peek-ne-OR-clause-ahead : goal.data_term-returns-then-peek-ne-OR-clause-ahead
-data_term-returns-then-peek-ne-OR-clause-ahead t c =
-    omega (arith, c.in_ok-a.ensures.ahead)
-
 pub data_term-returns-then-peek-ne-OR-clause-read : goal.data_term-returns-then-peek-ne-OR-clause-read
 data_term-returns-then-peek-ne-OR-clause-read t c =
     λ s f l. some_answer _ (omega (arith, c.in_ok-a.ensures.ahead)) (data_read s c.args.toks.now c.args.at c.put-v.ensures ((c.loop-a.invariant.1 s).on (or_last s c.args.toks.now c.loop-a.from (omega (arith, c.in_ok-a.ensures.ahead)) (λ g k. reaches (c.in_ok-a.ensures.read s g k)) (λ e. c.if-peek-ne-OR.true (c.peek.ensures ∙ e)))) (λ i. omega (arith, c.in_ok-a.ensures.ahead)) (λ l. omega (arith, c.counted.ensures (omega arith))) c.put.ensures f l)
-
-pub data_term-overflow_add-from : goal.data_term-overflow_add-from
-data_term-overflow_add-from t c =
-    let l = get_or_positive c.args.toks.now c.in_ok-a.a.at (omega arith) in
-    omega arith
-
-pub data_term-overflow_add-n : goal.data_term-overflow_add-n
-data_term-overflow_add-n t c =
-    let l = get_or_positive c.args.toks.now c.in_ok-a.a.at (omega arith) in
-    omega (arith, c.in_ok-a.ensures.ahead)
-
-pub data_term-loop-a-smaller : goal.data_term-loop-a-smaller
-data_term-loop-a-smaller t c =
-    let l = get_or_positive c.args.toks.now c.in_ok-a.a.at (omega arith) in
-    omega (arith, c.in_ok-a.ensures.ahead)
 
 pub data_term-loop-a-preserved : goal.data_term-loop-a-preserved
 data_term-loop-a-preserved t c =
@@ -191,10 +81,6 @@ data_term-loop-a-preserved t c =
       omega (arith, c.in_ok-a.ensures.ahead),
       λ s. joins_then (c.loop-a.invariant.1 s) (record { on = or_more s c.args.toks.now c.loop-a.from (omega (arith, c.in_ok-a.ensures.ahead)) (λ g k. reaches (c.in_ok-a.ensures.read s g k)) (sym c.peek.ensures ∙ c.if-peek-ne-OR.false) }),
     )
-
-pub data_list-loop-a-init : goal.data_list-loop-a-init
-data_list-loop-a-init t c =
-    (omega arith, λ s. goes_start)
 
 pub data_list-returns-in_err-a-clause-read : goal.data_list-returns-in_err-a-clause-read
 data_list-returns-in_err-a-clause-read t c =
@@ -204,23 +90,9 @@ pub data_list-returns-in_err-at-clause-read : goal.data_list-returns-in_err-at-c
 data_list-returns-in_err-at-clause-read t c =
     rw c.from_residual-in_err-at.ensures (λ s f l. no_answer (omega arith) ((c.loop-a.invariant.1 s).on (list_one s c.args.toks.now c.loop-a.from c.put-u.ensures (omega (arith, c.in_ok-a.ensures.ahead)) (λ g k. reaches (c.in_ok-a.ensures.read s g k)) (λ e. c.if-peek-ne-COMMA.true (c.peek.ensures ∙ e)) (omega (arith, c.in_ok-a.ensures.ahead)) (meets c.in_err-at.ensures.read)) f l))
 
-pub data_list-returns-then-peek-ne-COMMA-clause-ahead : goal.data_list-returns-then-peek-ne-COMMA-clause-ahead
-data_list-returns-then-peek-ne-COMMA-clause-ahead t c =
-    omega (arith, c.in_ok-a.ensures.ahead, c.in_ok-at.ensures.ahead)
-
 pub data_list-returns-then-peek-ne-COMMA-clause-read : goal.data_list-returns-then-peek-ne-COMMA-clause-read
 data_list-returns-then-peek-ne-COMMA-clause-read t c =
     λ s f l. some_answer _ (omega (arith, c.in_ok-at.ensures.ahead)) ((c.loop-a.invariant.1 s).on (list_one s c.args.toks.now c.loop-a.from c.put-u.ensures (omega (arith, c.in_ok-a.ensures.ahead)) (λ g k. reaches (c.in_ok-a.ensures.read s g k)) (λ e. c.if-peek-ne-COMMA.true (c.peek.ensures ∙ e)) (omega (arith, c.in_ok-a.ensures.ahead, c.in_ok-at.ensures.ahead)) (meets c.in_ok-at.ensures.read)) f l)
-
-pub data_list-overflow_add-from : goal.data_list-overflow_add-from
-data_list-overflow_add-from t c =
-    let l = get_or_positive c.args.toks.now c.in_ok-a.a.at (omega arith) in
-    omega arith
-
-pub data_list-loop-a-smaller : goal.data_list-loop-a-smaller
-data_list-loop-a-smaller t c =
-    let l = get_or_positive c.args.toks.now c.in_ok-a.a.at (omega arith) in
-    omega (arith, c.in_ok-a.ensures.ahead)
 
 pub data_list-loop-a-preserved : goal.data_list-loop-a-preserved
 data_list-loop-a-preserved t c =
@@ -229,29 +101,11 @@ data_list-loop-a-preserved t c =
       λ s. goes_then (c.loop-a.invariant.1 s) (record { on = list_more s c.args.toks.now c.loop-a.from c.put-u.ensures (omega (arith, c.in_ok-a.ensures.ahead)) (λ g k. reaches (c.in_ok-a.ensures.read s g k)) (sym c.peek.ensures ∙ c.if-peek-ne-COMMA.false) c.put.ensures }),
     )
 
-pub negation-loop-out-init : goal.negation-loop-out-init
-negation-loop-out-init t c =
-    (omega arith, λ s. goes_start)
-
-pub negation-overflow_add-from : goal.negation-overflow_add-from
-negation-overflow_add-from t c =
-    let l = get_or_positive c.args.toks.now c.loop-out.from (omega arith) in
-    omega arith
-
-pub negation-loop-out-smaller : goal.negation-loop-out-smaller
-negation-loop-out-smaller t c =
-    let l = get_or_positive c.args.toks.now c.loop-out.from (omega arith) in
-    omega arith
-
 pub negation-loop-out-preserved : goal.negation-loop-out-preserved
 negation-loop-out-preserved t c = (
   omega arith,
   λ s. goes_then (c.loop-out.invariant.1 s) (record { on = negation_not s c.args.toks.now c.loop-out.from (sym c.peek.ensures ∙ c.loop-out-test.true) c.put-v.ensures }),
 )
-
-pub negation-returns-clause-ahead : goal.negation-returns-clause-ahead
-negation-returns-clause-ahead t c =
-    IfSome_then c.atom.result c.atom.ensures.ahead (λ x p. omega arith)
 
 pub negation-returns-clause-read : goal.negation-returns-clause-read
 negation-returns-clause-read t c =

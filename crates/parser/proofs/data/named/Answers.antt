@@ -2,7 +2,6 @@
 use mathlib.Core.Path.{sym, ◌∙◌}
 use native.Mathlib.Omega.{arith}
 use Rattle.std.proofs.lemmas.Option.{IfSome_then}
-use Rattle.laws.specs.Places.{get_or_positive}
 use Rattle.parser.proofs.Reaching.{past_end, reaches, answer, some_answer, no_answer}
 use Rattle.parser.proofs.DataLaws.{call_bare, call_given}
 use Rattle.parser.proofs.data.named.Goals as goal
@@ -11,24 +10,12 @@ pub returns-in_err-a-clause-read : goal.returns-in_err-a-clause-read
 returns-in_err-a-clause-read c =
     rw c.from_residual.ensures (λ s f l. no_answer (omega arith) (call_bare s c.args.toks.now c.args.at c.put-x.ensures (omega arith) (reaches (c.in_err-a.ensures.read s 1 (omega arith))) (past_end c.args.toks.now 40 (omega arith)) f))
 
-pub shape_of-out-then-peek-ne-OPEN : goal.shape_of-out-then-peek-ne-OPEN
-shape_of-out-then-peek-ne-OPEN c =
-    c.name.auto.out ∙ c.put-x.auto.out
-
 pub returns-then-peek-ne-OPEN : goal.returns-then-peek-ne-OPEN
 returns-then-peek-ne-OPEN c =
     record {
       ahead = c.in_ok-a.ensures.ahead;
       read = λ s f l. some_answer _ (omega (arith, c.in_ok-a.ensures.ahead)) (call_bare s c.args.toks.now c.args.at c.put-x.ensures (omega (arith, c.in_ok-a.ensures.ahead)) (reaches (c.in_ok-a.ensures.read s 1 (omega arith))) (λ e. c.if-peek-ne-OPEN.true (c.peek.ensures ∙ e)) f);
     }
-
-pub overflow_add-a : goal.overflow_add-a
-overflow_add-a c =
-    let l = get_or_positive c.args.toks.now c.in_ok-a.a.at (omega arith) in omega arith
-
-pub shape_of-out : goal.shape_of-out
-shape_of-out c =
-    c.data_list.auto.out ∙ c.put.auto.out ∙ c.name.auto.out ∙ c.put-x.auto.out
 
 pub returns : goal.returns
 returns c =

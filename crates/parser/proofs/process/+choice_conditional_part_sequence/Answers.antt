@@ -4,38 +4,19 @@ use mathlib.Core.List.{[]}
 use Prim.Native.Nat.{◌+◌}
 use native.Mathlib.Omega.{arith}
 use lib.ListN.{length}
-use Rattle.std.proofs.lemmas.Option.{IfSome_then}
 use Rattle.laws.specs.Places.{get_or_positive}
 use Rattle.parser.proofs.Reaching.{past_end, past_meets, meets, reaches, after, answer, some_answer, no_answer, none_answer}
-use Rattle.parser.proofs.Going.{goes_start, goes_then}
+use Rattle.parser.proofs.Going.{goes_then}
 use Rattle.parser.proofs.ProcessLaws.{choice_only, choice_plus, conditional_plain, conditional_cond, sequence_last, sequence_then, part_delta, part_tau, part_sum, part_group, part_named}
 use Rattle.parser.proofs.process.+choice_conditional_part_sequence.Goals as goal
-
-pub choice-loop-a-init : goal.choice-loop-a-init
-choice-loop-a-init t c =
-    (omega arith, λ s. goes_start)
 
 pub choice-returns-in_err-a-clause-read : goal.choice-returns-in_err-a-clause-read
 choice-returns-in_err-a-clause-read t c =
     rw c.from_residual.ensures (λ s f l. no_answer (omega arith) ((c.loop-a.invariant.1 s).on (choice_only s c.args.toks.now c.loop-a.from c.put-u.ensures (omega arith) (λ g k. reaches (c.in_err-a.ensures.read s g k)) (past_end c.args.toks.now 43 (omega arith))) f l))
 
-pub choice-returns-then-peek-ne-PLUS-clause-ahead : goal.choice-returns-then-peek-ne-PLUS-clause-ahead
-choice-returns-then-peek-ne-PLUS-clause-ahead t c =
-    omega (arith, c.in_ok-a.ensures.ahead)
-
 pub choice-returns-then-peek-ne-PLUS-clause-read : goal.choice-returns-then-peek-ne-PLUS-clause-read
 choice-returns-then-peek-ne-PLUS-clause-read t c =
     λ s f l. some_answer _ (omega (arith, c.in_ok-a.ensures.ahead)) ((c.loop-a.invariant.1 s).on (choice_only s c.args.toks.now c.loop-a.from c.put-u.ensures (omega (arith, c.in_ok-a.ensures.ahead)) (λ g k. reaches (c.in_ok-a.ensures.read s g k)) (λ e. c.if-peek-ne-PLUS.true (c.peek.ensures ∙ e))) f l)
-
-pub choice-overflow_add-from : goal.choice-overflow_add-from
-choice-overflow_add-from t c =
-    let l = get_or_positive c.args.toks.now c.in_ok-a.a.at (omega arith) in
-    omega arith
-
-pub choice-loop-a-smaller : goal.choice-loop-a-smaller
-choice-loop-a-smaller t c =
-    let l = get_or_positive c.args.toks.now c.in_ok-a.a.at (omega arith) in
-    omega (arith, c.in_ok-a.ensures.ahead)
 
 pub choice-loop-a-preserved : goal.choice-loop-a-preserved
 choice-loop-a-preserved t c = (
@@ -43,31 +24,13 @@ choice-loop-a-preserved t c = (
   λ s. goes_then (c.loop-a.invariant.1 s) (record { on = choice_plus s c.args.toks.now c.loop-a.from c.put-u.ensures (omega (arith, c.in_ok-a.ensures.ahead)) (λ g k. reaches (c.in_ok-a.ensures.read s g k)) (sym c.peek.ensures ∙ c.if-peek-ne-PLUS.false) c.put.ensures }),
 )
 
-pub sequence-loop-a-init : goal.sequence-loop-a-init
-sequence-loop-a-init t c =
-    (omega arith, λ s. goes_start)
-
 pub sequence-returns-in_err-a-clause-read : goal.sequence-returns-in_err-a-clause-read
 sequence-returns-in_err-a-clause-read t c =
     rw c.from_residual.ensures (λ s f l. no_answer (omega arith) ((c.loop-a.invariant.1 s).on (sequence_last s c.args.toks.now c.loop-a.from c.put-u.ensures (omega arith) (λ g k. reaches (c.in_err-a.ensures.read s g k)) (past_end c.args.toks.now 46 (omega arith))) f l))
 
-pub sequence-returns-then-peek-ne-DOT-clause-ahead : goal.sequence-returns-then-peek-ne-DOT-clause-ahead
-sequence-returns-then-peek-ne-DOT-clause-ahead t c =
-    omega (arith, c.in_ok-a.ensures.ahead)
-
 pub sequence-returns-then-peek-ne-DOT-clause-read : goal.sequence-returns-then-peek-ne-DOT-clause-read
 sequence-returns-then-peek-ne-DOT-clause-read t c =
     λ s f l. some_answer _ (omega (arith, c.in_ok-a.ensures.ahead)) ((c.loop-a.invariant.1 s).on (sequence_last s c.args.toks.now c.loop-a.from c.put-u.ensures (omega (arith, c.in_ok-a.ensures.ahead)) (λ g k. reaches (c.in_ok-a.ensures.read s g k)) (λ e. c.if-peek-ne-DOT.true (c.peek.ensures ∙ e))) f l)
-
-pub sequence-overflow_add-from : goal.sequence-overflow_add-from
-sequence-overflow_add-from t c =
-    let l = get_or_positive c.args.toks.now c.in_ok-a.a.at (omega arith) in
-    omega arith
-
-pub sequence-loop-a-smaller : goal.sequence-loop-a-smaller
-sequence-loop-a-smaller t c =
-    let l = get_or_positive c.args.toks.now c.in_ok-a.a.at (omega arith) in
-    omega (arith, c.in_ok-a.ensures.ahead)
 
 pub sequence-loop-a-preserved : goal.sequence-loop-a-preserved
 sequence-loop-a-preserved t c = (
@@ -83,11 +46,6 @@ pub conditional-returns-then-peek-ne-IF-clause-read : goal.conditional-returns-t
 conditional-returns-then-peek-ne-IF-clause-read t c =
     λ s f l. some_answer _ (omega (arith, c.in_ok-a.ensures.ahead)) (conditional_plain s c.args.toks.now c.args.at c.put-v.ensures (omega (arith, c.in_ok-a.ensures.ahead)) (λ g k. reaches (c.in_ok-a.ensures.read s g k)) (λ e. c.if-peek-ne-IF.true (c.peek.ensures ∙ e)) f l)
 
-pub conditional-overflow_add-a : goal.conditional-overflow_add-a
-conditional-overflow_add-a t c =
-    let l = get_or_positive c.args.toks.now c.in_ok-a.a.at (omega arith) in
-    omega arith
-
 pub conditional-returns-in_err-d-clause-read : goal.conditional-returns-in_err-d-clause-read
 conditional-returns-in_err-d-clause-read t c =
     rw c.from_residual-in_err-d.ensures (λ s f l. none_answer (conditional_cond s c.args.toks.now c.args.at c.put-v.ensures (omega (arith, c.in_ok-a.ensures.ahead)) (λ g k. reaches (c.in_ok-a.ensures.read s g k)) (sym c.peek.ensures ∙ c.if-peek-ne-IF.false) {at₅ = length c.args.toks.now + 1} {at₆ = length c.args.toks.now + 1} {w₆ = 0} {o₆ = []} c.put.ensures (omega arith) (λ g k. reaches (c.in_err-d.ensures.read s g k)) (omega arith) (past_meets c.args.toks.now 130 (omega arith)) (omega arith) (λ i. absurd (omega arith)) f l))
@@ -96,58 +54,19 @@ pub conditional-returns-in_err-e-clause-read : goal.conditional-returns-in_err-e
 conditional-returns-in_err-e-clause-read t c =
     rw c.from_residual-in_err-e.ensures (λ s f l. none_answer (conditional_cond s c.args.toks.now c.args.at c.put-v.ensures (omega (arith, c.in_ok-a.ensures.ahead)) (λ g k. reaches (c.in_ok-a.ensures.read s g k)) (sym c.peek.ensures ∙ c.if-peek-ne-IF.false) {at₆ = length c.args.toks.now + 1} {w₆ = 0} {o₆ = []} c.put.ensures (omega (arith, c.in_ok-d.ensures.ahead)) (λ g k. reaches (c.in_ok-d.ensures.read s g k)) (omega (arith, c.in_ok-d.ensures.ahead)) (meets c.in_err-e.ensures.read) (omega arith) (λ i. absurd (omega arith)) f l))
 
-pub conditional-sequence-requires-2 : goal.conditional-sequence-requires-2
-conditional-sequence-requires-2 t c =
-    let l = get_or_positive c.args.toks.now c.in_ok-a.a.at (omega arith) in
-    (omega (arith, c.in_ok-a.ensures.ahead, c.in_ok-d.ensures.ahead, c.in_ok-e.ensures.ahead), tt)
-
-pub conditional-returns-clause-ahead : goal.conditional-returns-clause-ahead
-conditional-returns-clause-ahead t c =
-    IfSome_then c.sequence-2.result c.sequence-2.ensures.ahead (λ x p. omega (arith, c.in_ok-a.ensures.ahead, c.in_ok-d.ensures.ahead, c.in_ok-e.ensures.ahead))
-
 pub conditional-returns-clause-read : goal.conditional-returns-clause-read
 conditional-returns-clause-read t c =
     λ s f l. answer _ c.sequence-2.result c.sequence-2.ensures.ahead (conditional_cond s c.args.toks.now c.args.at c.put-v.ensures (omega (arith, c.in_ok-a.ensures.ahead)) (λ g k. reaches (c.in_ok-a.ensures.read s g k)) (sym c.peek.ensures ∙ c.if-peek-ne-IF.false) c.put.ensures (omega (arith, c.in_ok-d.ensures.ahead)) (λ g k. reaches (c.in_ok-d.ensures.read s g k)) (omega (arith, c.in_ok-d.ensures.ahead, c.in_ok-e.ensures.ahead)) (meets c.in_ok-e.ensures.read) (after _ _ c.sequence-2.result c.sequence-2.ensures.ahead) (λ i. (λ g k. reaches (c.sequence-2.ensures.read s g k))) f l)
-
-pub part-overflow_add-result : goal.part-overflow_add-result
-part-overflow_add-result t c =
-    let l = get_or_positive c.args.toks.now c.args.at (omega arith) in
-    omega arith
-
-pub part-returns-then-t-eq-DELTA-clause-ahead : goal.part-returns-then-t-eq-DELTA-clause-ahead
-part-returns-then-t-eq-DELTA-clause-ahead t c =
-    let l = get_or_positive c.args.toks.now c.args.at (omega arith) in
-    omega arith
 
 pub part-returns-then-t-eq-DELTA-clause-read : goal.part-returns-then-t-eq-DELTA-clause-read
 part-returns-then-t-eq-DELTA-clause-read t c =
     let l = get_or_positive c.args.toks.now c.args.at (omega arith) in
     λ s f k. some_answer _ (omega arith) (part_delta s c.args.toks.now c.args.at c.put.ensures (sym c.peek-t.ensures ∙ c.if-t-eq-DELTA.true) f k)
 
-pub part-overflow_add-result-then-t-eq-TAU : goal.part-overflow_add-result-then-t-eq-TAU
-part-overflow_add-result-then-t-eq-TAU t c =
-    let l = get_or_positive c.args.toks.now c.args.at (omega arith) in
-    omega arith
-
-pub part-returns-then-t-eq-TAU-clause-ahead : goal.part-returns-then-t-eq-TAU-clause-ahead
-part-returns-then-t-eq-TAU-clause-ahead t c =
-    let l = get_or_positive c.args.toks.now c.args.at (omega arith) in
-    omega arith
-
 pub part-returns-then-t-eq-TAU-clause-read : goal.part-returns-then-t-eq-TAU-clause-read
 part-returns-then-t-eq-TAU-clause-read t c =
     let l = get_or_positive c.args.toks.now c.args.at (omega arith) in
     λ s f k. some_answer _ (omega arith) (part_tau s c.args.toks.now c.args.at (λ e. c.if-t-eq-DELTA.false (c.peek-t.ensures ∙ e)) c.put-then-t-eq-TAU.ensures (sym c.peek-t.ensures ∙ c.if-t-eq-TAU.true) f k)
-
-pub part-overflow_add-at : goal.part-overflow_add-at
-part-overflow_add-at t c =
-    let l = get_or_positive c.args.toks.now c.args.at (omega arith) in
-    omega arith
-
-pub part-choice-requires : goal.part-choice-requires
-part-choice-requires t c =
-    let l = get_or_positive c.args.toks.now c.args.at (omega arith) in
-    (omega (arith, c.in_ok-h.ensures.ahead), tt)
 
 pub part-returns-in_err-h-clause-read : goal.part-returns-in_err-h-clause-read
 part-returns-in_err-h-clause-read t c =
@@ -161,23 +80,9 @@ pub part-returns-in_err-at-clause-read : goal.part-returns-in_err-at-clause-read
 part-returns-in_err-at-clause-read t c =
     rw c.from_residual-in_err-at.ensures (λ s f l. no_answer (omega arith) (part_sum s c.args.toks.now c.args.at (λ e. c.if-t-eq-DELTA.false (c.peek-t.ensures ∙ e)) (λ e. c.if-t-eq-TAU.false (c.peek-t.ensures ∙ e)) c.put-v.ensures (sym c.peek-t.ensures ∙ c.if-t-eq-SUM.true) (omega (arith, c.in_ok-h.ensures.ahead)) (reaches (c.in_ok-h.ensures.read s 1 (omega arith))) (omega (arith, c.in_ok-a.ensures.ahead)) (λ i. (λ g k. reaches (c.in_ok-a.ensures.read s g k))) (omega (arith, c.in_ok-a.ensures.ahead)) (meets c.in_err-at.ensures.read) f l))
 
-pub part-returns-then-t-eq-SUM-clause-ahead : goal.part-returns-then-t-eq-SUM-clause-ahead
-part-returns-then-t-eq-SUM-clause-ahead t c =
-    omega (arith, c.in_ok-h.ensures.ahead, c.in_ok-a.ensures.ahead, c.in_ok-at.ensures.ahead)
-
 pub part-returns-then-t-eq-SUM-clause-read : goal.part-returns-then-t-eq-SUM-clause-read
 part-returns-then-t-eq-SUM-clause-read t c =
     λ s f l. some_answer _ (omega (arith, c.in_ok-at.ensures.ahead)) (part_sum s c.args.toks.now c.args.at (λ e. c.if-t-eq-DELTA.false (c.peek-t.ensures ∙ e)) (λ e. c.if-t-eq-TAU.false (c.peek-t.ensures ∙ e)) c.put-v.ensures (sym c.peek-t.ensures ∙ c.if-t-eq-SUM.true) (omega (arith, c.in_ok-h.ensures.ahead)) (reaches (c.in_ok-h.ensures.read s 1 (omega arith))) (omega (arith, c.in_ok-a.ensures.ahead)) (λ i. (λ g k. reaches (c.in_ok-a.ensures.read s g k))) (omega (arith, c.in_ok-a.ensures.ahead, c.in_ok-at.ensures.ahead)) (meets c.in_ok-at.ensures.read) f l)
-
-pub part-overflow_add-at-then-t-eq-OPEN : goal.part-overflow_add-at-then-t-eq-OPEN
-part-overflow_add-at-then-t-eq-OPEN t c =
-    let l = get_or_positive c.args.toks.now c.args.at (omega arith) in
-    omega arith
-
-pub part-choice-requires-then-t-eq-OPEN : goal.part-choice-requires-then-t-eq-OPEN
-part-choice-requires-then-t-eq-OPEN t c =
-    let l = get_or_positive c.args.toks.now c.args.at (omega arith) in
-    (omega arith, tt)
 
 pub part-returns-in_err-a-2-clause-read : goal.part-returns-in_err-a-2-clause-read
 part-returns-in_err-a-2-clause-read t c =
@@ -186,10 +91,6 @@ part-returns-in_err-a-2-clause-read t c =
 pub part-returns-in_err-at-2-clause-read : goal.part-returns-in_err-at-2-clause-read
 part-returns-in_err-at-2-clause-read t c =
     rw c.from_residual-in_err-at-2.ensures (λ s f l. no_answer (omega arith) (part_group s c.args.toks.now c.args.at (λ e. c.if-t-eq-DELTA.false (c.peek-t.ensures ∙ e)) (λ e. c.if-t-eq-TAU.false (c.peek-t.ensures ∙ e)) (λ e. c.if-t-eq-SUM.false (c.peek-t.ensures ∙ e)) c.put-v-then-t-eq-OPEN.ensures (sym c.peek-t.ensures ∙ c.if-t-eq-OPEN.true) (omega (arith, c.in_ok-a-2.ensures.ahead)) (λ g k. reaches (c.in_ok-a-2.ensures.read s g k)) (omega (arith, c.in_ok-a-2.ensures.ahead)) (meets c.in_err-at-2.ensures.read) f l))
-
-pub part-returns-then-t-eq-OPEN-clause-ahead : goal.part-returns-then-t-eq-OPEN-clause-ahead
-part-returns-then-t-eq-OPEN-clause-ahead t c =
-    omega (arith, c.in_ok-a-2.ensures.ahead, c.in_ok-at-2.ensures.ahead)
 
 pub part-returns-then-t-eq-OPEN-clause-read : goal.part-returns-then-t-eq-OPEN-clause-read
 part-returns-then-t-eq-OPEN-clause-read t c =

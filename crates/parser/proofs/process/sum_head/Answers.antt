@@ -1,6 +1,4 @@
 -- `process::sum_head` meets its contract: a straight run of readers.
-use lib.Dec.{lit<}
-use mathlib.Core.Path.{◌∙◌}
 use mathlib.Core.List.{[]}
 use Prim.Native.Nat.{◌+◌}
 use native.Mathlib.Omega.{arith}
@@ -8,18 +6,6 @@ use lib.ListN.{length}
 use Rattle.parser.proofs.Reaching.{past_meets, meets, reaches, some_answer, no_answer, none_answer}
 use Rattle.parser.proofs.ProcessLaws.{head_read}
 use Rattle.parser.proofs.process.sum_head.Goals as goal
-
-pub expect-requires : goal.expect-requires
-expect-requires c =
-    lit< tt
-
-pub expect-requires-2 : goal.expect-requires-2
-expect-requires-2 c =
-    lit< tt
-
-pub expect-requires-3 : goal.expect-requires-3
-expect-requires-3 c =
-    lit< tt
 
 pub returns-in_err-a-clause-read : goal.returns-in_err-a-clause-read
 returns-in_err-a-clause-read c =
@@ -40,10 +26,6 @@ returns-in_err-d-clause-read c =
 pub returns-in_err-at-clause-read : goal.returns-in_err-at-clause-read
 returns-in_err-at-clause-read c =
     rw c.from_residual-in_err-at.ensures (λ s f l. no_answer (omega arith) (head_read s c.args.toks.now c.args.at (meets c.in_ok-a.ensures.read) (omega (arith, c.in_ok-v.ensures.ahead)) (λ i. (reaches (c.in_ok-v.ensures.read s 1 (omega arith)))) (omega (arith, c.in_ok-v.ensures.ahead, c.in_ok-c.ensures.ahead)) (meets c.in_ok-c.ensures.read) (omega (arith, c.in_ok-d.ensures.ahead)) (λ i. (reaches (c.in_ok-d.ensures.read s 1 (omega arith)))) (omega (arith, c.in_ok-d.ensures.ahead)) (meets c.in_err-at.ensures.read)))
-
-pub shape_of-out : goal.shape_of-out
-shape_of-out c =
-    c.name-2.auto.out ∙ c.name.auto.out
 
 pub returns : goal.returns
 returns c =

@@ -2,7 +2,6 @@
 use mathlib.Core.Path.{sym, ◌∙◌}
 use native.Mathlib.Omega.{arith}
 use Rattle.std.proofs.lemmas.Option.{IfSome_then}
-use Rattle.laws.specs.Places.{get_or_positive}
 use Rattle.parser.proofs.Reaching.{past_end, put_any, reaches, answer, some_answer, no_answer}
 use Rattle.parser.proofs.LineLaws.{act_bare, act_sorts}
 use Rattle.parser.proofs.sheet.act_line.Goals as goal
@@ -11,24 +10,12 @@ pub returns-in_err-x-clause-read : goal.returns-in_err-x-clause-read
 returns-in_err-x-clause-read c =
     rw c.from_residual.ensures (λ s f l. no_answer (omega arith) (act_bare s c.args.toks.now c.args.at c.put-v.ensures (reaches (c.in_err-x.ensures.read s 1 (omega arith))) (past_end c.args.toks.now 58 (omega arith)) (put_any _ _ 18)))
 
-pub shape_of-out-then-peek-ne-COLON : goal.shape_of-out-then-peek-ne-COLON
-shape_of-out-then-peek-ne-COLON c =
-    c.put.auto.out ∙ c.name.auto.out ∙ c.put-v.auto.out
-
 pub returns-then-peek-ne-COLON : goal.returns-then-peek-ne-COLON
 returns-then-peek-ne-COLON c =
     record {
       ahead = c.in_ok-x.ensures.ahead;
       read = λ s f l. some_answer _ (omega (arith, c.in_ok-x.ensures.ahead)) (act_bare s c.args.toks.now c.args.at c.put-v.ensures (reaches (c.in_ok-x.ensures.read s 1 (omega arith))) (λ e. c.if-peek-ne-COLON.true (c.peek.ensures ∙ e)) c.put.ensures);
     }
-
-pub overflow_add-x : goal.overflow_add-x
-overflow_add-x c =
-    let l = get_or_positive c.args.toks.now c.in_ok-x.x.at (omega arith) in omega arith
-
-pub shape_of-out : goal.shape_of-out
-shape_of-out c =
-    c.one_or_two.auto.out ∙ c.name.auto.out ∙ c.put-v.auto.out
 
 pub returns : goal.returns
 returns c =

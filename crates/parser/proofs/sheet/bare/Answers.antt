@@ -1,17 +1,11 @@
 -- `sheet::bare` meets its contract.
 use native.Mathlib.Omega.{arith}
-use Rattle.laws.specs.Places.{get_or_positive}
 use Rattle.parser.proofs.InitLaws.{called_low, called_told}
 use Rattle.parser.proofs.sheet.bare.Goals as goal
 
 pub returns-then-peek-lt-FIRST_NAME : goal.returns-then-peek-lt-FIRST_NAME
 returns-then-peek-lt-FIRST_NAME c =
     λ s. called_low s c.args.toks.now c.args.at (omega arith)
-
-pub overflow_add-at : goal.overflow_add-at
-overflow_add-at c =
-    let l = get_or_positive c.args.toks.now c.args.at (omega arith) in
-    omega arith
 
 pub returns : goal.returns
 returns c =

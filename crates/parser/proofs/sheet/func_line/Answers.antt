@@ -1,6 +1,4 @@
 -- `sheet::func_line` meets its contract: a straight run of readers.
-use lib.Dec.{lit<}
-use mathlib.Core.Path.{◌∙◌}
 use mathlib.Core.List.{[]}
 use Prim.Native.Nat.{◌+◌}
 use native.Mathlib.Omega.{arith}
@@ -9,18 +7,6 @@ use Rattle.std.proofs.lemmas.Option.{IfSome_then}
 use Rattle.parser.proofs.Reaching.{past_meets, meets, reaches, after, answer, none_answer}
 use Rattle.parser.proofs.LineLaws.{func_read}
 use Rattle.parser.proofs.sheet.func_line.Goals as goal
-
-pub expect-requires : goal.expect-requires
-expect-requires c =
-    lit< tt
-
-pub expect-requires-2 : goal.expect-requires-2
-expect-requires-2 c =
-    lit< tt
-
-pub expect-requires-3 : goal.expect-requires-3
-expect-requires-3 c =
-    lit< tt
 
 pub returns-in_err-x-clause-read : goal.returns-in_err-x-clause-read
 returns-in_err-x-clause-read c =
@@ -45,10 +31,6 @@ returns-in_err-g-clause-read c =
 pub returns-in_err-e-clause-read : goal.returns-in_err-e-clause-read
 returns-in_err-e-clause-read c =
     rw c.from_residual-in_err-e.ensures (λ s f l. none_answer (func_read s c.args.toks.now c.args.at {at₈ = length c.args.toks.now + 1} {w₈ = 0} {o₈ = []} c.put-v.ensures (reaches (c.in_ok-x.ensures.read s 1 (omega arith))) (omega (arith, c.in_ok-x.ensures.ahead, c.in_ok-c.ensures.ahead, c.in_ok-t.ensures.ahead, c.in_ok-a.ensures.ahead, c.in_ok-g.ensures.ahead)) (meets c.in_ok-c.ensures.read) (omega (arith, c.in_ok-x.ensures.ahead, c.in_ok-c.ensures.ahead, c.in_ok-t.ensures.ahead, c.in_ok-a.ensures.ahead, c.in_ok-g.ensures.ahead)) (λ i. (reaches (c.in_ok-t.ensures.read s 1 (omega arith)))) (omega (arith, c.in_ok-x.ensures.ahead, c.in_ok-c.ensures.ahead, c.in_ok-t.ensures.ahead, c.in_ok-a.ensures.ahead, c.in_ok-g.ensures.ahead)) (meets c.in_ok-a.ensures.read) (omega (arith, c.in_ok-x.ensures.ahead, c.in_ok-c.ensures.ahead, c.in_ok-t.ensures.ahead, c.in_ok-a.ensures.ahead, c.in_ok-g.ensures.ahead)) (λ i. (reaches (c.in_ok-g.ensures.read s 1 (omega arith)))) (omega (arith, c.in_ok-x.ensures.ahead, c.in_ok-c.ensures.ahead, c.in_ok-t.ensures.ahead, c.in_ok-a.ensures.ahead, c.in_ok-g.ensures.ahead)) (meets c.in_err-e.ensures.read) (omega arith) (λ i. absurd (omega arith)) f l))
-
-pub shape_of-out : goal.shape_of-out
-shape_of-out c =
-    c.numerals.auto.out ∙ c.name-2.auto.out ∙ c.one_or_two.auto.out ∙ c.name.auto.out ∙ c.put-v.auto.out
 
 pub returns : goal.returns
 returns c =

@@ -1,5 +1,4 @@
 -- `sheet::init_line` meets its contract: a call whose names all have brackets is the definition's init line.
-use mathlib.Core.Path.{◌∙◌}
 use native.Mathlib.Omega.{arith}
 use Rattle.parser.proofs.Reaching.{reaches, some_answer, no_answer, none_answer}
 use Rattle.parser.proofs.InitRead.{init_lost, init_read, init_refused}
@@ -9,20 +8,12 @@ pub returns-in_err-a-clause-read : goal.returns-in_err-a-clause-read
 returns-in_err-a-clause-read c =
     rw c.from_residual.ensures (λ s f l. no_answer (omega arith) (init_lost s c.args.toks.now c.args.at c.put-v.ensures (λ g k. reaches (c.in_err-a.ensures.read s g k)) (omega arith) f l))
 
-pub shape_of-out-then-not-all_called : goal.shape_of-out-then-not-all_called
-shape_of-out-then-not-all_called c =
-    c.named.auto.out ∙ c.put-v.auto.out
-
 pub returns-then-not-all_called : goal.returns-then-not-all_called
 returns-then-not-all_called c =
     record {
       ahead = tt;
       read = λ s f l. none_answer (init_refused s c.args.toks.now c.args.at c.put-v.ensures (λ g k. reaches (c.in_ok-a.ensures.read s g k)) (omega (arith, c.in_ok-a.ensures.ahead)) (c.all_called.ensures s) c.if-not-all_called.true (omega arith) f l);
     }
-
-pub shape_of-out : goal.shape_of-out
-shape_of-out c =
-    c.named.auto.out ∙ c.put-v.auto.out
 
 pub returns : goal.returns
 returns c =

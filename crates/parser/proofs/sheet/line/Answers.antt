@@ -7,17 +7,11 @@ use Rattle.parser.specs.Reading.{Read}
 use lib.ListN.{length}
 use Rattle.parser.proofs.sheet.line.Goals as goal
 
-pub shape_of-out-then-word-eq-SORT : goal.shape_of-out-then-word-eq-SORT
-shape_of-out-then-word-eq-SORT c = c.sort_line.auto.out
-
 pub returns-then-word-eq-SORT : goal.returns-then-word-eq-SORT
 returns-then-word-eq-SORT c =
     let at-sort-line = c.sort_line in
     let at-if1 = c.if-word-eq-SORT in
     record { ahead = at-sort-line.ensures.ahead; read = subst (λ K. Read (5 * length c.args.toks.now + 4) K.enc K.reader c.args.toks.now c.args.at c.args.w c.args.out.now at-sort-line.result at-sort-line.new.out) (sym (sort_kind_is c.args.word at-if1.true)) (λ s f l. at-sort-line.ensures.read s f (omega arith)) }
-
-pub shape_of-out-then-word-eq-FUNC : goal.shape_of-out-then-word-eq-FUNC
-shape_of-out-then-word-eq-FUNC c = c.func_line.auto.out
 
 pub returns-then-word-eq-FUNC : goal.returns-then-word-eq-FUNC
 returns-then-word-eq-FUNC c =
@@ -25,17 +19,11 @@ returns-then-word-eq-FUNC c =
     let at-if2 = c.if-word-eq-FUNC in
     record { ahead = at-func-line.ensures.ahead; read = subst (λ K. Read (5 * length c.args.toks.now + 4) K.enc K.reader c.args.toks.now c.args.at c.args.w c.args.out.now at-func-line.result at-func-line.new.out) (sym (func_kind_is c.args.word at-if2.true)) (λ s f l. at-func-line.ensures.read s f (omega arith)) }
 
-pub shape_of-out-then-word-eq-ACT : goal.shape_of-out-then-word-eq-ACT
-shape_of-out-then-word-eq-ACT c = c.act_line.auto.out
-
 pub returns-then-word-eq-ACT : goal.returns-then-word-eq-ACT
 returns-then-word-eq-ACT c =
     let at-act-line = c.act_line in
     let at-if3 = c.if-word-eq-ACT in
     record { ahead = at-act-line.ensures.ahead; read = subst (λ K. Read (5 * length c.args.toks.now + 4) K.enc K.reader c.args.toks.now c.args.at c.args.w c.args.out.now at-act-line.result at-act-line.new.out) (sym (act_kind_is c.args.word at-if3.true)) (λ s f l. at-act-line.ensures.read s f (omega arith)) }
-
-pub shape_of-out : goal.shape_of-out
-shape_of-out c = c.proc_line.auto.out
 
 pub returns : goal.returns
 returns c =

@@ -1,7 +1,6 @@
 -- `sheet::one_or_two` meets its contract.
 use mathlib.Core.Path.{sym, ◌∙◌}
 use native.Mathlib.Omega.{arith}
-use Rattle.laws.specs.Places.{get_or_positive}
 use Rattle.parser.proofs.Reaching.{past_end, put_any, reaches, some_answer, no_answer}
 use Rattle.parser.proofs.LineLaws.{sorts_one, sorts_two}
 use Rattle.parser.proofs.sheet.one_or_two.Goals as goal
@@ -10,10 +9,6 @@ pub returns-in_err-a-clause-read : goal.returns-in_err-a-clause-read
 returns-in_err-a-clause-read c =
     rw c.from_residual.ensures (λ s f l. no_answer (omega arith) (sorts_one s c.args.toks.now c.args.at c.put-v.ensures (reaches (c.in_err-a.ensures.read s 1 (omega arith))) (past_end c.args.toks.now 35 (omega arith)) (put_any _ _ 18)))
 
-pub shape_of-out-then-peek-ne-HASH : goal.shape_of-out-then-peek-ne-HASH
-shape_of-out-then-peek-ne-HASH c =
-    c.put.auto.out ∙ c.name.auto.out ∙ c.put-v.auto.out
-
 pub returns-then-peek-ne-HASH : goal.returns-then-peek-ne-HASH
 returns-then-peek-ne-HASH c =
     record {
@@ -21,17 +16,9 @@ returns-then-peek-ne-HASH c =
       read = λ s f l. some_answer _ (omega (arith, c.in_ok-a.ensures.ahead)) (sorts_one s c.args.toks.now c.args.at c.put-v.ensures (reaches (c.in_ok-a.ensures.read s 1 (omega arith))) (λ e. c.if-peek-ne-HASH.true (c.peek.ensures ∙ e)) c.put.ensures);
     }
 
-pub overflow_add-a : goal.overflow_add-a
-overflow_add-a c =
-    let l = get_or_positive c.args.toks.now c.in_ok-a.a.at (omega arith) in omega arith
-
 pub returns-in_err-b-clause-read : goal.returns-in_err-b-clause-read
 returns-in_err-b-clause-read c =
     rw c.from_residual-in_err-b.ensures (λ s f l. no_answer (omega arith) (sorts_two s c.args.toks.now c.args.at c.put-v.ensures (reaches (c.in_ok-a.ensures.read s 1 (omega arith))) (sym c.peek.ensures ∙ c.if-peek-ne-HASH.false) c.put-u.ensures (reaches (c.in_err-b.ensures.read s 1 (omega arith))) (put_any _ _ 18)))
-
-pub shape_of-out : goal.shape_of-out
-shape_of-out c =
-    c.put-2.auto.out ∙ c.name-2.auto.out ∙ c.put-u.auto.out ∙ c.name.auto.out ∙ c.put-v.auto.out
 
 pub returns : goal.returns
 returns c =

@@ -1,27 +1,13 @@
 -- `sheet::parameters` meets its contract. The invariant: the reader goes on from a later place.
-use lib.Dec.{lit<}
-use mathlib.Core.Path.{sym, ◌∙◌, refl}
+use mathlib.Core.Path.{sym, ◌∙◌}
 use mathlib.Core.List.{[]}
 use Prim.Native.Nat.{◌+◌}
 use native.Mathlib.Omega.{arith}
 use lib.ListN.{length}
-use Rattle.laws.specs.Places.{get_or_positive}
 use Rattle.parser.proofs.Reaching.{past_end, past_meets, put_any, meets, reaches, some_answer, no_answer}
-use Rattle.parser.proofs.Going.{goes_start, goes_then}
+use Rattle.parser.proofs.Going.{goes_then}
 use Rattle.parser.proofs.LineLaws.{parameters_last, parameters_more}
 use Rattle.parser.proofs.sheet.parameters.Goals as goal
-
-pub loop-x-init : goal.loop-x-init
-loop-x-init c =
-    (omega arith, refl, λ s. goes_start)
-
-pub expect-requires : goal.expect-requires
-expect-requires c =
-    lit< tt
-
-pub expect-requires-then-peek-ne-COMMA : goal.expect-requires-then-peek-ne-COMMA
-expect-requires-then-peek-ne-COMMA c =
-    lit< tt
 
 pub returns-in_err-x-clause-read : goal.returns-in_err-x-clause-read
 returns-in_err-x-clause-read c =
@@ -39,24 +25,12 @@ pub returns-in_err-at-clause-read : goal.returns-in_err-at-clause-read
 returns-in_err-at-clause-read c =
     rw c.from_residual-in_err-at.ensures (λ s f l. no_answer (omega arith) ((c.loop-x.invariant.2 s).on (parameters_last s c.args.toks.now c.loop-x.from c.put-u.ensures (omega (arith, c.in_ok-x.ensures.ahead)) (reaches (c.in_ok-x.ensures.read s 1 (omega arith))) (omega (arith, c.in_ok-x.ensures.ahead, c.in_ok-c.ensures.ahead)) (meets c.in_ok-c.ensures.read) (omega (arith, c.in_ok-d.ensures.ahead)) (λ i. (reaches (c.in_ok-d.ensures.read s 1 (omega arith)))) (λ e. c.if-peek-ne-COMMA.true (c.peek.ensures ∙ e)) (omega (arith, c.in_ok-d.ensures.ahead)) (meets c.in_err-at.ensures.read) (put_any _ _ 18)) f l))
 
-pub shape_of-out-then-peek-ne-COMMA : goal.shape_of-out-then-peek-ne-COMMA
-shape_of-out-then-peek-ne-COMMA c =
-    omega (arith, c.loop-x.invariant.1, c.put-u.auto.out, c.name.auto.out, c.name-in-loop-x.auto.out, c.put.auto.out)
-
 pub returns-then-peek-ne-COMMA : goal.returns-then-peek-ne-COMMA
 returns-then-peek-ne-COMMA c =
     record {
       ahead = omega (arith, c.in_ok-x.ensures.ahead, c.in_ok-c.ensures.ahead, c.in_ok-d.ensures.ahead, c.in_ok-at.ensures.ahead);
       read = λ s f l. some_answer _ (omega (arith, c.in_ok-at.ensures.ahead)) ((c.loop-x.invariant.2 s).on (parameters_last s c.args.toks.now c.loop-x.from c.put-u.ensures (omega (arith, c.in_ok-x.ensures.ahead)) (reaches (c.in_ok-x.ensures.read s 1 (omega arith))) (omega (arith, c.in_ok-x.ensures.ahead, c.in_ok-c.ensures.ahead)) (meets c.in_ok-c.ensures.read) (omega (arith, c.in_ok-d.ensures.ahead)) (λ i. (reaches (c.in_ok-d.ensures.read s 1 (omega arith)))) (λ e. c.if-peek-ne-COMMA.true (c.peek.ensures ∙ e)) (omega (arith, c.in_ok-d.ensures.ahead, c.in_ok-at.ensures.ahead)) (meets c.in_ok-at.ensures.read) c.put.ensures) f l);
     }
-
-pub overflow_add-from : goal.overflow_add-from
-overflow_add-from c =
-    let l = get_or_positive c.args.toks.now c.in_ok-d.d.at (omega arith) in omega arith
-
-pub loop-x-smaller : goal.loop-x-smaller
-loop-x-smaller c =
-    let l = get_or_positive c.args.toks.now c.in_ok-d.d.at (omega arith) in omega (arith, c.in_ok-x.ensures.ahead, c.in_ok-c.ensures.ahead, c.in_ok-d.ensures.ahead)
 
 pub loop-x-preserved : goal.loop-x-preserved
 loop-x-preserved c = (

@@ -2,14 +2,9 @@
 use mathlib.Core.Path.{sym, ◌∙◌}
 use native.Mathlib.Omega.{arith}
 use Rattle.std.proofs.lemmas.Option.{IfSome_then}
-use Rattle.laws.specs.Places.{get_or_positive}
 use Rattle.parser.proofs.Reaching.{reaches, answer, some_answer}
 use Rattle.parser.proofs.LineLaws.{params_none, params_some}
 use Rattle.parser.proofs.sheet.params.Goals as goal
-
-pub shape_of-out-then-peek-ne-OPEN : goal.shape_of-out-then-peek-ne-OPEN
-shape_of-out-then-peek-ne-OPEN c =
-    c.put.auto.out
 
 pub returns-then-peek-ne-OPEN : goal.returns-then-peek-ne-OPEN
 returns-then-peek-ne-OPEN c =
@@ -17,14 +12,6 @@ returns-then-peek-ne-OPEN c =
       onward = omega arith;
       read = λ i s f l. some_answer _ i (params_none s c.args.toks.now c.args.at i (λ e. c.if-peek-ne-OPEN.true (c.peek.ensures ∙ e)) c.put.ensures f);
     }
-
-pub overflow_add-at : goal.overflow_add-at
-overflow_add-at c =
-    let l = get_or_positive c.args.toks.now c.args.at (omega arith) in omega arith
-
-pub shape_of-out : goal.shape_of-out
-shape_of-out c =
-    c.parameters.auto.out
 
 pub returns : goal.returns
 returns c =

@@ -1,6 +1,4 @@
 -- `sheet::proc_line` meets its contract: a straight run of readers.
-use lib.Dec.{lit<}
-use mathlib.Core.Path.{◌∙◌}
 use mathlib.Core.List.{[]}
 use Prim.Native.Nat.{◌+◌}
 use native.Mathlib.Omega.{arith}
@@ -9,10 +7,6 @@ use Rattle.std.proofs.lemmas.Option.{IfSome_then}
 use Rattle.parser.proofs.Reaching.{past_meets, meets, reaches, after, answer, none_answer}
 use Rattle.parser.proofs.LineLaws.{proc_read}
 use Rattle.parser.proofs.sheet.proc_line.Goals as goal
-
-pub expect-requires : goal.expect-requires
-expect-requires c =
-    lit< tt
 
 pub returns-in_err-x-clause-read : goal.returns-in_err-x-clause-read
 returns-in_err-x-clause-read c =
@@ -25,10 +19,6 @@ returns-in_err-h-clause-read c =
 pub returns-in_err-e-clause-read : goal.returns-in_err-e-clause-read
 returns-in_err-e-clause-read c =
     rw c.from_residual-in_err-e.ensures (λ s f l. none_answer (proc_read s c.args.toks.now c.args.at {at₅ = length c.args.toks.now + 1} {w₅ = 0} {o₅ = []} c.put-v.ensures (reaches (c.in_ok-x.ensures.read s 1 (omega arith))) (omega (arith, c.in_ok-h.ensures.onward)) (λ i g k. reaches (c.in_ok-h.ensures.read i s g k)) (omega (arith, c.in_ok-x.ensures.ahead, c.in_ok-h.ensures.onward, c.in_ok-h.ensures.onward.1 (omega (arith, c.in_ok-x.ensures.ahead)))) (meets c.in_err-e.ensures.read) (omega arith) (λ i. absurd (omega arith)) f l))
-
-pub shape_of-out : goal.shape_of-out
-shape_of-out c =
-    c.choice.auto.out ∙ c.params.auto.out ∙ c.name.auto.out ∙ c.put-v.auto.out
 
 pub returns : goal.returns
 returns c =

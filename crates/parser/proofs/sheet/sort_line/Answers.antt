@@ -1,5 +1,4 @@
 -- `sheet::sort_line` meets its contract.
-use mathlib.Core.Path.{◌∙◌}
 use mathlib.Core.List.{[]}
 use Prim.Native.Nat.{◌+◌}
 use native.Mathlib.Omega.{arith}
@@ -12,10 +11,6 @@ use Rattle.parser.proofs.sheet.sort_line.Goals as goal
 pub returns-in_err-x-clause-read : goal.returns-in_err-x-clause-read
 returns-in_err-x-clause-read c =
     rw c.from_residual.ensures (λ s f l. none_answer (sort_read s c.args.toks.now c.args.at {at₃ = length c.args.toks.now + 1} {w₃ = 0} {o₃ = []} c.put-v.ensures (reaches (c.in_err-x.ensures.read s 1 (omega arith))) (omega arith) (λ i. absurd (omega arith))))
-
-pub shape_of-out : goal.shape_of-out
-shape_of-out c =
-    c.numeral.auto.out ∙ c.name.auto.out ∙ c.put-v.auto.out
 
 pub returns : goal.returns
 returns c =
