@@ -145,7 +145,3 @@ module _ (s toks : List ℕ) (at : ℕ) {w v w' : ℕ} {o o' : List ℕ} (p : Pu
   reads_numeral g h =
       let l = get_or_positive toks at (omega arith) in
       subst (λ g. Reaches s toks enc_numeral w o (at + 1) w' o' g) (sym (numeral_next s toks at g h)) (took (omega arith) (writes_cell p (ap (symbol_of s) e ∙ symbol_numeral s (get_or toks at 0) g h)))
-
--- a reader that finds nothing
-pub reads_missing : {s toks : List ℕ} {A : Type 0} {enc : A → List Symbol} {w : ℕ} {o : List ℕ} {end w' : ℕ} {o' : List ℕ} {g : Got Token A} → g ≡ missing → length toks < end → Reaches s toks enc w o end w' o' g
-reads_missing {s} {toks} {A} {enc} {w} {o} {end} {w'} {o'} {g} e l = subst (λ g. Reaches s toks enc w o end w' o' g) (sym e) (lost l)

@@ -31,7 +31,8 @@ pub fn data_term(toks: &[u16], at: usize, out: &mut [u16], w: usize) -> Option<S
     }
 }
 
-// Comparisons joined by `/\`, and before them their count.
+// Comparisons joined by `/\`, and before them their count. As data_term, but for the reader that it calls, which calls back: one function
+// for both would choose the reader by a test in the loop, and say no more plainly what is read.
 #[cycle(atom_comparison_conjunction_data_list_data_term_negation)]
 fn conjunction(toks: &[u16], at: usize, out: &mut [u16], w: usize) -> Option<Step>
     ensures ahead { IfSome result (λ r. Ahead (length toks.now) at r.at) }

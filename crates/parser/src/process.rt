@@ -47,7 +47,7 @@ fn conditional(toks: &[u16], at: usize, out: &mut [u16], w: usize) -> Option<Ste
     sequence(toks, e, out, d.w)
 }
 
-// "A sequence is parts joined by `.`."
+// "A sequence is parts joined by `.`." As choice, but for the reader that it calls, which calls back (see data::conjunction).
 #[cycle(choice_conditional_part_sequence)]
 fn sequence(toks: &[u16], at: usize, out: &mut [u16], w: usize) -> Option<Step>
     ensures ahead { IfSome result (λ r. Ahead (length toks.now) at r.at) }

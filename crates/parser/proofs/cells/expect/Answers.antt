@@ -5,10 +5,11 @@ use Rattle.laws.specs.Places.{get_or_positive}
 use Rattle.parser.specs.Reading.{stands, other}
 use Rattle.parser.proofs.cells.expect.Goals as goal
 
-pub returns-then-peek-sign : goal.returns-then-peek-sign
-returns-then-peek-sign c =
+pub returns-then-peek-sign-clause-read : goal.returns-then-peek-sign-clause-read
+returns-then-peek-sign-clause-read c =
     let l = get_or_positive c.args.toks.now c.args.at (omega arith) in
-    record { ahead = omega arith; read = stands (sym c.peek.ensures ∙ c.if-peek-sign.true) }
+    stands (sym c.peek.ensures ∙ c.if-peek-sign.true)
 
-pub returns-else-peek-sign : goal.returns-else-peek-sign
-returns-else-peek-sign c = record { ahead = tt; read = other (λ e. c.if-peek-sign.false (c.peek.ensures ∙ e)) }
+pub returns-else-peek-sign-clause-read : goal.returns-else-peek-sign-clause-read
+returns-else-peek-sign-clause-read c =
+    other (λ e. c.if-peek-sign.false (c.peek.ensures ∙ e))

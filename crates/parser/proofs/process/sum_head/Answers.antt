@@ -27,9 +27,6 @@ pub returns-in_err-at-clause-read : goal.returns-in_err-at-clause-read
 returns-in_err-at-clause-read c =
     rw c.from_residual-in_err-at.ensures (λ s f l. no_answer (omega arith) (head_read s c.args.toks.now c.args.at (meets c.in_ok-a.ensures.read) (omega (arith, c.in_ok-v.ensures.ahead)) (λ i. (reaches (c.in_ok-v.ensures.read s 1 (omega arith)))) (omega (arith, c.in_ok-v.ensures.ahead, c.in_ok-c.ensures.ahead)) (meets c.in_ok-c.ensures.read) (omega (arith, c.in_ok-d.ensures.ahead)) (λ i. (reaches (c.in_ok-d.ensures.read s 1 (omega arith)))) (omega (arith, c.in_ok-d.ensures.ahead)) (meets c.in_err-at.ensures.read)))
 
-pub returns : goal.returns
-returns c =
-    record {
-      ahead = omega (arith, c.in_ok-a.ensures.ahead, c.in_ok-v.ensures.ahead, c.in_ok-c.ensures.ahead, c.in_ok-d.ensures.ahead, c.in_ok-at.ensures.ahead);
-      read = λ s f l. some_answer _ (omega (arith, c.in_ok-at.ensures.ahead)) (head_read s c.args.toks.now c.args.at (meets c.in_ok-a.ensures.read) (omega (arith, c.in_ok-v.ensures.ahead)) (λ i. (reaches (c.in_ok-v.ensures.read s 1 (omega arith)))) (omega (arith, c.in_ok-v.ensures.ahead, c.in_ok-c.ensures.ahead)) (meets c.in_ok-c.ensures.read) (omega (arith, c.in_ok-d.ensures.ahead)) (λ i. (reaches (c.in_ok-d.ensures.read s 1 (omega arith)))) (omega (arith, c.in_ok-d.ensures.ahead, c.in_ok-at.ensures.ahead)) (meets c.in_ok-at.ensures.read));
-    }
+pub returns-clause-read : goal.returns-clause-read
+returns-clause-read c =
+    λ s f l. some_answer _ (omega (arith, c.in_ok-at.ensures.ahead)) (head_read s c.args.toks.now c.args.at (meets c.in_ok-a.ensures.read) (omega (arith, c.in_ok-v.ensures.ahead)) (λ i. (reaches (c.in_ok-v.ensures.read s 1 (omega arith)))) (omega (arith, c.in_ok-v.ensures.ahead, c.in_ok-c.ensures.ahead)) (meets c.in_ok-c.ensures.read) (omega (arith, c.in_ok-d.ensures.ahead)) (λ i. (reaches (c.in_ok-d.ensures.read s 1 (omega arith)))) (omega (arith, c.in_ok-d.ensures.ahead, c.in_ok-at.ensures.ahead)) (meets c.in_ok-at.ensures.read))

@@ -3,7 +3,6 @@ use mathlib.Core.List.{[]}
 use Prim.Native.Nat.{◌+◌}
 use native.Mathlib.Omega.{arith}
 use lib.ListN.{length}
-use Rattle.std.proofs.lemmas.Option.{IfSome_then}
 use Rattle.parser.proofs.Reaching.{past_meets, meets, reaches, after, answer, none_answer}
 use Rattle.parser.proofs.LineLaws.{func_read}
 use Rattle.parser.proofs.sheet.func_line.Goals as goal
@@ -32,9 +31,6 @@ pub returns-in_err-e-clause-read : goal.returns-in_err-e-clause-read
 returns-in_err-e-clause-read c =
     rw c.from_residual-in_err-e.ensures (λ s f l. none_answer (func_read s c.args.toks.now c.args.at {at₈ = length c.args.toks.now + 1} {w₈ = 0} {o₈ = []} c.put-v.ensures (reaches (c.in_ok-x.ensures.read s 1 (omega arith))) (omega (arith, c.in_ok-x.ensures.ahead, c.in_ok-c.ensures.ahead, c.in_ok-t.ensures.ahead, c.in_ok-a.ensures.ahead, c.in_ok-g.ensures.ahead)) (meets c.in_ok-c.ensures.read) (omega (arith, c.in_ok-x.ensures.ahead, c.in_ok-c.ensures.ahead, c.in_ok-t.ensures.ahead, c.in_ok-a.ensures.ahead, c.in_ok-g.ensures.ahead)) (λ i. (reaches (c.in_ok-t.ensures.read s 1 (omega arith)))) (omega (arith, c.in_ok-x.ensures.ahead, c.in_ok-c.ensures.ahead, c.in_ok-t.ensures.ahead, c.in_ok-a.ensures.ahead, c.in_ok-g.ensures.ahead)) (meets c.in_ok-a.ensures.read) (omega (arith, c.in_ok-x.ensures.ahead, c.in_ok-c.ensures.ahead, c.in_ok-t.ensures.ahead, c.in_ok-a.ensures.ahead, c.in_ok-g.ensures.ahead)) (λ i. (reaches (c.in_ok-g.ensures.read s 1 (omega arith)))) (omega (arith, c.in_ok-x.ensures.ahead, c.in_ok-c.ensures.ahead, c.in_ok-t.ensures.ahead, c.in_ok-a.ensures.ahead, c.in_ok-g.ensures.ahead)) (meets c.in_err-e.ensures.read) (omega arith) (λ i. absurd (omega arith)) f l))
 
-pub returns : goal.returns
-returns c =
-    record {
-      ahead = IfSome_then c.numerals.result c.numerals.ensures.ahead (λ x p. omega (arith, c.in_ok-x.ensures.ahead, c.in_ok-c.ensures.ahead, c.in_ok-t.ensures.ahead, c.in_ok-a.ensures.ahead, c.in_ok-g.ensures.ahead, c.in_ok-e.ensures.ahead));
-      read = λ s f l. answer _ c.numerals.result c.numerals.ensures.ahead (func_read s c.args.toks.now c.args.at c.put-v.ensures (reaches (c.in_ok-x.ensures.read s 1 (omega arith))) (omega (arith, c.in_ok-x.ensures.ahead, c.in_ok-c.ensures.ahead, c.in_ok-t.ensures.ahead, c.in_ok-a.ensures.ahead, c.in_ok-g.ensures.ahead, c.in_ok-e.ensures.ahead)) (meets c.in_ok-c.ensures.read) (omega (arith, c.in_ok-x.ensures.ahead, c.in_ok-c.ensures.ahead, c.in_ok-t.ensures.ahead, c.in_ok-a.ensures.ahead, c.in_ok-g.ensures.ahead, c.in_ok-e.ensures.ahead)) (λ i. (reaches (c.in_ok-t.ensures.read s 1 (omega arith)))) (omega (arith, c.in_ok-x.ensures.ahead, c.in_ok-c.ensures.ahead, c.in_ok-t.ensures.ahead, c.in_ok-a.ensures.ahead, c.in_ok-g.ensures.ahead, c.in_ok-e.ensures.ahead)) (meets c.in_ok-a.ensures.read) (omega (arith, c.in_ok-x.ensures.ahead, c.in_ok-c.ensures.ahead, c.in_ok-t.ensures.ahead, c.in_ok-a.ensures.ahead, c.in_ok-g.ensures.ahead, c.in_ok-e.ensures.ahead)) (λ i. (reaches (c.in_ok-g.ensures.read s 1 (omega arith)))) (omega (arith, c.in_ok-x.ensures.ahead, c.in_ok-c.ensures.ahead, c.in_ok-t.ensures.ahead, c.in_ok-a.ensures.ahead, c.in_ok-g.ensures.ahead, c.in_ok-e.ensures.ahead)) (meets c.in_ok-e.ensures.read) (after _ _ c.numerals.result c.numerals.ensures.ahead) (λ i. (λ g k. reaches (c.numerals.ensures.read s g k))) f l);
-    }
+pub returns-clause-read : goal.returns-clause-read
+returns-clause-read c =
+    λ s f l. answer _ c.numerals.result c.numerals.ensures.ahead (func_read s c.args.toks.now c.args.at c.put-v.ensures (reaches (c.in_ok-x.ensures.read s 1 (omega arith))) (omega (arith, c.in_ok-x.ensures.ahead, c.in_ok-c.ensures.ahead, c.in_ok-t.ensures.ahead, c.in_ok-a.ensures.ahead, c.in_ok-g.ensures.ahead, c.in_ok-e.ensures.ahead)) (meets c.in_ok-c.ensures.read) (omega (arith, c.in_ok-x.ensures.ahead, c.in_ok-c.ensures.ahead, c.in_ok-t.ensures.ahead, c.in_ok-a.ensures.ahead, c.in_ok-g.ensures.ahead, c.in_ok-e.ensures.ahead)) (λ i. (reaches (c.in_ok-t.ensures.read s 1 (omega arith)))) (omega (arith, c.in_ok-x.ensures.ahead, c.in_ok-c.ensures.ahead, c.in_ok-t.ensures.ahead, c.in_ok-a.ensures.ahead, c.in_ok-g.ensures.ahead, c.in_ok-e.ensures.ahead)) (meets c.in_ok-a.ensures.read) (omega (arith, c.in_ok-x.ensures.ahead, c.in_ok-c.ensures.ahead, c.in_ok-t.ensures.ahead, c.in_ok-a.ensures.ahead, c.in_ok-g.ensures.ahead, c.in_ok-e.ensures.ahead)) (λ i. (reaches (c.in_ok-g.ensures.read s 1 (omega arith)))) (omega (arith, c.in_ok-x.ensures.ahead, c.in_ok-c.ensures.ahead, c.in_ok-t.ensures.ahead, c.in_ok-a.ensures.ahead, c.in_ok-g.ensures.ahead, c.in_ok-e.ensures.ahead)) (meets c.in_ok-e.ensures.read) (after _ _ c.numerals.result c.numerals.ensures.ahead) (λ i. (λ g k. reaches (c.numerals.ensures.read s g k))) f l)

@@ -37,10 +37,7 @@ loop-places-preserved c =
       λ i. omega (arith, c.in_ok-a.ensures.ahead, c.in_ok-from.ensures.ahead),
     )
 
-pub returns : goal.returns
-returns c =
-    let q = c.requires in record {
-      onward = (omega (arith, c.loop-places.invariant.0), c.loop-places.invariant.5);
-      read = λ i s f g m k. some_run _ (c.loop-places.invariant.5 i) ((c.loop-places.invariant.4 i s f m).on (omega arith)
-          (λ j. run_none (kind_sign c.args.word (omega arith) (omega arith)) ((kind_of c.args.word).reader f) s c.args.toks.now c.loop-places.from c.loop-places.v c.loop-places.i c.loop-places.out c.loop-places.places j (λ e. c.loop-places-test.false (c.peek.ensures ∙ e))) g k);
-    }
+pub returns-clause-read : goal.returns-clause-read
+returns-clause-read c =
+    let q = c.requires in λ i s f g m k. some_run _ (c.loop-places.invariant.5 i) ((c.loop-places.invariant.4 i s f m).on (omega arith)
+    (λ j. run_none (kind_sign c.args.word (omega arith) (omega arith)) ((kind_of c.args.word).reader f) s c.args.toks.now c.loop-places.from c.loop-places.v c.loop-places.i c.loop-places.out c.loop-places.places j (λ e. c.loop-places-test.false (c.peek.ensures ∙ e))) g k)

@@ -10,12 +10,9 @@ pub returns-in_err-a-clause-read : goal.returns-in_err-a-clause-read
 returns-in_err-a-clause-read c =
     rw c.from_residual.ensures (λ s f l. no_answer (omega arith) ((c.loop-a.invariant.2 s).on (numerals_last s c.args.toks.now c.loop-a.from c.put-u.ensures (omega arith) (reaches (c.in_err-a.ensures.read s 1 (omega arith))) (past_end c.args.toks.now 44 (omega arith)) (put_any _ _ 18)) f l))
 
-pub returns-then-peek-ne-COMMA : goal.returns-then-peek-ne-COMMA
-returns-then-peek-ne-COMMA c =
-    record {
-      ahead = omega (arith, c.in_ok-a.ensures.ahead);
-      read = λ s f l. some_answer _ (omega (arith, c.in_ok-a.ensures.ahead)) ((c.loop-a.invariant.2 s).on (numerals_last s c.args.toks.now c.loop-a.from c.put-u.ensures (omega (arith, c.in_ok-a.ensures.ahead)) (reaches (c.in_ok-a.ensures.read s 1 (omega arith))) (λ e. c.if-peek-ne-COMMA.true (c.peek.ensures ∙ e)) c.put.ensures) f l);
-    }
+pub returns-then-peek-ne-COMMA-clause-read : goal.returns-then-peek-ne-COMMA-clause-read
+returns-then-peek-ne-COMMA-clause-read c =
+    λ s f l. some_answer _ (omega (arith, c.in_ok-a.ensures.ahead)) ((c.loop-a.invariant.2 s).on (numerals_last s c.args.toks.now c.loop-a.from c.put-u.ensures (omega (arith, c.in_ok-a.ensures.ahead)) (reaches (c.in_ok-a.ensures.read s 1 (omega arith))) (λ e. c.if-peek-ne-COMMA.true (c.peek.ensures ∙ e)) c.put.ensures) f l)
 
 pub loop-a-preserved : goal.loop-a-preserved
 loop-a-preserved c = (

@@ -25,12 +25,9 @@ pub returns-in_err-at-clause-read : goal.returns-in_err-at-clause-read
 returns-in_err-at-clause-read c =
     rw c.from_residual-in_err-at.ensures (λ s f l. no_answer (omega arith) ((c.loop-x.invariant.2 s).on (parameters_last s c.args.toks.now c.loop-x.from c.put-u.ensures (omega (arith, c.in_ok-x.ensures.ahead)) (reaches (c.in_ok-x.ensures.read s 1 (omega arith))) (omega (arith, c.in_ok-x.ensures.ahead, c.in_ok-c.ensures.ahead)) (meets c.in_ok-c.ensures.read) (omega (arith, c.in_ok-d.ensures.ahead)) (λ i. (reaches (c.in_ok-d.ensures.read s 1 (omega arith)))) (λ e. c.if-peek-ne-COMMA.true (c.peek.ensures ∙ e)) (omega (arith, c.in_ok-d.ensures.ahead)) (meets c.in_err-at.ensures.read) (put_any _ _ 18)) f l))
 
-pub returns-then-peek-ne-COMMA : goal.returns-then-peek-ne-COMMA
-returns-then-peek-ne-COMMA c =
-    record {
-      ahead = omega (arith, c.in_ok-x.ensures.ahead, c.in_ok-c.ensures.ahead, c.in_ok-d.ensures.ahead, c.in_ok-at.ensures.ahead);
-      read = λ s f l. some_answer _ (omega (arith, c.in_ok-at.ensures.ahead)) ((c.loop-x.invariant.2 s).on (parameters_last s c.args.toks.now c.loop-x.from c.put-u.ensures (omega (arith, c.in_ok-x.ensures.ahead)) (reaches (c.in_ok-x.ensures.read s 1 (omega arith))) (omega (arith, c.in_ok-x.ensures.ahead, c.in_ok-c.ensures.ahead)) (meets c.in_ok-c.ensures.read) (omega (arith, c.in_ok-d.ensures.ahead)) (λ i. (reaches (c.in_ok-d.ensures.read s 1 (omega arith)))) (λ e. c.if-peek-ne-COMMA.true (c.peek.ensures ∙ e)) (omega (arith, c.in_ok-d.ensures.ahead, c.in_ok-at.ensures.ahead)) (meets c.in_ok-at.ensures.read) c.put.ensures) f l);
-    }
+pub returns-then-peek-ne-COMMA-clause-read : goal.returns-then-peek-ne-COMMA-clause-read
+returns-then-peek-ne-COMMA-clause-read c =
+    λ s f l. some_answer _ (omega (arith, c.in_ok-at.ensures.ahead)) ((c.loop-x.invariant.2 s).on (parameters_last s c.args.toks.now c.loop-x.from c.put-u.ensures (omega (arith, c.in_ok-x.ensures.ahead)) (reaches (c.in_ok-x.ensures.read s 1 (omega arith))) (omega (arith, c.in_ok-x.ensures.ahead, c.in_ok-c.ensures.ahead)) (meets c.in_ok-c.ensures.read) (omega (arith, c.in_ok-d.ensures.ahead)) (λ i. (reaches (c.in_ok-d.ensures.read s 1 (omega arith)))) (λ e. c.if-peek-ne-COMMA.true (c.peek.ensures ∙ e)) (omega (arith, c.in_ok-d.ensures.ahead, c.in_ok-at.ensures.ahead)) (meets c.in_ok-at.ensures.read) c.put.ensures) f l)
 
 pub loop-x-preserved : goal.loop-x-preserved
 loop-x-preserved c = (

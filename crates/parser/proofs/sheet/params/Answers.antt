@@ -1,21 +1,13 @@
 -- `sheet::params` meets its contract.
 use mathlib.Core.Path.{sym, ◌∙◌}
-use native.Mathlib.Omega.{arith}
-use Rattle.std.proofs.lemmas.Option.{IfSome_then}
 use Rattle.parser.proofs.Reaching.{reaches, answer, some_answer}
 use Rattle.parser.proofs.LineLaws.{params_none, params_some}
 use Rattle.parser.proofs.sheet.params.Goals as goal
 
-pub returns-then-peek-ne-OPEN : goal.returns-then-peek-ne-OPEN
-returns-then-peek-ne-OPEN c =
-    record {
-      onward = omega arith;
-      read = λ i s f l. some_answer _ i (params_none s c.args.toks.now c.args.at i (λ e. c.if-peek-ne-OPEN.true (c.peek.ensures ∙ e)) c.put.ensures f);
-    }
+pub returns-then-peek-ne-OPEN-clause-read : goal.returns-then-peek-ne-OPEN-clause-read
+returns-then-peek-ne-OPEN-clause-read c =
+    λ i s f l. some_answer _ i (params_none s c.args.toks.now c.args.at i (λ e. c.if-peek-ne-OPEN.true (c.peek.ensures ∙ e)) c.put.ensures f)
 
-pub returns : goal.returns
-returns c =
-    record {
-      onward = IfSome_then c.parameters.result c.parameters.ensures.ahead (λ x p. omega arith);
-      read = λ i s f l. answer _ c.parameters.result c.parameters.ensures.ahead (params_some s c.args.toks.now c.args.at (sym c.peek.ensures ∙ c.if-peek-ne-OPEN.false) (λ g k. reaches (c.parameters.ensures.read s g k)) f l);
-    }
+pub returns-clause-read : goal.returns-clause-read
+returns-clause-read c =
+    λ i s f l. answer _ c.parameters.result c.parameters.ensures.ahead (params_some s c.args.toks.now c.args.at (sym c.peek.ensures ∙ c.if-peek-ne-OPEN.false) (λ g k. reaches (c.parameters.ensures.read s g k)) f l)

@@ -3,7 +3,6 @@ use mathlib.Core.List.{[]}
 use Prim.Native.Nat.{◌+◌}
 use native.Mathlib.Omega.{arith}
 use lib.ListN.{length}
-use Rattle.std.proofs.lemmas.Option.{IfSome_then}
 use Rattle.parser.proofs.Reaching.{past_meets, meets, reaches, after, answer, none_answer}
 use Rattle.parser.proofs.LineLaws.{proc_read}
 use Rattle.parser.proofs.sheet.proc_line.Goals as goal
@@ -20,9 +19,6 @@ pub returns-in_err-e-clause-read : goal.returns-in_err-e-clause-read
 returns-in_err-e-clause-read c =
     rw c.from_residual-in_err-e.ensures (λ s f l. none_answer (proc_read s c.args.toks.now c.args.at {at₅ = length c.args.toks.now + 1} {w₅ = 0} {o₅ = []} c.put-v.ensures (reaches (c.in_ok-x.ensures.read s 1 (omega arith))) (omega (arith, c.in_ok-h.ensures.onward)) (λ i g k. reaches (c.in_ok-h.ensures.read i s g k)) (omega (arith, c.in_ok-x.ensures.ahead, c.in_ok-h.ensures.onward, c.in_ok-h.ensures.onward.1 (omega (arith, c.in_ok-x.ensures.ahead)))) (meets c.in_err-e.ensures.read) (omega arith) (λ i. absurd (omega arith)) f l))
 
-pub returns : goal.returns
-returns c =
-    record {
-      ahead = IfSome_then c.choice.result c.choice.ensures.ahead (λ x p. omega (arith, c.in_ok-x.ensures.ahead, c.in_ok-h.ensures.onward.0, c.in_ok-e.ensures.ahead));
-      read = λ s f l. answer _ c.choice.result c.choice.ensures.ahead (proc_read s c.args.toks.now c.args.at c.put-v.ensures (reaches (c.in_ok-x.ensures.read s 1 (omega arith))) (omega (arith, c.in_ok-h.ensures.onward.0)) (λ i g k. reaches (c.in_ok-h.ensures.read i s g k)) (omega (arith, c.in_ok-e.ensures.ahead)) (meets c.in_ok-e.ensures.read) (after _ _ c.choice.result c.choice.ensures.ahead) (λ i. (λ g k. reaches (c.choice.ensures.read s g k))) f l);
-    }
+pub returns-clause-read : goal.returns-clause-read
+returns-clause-read c =
+    λ s f l. answer _ c.choice.result c.choice.ensures.ahead (proc_read s c.args.toks.now c.args.at c.put-v.ensures (reaches (c.in_ok-x.ensures.read s 1 (omega arith))) (omega (arith, c.in_ok-h.ensures.onward.0)) (λ i g k. reaches (c.in_ok-h.ensures.read i s g k)) (omega (arith, c.in_ok-e.ensures.ahead)) (meets c.in_ok-e.ensures.read) (after _ _ c.choice.result c.choice.ensures.ahead) (λ i. (λ g k. reaches (c.choice.ensures.read s g k))) f l)
