@@ -1,6 +1,7 @@
 -- The bytes that the arrays show are those of the signature that they hold.
 use mathlib.Core.Path.{◌≡◌, refl, sym, ap, ap₂, ◌∙◌}
 use mathlib.Core.List.{List, [], ◌∷◌, ◌++◌}
+use Rattle.std.specs.Prelude.{Option}
 use Prim.Native.Nat.{ℕ, zero, suc, ◌+◌, ◌-◌, ◌*◌, ◌≤◌, ◌<◌}
 use native.Mathlib.Nat.{mod-eq_of_lt}
 use native.Mathlib.Omega.{arith}
@@ -20,11 +21,11 @@ use Rattle.codec.specs.Cut.{concatenated_zero, concatenated_suc, concatenated_al
 use Rattle.codec.specs.Together.{firsts_together}
 use Rattle.nodes.specs.declared.Outline.{Outline}
 use Rattle.nodes.specs.Layout.{byte_limit}
-use Rattle.nodes.specs.Held.{func_width, act_width, SortsAt, FuncAt, ActAt}
+use Rattle.nodes.specs.Held.{func_width, act_width, SortsAt, FuncAt, ActAt, HeldSig}
 use Rattle.names.specs.NameCells.{name_at}
 use Rattle.emit.specs.Putting.{Puts}
-use Rattle.emit.specs.Bytes.{part, row_bytes, sort_name_at, sort_bytes, sorts_bytes, func_bytes, name_bytes, action_bytes, counted_bytes, SortNamesAt, PutsSig}
-use Rattle.emit.proofs.Putting.{puts_then, puts_as}
+use Rattle.emit.specs.Bytes.{part, row_bytes, sort_name_at, sort_bytes, sorts_bytes, func_bytes, name_bytes, action_bytes, counted_bytes, NamesAt, ShortNames, SortNamesAt, PutsSig}
+use Rattle.emit.proofs.SignatureLaws.{puts_same}
 use Rattle.emit.proofs.Copied.{part_is}
 
 -- a list's elements, one after another
@@ -101,19 +102,22 @@ unfolding action_bytes encode_action
 action_is a s acts names b i h e k = ap₂ (λ (x y : List ℕ). x ++ y) (name_is _ a.name e k) (row_is a.takes acts (act_width * i) h.takes)
 
 -- THE SIGNATURE
-pub signature_put : (s sizes funcs values places acts names : List ℕ) (b : ℕ) (n : Outline) (w : ℕ) (o : List ℕ) (x : ℕ) (p : List ℕ) (y : ℕ) (q : List ℕ) (r : ℕ) (t : List ℕ)
-    → Puts (sorts_bytes s sizes names n.sorts) w o x p → Puts (counted_bytes n.funcs (func_bytes funcs values places)) x p y q
-    → Puts (counted_bytes n.acts (action_bytes s acts names b)) y q r t → PutsSig s sizes funcs values places acts names b n w o r t
+signature_is : (S : Sig) (s sizes funcs values places acts names : List ℕ) (b : ℕ) (n : Outline) → HeldSig S sizes funcs values places acts n → NamesAt s names b S.acts → ShortNames S.acts → SortNamesAt s names S.sort_names → RightNames with_names S
+    → sorts_bytes s sizes names n.sorts ++ (counted_bytes n.funcs (func_bytes funcs values places) ++ counted_bytes n.acts (action_bytes s acts names b)) ≡ encode_sig with_names S
 unfolding encode_sig func
-signature_put s sizes funcs values places acts names b n w o x p y q r t f g h S held named short sorts_named right =
+signature_is S s sizes funcs values places acts names b n held named short sorts_named right =
     let sl = held.few_sorts in
     let fl = held.few_funcs in
     let al = held.few_acts in
-    puts_as w o r t
-    (ap₂ (λ (k l : List ℕ). k ++ l) (sorts_is S s sizes names n.sorts held.sort_count (omega arith) held.size_at sorts_named right)
+    ap₂ (λ (k l : List ℕ). k ++ l) (sorts_is S s sizes names n.sorts held.sort_count (omega arith) held.size_at sorts_named right)
     (ap₂ (λ (k l : List ℕ). k ++ l)
     (counted_is encode_func no_func S.funcs n.funcs (func_bytes funcs values places) held.func_count (omega arith) (λ i k. func_is (func S i) funcs values places i (held.func_at i k)))
     (counted_is encode_action no_action S.acts n.acts (action_bytes s acts names b) held.act_count (omega arith)
     (λ i k. let m : i < length S.acts = omega (arith, held.act_count) in
-    action_is (get_or S.acts i no_action) s acts names b i (held.act_at i k) (named i m) (every_at (λ (a : Action). length a.name ≤ max_name) S.acts no_action i short m)))))
-    (puts_then f (puts_then g h))
+    action_is (get_or S.acts i no_action) s acts names b i (held.act_at i k) (named i m) (every_at (λ (a : Action). length a.name ≤ max_name) S.acts no_action i short m))))
+
+pub signature_put : (s sizes funcs values places acts names : List ℕ) (b : ℕ) (n : Outline) (w : ℕ) (o : List ℕ) (r : Option ℕ) (t : List ℕ)
+    → Puts (sorts_bytes s sizes names n.sorts ++ (counted_bytes n.funcs (func_bytes funcs values places) ++ counted_bytes n.acts (action_bytes s acts names b))) w o r t
+    → PutsSig s sizes funcs values places acts names b n w o r t
+signature_put s sizes funcs values places acts names b n w o r t f S held named short sorts_named right =
+    puts_same w o r t (signature_is S s sizes funcs values places acts names b n held named short sorts_named right) f

@@ -1,5 +1,5 @@
 -- The bytes of a signature as the arrays show them that hold it (crate nodes, Held). Numbers are put modulo 256, so that no premise stands here.
-use Rattle.std.specs.Prelude.{◌≡◌, List, [], ◌∷◌, ◌++◌, ℕ, zero, suc, ◌+◌, ◌-◌, ◌*◌, ◌%◌, ◌≤◌, ◌<◌, length, get_or}
+use Rattle.std.specs.Prelude.{◌≡◌, List, Option, [], ◌∷◌, ◌++◌, ℕ, zero, suc, ◌+◌, ◌-◌, ◌*◌, ◌%◌, ◌≤◌, ◌<◌, length, get_or}
 use Rattle.pcrl.specs.Limits.{max_name}
 use Rattle.pcrl.specs.Text.{bytes}
 use Rattle.pcrl.specs.Tests.{Every}
@@ -64,7 +64,7 @@ ShortNames as' = Every (λ (a : Action). length a.name ≤ max_name) as'
 abbrev pub SortNamesAt : List ℕ → List ℕ → List Name → Type 0
 SortNamesAt s names ns = (D : ℕ) → suc D < length ns → name_at s (get_or names D 0) ≡ get_or ns (suc D) []
 
-abbrev pub PutsSig : (s sizes funcs values places acts names : List ℕ) → ℕ → Outline → (w : ℕ) (o : List ℕ) (w' : ℕ) (o' : List ℕ) → Type 0
-PutsSig s sizes funcs values places acts names b n w o w' o' =
+abbrev pub PutsSig : (s sizes funcs values places acts names : List ℕ) → ℕ → Outline → (w : ℕ) (o : List ℕ) → Option ℕ → (o' : List ℕ) → Type 0
+PutsSig s sizes funcs values places acts names b n w o r o' =
     (S : Sig) → HeldSig S sizes funcs values places acts n → NamesAt s names b S.acts → ShortNames S.acts → SortNamesAt s names S.sort_names → RightNames with_names S
-    → Puts (encode_sig with_names S) w o w' o'
+    → Puts (encode_sig with_names S) w o r o'

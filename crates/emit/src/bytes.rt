@@ -1,27 +1,19 @@
-// Bytes put one behind another into a lent array. Nothing asks for room: a place past the end says that there was none.
-ghost use Rattle.std.specs.Prelude.{◌≡◌, [], ◌∷◌, ◌+◌, ◌-◌, get_or};
+// Bytes put one behind another into a lent array: the next free place, or none where there was no room.
+ghost use Rattle.std.specs.Prelude.{◌≡◌, [], ◌∷◌, ◌+◌, get_or};
 ghost use Rattle.emit.specs.Putting.{Puts};
 ghost use Rattle.emit.specs.Bytes.{part, row_bytes};
 
 use elements::cell;
 
 // One byte; the next free place.
-pub fn put(out: &mut [u8], w: usize, b: u8) -> usize
+pub fn put(out: &mut [u8], w: usize, b: u8) -> Option<usize>
     ensures { Puts (b ∷ []) w out.old result out.new }
 {
-    if w < out.len() {
-        out[w] = b;
-        w + 1
-    } else {
-        out.len() + 1
+    if w >= out.len() {
+        return None;
     }
-}
-
-// What is left of a, 0 where b is larger.
-pub fn minus(a: usize, b: usize) -> usize
-    ensures { result ≡ a - b }
-{
-    if b < a { a - b } else { 0 }
+    out[w] = b;
+    Some(w + 1)
 }
 
 // The element i behind place a, 0 past the end.
@@ -37,18 +29,18 @@ fn element(s: &[u8], a: usize, i: usize) -> u8
 }
 
 // n elements from place a on.
-pub fn copy(s: &[u8], a: usize, n: usize, out: &mut [u8], w: usize) -> usize
+pub fn copy(s: &[u8], a: usize, n: usize, out: &mut [u8], w: usize) -> Option<usize>
     ensures { Puts (part s.now a n) w out.old result out.new }
 {
     let mut v = w;
     for i in 0..n {
-        v = put(out, v, element(s, a, i));
+        v = put(out, v, element(s, a, i))?;
     }
-    v
+    Some(v)
 }
 
 // A row that begins with its count.
-pub fn put_row(row: &[u8], p: usize, out: &mut [u8], w: usize) -> usize
+pub fn put_row(row: &[u8], p: usize, out: &mut [u8], w: usize) -> Option<usize>
     ensures { Puts (row_bytes row.now p) w out.old result out.new }
 {
     copy(row, p, cell(row, p) + 1, out, w)

@@ -5,7 +5,7 @@ ghost use Rattle.names.specs.NameCells.{name_at};
 ghost use Rattle.emit.specs.Putting.{Puts};
 ghost use Rattle.emit.specs.Bytes.{sort_bytes, sorts_bytes, func_bytes, name_bytes, action_bytes, counted_bytes, PutsSig};
 
-use crate::bytes::{copy, minus, put, put_row};
+use crate::bytes::{copy, put, put_row};
 use elements::{cell, low, peek};
 use lexer::bytes::{DIGIT, UNDERSCORE, run};
 use limits::{BOOL, NAMES_CODE};
@@ -13,20 +13,20 @@ use names::find::first_byte;
 use nodes::{ACT_ROW, FUNC_ROW, GIVES, Outline};
 
 // A name, by its cell.
-fn put_name(s: &[u8], c: u16, out: &mut [u8], w: usize) -> usize
+fn put_name(s: &[u8], c: u16, out: &mut [u8], w: usize) -> Option<usize>
     ensures { Puts (name_bytes (name_at s.now c)) w out.old result out.new }
 {
     let p = first_byte(c);
     let n = run(s, p, DIGIT, UNDERSCORE);
-    let v = put(out, w, low(n));
+    let v = put(out, w, low(n))?;
     copy(s, p, n, out, v)
 }
 
 // A sort: its size and its name. "Bool first"; the cells of the others' names stand before all others in `names`.
-fn put_sort(s: &[u8], sizes: &[u8], names: &[u16], d: usize, out: &mut [u8], w: usize) -> usize
+fn put_sort(s: &[u8], sizes: &[u8], names: &[u16], d: usize, out: &mut [u8], w: usize) -> Option<usize>
     ensures { Puts (sort_bytes s.now sizes.now names.now d) w out.old result out.new }
 {
-    let v = put(out, w, peek(sizes, d));
+    let v = put(out, w, peek(sizes, d))?;
     if d == BOOL {
         return put_row(b"\x04Bool", 0, out, v);
     }
@@ -34,15 +34,15 @@ fn put_sort(s: &[u8], sizes: &[u8], names: &[u16], d: usize, out: &mut [u8], w: 
 }
 
 // Hex F2, the count of sorts, each sort.
-fn put_sorts(s: &[u8], sizes: &[u8], names: &[u16], n: usize, out: &mut [u8], w: usize) -> usize
+fn put_sorts(s: &[u8], sizes: &[u8], names: &[u16], n: usize, out: &mut [u8], w: usize) -> Option<usize>
     ensures { Puts (sorts_bytes s.now sizes.now names.now n) w out.old result out.new }
 {
-    let a = put(out, w, NAMES_CODE);
-    let mut v = put(out, a, low(n));
+    let a = put(out, w, NAMES_CODE)?;
+    let mut v = put(out, a, low(n))?;
     for d in 0..n {
-        v = put_sort(s, sizes, names, d, out, v);
+        v = put_sort(s, sizes, names, d, out, v)?;
     }
-    v
+    Some(v)
 }
 
 // Function i: its sorts with their count, the sort that it gives, its values.
@@ -53,15 +53,15 @@ fn put_func(
     i: usize,
     out: &mut [u8],
     w: usize,
-) -> usize
+) -> Option<usize>
     requires { i < cell_limit }
     ensures { Puts (func_bytes funcs.now values.now places.now i) w out.old result out.new }
 {
     let p = FUNC_ROW * i;
-    let a = put_row(funcs, p, out, w);
-    let b = put(out, a, peek(funcs, p + GIVES));
+    let a = put_row(funcs, p, out, w)?;
+    let b = put(out, a, peek(funcs, p + GIVES))?;
     let from = cell(places, i);
-    copy(values, from, minus(cell(places, i + 1), from), out, b)
+    copy(values, from, cell(places, i + 1).saturating_sub(from), out, b)
 }
 
 // The count of functions, each function.
@@ -72,15 +72,15 @@ fn put_funcs(
     n: usize,
     out: &mut [u8],
     w: usize,
-) -> usize
+) -> Option<usize>
     requires { n < cell_limit }
     ensures { Puts (counted_bytes n (func_bytes funcs.now values.now places.now)) w out.old result out.new }
 {
-    let mut v = put(out, w, low(n));
+    let mut v = put(out, w, low(n))?;
     for i in 0..n {
-        v = put_func(funcs, values, places, i, out, v);
+        v = put_func(funcs, values, places, i, out, v)?;
     }
-    v
+    Some(v)
 }
 
 // Action i: its name, whose cell stands at place b + i of `names`, and its sorts with their count.
@@ -92,11 +92,11 @@ fn put_action(
     i: usize,
     out: &mut [u8],
     w: usize,
-) -> usize
+) -> Option<usize>
     requires { (b < cell_limit) × (i < cell_limit) }
     ensures { Puts (action_bytes s.now acts.now names.now b i) w out.old result out.new }
 {
-    let v = put_name(s, peek(names, b + i), out, w);
+    let v = put_name(s, peek(names, b + i), out, w)?;
     put_row(acts, ACT_ROW * i, out, v)
 }
 
@@ -109,15 +109,15 @@ fn put_actions(
     n: usize,
     out: &mut [u8],
     w: usize,
-) -> usize
+) -> Option<usize>
     requires { (b < cell_limit) × (n < cell_limit) }
     ensures { Puts (counted_bytes n (action_bytes s.now acts.now names.now b)) w out.old result out.new }
 {
-    let mut v = put(out, w, low(n));
+    let mut v = put(out, w, low(n))?;
     for i in 0..n {
-        v = put_action(s, acts, names, b, i, out, v);
+        v = put_action(s, acts, names, b, i, out, v)?;
     }
-    v
+    Some(v)
 }
 
 // The whole signature; the cells of the sorts' names begin at place 0 of `names`, those of the actions' at place b.
@@ -133,11 +133,11 @@ pub fn put_signature(
     n: Outline,
     out: &mut [u8],
     w: usize,
-) -> usize
+) -> Option<usize>
     requires { (b < cell_limit) × (n.funcs < cell_limit) × (n.acts < cell_limit) }
     ensures { PutsSig s.now sizes.now funcs.now values.now places.now acts.now names.now b n w out.old result out.new }
 {
-    let x = put_sorts(s, sizes, names, n.sorts, out, w);
-    let y = put_funcs(funcs, values, places, n.funcs, out, x);
+    let x = put_sorts(s, sizes, names, n.sorts, out, w)?;
+    let y = put_funcs(funcs, values, places, n.funcs, out, x)?;
     put_actions(s, acts, names, b, n.acts, out, y)
 }
