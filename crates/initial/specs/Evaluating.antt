@@ -1,5 +1,5 @@
 -- What the evaluator of data terms without variables says, for every term that stands in the cells.
-use Rattle.std.specs.Prelude.{◌≡◌, List, [], ◌++◌, map, ℕ, ◌*◌, ◌%◌, ◌≤◌, ◌<◌, length, take, drop}
+use Rattle.std.specs.Prelude.{◌≡◌, List, [], Option, ◌++◌, map, ℕ, ◌*◌, ◌%◌, ◌≤◌, ◌<◌, length, take, drop}
 use Rattle.pcrl.specs.Sheet.{call, Sig, Sheet}
 use Rattle.pcrl.specs.Sorts.{closed, Sorted}
 use Rattle.pcrl.specs.Values.{eval}
@@ -40,11 +40,11 @@ Evaluates sizes funcs values places c at end t c' =
     (p : List ℕ) (l : List Symbol) → length p ≡ at → take end c ≡ p ++ cells_of l → drop t c' ≡ run sizes funcs values places l (drop end c)
 
 -- the low bytes of n numbers
-abbrev pub PutsValues : List ℕ → (at n w : ℕ) (o : List ℕ) (w' : ℕ) (o' : List ℕ) → Type 0
-PutsValues c at n w o w' o' = (vs rest : List ℕ) → length vs ≡ n → drop at c ≡ vs ++ rest → Puts (map (λ (v : ℕ). v % byte_limit) vs) w o w' o'
+abbrev pub PutsValues : List ℕ → (at n w : ℕ) (o : List ℕ) → Option ℕ → (o' : List ℕ) → Type 0
+PutsValues c at n w o r o' = (vs rest : List ℕ) → length vs ≡ n → drop at c ≡ vs ++ rest → Puts (map (λ (v : ℕ). v % byte_limit) vs) w o r o'
 
 -- "start equation, its data evaluated"
-abbrev pub PutsStart : (sizes funcs values places cells : List ℕ) → (at w : ℕ) (o : List ℕ) (w' : ℕ) (o' : List ℕ) → Type 0
-PutsStart sizes funcs values places cells at w o w' o' =
+abbrev pub PutsStart : (sizes funcs values places cells : List ℕ) → (at w : ℕ) (o : List ℕ) → Option ℕ → (o' : List ℕ) → Type 0
+PutsStart sizes funcs values places cells at w o r o' =
     (H : Sheet) → Known H.sig sizes funcs values places → length H.procs < 256 → Sorted H closed (call H.start.0 H.start.1) → TermAt (call H.start.0 H.start.1) cells at
-    → Puts (encode_start (H.start.0, map (eval H.sig []) H.start.1)) w o w' o'
+    → Puts (encode_start (H.start.0, map (eval H.sig []) H.start.1)) w o r o'

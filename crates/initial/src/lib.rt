@@ -6,7 +6,7 @@ ghost use Rattle.nodes.specs.Layout.{cell_limit, byte_limit};
 ghost use Rattle.initial.specs.Symbols.{looked_at, second_size, operated, one_value, two_value};
 ghost use Rattle.initial.specs.Evaluating.{far, Further, Steps, Evaluates, PutsValues, PutsStart};
 
-use elements::{cell, low, smaller};
+use elements::{cell, low};
 use emit::bytes::put;
 use nodes::{AND, EQUAL, FUNC_ROW, NOT, VALUE, node_at};
 
@@ -158,19 +158,19 @@ fn evaluate(
 }
 
 // The n values from `at` on.
-fn put_values(cells: &[u16], at: usize, n: usize, out: &mut [u8], w: usize) -> usize
+fn put_values(cells: &[u16], at: usize, n: usize, out: &mut [u8], w: usize) -> Option<usize>
     ensures { PutsValues cells.now at n w out.old result out.new }
 {
     let mut p = at;
     let mut v = w;
     for i in 0..n {
         if p >= cells.len() {
-            return v;
+            return Some(v);
         }
-        v = put(out, v, low(cell(cells, p)));
+        v = put(out, v, low(cell(cells, p)))?;
         p += 1;
     }
-    v
+    Some(v)
 }
 
 // The call of init stands at `at`; its data are lost.
@@ -183,15 +183,15 @@ pub fn put_start(
     at: usize,
     out: &mut [u8],
     w: usize,
-) -> usize
+) -> Option<usize>
     ensures { PutsStart sizes.now funcs.now values.now places.now cells.old at w out.old result out.new }
 {
     if at >= cells.len() {
-        return w;
+        return Some(w);
     }
     let d = node_at(cells, at);
-    let v = put(out, w, low(d.number));
-    let end = smaller(d.next, cells.len());
+    let v = put(out, w, low(d.number))?;
+    let end = d.next.min(cells.len());
     let t = evaluate(sizes, funcs, values, places, cells, d.terms, end);
     put_values(cells, t, d.datas, out, v)
 }

@@ -7,4 +7,4 @@ use Rattle.initial.proofs.looked.Goals as goal
 
 pub returns : goal.returns
 unfolding looked_at
-returns c = (c.cell.ensures.0 ∙ ap (λ (k : ℕ). get_or c.args.values.now (k + c.args.x) 0) c.cell.ensures.0, c.cell.ensures.1)
+returns c = (c.cell-2.ensures.0 ∙ ap (λ (k : ℕ). get_or c.args.values.now (k + c.args.x) 0) c.cell.ensures.0, c.cell-2.ensures.1)
