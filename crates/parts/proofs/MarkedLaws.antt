@@ -6,7 +6,7 @@ use Prim.Native.Nat.{ℕ, zero, suc, ◌+◌, ◌-◌, ◌/◌, ◌%◌, ◌^◌
 use native.Mathlib.Nat.{pow-suc, pow-succ', div-div-eq-div-mul, div-one, mod-eq_of_lt}
 use native.Mathlib.Numerals.{add-one}
 use native.Mathlib.Omega.{arith}
-use lib.ListN.{length, drop, get_or, length-drop}
+use lib.ListN.{length, drop, get_or, length-drop, length-append}
 use lib.Seq.{drop-drop, get_or-drop}
 use lib.Pow.{shr_lt}
 use lib.Count.{count_trailing_zeros, under}
@@ -15,8 +15,8 @@ use Rattle.pcrl.specs.Stream.{encode_numbers}
 use Rattle.nodes.specs.Bits.{odd}
 use Rattle.nodes.specs.Layout.{byte_limit}
 use Rattle.marking.specs.Marks.{bits}
-use Rattle.emit.specs.Putting.{Puts}
-use Rattle.emit.proofs.Putting.{puts_none, puts_then, puts_as}
+use Rattle.emit.specs.Putting.{PutsTo, NoRoom}
+use Rattle.emit.proofs.Putting.{puts_none, puts_then, puts_as, no_room_as, no_room_then}
 
 pub bits_length : (k m : ℕ) → length (bits k m) ≡ k
 unfolding bits
@@ -97,7 +97,7 @@ pub record Listed (m : ℕ) (sorts : List ℕ) (w : ℕ) (o : List ℕ) (rest at
   pub rest_lt : rest < 2 ^ (32 - at)
   pub done : List ℕ
   pub whole : marked (bits 32 m) sorts ≡ done ++ marked (bits 32 rest) (drop at sorts)
-  pub puts : Puts done w o v q
+  pub puts : PutsTo done w o v q
 
 pub listed_start : (m : ℕ) (sorts : List ℕ) (w : ℕ) (o : List ℕ) → m < 2 ^ 32 → Listed m sorts w o m 0 w o
 listed_start m sorts w o h = record { at_le = omega arith; rest_lt = h; done = []; whole = refl; puts = puts_none w o }
@@ -111,7 +111,16 @@ module _ (m : ℕ) (sorts : List ℕ) (w : ℕ) (o : List ℕ) (rest at v : ℕ)
     pub t_lt : count_trailing_zeros 32 rest < 32 - at
     t_lt = trailing_lt 32 (32 - at) rest (positive rest p) i.rest_lt (omega arith)
 
-    pub listed_more : (t a b u : ℕ) (r : List ℕ) → t ≡ count_trailing_zeros 32 rest → a ≡ at + t + 1 → b ≡ get_or sorts (at + t) 0 → Puts (b ∷ []) v q u r → Listed m sorts w o (rest / 2 ^ t / 2) a u r
+    -- no room for the next one
+    pub listed_no_room : (t b : ℕ) (r : List ℕ) → t ≡ count_trailing_zeros 32 rest → NoRoom (b ∷ []) v q r → NoRoom (marked (bits 32 m) sorts) w o r
+    listed_no_room t b r et put =
+        let tl = t_lt in
+        let le = i.at_le in
+        let left : length (drop at sorts) ≡ 32 - at = length-drop at sorts ∙ ap (λ (k : ℕ). k - at) size in
+        let first = marked_first 32 rest (drop at sorts) (positive rest p) (subst (λ (k : ℕ). rest < 2 ^ k) (sym left) i.rest_lt) (omega arith) in
+        no_room_as (omega (arith, ap length i.whole, length-append i.done (marked (bits 32 rest) (drop at sorts)), ap length first, length-append i.done (b ∷ []))) (no_room_then i.puts put)
+
+    pub listed_more : (t a b u : ℕ) (r : List ℕ) → t ≡ count_trailing_zeros 32 rest → a ≡ at + t + 1 → b ≡ get_or sorts (at + t) 0 → PutsTo (b ∷ []) v q u r → Listed m sorts w o (rest / 2 ^ t / 2) a u r
     listed_more t a b u r et ea eb put =
         let tl = t_lt in
         let le = i.at_le in
@@ -133,14 +142,23 @@ module _ (m : ℕ) (sorts : List ℕ) (w : ℕ) (o : List ℕ) (rest at v : ℕ)
           puts = puts_then i.puts put;
         }
 
-  pub listed_all : rest ≡ 0 → Puts (marked (bits 32 m) sorts) w o v q
+  pub listed_all : rest ≡ 0 → PutsTo (marked (bits 32 m) sorts) w o v q
   listed_all z = puts_as w o v q (sym (i.whole ∙ ap (λ (l : List ℕ). i.done ++ l) (ap (λ (k : ℕ). marked (bits 32 k) (drop at sorts)) z ∙ marked_none 32 (drop at sorts)) ∙ append-nil i.done)) i.puts
 
 -- the count first
-pub params_put : (m : ℕ) (sorts : List ℕ) (n b w : ℕ) (o : List ℕ) (v : ℕ) (p : List ℕ) (r : ℕ) (q : List ℕ) → length sorts ≡ 32 → n ≡ count (bits 32 m) → b ≡ n % byte_limit → Puts (b ∷ []) w o v p
-    → Puts (marked (bits 32 m) sorts) v p r q → Puts (encode_numbers (marked (bits 32 m) sorts)) w o r q
+pub params_put : (m : ℕ) (sorts : List ℕ) (n b w : ℕ) (o : List ℕ) (v : ℕ) (p : List ℕ) (r : ℕ) (q : List ℕ) → length sorts ≡ 32 → n ≡ count (bits 32 m) → b ≡ n % byte_limit → PutsTo (b ∷ []) w o v p
+    → PutsTo (marked (bits 32 m) sorts) v p r q → PutsTo (encode_numbers (marked (bits 32 m) sorts)) w o r q
 unfolding encode_numbers
 params_put m sorts n b w o v p r q size en eb f g =
     let many : length (marked (bits 32 m) sorts) ≡ count (bits 32 m) = marked_length (bits 32 m) sorts (omega (arith, bits_length 32 m)) in
     let few = marked_few (bits 32 m) sorts in
     puts_as w o r q (ap (λ (x : ℕ). (x ∷ []) ++ marked (bits 32 m) sorts) (eb ∙ mod-eq_of_lt (omega arith) ∙ en ∙ sym many)) (puts_then f g)
+
+-- no room for it, or for what is behind it
+pub count_no_room : (m : ℕ) (sorts : List ℕ) (b w : ℕ) (o p : List ℕ) → NoRoom (b ∷ []) w o p → NoRoom (encode_numbers (marked (bits 32 m) sorts)) w o p
+unfolding encode_numbers
+count_no_room m sorts b w o p h = no_room_as (omega arith) h
+
+pub marks_no_room : (m : ℕ) (sorts : List ℕ) (b w : ℕ) (o : List ℕ) (v : ℕ) (p q : List ℕ) → PutsTo (b ∷ []) w o v p → NoRoom (marked (bits 32 m) sorts) v p q → NoRoom (encode_numbers (marked (bits 32 m) sorts)) w o q
+unfolding encode_numbers
+marks_no_room m sorts b w o v p q f g = no_room_as (omega arith) (no_room_then f g)

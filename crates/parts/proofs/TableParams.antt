@@ -19,13 +19,15 @@ use Rattle.codec.specs.Cut.{concatenated_alike}
 use Rattle.nodes.specs.declared.Outline.{Outline}
 use Rattle.nodes.specs.Layout.{byte_limit}
 use Rattle.nodes.specs.Held.{proc_width}
-use Rattle.emit.specs.Putting.{Puts}
+use Rattle.std.specs.Prelude.{Option, Some, None, ◌≤◌}
+use Rattle.emit.specs.Putting.{PutsTo, NoRoom}
+use Rattle.pcrl.specs.Limits.{max_equations}
 use Rattle.emit.specs.Bytes.{row_bytes}
-use Rattle.emit.proofs.Putting.{puts_then, puts_as}
+use Rattle.emit.proofs.Putting.{puts_then, puts_as, no_room_as, no_room_first, no_room_then}
 use Rattle.emit.proofs.Signed.{concatenated_all, row_is}
 use Rattle.parts.specs.declared.Noted.{Noted}
 use Rattle.parts.specs.Rows.{no_part, part_params, params_bytes}
-use Rattle.parts.specs.Sheets.{PutsAll, all_params, PutsParams}
+use Rattle.parts.specs.Sheets.{Placed, PutsAll, all_params, PutsParams, NoParams}
 
 -- ---- lists by their places
 module _ {A : Type 0} where
@@ -99,15 +101,16 @@ unfolding all
 all_map w g [] = refl
 all_map w g (a ∷ l) = ap (λ (m : List ℕ). w (g a) ++ m) (all_map w g l)
 
+no_room_of : {e d : List ℕ} {w : ℕ} {o p : List ℕ} → e ≡ d → NoRoom e w o p → NoRoom d w o p
+no_room_of z h = no_room_as (omega (arith, ap length z)) h
+
 -- what is put: the count, the rows of the written processes, the parameters of the parts
-pub params_put : (procs cells starts : List ℕ) (n : Outline) (total b : ℕ) (rows : List ℕ) (w : ℕ) (o : List ℕ) (v : ℕ) (p : List ℕ) (x : ℕ) (q : List ℕ) (r : Noted) (rows' o' : List ℕ)
-    → b ≡ total % byte_limit → Puts (b ∷ []) w o v p → Puts (concatenated n.procs (λ k. row_bytes procs (proc_width * k))) v p x q → PutsAll procs cells starts n rows x q r rows' o'
-    → PutsParams procs cells starts n total rows w o r rows' o'
+lists_are : (procs cells starts : List ℕ) (n : Outline) (total b : ℕ) (H : Sheet) → Placed H procs cells starts n → total ≡ length H.procs + length (all_new_parts H.procs) → total ≤ max_equations → b ≡ total % byte_limit
+    → (b ∷ []) ++ (concatenated n.procs (λ k. row_bytes procs (proc_width * k)) ++ all params_bytes (all_new_parts H.procs)) ≡ encode_list encode_numbers (params_of (table_of H).equations)
 unfolding encode_list all_params params_bytes
-params_put procs cells starts n total b rows w o v p x q r rows' o' eb f g h H placed et few room =
+lists_are procs cells starts n total b H placed et few eb =
     let c = placed.held.proc_count in
     let parts = all_new_parts H.procs in
-    let rest = h H placed (omega arith) in
     let lists = all_params H in
     let many : length lists ≡ total = length-append (map (λ (y : Process). y.params) H.procs) (map part_params parts) ∙ ap₂ ◌+◌ (length-map H.procs (λ (y : Process). y.params)) (length-map parts part_params) ∙ sym et in
     let byte : b ≡ length lists = eb ∙ mod-eq_of_lt (omega arith) ∙ sym many in
@@ -117,7 +120,22 @@ params_put procs cells starts n total b rows w o v p x q r rows' o' eb f g h H p
     ∙ concatenated_all (λ (y : Process). encode_numbers y.params) no_process H.procs
     ∙ sym (all_map encode_numbers (λ (y : Process). y.params) H.procs) in
     let parts_are : all params_bytes parts ≡ all encode_numbers (map part_params parts) = sym (all_map encode_numbers part_params parts) in
-    let bytes : (b ∷ []) ++ (concatenated n.procs (λ k. row_bytes procs (proc_width * k)) ++ all params_bytes parts) ≡ encode_list encode_numbers (params_of (table_of H).equations) =
     ap₂ (λ (y : ℕ) (l : List ℕ). (y ∷ []) ++ l) byte (ap₂ (λ (l m : List ℕ). l ++ m) rows_are parts_are ∙ sym (all_append encode_numbers (map (λ (y : Process). y.params) H.procs) (map part_params parts)))
-    ∙ ap (encode_list encode_numbers) (sym (params_are H)) in
-    record { count_is = rest.count_is; rows_of = rest.rows_of; puts = puts_as w o r.w o' bytes (puts_then f (puts_then g rest.puts)) }
+    ∙ ap (encode_list encode_numbers) (sym (params_are H))
+
+module _ (procs cells starts : List ℕ) (n : Outline) (total b : ℕ) (rows : List ℕ) (w : ℕ) (o : List ℕ) (v : ℕ) (p : List ℕ) (eb : b ≡ total % byte_limit) where
+  pub params_put : (x : ℕ) (q : List ℕ) (r : Option Noted) (rows' o' : List ℕ) → PutsTo (b ∷ []) w o v p → PutsTo (concatenated n.procs (λ k. row_bytes procs (proc_width * k))) v p x q → PutsAll procs cells starts n rows x q r rows' o'
+      → PutsParams procs cells starts n total rows w o r rows' o'
+  params_put x q r rows' o' f g h = go r h
+    where
+      go : (r : Option Noted) → PutsAll procs cells starts n rows x q r rows' o' → PutsParams procs cells starts n total rows w o r rows' o'
+      go None h = λ H placed et few room. no_room_of (lists_are procs cells starts n total b H placed et few eb) (no_room_then f (no_room_then g (h H placed (omega arith))))
+      go (Some y) h = λ H placed et few room.
+          let rest = h H placed (omega arith) in
+          record { count_is = rest.count_is; rows_of = rest.rows_of; puts = puts_as w o y.w o' (lists_are procs cells starts n total b H placed et few eb) (puts_then f (puts_then g rest.puts)) }
+
+  pub params_count : NoRoom (b ∷ []) w o p → NoParams procs cells starts n total rows w o p
+  params_count h H placed et few room = no_room_of (lists_are procs cells starts n total b H placed et few eb) (no_room_first _ h)
+
+  pub params_rows : (q : List ℕ) → PutsTo (b ∷ []) w o v p → NoRoom (concatenated n.procs (λ k. row_bytes procs (proc_width * k))) v p q → NoParams procs cells starts n total rows w o q
+  params_rows q f h H placed et few room = no_room_of (lists_are procs cells starts n total b H placed et few eb) (no_room_then f (no_room_first _ h))

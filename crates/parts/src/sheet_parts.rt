@@ -11,7 +11,7 @@ ghost use Rattle.parts.specs.Sheets.{Loads, CountsParts, PutsAll, PutsParams};
 
 use crate::Noted;
 use crate::right_side::put_parts;
-use elements::{CELL_LIMIT, cell, cut_sum, low, peek};
+use elements::{CELL_LIMIT, cell, low, peek};
 use emit::bytes::{put, put_row};
 use limits::MAX_EQUATIONS;
 use nodes::{MAX_SCOPE, Outline, PROC_ROW, skip};
@@ -23,10 +23,10 @@ const COUNT_CUT: usize = MAX_EQUATIONS + 1;
 pub fn count_equations(procs: &[u8], cells: &[u16], starts: &[u16], n: Outline) -> usize
     ensures { CountsParts procs.now cells.now starts.now n result }
 {
-    let mut total = cut_sum(COUNT_CUT, 0, n.procs);
+    let mut total = n.procs.min(COUNT_CUT);
     for k in 0..n.procs {
         let s = skip(cells, cell(starts, k));
-        total = cut_sum(COUNT_CUT, total, s.own);
+        total = total.saturating_add(s.own).min(COUNT_CUT);
     }
     total
 }
@@ -48,15 +48,15 @@ fn load(procs: &[u8], p: usize, sorts: &mut [u8]) -> usize
 }
 
 // The rows of the written processes.
-pub fn put_written(procs: &[u8], n: usize, out: &mut [u8], w: usize) -> usize
+pub fn put_written(procs: &[u8], n: usize, out: &mut [u8], w: usize) -> Option<usize>
     requires { n ≤ max_processes }
     ensures { Puts (concatenated n (λ k. row_bytes procs.now (proc_width * k))) w out.old result out.new }
 {
     let mut v = w;
     for k in 0..n {
-        v = put_row(procs, PROC_ROW * k, out, v);
+        v = put_row(procs, PROC_ROW * k, out, v)?;
     }
-    v
+    Some(v)
 }
 
 // The parts of all right sides.
@@ -68,7 +68,7 @@ pub fn put_all_parts(
     rows: &mut [u32],
     out: &mut [u8],
     w: usize,
-) -> Noted
+) -> Option<Noted>
     requires { (n.procs ≤ max_processes) × (length rows.old < cell_limit) }
     ensures { PutsAll procs.now cells.now starts.now n rows.old w out.old result rows.new out.new }
 {
@@ -79,7 +79,7 @@ pub fn put_all_parts(
     for k in 0..n.procs {
         // more parts than rows
         if count >= CELL_LIMIT {
-            return Noted { count: count, w: v };
+            return Some(Noted { count, w: v });
         }
         let base = load(procs, PROC_ROW * k, &mut sorts);
         let s = put_parts(
@@ -92,11 +92,11 @@ pub fn put_all_parts(
             count,
             out,
             v,
-        );
+        )?;
         count = s.count;
         v = s.w;
     }
-    Noted { count: count, w: v }
+    Some(Noted { count, w: v })
 }
 
 // "count of equations, each parameter count, sorts"
@@ -109,11 +109,11 @@ pub fn put_param_lists(
     rows: &mut [u32],
     out: &mut [u8],
     w: usize,
-) -> Noted
+) -> Option<Noted>
     requires { (n.procs ≤ max_processes) × (length rows.old < cell_limit) }
     ensures { PutsParams procs.now cells.now starts.now n total rows.old w out.old result rows.new out.new }
 {
-    let v = put(out, w, low(total));
-    let x = put_written(procs, n.procs, out, v);
+    let v = put(out, w, low(total))?;
+    let x = put_written(procs, n.procs, out, v)?;
     put_all_parts(procs, cells, starts, n, rows, out, x)
 }
