@@ -21,11 +21,12 @@ use Rattle.nodes.specs.Layout.{byte_limit}
 use Rattle.nodes.specs.Held.{HeldProcs, ProcAt}
 use Rattle.counting.specs.Counting.{Tallied, FirstNew}
 use Rattle.counting.specs.Counting as C
-use Rattle.putting.specs.declared.Done.{Done}
+use Rattle.std.specs.Prelude.{Result, Ok, Err}
+use Rattle.refusals.specs.declared.Refusal.{Refusal}
+use Rattle.refusals.specs.declared.Refusal.TheVariants.{NoRoom}
 use Rattle.contexts.specs.Spots.{Ready}
 use Rattle.heads.specs.Writing.{NumbersFirst}
 use Rattle.heads.proofs.Accepted.{Small, ready}
-use Rattle.emit.specs.Putting.{Puts}
 use Rattle.parts.specs.Rows.{RowsOf}
 use Rattle.parts.specs.Sheets.{Placed}
 use Rattle.listing.specs.Summands.{SummandsWithin, summands_bytes, Listed, PutsSummands}
@@ -64,25 +65,19 @@ module _ (procs cells starts : List ℕ) (n : Outline) (rows : List ℕ) (count 
         few = omega arith;
       }
 
-  pub too_many : (t : ℕ) (r : Done) (o' : List ℕ) → r.ok ≡ false → CountsAll procs cells starts counts firsts n rows total f t → max_summands < t → PutsSummands procs cells starts n rows count w o r o'
-  too_many t r o' bad c h H ok placed ec rs = record {
-    listed = λ e. absurd (let z : ◌≡◌ {A = ℕ} 0 1 = cc in omega arith);
-    failed = λ e sw. absurd (omega (arith, c H (posed H ok placed ec rs), sw.few));
-  }
+  pub too_many : (t : ℕ) (e : Refusal) (o' : List ℕ) → CountsAll procs cells starts counts firsts n rows total f t → max_summands < t → PutsSummands procs cells starts n rows count w o (Err e) o'
+  too_many t e o' c h H ok placed ec rs sw = absurd (omega (arith, c H (posed H ok placed ec rs), sw.few))
 
-  pub all_listed : (t : ℕ) (r : Done) (o' : List ℕ) → length o' ≡ length o → CountsAll procs cells starts counts firsts n rows total f t → t ≤ max_summands → PutsAll procs cells starts counts firsts n rows total f w o r o'
+  pub all_listed : (t : ℕ) (r : Result ℕ Refusal) (o' : List ℕ) → length o' ≡ length o → CountsAll procs cells starts counts firsts n rows total f t → t ≤ max_summands → PutsAll procs cells starts counts firsts n rows total f w o r o'
       → PutsSummands procs cells starts n rows count w o r o'
   all_listed t r o' same c h put H ok placed ec rs =
       let g = posed H ok placed ec rs in
-      let a = put H g (omega (arith, c H g)) in
-      record {
-        listed = λ e. let b = a.right e in (b.0, record { same = same; fits = λ k. (b.1, b.2); over = λ k. absurd (omega (arith, b.1, b.3)) });
-        failed = λ e sw. a.wrong e sw;
-      }
+      go r (put H g (omega (arith, c H g)))
+    where
+      go : (r : Result ℕ Refusal) → AllPut H w o r o' → Listed H w o r o'
+      go (Ok v) b = (b.0, record { same = same; fits = λ k. (b.1, b.2); over = λ k. absurd (omega (arith, b.1, b.3)); inside = λ k. b.3 })
+      go (Err e) b = b
 
 -- there was no room for anything
-pub past_end : (procs cells starts : List ℕ) (n : Outline) (rows : List ℕ) (count w : ℕ) (o : List ℕ) (o' : List ℕ) → length o < w → PutsSummands procs cells starts n rows count w o (record { ok = false; w = length o }) o'
-past_end procs cells starts n rows count w o o' h H ok placed ec rs = record {
-  listed = λ e. absurd (let z : ◌≡◌ {A = ℕ} 0 1 = cc in omega arith);
-  failed = λ e sw. omega arith;
-}
+pub past_end : (procs cells starts : List ℕ) (n : Outline) (rows : List ℕ) (count w : ℕ) (o : List ℕ) (o' : List ℕ) → length o < w → PutsSummands procs cells starts n rows count w o (Err NoRoom) o'
+past_end procs cells starts n rows count w o o' h H ok placed ec rs sw = (refl, omega arith)

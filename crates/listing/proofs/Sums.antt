@@ -24,11 +24,13 @@ use Rattle.nodes.specs.declared.Outline.{Outline}
 use Rattle.nodes.specs.Layout.{byte_limit}
 use Rattle.counting.specs.Limits.{cut}
 use Rattle.marking.specs.Marks.{bits}
-use Rattle.putting.specs.declared.Done.{Done}
+use Rattle.std.specs.Prelude.{Result, Ok, Err}
+use Rattle.refusals.specs.declared.Refusal.{Refusal}
 use Rattle.putting.specs.Slots.{Slots}
 use Rattle.contexts.specs.Spots.{Ready, SummandFits}
 use Rattle.heads.specs.Writing.{HeadsCounted, SummandsWritten}
 use Rattle.emit.proofs.Signed.{concatenated_all}
+use Rattle.emit.proofs.Putting.{concatenated_longer}
 use Rattle.parts.proofs.TableParams.{all_map}
 use Rattle.listing.specs.declared.Source.{Source}
 use Rattle.listing.specs.Summands.{SummandsFit, summands_bytes}
@@ -65,7 +67,7 @@ pub summed_table : (H : Sheet) → summed (length (table_of H).equations) (summa
 unfolding summands_at equation
 summed_table H = summed_all (table_of H).equations
 
-cut_more : (a b h r : ℕ) → h ≡ cut b → r ≡ min count_cut (min count_cut a + h) → r ≡ min count_cut (a + b)
+cut_more : (a b h r : ℕ) → h ≡ cut b → r ≡ min (min count_cut a + h) count_cut → r ≡ min count_cut (a + b)
 unfolding cut
 cut_more a b h r e f = omega arith
 
@@ -77,7 +79,7 @@ module _ (procs cells starts counts firsts : List ℕ) (n : Outline) (rows : Lis
   unfolding summed
   summed_start H p = refl
 
-  pub summed_more : (k s : ℕ) (r : Source) (h t : ℕ) → k < total → Sources procs starts firsts n rows k r → HeadsCounted cells counts f r.at h → t ≡ min count_cut (s + h) → Summed k s → Summed (k + 1) t
+  pub summed_more : (k s : ℕ) (r : Source) (h t : ℕ) → k < total → Sources procs starts firsts n rows k r → HeadsCounted cells counts f r.at h → t ≡ min (s + h) count_cut → Summed k s → Summed (k + 1) t
   unfolding summed
   summed_more k s r h t l src hc e sofar H p =
       let x = src cells counts total f H p l in
@@ -88,7 +90,7 @@ module _ (procs cells starts counts firsts : List ℕ) (n : Outline) (rows : Lis
       ∙ ap (λ (g : ℕ). cut (length (heads H g (as_params (bits r.scope r.marks) 0) r.next r.first x.term))) p.fuel_is
       ∙ ap (λ (hs : List Summand). cut (length hs)) (sym x.is) in
       let z : k + 1 ≡ suc k = omega arith in
-      cut_more (summed k (summands_at H)) (length (summands_at H k)) h t same (e ∙ ap (λ (y : ℕ). min count_cut (y + h)) (sofar H p))
+      cut_more (summed k (summands_at H)) (length (summands_at H k)) h t same (e ∙ ap (λ (y : ℕ). min (y + h) count_cut) (sofar H p))
       ∙ ap (λ (i : ℕ). min count_cut (summed i (summands_at H))) (sym z)
 
   pub summed_done : (k s : ℕ) → k ≤ total → total ≤ k → Summed k s → CountsAll procs cells starts counts firsts n rows total f s
@@ -103,25 +105,18 @@ pub record SoFar (H : Sheet) (k w : ℕ) (o : List ℕ) (v : ℕ) (o' : List ℕ
   pub place : v ≡ w + length (concatenated k (bytes_at H))
   pub adds : take v o' ≡ take w o ++ concatenated k (bytes_at H)
 
-pub equation_put : (cells starts counts firsts : List ℕ) (f : ℕ) (s : Source) (slots : List ℕ) (w : ℕ) (o : List ℕ) (r : Done) (o' : List ℕ) → Slots (as_params (bits s.scope s.marks) 0) slots s.scope
+pub equation_put : (cells starts counts firsts : List ℕ) (f : ℕ) (s : Source) (slots : List ℕ) (w : ℕ) (o : List ℕ) (r : Result ℕ Refusal) (o' : List ℕ) → Slots (as_params (bits s.scope s.marks) 0) slots s.scope
     → SummandsWritten cells starts counts firsts f s.at s.first slots s.scope s.next w o r o' → EquationPut cells starts counts firsts f s w o r o'
 equation_put cells starts counts firsts f s slots w o r o' held put H k ready ef x few =
     let σ = as_params (bits s.scope s.marks) 0 in
     let is : summands_at H k ≡ heads H f σ s.next s.first x.term = x.is ∙ ap (λ (g : ℕ). heads H g σ s.next s.first x.term) (sym ef) in
     let done = put H σ x.after x.term x.rest ready x.place x.no_seq held x.fine x.few (subst (λ (hs : List Summand). length hs < byte_limit) is few) in
-    subst (λ (hs : List Summand). ListPut hs w o r o') (sym is) (record { right = done.0; wrong = done.1 })
+    subst (λ (hs : List Summand). ListPut hs w o r o') (sym is) done
 
 -- ---- ALL OF THEM
 pub bytes_are : (H : Sheet) → concatenated (length (table_of H).equations) (bytes_at H) ≡ summands_bytes (table_of H).equations
 unfolding bytes_at summands_at summands_bytes summands_of equation
 bytes_are H = concatenated_all (λ (e : Equation). encode_list encode_summand e.summands) no_equation (table_of H).equations ∙ sym (all_map (encode_list encode_summand) (λ (e : Equation). e.summands) (table_of H).equations)
-
-concatenated_grows : (f : ℕ → List ℕ) (k n : ℕ) → k ≤ n → length (concatenated k f) ≤ length (concatenated n f)
-concatenated_grows f k zero h = let z : k ≡ 0 = omega arith in subst (λ (i : ℕ). length (concatenated i f) ≤ length (concatenated 0 f)) (sym z) (omega arith)
-concatenated_grows f k (suc n) h = elim (dec_le k n) [
-  | yes l ↦ omega (arith, concatenated_grows f k n l, ap length (concatenated_last n f), length-append (concatenated n f) (f n))
-  | no l ↦ let z : k ≡ suc n = omega arith in subst (λ (i : ℕ). length (concatenated i f) ≤ length (concatenated (suc n) f)) (sym z) (omega arith)
-]
 
 module _ (procs cells starts counts firsts : List ℕ) (n : Outline) (rows : List ℕ) (total f w : ℕ) (o : List ℕ) where
   abbrev pub Written : ℕ → ℕ → List ℕ → Type 0
@@ -132,16 +127,16 @@ module _ (procs cells starts counts firsts : List ℕ) (n : Outline) (rows : Lis
       let none = concatenated_zero (bytes_at H) in
       record { within = λ j h. absurd (omega arith); place = omega (arith, ap length none); adds = sym (append-nil (take w o)) ∙ ap (λ (l : List ℕ). take w o ++ l) (sym none) }
 
-  list_put : (k : ℕ) (s : Source) (v : ℕ) (p : List ℕ) (r : Done) (q : List ℕ) → k < total → Sources procs starts firsts n rows k s → EquationPut cells starts counts firsts f s v p r q
+  list_put : (k : ℕ) (s : Source) (v : ℕ) (p : List ℕ) (r : Result ℕ Refusal) (q : List ℕ) → k < total → Sources procs starts firsts n rows k s → EquationPut cells starts counts firsts f s v p r q
       → (H : Sheet) → Posed procs cells starts counts firsts n rows total f H → summand_count (table_of H).equations ≤ max_summands → ListPut (summands_at H k) v p r q
   list_put k s v p r q l src put H g few = put H k g.ready g.fuel_is (src cells counts total f H g l) (omega (arith, each_few H k))
 
-  pub written_more : (k : ℕ) (s : Source) (v : ℕ) (p : List ℕ) (r : Done) (q : List ℕ) → k < total → Sources procs starts firsts n rows k s → EquationPut cells starts counts firsts f s v p r q → r.ok ≡ true
-      → r.w ≤ length q → v ≤ length p → Written k v p → Written (k + 1) r.w q
+  pub written_more : (k : ℕ) (s : Source) (v : ℕ) (p : List ℕ) (u : ℕ) (q : List ℕ) → k < total → Sources procs starts firsts n rows k s → EquationPut cells starts counts firsts f s v p (Ok u) q
+      → u ≤ length q → v ≤ length p → Written k v p → Written (k + 1) u q
   unfolding bytes_at
-  written_more k s v p r q l src put good end start sofar H g few =
+  written_more k s v p u q l src put end start sofar H g few =
       let a = sofar H g few in
-      let b = (list_put k s v p r q l src put H g few).right good in
+      let b = list_put k s v p (Ok u) q l src put H g few in
       let e = concatenated k (bytes_at H) in
       let d = bytes_at H k in
       let more : concatenated (k + 1) (bytes_at H) ≡ e ++ d = ap (λ (i : ℕ). concatenated i (bytes_at H)) (add-one k) ∙ concatenated_last k (bytes_at H) in
@@ -149,7 +144,7 @@ module _ (procs cells starts counts firsts : List ℕ) (n : Outline) (rows : Lis
       let sizes = ap length more in
       let both = length-append (take v p) d in
       let there = ap length b.1 in
-      let lq = length-take r.w q in
+      let lq = length-take u q in
       let lp = length-take v p in
       record {
         within = λ j h. elim (dec_le (suc j) k) [ yes m ↦ a.within j m | no m ↦ let z : k ≡ j = omega arith in subst (λ (i : ℕ). Every SummandWithin (summands_at H i)) z b.0 ];
@@ -165,26 +160,20 @@ module _ (procs cells starts counts firsts : List ℕ) (n : Outline) (rows : Lis
   unfolding summands_at equation
   at_within H h = at_every (λ (e : Equation). Every SummandWithin e.summands) (table_of H).equations no_equation h
 
-  pub written_wrong : (k : ℕ) (s : Source) (v : ℕ) (p : List ℕ) (r : Done) (q : List ℕ) → k < total → Sources procs starts firsts n rows k s → EquationPut cells starts counts firsts f s v p r q → r.ok ≡ false
-      → length p ≡ length o → Written k v p → PutsAll procs cells starts counts firsts n rows total f w o r q
+  pub written_wrong : (k : ℕ) (s : Source) (v : ℕ) (p : List ℕ) (x : Refusal) (q : List ℕ) → k < total → Sources procs starts firsts n rows k s → EquationPut cells starts counts firsts f s v p (Err x) q
+      → length p ≡ length o → Written k v p → PutsAll procs cells starts counts firsts n rows total f w o (Err x) q
   unfolding bytes_at
-  written_wrong k s v p r q l src put bad same sofar H g few = record {
-    right = λ e. absurd (let z : ◌≡◌ {A = ℕ} 0 1 = cc in omega arith);
-    wrong = λ e sw.
+  written_wrong k s v p x q l src put same sofar H g few sw =
         let a = sofar H g few in
         let es = equation_count H in
-        let short = (list_put k s v p r q l src put H g few).wrong bad (fits_at H sw k (omega (arith, g.total_is))) in
+        let short = list_put k s v p (Err x) q l src put H g few (fits_at H sw k (omega (arith, g.total_is))) in
         let more : concatenated (k + 1) (bytes_at H) ≡ concatenated k (bytes_at H) ++ bytes_at H k = ap (λ (i : ℕ). concatenated i (bytes_at H)) (add-one k) ∙ concatenated_last k (bytes_at H) in
-        let grows = concatenated_grows (bytes_at H) (k + 1) (length (table_of H).equations) (omega (arith, g.total_is)) in
-        omega (arith, a.place, ap length more, length-append (concatenated k (bytes_at H)) (bytes_at H k), ap length (bytes_are H));
-  }
+        let grows = concatenated_longer (bytes_at H) (k + 1) (length (table_of H).equations) (omega (arith, g.total_is)) in
+        (short.0, omega (arith, short.1, a.place, ap length more, length-append (concatenated k (bytes_at H)) (bytes_at H k), ap length (bytes_are H)))
 
-  pub written_done : (k v : ℕ) (p : List ℕ) → k ≤ total → total ≤ k → v ≤ length o → Written k v p → PutsAll procs cells starts counts firsts n rows total f w o (record { ok = true; w = v }) p
-  written_done k v p a b end sofar H g few = record {
-    right = λ e.
+  pub written_done : (k v : ℕ) (p : List ℕ) → k ≤ total → total ≤ k → v ≤ length o → Written k v p → PutsAll procs cells starts counts firsts n rows total f w o (Ok v) p
+  written_done k v p a b end sofar H g few =
         let s = sofar H g few in
         let z : k ≡ length (table_of H).equations = omega (arith, g.total_is, equation_count H) in
         let bytes : concatenated k (bytes_at H) ≡ summands_bytes (table_of H).equations = ap (λ (i : ℕ). concatenated i (bytes_at H)) z ∙ bytes_are H in
-        (record { few = few; each = at_within H (λ j h. s.within j (omega arith)) }, s.place ∙ ap (λ (l : List ℕ). w + length l) bytes, s.adds ∙ ap (λ (l : List ℕ). take w o ++ l) bytes, end);
-    wrong = λ e. absurd (let z : ◌≡◌ {A = ℕ} 0 1 = cc in omega arith);
-  }
+        (record { few = few; each = at_within H (λ j h. s.within j (omega arith)) }, s.place ∙ ap (λ (l : List ℕ). w + length l) bytes, s.adds ∙ ap (λ (l : List ℕ). take w o ++ l) bytes, end)

@@ -1,5 +1,5 @@
 -- The right side of each equation, and what is counted and written of them all.
-use Rattle.std.specs.Prelude.{◌≡◌, List, ◌++◌, Bool, true, false, ℕ, ◌+◌, ◌*◌, ◌≤◌, ◌<◌, min, length, take, drop, get_or}
+use Rattle.std.specs.Prelude.{◌≡◌, List, Result, MatchResult, ◌++◌, Bool, true, false, ℕ, ◌+◌, ◌*◌, ◌≤◌, ◌<◌, min, length, take, drop, get_or}
 use Rattle.pcrl.specs.Limits.{max_summands, max_equations}
 use Rattle.pcrl.specs.Tests.{Every}
 use Rattle.pcrl.specs.Sheet.{Proc, Sheet}
@@ -14,7 +14,8 @@ use Rattle.nodes.specs.Nodes.{kind_of}
 use Rattle.nodes.specs.Held.{proc_width}
 use Rattle.nodes.specs.Scoped.{max_scope}
 use Rattle.marking.specs.Marks.{bits}
-use Rattle.putting.specs.declared.Done.{Done}
+use Rattle.refusals.specs.declared.Refusal.{Refusal}
+use Rattle.refusals.specs.declared.Refusal.TheVariants.{NoRoom}
 use Rattle.putting.specs.Slots.{Adds}
 use Rattle.following.specs.Fine.{Fine}
 use Rattle.contexts.specs.Spots.{Ready, SummandFits}
@@ -88,18 +89,20 @@ CountsAll procs cells starts counts firsts n rows total f r =
     (H : Sheet) → Posed procs cells starts counts firsts n rows total f H → r ≡ min count_cut (summand_count (table_of H).equations)
 
 -- a list with its count is written; or not every summand has the limits, or there is no room: then none is left
-pub record ListPut (hs : List Summand) (w : ℕ) (o : List ℕ) (r : Done) (o' : List ℕ) : Type 0 where
-  pub right : r.ok ≡ true → Every SummandWithin hs × Adds (encode_list encode_summand hs) w o r.w o'
-  pub wrong : r.ok ≡ false → Every SummandFits hs → (r.w ≡ length o) × (length o < w + length (encode_list encode_summand hs))
+abbrev pub ListPut : List Summand → (w : ℕ) (o : List ℕ) → Result ℕ Refusal → (o' : List ℕ) → Type 0
+ListPut hs w o r o' =
+    MatchResult r (λ v. Every SummandWithin hs × Adds (encode_list encode_summand hs) w o v o')
+    (λ e. Every SummandFits hs → (e ≡ NoRoom) × (length o < w + length (encode_list encode_summand hs)))
 
-abbrev pub EquationPut : (cells starts counts firsts : List ℕ) (f : ℕ) → Source → (w : ℕ) (o : List ℕ) → Done → List ℕ → Type 0
+abbrev pub EquationPut : (cells starts counts firsts : List ℕ) (f : ℕ) → Source → (w : ℕ) (o : List ℕ) → Result ℕ Refusal → List ℕ → Type 0
 EquationPut cells starts counts firsts f s w o r o' =
     (H : Sheet) (k : ℕ) → Ready H f cells starts counts firsts → f ≡ fuel H → SourceOf H cells k s → length (summands_at H k) < byte_limit → ListPut (summands_at H k) w o r o'
 
-pub record AllPut (H : Sheet) (w : ℕ) (o : List ℕ) (r : Done) (o' : List ℕ) : Type 0 where
-  pub right : r.ok ≡ true → SummandsWithin (table_of H).equations × (r.w ≡ w + length (summands_bytes (table_of H).equations)) × (take r.w o' ≡ take w o ++ summands_bytes (table_of H).equations) × (r.w ≤ length o)
-  pub wrong : r.ok ≡ false → SummandsFit (table_of H).equations → (r.w ≡ length o) × (length o < w + length (summands_bytes (table_of H).equations))
+abbrev pub AllPut : Sheet → (w : ℕ) (o : List ℕ) → Result ℕ Refusal → (o' : List ℕ) → Type 0
+AllPut H w o r o' =
+    MatchResult r (λ v. SummandsWithin (table_of H).equations × (v ≡ w + length (summands_bytes (table_of H).equations)) × (take v o' ≡ take w o ++ summands_bytes (table_of H).equations) × (v ≤ length o))
+    (λ e. SummandsFit (table_of H).equations → (e ≡ NoRoom) × (length o < w + length (summands_bytes (table_of H).equations)))
 
-abbrev pub PutsAll : (procs cells starts counts firsts : List ℕ) → Outline → (rows : List ℕ) (total f w : ℕ) (o : List ℕ) → Done → List ℕ → Type 0
+abbrev pub PutsAll : (procs cells starts counts firsts : List ℕ) → Outline → (rows : List ℕ) (total f w : ℕ) (o : List ℕ) → Result ℕ Refusal → List ℕ → Type 0
 PutsAll procs cells starts counts firsts n rows total f w o r o' =
     (H : Sheet) → Posed procs cells starts counts firsts n rows total f H → summand_count (table_of H).equations ≤ max_summands → AllPut H w o r o'

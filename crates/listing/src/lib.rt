@@ -1,6 +1,6 @@
 #![tactic(auto)]
 // The summands of all equations: the written processes, and behind them the new equations, whose rows are given.
-ghost use Rattle.std.specs.Prelude.{◌≡◌, ◌+◌, ◌≤◌, ◌<◌, length};
+ghost use Rattle.std.specs.Prelude.{◌≡◌, ◌+◌, ◌≤◌, ◌<◌, length, IfOk};
 ghost use Rattle.pcrl.specs.Limits.{max_processes, max_equations, max_stream};
 ghost use Rattle.nodes.specs.Layout.{byte_limit};
 ghost use Rattle.nodes.specs.Scoped.{max_scope};
@@ -8,15 +8,15 @@ ghost use Rattle.counting.specs.Limits.{max_fuel};
 ghost use Rattle.listing.specs.Listing.{Bounded, WrittenSource, PartSource, Sources, EquationPut, CountsAll, PutsAll};
 ghost use Rattle.listing.specs.Summands.{PutsSummands};
 
-use elements::{cell, cut_sum, peek};
+use elements::{cell, peek};
 use limits::MAX_SUMMANDS;
 use marking::many;
 use nodes::{MAX_SCOPE, Outline, PROC_ROW};
 use parts::row::{MARKS, ROW, SCOPE};
-use putting::Done;
+use refusals::Refusal;
 
 // Every variable marked.
-const ALL_MARKS: u32 = 4294967295;
+const ALL_MARKS: u32 = u32::MAX;
 
 // Where the right side of an equation stands; how many variables are in scope there, and as bits those that are parameters;
 // the number of the next variable, and that of the first new equation in it.
@@ -107,12 +107,8 @@ fn count_all(
     let mut sum: usize = 0;
     for k in 0..total {
         let s = source_of(procs, starts, firsts, n, rows, k);
-        let at = s.at;
-        sum = cut_sum(
-            counting::MOST,
-            sum,
-            heads::count_heads(cells, counts, fuel, at),
-        );
+        let more = heads::count_heads(cells, counts, fuel, s.at);
+        sum = sum.saturating_add(more).min(counting::MOST);
     }
     sum
 }
@@ -127,9 +123,9 @@ fn put_equation(
     s: Source,
     out: &mut [u8],
     w: usize,
-) -> Done
+) -> Result<usize, Refusal>
     requires { (fuel ≤ max_fuel) × Bounded s × (w ≤ length out.old) × (length out.old ≤ max_stream) }
-    ensures w_le_w { (w ≤ result.w) × (result.w ≤ length out.old) }
+    ensures w_le_w { IfOk result (λ v. (w ≤ v) × (v ≤ length out.old)) }
     ensures equation_put { EquationPut cells.now starts.now counts.now firsts.now fuel s w out.old result out.new }
 {
     let mut slots = [0u8; heads::params::SLOTS];
@@ -152,24 +148,20 @@ fn put_all(
     fuel: usize,
     out: &mut [u8],
     w: usize,
-) -> Done
+) -> Result<usize, Refusal>
     requires { (total + 1 < byte_limit) × (fuel ≤ max_fuel) × (w ≤ length out.old) × (length out.old ≤ max_stream) }
     ensures { PutsAll procs.now cells.now starts.now counts.now firsts.now n rows.now total fuel w out.old result out.new }
 {
     let mut v = w;
     for k in 0..total {
         let s = source_of(procs, starts, firsts, n, rows, k);
-        let d = put_equation(cells, starts, counts, firsts, fuel, s, out, v);
-        if !d.ok {
-            return d;
-        }
-        v = d.w;
+        v = put_equation(cells, starts, counts, firsts, fuel, s, out, v)?;
     }
-    Done { ok: true, w: v }
+    Ok(v)
 }
 
 // The summands of all equations, each list with its count; they are counted before anything is written.
-// Not ok: not within their limits, or no room for them; if room is left, not within their limits.
+// NoRoom: for them, or they are not within their limits.
 pub fn put_summands(
     procs: &[u8],
     cells: &[u16],
@@ -179,15 +171,12 @@ pub fn put_summands(
     count: usize,
     out: &mut [u8],
     w: usize,
-) -> Done
+) -> Result<usize, Refusal>
     requires { (n.procs ≤ max_processes) × (count ≤ max_equations) × (length out.old ≤ max_stream) }
     ensures { PutsSummands procs.now cells.now starts.now n rows.now count w out.old result out.new }
 {
     if w > out.len() {
-        return Done {
-            ok: false,
-            w: out.len(),
-        };
+        return Err(Refusal::NoRoom);
     }
     let fuel = n.procs + 1;
     let total = n.procs + count;
@@ -196,7 +185,7 @@ pub fn put_summands(
     let f = heads::numbering::first_numbers(cells, starts, n.procs);
     let firsts = f.at;
     if count_all(procs, cells, starts, &counts, &firsts, n, rows, total, fuel) > MAX_SUMMANDS {
-        return Done { ok: false, w: w };
+        return Err(Refusal::NotWithin);
     }
     put_all(
         procs, cells, starts, &counts, &firsts, n, rows, total, fuel, out, w,

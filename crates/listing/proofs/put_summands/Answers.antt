@@ -3,6 +3,7 @@ use mathlib.Core.Path.{refl}
 use Prim.Native.Nat.{◌+◌}
 use native.Mathlib.Omega.{arith}
 use Rattle.listing.proofs.Posing.{too_many, all_listed, past_end}
+use Rattle.refusals.specs.declared.Refusal.TheVariants.{NotWithin}
 use Rattle.listing.proofs.put_summands.Goals as goal
 
 pub returns-then-w-out : goal.returns-then-w-out
@@ -15,7 +16,7 @@ returns-then-count_all-gt-MAX_SUMMANDS c =
     let first = c.first_numbers-f in
     let x = c.count_all in
     let i = c.if-count_all-gt-MAX_SUMMANDS in
-    too_many a.procs.now a.cells.now a.starts.now a.n a.rows.now a.count c.requires.1 tally.new.t first.result.at (a.n.procs + 1) refl tally.ensures first.ensures (a.n.procs + a.count) refl a.w a.out.now x.result _ a.out.now refl x.ensures (omega arith)
+    too_many a.procs.now a.cells.now a.starts.now a.n a.rows.now a.count c.requires.1 tally.new.t first.result.at (a.n.procs + 1) refl tally.ensures first.ensures (a.n.procs + a.count) refl a.w a.out.now x.result NotWithin a.out.now x.ensures (omega arith)
 
 pub put_all-requires : goal.put_all-requires
 put_all-requires c = let p = c.requires in let i = c.if-w-out in (omega arith, omega arith, omega arith, p.2)

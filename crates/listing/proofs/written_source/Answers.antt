@@ -9,10 +9,10 @@ returns c =
     let m = c.in_scope-m in
     let b = c.cell in
     let few = m.ensures.0 in
-    let last = c.cell-2 in record {
+    let last = c.cell-3 in record {
       bounded = record { scope_few = few; next_few = few; first_few = last.ensures.1 };
       written_source = record {
-        at_is = c.cell.ensures.0;
+        at_is = c.cell-2.ensures.0;
         scope_is = λ h. m.ensures.1 (omega (arith, b.ensures.0)) ∙ b.ensures.0;
         marks_are = refl;
         next_is = refl;
