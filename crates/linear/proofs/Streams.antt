@@ -29,20 +29,22 @@ use Rattle.nodes.specs.Layout.{cell_limit, byte_limit}
 use Rattle.nodes.specs.Held.{Arrays, Held}
 use Rattle.nodes.specs.Scoped.{max_scope}
 use Rattle.marking.specs.Marks.{bits}
-use Rattle.emit.specs.Putting.{Puts}
+use Rattle.std.specs.Prelude.{Option, Result, Ok, Err, Some, None}
+use Rattle.std.proofs.Common.{ok_or}
+use Rattle.emit.specs.Putting.{PutsTo, NoRoom, Puts}
 use Rattle.emit.specs.Bytes.{ShortNames, NamesAt, PutsSig}
-use Rattle.emit.proofs.Putting.{puts_then, puts_as}
+use Rattle.emit.proofs.Putting.{puts_then, puts_as, no_room_first, no_room_then}
 use Rattle.initial.specs.Evaluating.{Known, PutsStart}
 use Rattle.parts.specs.declared.Noted.{Noted}
 use Rattle.parts.specs.Rows.{row_width, no_part, part_params, RowsOf}
 use Rattle.parts.specs.Walking.{Few}
-use Rattle.parts.specs.Sheets.{count_cut, Placed, CountsParts, all_params, ParamsPut, PutsParams}
+use Rattle.parts.specs.Sheets.{count_cut, Placed, CountsParts, all_params, ParamsPut, PutsParamsTo, NoParams}
 use Rattle.parts.proofs.MarkedLaws.{marked_length}
 use Rattle.parts.proofs.TableParams.{params_are}
 use Rattle.sheets.specs.declared.SheetRows.{SheetRows}
 use Rattle.sheets.specs.Resolving.{arrays}
-use Rattle.putting.specs.declared.Done.{Done}
-use Rattle.linear.specs.declared.Written.{Written}
+use Rattle.refusals.specs.declared.Refusal.{Refusal}
+use Rattle.refusals.specs.declared.Refusal.TheVariants as the
 use Rattle.listing.specs.Summands.{SummandsWithin, SummandsFit, summands_bytes, Listed, PutsSummands}
 use Rattle.linear.specs.Within.{FewMarks, TableWritten, FewIn, ReadyIn, WritesStream}
 
@@ -54,10 +56,6 @@ short sizes a h = h.0.0.0.1
 short_names : (S : Sig) → RightSig S → ShortNames S.acts
 unfolding RightSig
 short_names S r = every_weaken (RightAction S.sorts) (λ (a : Action). length a.name ≤ max_name) (λ a h. short S.sorts a h) S.acts r.1.1.0.1
-
--- not within the limits
-pub no_table : (H : Sheet) (o o' : List ℕ) (r : Written) → r.ok ≡ false → (Within (table_of H) → (r.length ≡ length o) × (length o < length (encode (table_of H)))) → TableWritten H o r o'
-no_table H o o' r e h = record { written = λ t. absurd (let z : ◌≡◌ {A = ℕ} 0 1 = cc in omega arith); failed = λ f w. h w }
 
 -- a sheet that is ready is placed
 module _ (H : Sheet) (s : List ℕ) (A : Arrays) (names : List ℕ) (n : Outline) (r : ReadyIn H s A names n) where
@@ -138,10 +136,16 @@ module _ (H : Sheet) where
   count_within t e h = (omega arith, omega (arith, equation_count H))
 
   -- THE WHOLE STREAM
-  pub stream_put : (w : ℕ) (o : List ℕ) (a : ℕ) (p : List ℕ) (b : ℕ) (q : List ℕ) (c : ℕ) (r : List ℕ) (d : ℕ) (t : List ℕ) → Puts (encode_sig with_names H.sig) w o a p → Puts (encode_list encode_numbers (params_of es)) a p b q
-      → Puts (summands_bytes es) b q c r → Puts (encode_start (H.start.0, map (eval H.sig []) H.start.1)) c r d t → Puts (encode (table_of H)) w o d t
+  pub stream_put : (w : ℕ) (o : List ℕ) (a : ℕ) (p : List ℕ) (b : ℕ) (q : List ℕ) (c : ℕ) (r : List ℕ) (d : ℕ) (t : List ℕ) → PutsTo (encode_sig with_names H.sig) w o a p → PutsTo (encode_list encode_numbers (params_of es)) a p b q
+      → PutsTo (summands_bytes es) b q c r → PutsTo (encode_start (H.start.0, map (eval H.sig []) H.start.1)) c r d t → PutsTo (encode (table_of H)) w o d t
   unfolding encode encode_equations summands_bytes table_of
   stream_put w o a p b q c r d t f g h i = puts_then f (puts_then (puts_then g h) i)
+
+  -- no room for its last part
+  pub stream_short : (w : ℕ) (o : List ℕ) (a : ℕ) (p : List ℕ) (b : ℕ) (q : List ℕ) (c : ℕ) (r t : List ℕ) → PutsTo (encode_sig with_names H.sig) w o a p → PutsTo (encode_list encode_numbers (params_of es)) a p b q
+      → PutsTo (summands_bytes es) b q c r → NoRoom (encode_start (H.start.0, map (eval H.sig []) H.start.1)) c r t → NoRoom (encode (table_of H)) w o t
+  unfolding encode encode_equations summands_bytes table_of
+  stream_short w o a p b q c r t f g h i = no_room_then f (no_room_then (puts_then g h) i)
 
   -- the summands alone are no longer than the stream
   pub summands_shorter : length (encode_sig with_names H.sig) + (length (encode_list encode_numbers (params_of es)) + length (summands_bytes es)) ≤ length (encode (table_of H))
@@ -149,7 +153,7 @@ module _ (H : Sheet) where
   summands_shorter = simp length-append (omega arith)
 
 -- the summands had no room
-no_room : (H : Sheet) (o : List ℕ) (a : ℕ) (p : List ℕ) (b : ℕ) (q : List ℕ) → length p ≡ length o → length q ≡ length p → Puts (encode_sig with_names H.sig ++ encode_list encode_numbers (params_of (es H))) 0 o b q
+no_room : (H : Sheet) (o : List ℕ) (a : ℕ) (p : List ℕ) (b : ℕ) (q : List ℕ) → length p ≡ length o → length q ≡ length p → PutsTo (encode_sig with_names H.sig ++ encode_list encode_numbers (params_of (es H))) 0 o b q
     → length q < b + length (summands_bytes (es H)) → length o < length (encode (table_of H))
 no_room H o a p b q e₁ e₂ put h =
     let shorter = summands_shorter H in
@@ -159,71 +163,85 @@ no_room H o a p b q e₁ e₂ put h =
       | no k ↦ omega arith
     ]
 
+-- what a place says that was asked for
+pub some_of : {A E : Type 0} (o : Option A) (e : E) (a : A) → ◌≡◌ {A = Result A E} (Ok a) (ok_or o e) → o ≡ Some a
+some_of o e a h = grind arith
+
+pub none_of : {A E : Type 0} (o : Option A) (e x : E) → ◌≡◌ {A = Result A E} (Err x) (ok_or o e) → (o ≡ None) × (x ≡ e)
+none_of o e x h = grind arith
+
+pub sig_as : (s : List ℕ) (A : Arrays) (names : List ℕ) (n : Outline) (o : List ℕ) (m : ℕ) (r r' : Option ℕ) (p : List ℕ) → m ≡ n.sorts - 1 → r ≡ r'
+    → PutsSig s A.sizes A.funcs A.values A.places A.acts names (m + n.funcs) n 0 o r p → PutsSig s A.sizes A.funcs A.values A.places A.acts names (n.sorts - 1 + n.funcs) n 0 o r' p
+sig_as s A names n o m r r' p e z h =
+    subst (λ (k : ℕ). PutsSig s A.sizes A.funcs A.values A.places A.acts names (k + n.funcs) n 0 o r' p) e (subst (λ (u : Option ℕ). PutsSig s A.sizes A.funcs A.values A.places A.acts names (m + n.funcs) n 0 o u p) z h)
+
 -- THE ANSWER, BOTH WAYS: what each way out of the writer says
-module _ (s : List ℕ) (A : Arrays) (names : List ℕ) (n : Outline) (o o' : List ℕ) (f : Written) (bad : f.ok ≡ false) where
-  pub out_many : (t : ℕ) → CountsParts A.procs A.cells A.starts n t → max_equations < t → WritesStream s A names n o f o'
-  out_many t c h H r = no_table H o o' f bad (λ w. absurd (too_many H t (c H (ready_placed H s A names n r)) h w))
+module _ (s : List ℕ) (A : Arrays) (names : List ℕ) (n : Outline) (o : List ℕ) (t : ℕ) (counts : CountsParts A.procs A.cells A.starts n t) where
+  pub out_many : (e : Refusal) (o' : List ℕ) → max_equations < t → WritesStream s A names n o (Err e) o'
+  out_many e o' h H r w = absurd (too_many H t (counts H (ready_placed H s A names n r)) h w)
 
-  module _ (t : ℕ) (counts : CountsParts A.procs A.cells A.starts n t) (few : t ≤ max_equations) (rows : List ℕ) (room : row_width * max_equations ≤ length rows) (a : ℕ) (p : List ℕ) (x : Noted) (rows' q : List ℕ)
-      (params : PutsParams A.procs A.cells A.starts n t rows a p x rows' q) where
-    put_params : (H : Sheet) → ReadyIn H s A names n → ParamsPut A.cells a p H x rows' q
-    put_params H r = let placed = ready_placed H s A names n r in params H placed (count_within H t (counts H placed) few).0 few room
+  sig_put : (r : Option ℕ) (p : List ℕ) → PutsSig s A.sizes A.funcs A.values A.places A.acts names (n.sorts - 1 + n.funcs) n 0 o r p → (H : Sheet) → ReadyIn H s A names n → Puts (encode_sig with_names H.sig) 0 o r p
+  sig_put r p sig H y = sig H.sig y.held.signature y.named (short_names H.sig y.standing.signature) y.sorts_named y.standing.sort_names
 
-    pub out_marks : (FewMarks rows' x.count → ⊥) → WritesStream s A names n o f o'
-    out_marks h H r =
-        let y = put_params H r in
-        no_table H o o' f bad (λ w. absurd (h (subst (FewMarks rows') (sym y.count_is) (within_marks H A.cells rows' y.rows_of w))))
+  -- no room for the signature
+  pub out_sig : (p : List ℕ) → PutsSig s A.sizes A.funcs A.values A.places A.acts names (n.sorts - 1 + n.funcs) n 0 o None p → WritesStream s A names n o (Err the.NoRoom) p
+  out_sig p sig H r w = let g = (sig_put None p sig H r).over in (refl, omega (arith, summands_shorter H))
 
-    pub out_count : max_equations < x.count → WritesStream s A names n o f o'
-    out_count h H r = let placed = ready_placed H s A names n r in let e = (count_within H t (counts H placed) few).0 in absurd (omega (arith, (put_params H r).count_is))
+  module _ (few : t ≤ max_equations) (rows : List ℕ) (room : row_width * max_equations ≤ length rows) (a : ℕ) (p : List ℕ)
+      (sig : PutsSig s A.sizes A.funcs A.values A.places A.acts names (n.sorts - 1 + n.funcs) n 0 o (Some a) p) where
+    -- nor for the parameters
+    pub out_params : (q : List ℕ) → NoParams A.procs A.cells A.starts n t rows a p q → WritesStream s A names n o (Err the.NoRoom) q
+    out_params q params H r w =
+        let placed = ready_placed H s A names n r in
+        let none = params H placed (count_within H t (counts H placed) few).0 few room in
+        let both = (no_room_then (sig_put (Some a) p sig H r) none).over in
+        (refl, omega (arith, summands_shorter H, length-append (encode_sig with_names H.sig) (encode_list encode_numbers (params_of (es H)))))
 
-    pub out_summands : (d : Done) (q' : List ℕ) → PutsSig s A.sizes A.funcs A.values A.places A.acts names (n.sorts - 1 + n.funcs) n 0 o a p
-        → PutsSummands A.procs A.cells A.starts n rows' x.count x.w q d q' → d.ok ≡ false → f.length ≡ d.w → WritesStream s A names n o f o'
-    out_summands d q' sig sums short_of end H r =
-        let y = put_params H r in
-        let g = sig H.sig r.held.signature r.named (short_names H.sig r.standing.signature) r.sorts_named r.standing.sort_names in
-        let l = sums H r.standing (ready_placed H s A names n r) y.count_is y.rows_of in
-        no_table H o o' f bad λ w.
-        let z = l.failed short_of (within_summands H r.standing w) in
-        (end ∙ z.0 ∙ y.puts.same ∙ g.same, no_room H o a p x.w q g.same y.puts.same (puts_then g y.puts) z.1)
+    module _ (x : Noted) (rows' q : List ℕ) (params : PutsParamsTo A.procs A.cells A.starts n t rows a p x rows' q) where
+      put_params : (H : Sheet) → ReadyIn H s A names n → ParamsPut A.cells a p H x rows' q
+      put_params H r = let placed = ready_placed H s A names n r in params H placed (count_within H t (counts H placed) few).0 few room
 
--- the whole stream was put
-module _ (s : List ℕ) (A : Arrays) (names : List ℕ) (n : Outline) (o : List ℕ) (t : ℕ) (counts : CountsParts A.procs A.cells A.starts n t) (few : t ≤ max_equations) (rows : List ℕ) (room : row_width * max_equations ≤ length rows)
-    (a : ℕ) (p : List ℕ) (x : Noted) (rows' q : List ℕ) (params : PutsParams A.procs A.cells A.starts n t rows a p x rows' q) (d : Done) (q' : List ℕ) (e : ℕ) (o' : List ℕ)
-    (sig : PutsSig s A.sizes A.funcs A.values A.places A.acts names (n.sorts - 1 + n.funcs) n 0 o a p) (sums : PutsSummands A.procs A.cells A.starts n rows' x.count x.w q d q') (good : d.ok ≡ true)
-    (start : PutsStart A.sizes A.funcs A.values A.places A.cells n.init d.w q' e o') where
-  pub record Whole (H : Sheet) : Type 0 where
-    pub rows_of : RowsOf A.cells rows' 0 (all_new_parts H.procs)
-    pub count_is : x.count ≡ length (all_new_parts H.procs)
-    pub within : SummandsWithin (table_of H).equations
-    pub puts : Puts (encode (table_of H)) 0 o e o'
+      pub out_marks : (e : Refusal) → (FewMarks rows' x.count → ⊥) → WritesStream s A names n o (Err e) q
+      out_marks e h H r w =
+          let y = put_params H r in
+          absurd (h (subst (FewMarks rows') (sym y.count_is) (within_marks H A.cells rows' y.rows_of w)))
 
-  whole : (H : Sheet) → ReadyIn H s A names n → Whole H
-  whole H r =
-      let placed = ready_placed H s A names n r in
-      let y = params H placed (count_within H t (counts H placed) few).0 few room in
-      let g = sig H.sig r.held.signature r.named (short_names H.sig r.standing.signature) r.sorts_named r.standing.sort_names in
-      let l = (sums H r.standing placed y.count_is y.rows_of).listed good in
-      let z = start H (ready_known H s A names n r) (omega (arith, r.standing.few_processes)) r.standing.start r.held.processes.init_at in
-      record { rows_of = y.rows_of; count_is = y.count_is; within = l.0; puts = stream_put H 0 o a p x.w q d.w q' e o' g y.puts l.1 z }
+      pub out_count : (e : Refusal) → max_equations < x.count → WritesStream s A names n o (Err e) q
+      out_count e h H r w = let placed = ready_placed H s A names n r in let l = (count_within H t (counts H placed) few).0 in absurd (omega (arith, (put_params H r).count_is))
 
-  pub out_room : (f : Written) → f.ok ≡ false → f.length ≡ length o → length o < e → WritesStream s A names n o f o'
-  out_room f bad full h H r = no_table H o o' f bad (λ w. (full, elim (dec_le (length (encode (table_of H))) (length o)) [ yes k ↦ absurd (omega (arith, ((whole H r).puts.fits (omega arith)).0)) | no k ↦ omega arith ]))
+      pub out_summands : (e : Refusal) (q' : List ℕ) → PutsSummands A.procs A.cells A.starts n rows' x.count x.w q (Err e) q' → WritesStream s A names n o (Err e) q'
+      out_summands e q' sums H r w =
+          let y = put_params H r in
+          let g = sig_put (Some a) p sig H r in
+          let z = sums H r.standing (ready_placed H s A names n r) y.count_is y.rows_of (within_summands H r.standing w) in
+          (z.0, no_room H o a p x.w q g.same y.puts.same (puts_then g y.puts) z.1)
 
-  pub in_table : length o ≤ max_stream → FewMarks rows' x.count → e ≤ length o → WritesStream s A names n o (record { ok = true; length = e }) o'
-  in_table most marks h H r =
-      let v = whole H r in
-      let placed = ready_placed H s A names n r in
-      let fits : 0 + length (encode (table_of H)) ≤ length o = elim (dec_le (0 + length (encode (table_of H))) (length o)) [ yes k ↦ k | no k ↦ absurd (omega (arith, v.puts.over (omega arith))) ] in
-      let done = v.puts.fits fits in
-      let size = done.0 in
-      record {
-        written = λ _. (marks_within H A.cells rows' v.rows_of r.standing (count_within H t (counts H placed) few).1 (subst (FewMarks rows') v.count_is marks) v.within (omega arith), omega arith, done.1, h);
-        failed = λ z. absurd (let y : ◌≡◌ {A = ℕ} 0 1 = cc in omega arith);
-      }
+      -- the start is put behind the summands, and the stream is whole; or there is no room for it
+      module _ (d : ℕ) (q' : List ℕ) (sums : PutsSummands A.procs A.cells A.starts n rows' x.count x.w q (Ok d) q') where
+        listed : (H : Sheet) → ReadyIn H s A names n → SummandsWithin (es H) × PutsTo (summands_bytes (es H)) x.w q d q'
+        listed H r = let y = put_params H r in sums H r.standing (ready_placed H s A names n r) y.count_is y.rows_of
+
+        start_put : (u : Option ℕ) (o' : List ℕ) → PutsStart A.sizes A.funcs A.values A.places A.cells n.init d q' u o' → (H : Sheet) → ReadyIn H s A names n → Puts (encode_start (H.start.0, map (eval H.sig []) H.start.1)) d q' u o'
+        start_put u o' start H r = start H (ready_known H s A names n r) (omega (arith, r.standing.few_processes)) r.standing.start r.held.processes.init_at
+
+        pub in_table : (u : Option ℕ) (o' : List ℕ) → length o ≤ max_stream → FewMarks rows' x.count → PutsStart A.sizes A.funcs A.values A.places A.cells n.init d q' u o' → WritesStream s A names n o (ok_or u the.NoRoom) o'
+        in_table None o' most marks start H r = λ w.
+            let y = put_params H r in
+            let none = stream_short H 0 o a p x.w q d q' o' (sig_put (Some a) p sig H r) y.puts (listed H r).1 (start_put None o' start H r) in
+            (refl, omega (arith, none.over))
+        in_table (Some e) o' most marks start H r =
+            let y = put_params H r in
+            let placed = ready_placed H s A names n r in
+            let l = listed H r in
+            let puts = stream_put H 0 o a p x.w q d q' e o' (sig_put (Some a) p sig H r) y.puts l.1 (start_put (Some e) o' start H r) in
+            let inside = puts.inside (omega arith) in
+            let fits : 0 + length (encode (table_of H)) ≤ length o = elim (dec_le (0 + length (encode (table_of H))) (length o)) [ yes k ↦ k | no k ↦ absurd (omega (arith, puts.over (omega arith))) ] in
+            let done = puts.fits fits in
+            let size = done.0 in
+            (marks_within H A.cells rows' y.rows_of r.standing (count_within H t (counts H placed) few).1 (subst (FewMarks rows') y.count_is marks) l.0 (omega arith), omega arith, done.1, inside)
 
 -- more than a sheet has that passes question 6
-pub out_few : (s : List ℕ) (A : Arrays) (names : List ℕ) (n : Outline) (o o' : List ℕ) (f : Written) → (FewIn n → ⊥) → WritesStream s A names n o f o'
-out_few s A names n o o' f h H r =
+pub out_few : (s : List ℕ) (A : Arrays) (names : List ℕ) (n : Outline) (o o' : List ℕ) (e : Refusal) → (FewIn n → ⊥) → WritesStream s A names n o (Err e) o'
+out_few s A names n o o' e h H r w =
     let g = r.held.signature in
     absurd (h (record { sorts_few = g.few_sorts; funcs_few = g.few_funcs; acts_few = g.few_acts; procs_few = r.held.processes.few_procs }))

@@ -1,5 +1,5 @@
 -- The whole stream of a sheet's table; or the table is not within its limits, or there is no room for it.
-use Rattle.std.specs.Prelude.{◌≡◌, List, true, false, ℕ, ◌+◌, ◌-◌, ◌*◌, ◌≤◌, ◌<◌, length, take, get_or}
+use Rattle.std.specs.Prelude.{◌≡◌, List, Result, MatchResult, ℕ, ◌+◌, ◌-◌, ◌*◌, ◌≤◌, ◌<◌, length, take, get_or}
 use Rattle.pcrl.specs.Limits.{frame_width, max_sorts, max_functions, max_actions, max_processes}
 use Rattle.pcrl.specs.Parts.{count}
 use Rattle.pcrl.specs.Sheet.{Sheet}
@@ -16,16 +16,18 @@ use Rattle.marking.specs.Marks.{bits}
 use Rattle.sheets.specs.declared.SheetRows.{SheetRows}
 use Rattle.sheets.specs.Resolving.{arrays}
 use Rattle.parts.specs.Rows.{row_width}
-use Rattle.linear.specs.declared.Written.{Written}
+use Rattle.refusals.specs.declared.Refusal.{Refusal}
+use Rattle.refusals.specs.declared.Refusal.TheVariants.{NoRoom}
 
 -- no row has more marks than a frame has values
 abbrev pub FewMarks : List ℕ → ℕ → Type 0
 FewMarks rows n = (k : ℕ) → k < n → count (bits max_scope (get_or rows (row_width * k + 2) 0)) ≤ frame_width
 
 -- the table of a sheet that is held; where it is within its limits and is not written, no room is left
-pub record TableWritten (H : Sheet) (o : List ℕ) (r : Written) (o' : List ℕ) : Type 0 where
-  pub written : r.ok ≡ true → Within (table_of H) × (r.length ≡ length (encode (table_of H))) × (take r.length o' ≡ encode (table_of H)) × (r.length ≤ length o)
-  pub failed : r.ok ≡ false → Within (table_of H) → (r.length ≡ length o) × (length o < length (encode (table_of H)))
+abbrev pub TableWritten : Sheet → (o : List ℕ) → Result ℕ Refusal → (o' : List ℕ) → Type 0
+TableWritten H o r o' =
+    MatchResult r (λ n. Within (table_of H) × (n ≡ length (encode (table_of H))) × (take n o' ≡ encode (table_of H)) × (n ≤ length o))
+    (λ e. Within (table_of H) → (e ≡ NoRoom) × (length o < length (encode (table_of H))))
 
 -- a sheet that passes questions 1 to 9, in arrays; s are its bytes, and the cells of its names stand in `names`
 pub record ReadyIn (H : Sheet) (s : List ℕ) (A : Arrays) (names : List ℕ) (n : Outline) : Type 0 where
@@ -35,7 +37,7 @@ pub record ReadyIn (H : Sheet) (s : List ℕ) (A : Arrays) (names : List ℕ) (n
   pub sorts_named : SortNamesAt s names H.sig.sort_names
   pub cells_few : length A.cells < cell_limit
 
-abbrev pub WritesStream : (s : List ℕ) → Arrays → (names : List ℕ) → Outline → List ℕ → Written → List ℕ → Type 0
+abbrev pub WritesStream : (s : List ℕ) → Arrays → (names : List ℕ) → Outline → List ℕ → Result ℕ Refusal → List ℕ → Type 0
 WritesStream s A names n o r o' = (H : Sheet) → ReadyIn H s A names n → TableWritten H o r o'
 
 -- so few as a sheet has that passes question 6
@@ -45,5 +47,5 @@ pub record FewIn (n : Outline) : Type 0 where
   pub acts_few : n.acts ≤ max_actions
   pub procs_few : n.procs ≤ max_processes
 
-abbrev pub WritesTable : (s : List ℕ) → SheetRows → (values cells o : List ℕ) → Written → List ℕ → Type 0
+abbrev pub WritesTable : (s : List ℕ) → SheetRows → (values cells o : List ℕ) → Result ℕ Refusal → List ℕ → Type 0
 WritesTable s rows values cells o r o' = WritesStream s (arrays rows values cells) rows.names rows.outline o r o'

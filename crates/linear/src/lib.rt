@@ -1,13 +1,12 @@
 #![tactic(auto)]
 // The stream of a sheet's table: question 10.
-ghost use Rattle.std.specs.Prelude.{◌≡◌, ◌+◌, ◌*◌, ◌≤◌, ◌<◌, false, length};
+ghost use Rattle.std.specs.Prelude.{◌≡◌, ◌≤◌, ◌<◌, length};
 ghost use Rattle.pcrl.specs.Limits.{max_stream};
 ghost use Rattle.laws.specs.Says.{Says};
 ghost use Rattle.nodes.specs.Layout.{cell_limit};
-ghost use Rattle.linear.specs.Within.{FewMarks, FewIn, WritesStream, WritesTable};
+ghost use Rattle.linear.specs.Within.{FewMarks, FewIn, WritesTable};
 
 use elements::peek;
-use emit::bytes::minus;
 use emit::signature::put_signature;
 use initial::put_start;
 use limits::{FRAME_WIDTH, MAX_ACTIONS, MAX_EQUATIONS, MAX_FUNCTIONS, MAX_PROCESSES, MAX_SORTS};
@@ -16,24 +15,8 @@ use marking::many;
 use nodes::Outline;
 use parts::row::{MARKS, ROW};
 use parts::sheet_parts::{count_equations, put_param_lists};
+use refusals::Refusal;
 use sheets::SheetRows;
-
-// The length of the stream. Not ok: not within the limits, or no room; if `length` is below the room, not within the limits.
-#[derive(Clone, Copy)]
-pub struct Written {
-    pub ok: bool,
-    pub length: usize,
-}
-
-// There is no stream; `length` says why, as in Written.
-fn failed(length: usize) -> Written
-    ensures { (result.ok ≡ false) × (result.length ≡ length) }
-{
-    Written {
-        ok: false,
-        length: length,
-    }
-}
 
 // "4 parameters": of the first n new equations.
 fn few_marks(rows: &[u32], n: usize) -> bool
@@ -48,107 +31,102 @@ fn few_marks(rows: &[u32], n: usize) -> bool
     true
 }
 
-// The whole stream over the front of the lent bytes; the data of init are lost.
+// The whole stream over the front of the lent bytes, and its length; the data of init are lost.
 fn write_stream(
     s: &[u8],
-    sizes: &[u8],
-    funcs: &[u8],
+    sheet: &SheetRows,
     values: &[u8],
-    places: &[u16],
-    acts: &[u8],
-    procs: &[u8],
     cells: &mut [u16],
-    starts: &[u16],
-    names: &[u16],
-    n: Outline,
     rows: &mut [u32],
     out: &mut [u8],
-) -> Written
-    requires { FewIn n × (length rows.old ≡ 192) × (length out.old ≤ max_stream) }
-    ensures { WritesStream s.now (record { sizes = sizes.entry.now; funcs = funcs.now; values = values.now; places = places.now; acts = acts.now; procs = procs.now; cells = cells.old; starts = starts.now }) names.now n out.old result out.new }
+) -> Result<usize, Refusal>
+    requires { FewIn sheet.now.outline × (length rows.old ≡ 192) × (length out.old ≤ max_stream) }
+    ensures { WritesTable s.now sheet.now values.now cells.old out.old result out.new }
 {
-    let total = count_equations(procs, cells, starts, n);
+    let n = sheet.outline;
+    let total = count_equations(&sheet.procs, cells, &sheet.starts, n);
     if total > MAX_EQUATIONS {
-        return failed(0);
+        return Err(Refusal::NotWithin);
     }
-    let first = minus(n.sorts, 1) + n.funcs;
+    let first = n.sorts.saturating_sub(1) + n.funcs;
     let a = put_signature(
-        s, sizes, funcs, values, places, acts, names, first, n, out, 0,
-    );
-    let p = put_param_lists(procs, cells, starts, n, total, rows, out, a);
+        s,
+        &sheet.sizes,
+        &sheet.funcs,
+        values,
+        &sheet.places,
+        &sheet.acts,
+        &sheet.names,
+        first,
+        n,
+        out,
+        0,
+    )
+    .ok_or(Refusal::NoRoom)?;
+    let p = put_param_lists(
+        &sheet.procs,
+        cells,
+        &sheet.starts,
+        n,
+        total,
+        rows,
+        out,
+        a,
+    )
+    .ok_or(Refusal::NoRoom)?;
     if p.count > MAX_EQUATIONS {
-        return failed(0);
+        return Err(Refusal::NotWithin);
     }
     if !few_marks(rows, p.count) {
-        return failed(0);
+        return Err(Refusal::NotWithin);
     }
-    let d = put_summands(procs, cells, starts, n, rows, p.count, out, p.w);
-    if !d.ok {
-        return failed(d.w);
-    }
-    let e = put_start(sizes, funcs, values, places, cells, n.init, out, d.w);
-    if e > out.len() {
-        return failed(out.len());
-    }
-    Written {
-        ok: true,
-        length: e,
-    }
+    let d = put_summands(
+        &sheet.procs,
+        cells,
+        &sheet.starts,
+        n,
+        rows,
+        p.count,
+        out,
+        p.w,
+    )?;
+    put_start(
+        &sheet.sizes,
+        &sheet.funcs,
+        values,
+        &sheet.places,
+        cells,
+        n.init,
+        out,
+        d,
+    )
+    .ok_or(Refusal::NoRoom)
 }
 
 fn few_in(n: Outline) -> bool
     ensures { Says result (FewIn n) }
 {
-    if n.sorts > MAX_SORTS {
-        return false;
-    }
-    if n.funcs > MAX_FUNCTIONS {
-        return false;
-    }
-    if n.acts > MAX_ACTIONS {
-        return false;
-    }
-    if n.procs > MAX_PROCESSES {
-        return false;
-    }
-    true
+    n.sorts <= MAX_SORTS
+        && n.funcs <= MAX_FUNCTIONS
+        && n.acts <= MAX_ACTIONS
+        && n.procs <= MAX_PROCESSES
 }
 
-// The table of a sheet that was read: its stream over the front of the lent bytes; the data of init are lost.
+// The table of a sheet that was read: its stream over the front of the lent bytes, and how long that is; the data of init are lost.
+// NoRoom: for it, or the table is not within its limits.
 pub fn write_table(
     s: &[u8],
-    rows: SheetRows,
+    sheet: &SheetRows,
     values: &[u8],
     cells: &mut [u16],
     out: &mut [u8],
-) -> Written
+) -> Result<usize, Refusal>
     requires { length out.old ≤ max_stream }
-    ensures { WritesTable s.now rows values.now cells.old out.old result out.new }
+    ensures { WritesTable s.now sheet.now values.now cells.old out.old result out.new }
 {
-    let sizes = rows.sizes;
-    let funcs = rows.funcs;
-    let places = rows.places;
-    let acts = rows.acts;
-    let procs = rows.procs;
-    let starts = rows.starts;
-    let names = rows.names;
-    if !few_in(rows.outline) {
-        return failed(0);
+    if !few_in(sheet.outline) {
+        return Err(Refusal::NotWithin);
     }
     let mut part_rows = [0u32; ROW * MAX_EQUATIONS];
-    write_stream(
-        s,
-        &sizes,
-        &funcs,
-        values,
-        &places,
-        &acts,
-        &procs,
-        cells,
-        &starts,
-        &names,
-        rows.outline,
-        &mut part_rows,
-        out,
-    )
+    write_stream(s, sheet, values, cells, &mut part_rows, out)
 }
