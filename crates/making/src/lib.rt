@@ -1,18 +1,17 @@
 #![tactic(auto)]
 // Make a table and check a sheet, from any bytes: questions 1 to 11.
-ghost use Rattle.std.specs.Prelude.{◌≡◌, ◌≤◌, ◌<◌, length};
+ghost use Rattle.std.specs.Prelude.{◌≡◌, ◌*◌, ◌≤◌, ◌<◌, length, Ok};
 ghost use Rattle.pcrl.specs.Limits.{max_stream};
 ghost use Rattle.pcrl.specs.Answers.{sheet_read, table_made, file_made, output_after};
-ghost use Rattle.laws.specs.Says.{Says};
 ghost use Rattle.nodes.specs.Layout.{cell_limit};
 ghost use Rattle.sheets.specs.Reading.{Room, Reads};
-ghost use Rattle.pcrl.specs.Result.{refusal};
-ghost use Rattle.making.specs.Making.{made_answer, Tries};
+ghost use Rattle.making.specs.Making.{Makes, Checks, Tries};
 
-use blocks::{Filed, write_file};
-use limits::{MAX_BYTES, MAX_STREAM, NO_ROOM, NOT_WITHIN};
+use blocks::write_file;
+use limits::{MAX_BYTES, MAX_STREAM};
 use linear::write_table;
-use sheets::Answer;
+use refusals::Refusal;
+use sheets::SheetRows;
 use sheets::read::read_sheet;
 
 // Arrays of three sizes: for sheets below these lengths the short and the middle ones. To clear the long ones would take
@@ -22,82 +21,49 @@ const SHORT: usize = 65;
 const MIDDLE: usize = 513;
 
 // Three cells a byte are room enough for the tokens, the raw tree and the resolved terms.
+const SHORT_CELLS: usize = 192;
+
+const MIDDLE_CELLS: usize = 1536;
+
 const CELLS: usize = 3 * MAX_BYTES;
 
 // A function's value takes two tokens, itself and a comma or `=`.
+const SHORT_VALUES: usize = 32;
+
+const MIDDLE_VALUES: usize = 256;
+
 const VALUES: usize = MAX_BYTES / 2;
 
-// The number of the first question that fails, or 0 and how many bytes were written.
-#[derive(Clone, Copy)]
-pub struct Made {
-    pub refused: u8,
-    pub length: usize,
-}
+// A stream is seldom longer than these.
+const SHORT_STREAM: usize = 1024;
 
-// The number of the first question that fails, or 0 and how many bytes were written, if that was found; else the stream's array was
-// too short.
-#[derive(Clone, Copy)]
-pub struct Tried {
-    pub done: bool,
-    pub refused: u8,
-    pub length: usize,
-}
+const MIDDLE_STREAM: usize = 8192;
 
-// Was the stream's array too short? If room is left, or if none is longer, the table is not within its limits.
-fn too_short(length: usize, room: usize) -> bool
-    ensures { Says result ((room ≤ length) × (room < max_stream)) }
-{
-    if length < room {
-        return false;
-    }
-    if room >= MAX_STREAM {
-        return false;
-    }
-    true
-}
-
-// Questions 10 and 11 of a sheet that was read, over arrays that are lent.
+// Questions 10 and 11 of a sheet that was read, over arrays that are lent: how many bytes were written, or none where the
+// stream's array was too short to know.
 fn write(
     sheet: &[u8],
-    a: Answer,
+    rows: &SheetRows,
     values: &[u8],
     cells: &mut [u16],
     stream: &mut [u8],
     out: &mut [u8],
-) -> Tried
-    requires reads { Reads (sheet_read sheet.now) sheet.now a values.now cells.old }
-    requires refused_value { (a.refused ≡ 0) × (length cells.old < cell_limit) × (length stream.old ≤ max_stream) }
+) -> Result<Option<usize>, Refusal>
+    requires reads { Reads (sheet_read sheet.now) sheet.now (Ok rows.now) values.now cells.old }
+    requires rooms { (length cells.old < cell_limit) × (length stream.old ≤ max_stream) }
     ensures { Tries (file_made sheet.now (length out.old)) (length stream.old) out.old result out.new }
 {
-    let rows = a.rows;
-    let w = write_table(sheet, rows, values, cells, stream);
-    if !w.ok {
-        if too_short(w.length, stream.len()) {
-            return Tried {
-                done: false,
-                refused: 0,
-                length: 0,
-            };
+    match write_table(sheet, rows, values, cells, stream) {
+        Ok(n) => {
+            let m = write_file(&stream[..n], out)?;
+            Ok(Some(m))
         }
-        return Tried {
-            done: true,
-            refused: NOT_WITHIN,
-            length: 0,
-        };
-    }
-    let n = w.length;
-    let f = write_file(&stream[0..n], out);
-    match f {
-        Filed::Refused(k) => Tried {
-            done: true,
-            refused: k,
-            length: 0,
-        },
-        Filed::Bytes(m) => Tried {
-            done: true,
-            refused: 0,
-            length: m,
-        },
+        Err(e) => {
+            if e == Refusal::NoRoom && stream.len() < MAX_STREAM {
+                return Ok(None);
+            }
+            Err(Refusal::NotWithin)
+        }
     }
 }
 
@@ -109,50 +75,36 @@ fn make(
     cells: &mut [u16],
     stream: &mut [u8],
     out: &mut [u8],
-) -> Tried
+) -> Result<Option<usize>, Refusal>
     requires { Room sheet.now raw.old values.old cells.old × (length stream.old ≤ max_stream) }
     ensures { Tries (file_made sheet.now (length out.old)) (length stream.old) out.old result out.new }
 {
-    let a = read_sheet(sheet, raw, values, cells);
-    if a.refused != 0 {
-        return Tried {
-            done: true,
-            refused: a.refused,
-            length: 0,
-        };
-    }
-    write(sheet, a, values, cells, stream, out)
+    let rows = read_sheet(sheet, raw, values, cells)?;
+    write(sheet, &rows, values, cells, stream, out)
 }
 
-// Questions 1 to 11 over arrays for a sheet of at most 64 bytes.
+// The same over arrays of its own. They stand in a function that is not inlined, so that a short sheet does not take the stack
+// of a long one.
 #[inline(never)]
-fn make_short(sheet: &[u8], out: &mut [u8]) -> Tried
-    requires { length sheet.now ≤ 64 }
-    ensures { Tries (file_made sheet.now (length out.old)) 1024 out.old result out.new }
+fn make_in<const CELLS: usize, const VALUES: usize, const STREAM: usize>(
+    sheet: &[u8],
+    out: &mut [u8],
+) -> Result<Option<usize>, Refusal>
+    requires cells_room { (3 * length sheet.now ≤ CELLS) × (CELLS < cell_limit) }
+    requires values_room { (length sheet.now ≤ 2 * VALUES) × (VALUES < cell_limit) }
+    requires stream_room { STREAM ≤ max_stream }
+    ensures { Tries (file_made sheet.now (length out.old)) STREAM out.old result out.new }
 {
-    let mut raw = [0u16; 192];
-    let mut values = [0u8; 32];
-    let mut cells = [0u16; 192];
-    let mut stream = [0u8; 1024];
-    make(sheet, &mut raw, &mut values, &mut cells, &mut stream, out)
-}
-
-// Questions 1 to 11 over arrays for a sheet of at most 512 bytes.
-#[inline(never)]
-fn make_middle(sheet: &[u8], out: &mut [u8]) -> Tried
-    requires { length sheet.now ≤ 512 }
-    ensures { Tries (file_made sheet.now (length out.old)) 8192 out.old result out.new }
-{
-    let mut raw = [0u16; 1536];
-    let mut values = [0u8; 256];
-    let mut cells = [0u16; 1536];
-    let mut stream = [0u8; 8192];
+    let mut raw = [0u16; CELLS];
+    let mut values = [0u8; VALUES];
+    let mut cells = [0u16; CELLS];
+    let mut stream = [0u8; STREAM];
     make(sheet, &mut raw, &mut values, &mut cells, &mut stream, out)
 }
 
 // A long sheet read: the raw tree's array is left before that of the stream is needed.
 #[inline(never)]
-fn read_long(sheet: &[u8], values: &mut [u8; VALUES], cells: &mut [u16; CELLS]) -> Answer
+fn read_long(sheet: &[u8], values: &mut [u8; VALUES], cells: &mut [u16; CELLS]) -> Result<SheetRows, Refusal>
     ensures { Reads (sheet_read sheet.now) sheet.now result values.new cells.new }
 {
     let mut raw = [0u16; CELLS];
@@ -163,90 +115,65 @@ fn read_long(sheet: &[u8], values: &mut [u8; VALUES], cells: &mut [u16; CELLS]) 
 #[inline(never)]
 fn write_long(
     sheet: &[u8],
-    a: Answer,
+    rows: &SheetRows,
     values: &[u8; VALUES],
     cells: &mut [u16; CELLS],
     out: &mut [u8],
-) -> Made
-    requires { Reads (sheet_read sheet.now) sheet.now a values.now cells.old × (a.refused ≡ 0) }
-    ensures answer { result ≡ made_answer (file_made sheet.now (length out.old)) }
+) -> Result<usize, Refusal>
+    requires { Reads (sheet_read sheet.now) sheet.now (Ok rows.now) values.now cells.old }
+    ensures answer { Makes (file_made sheet.now (length out.old)) result }
     ensures written { out.new ≡ output_after (file_made sheet.now (length out.old)) out.old }
 {
     let mut stream = [0u8; MAX_STREAM];
-    let t = write(sheet, a, values, cells, &mut stream, out);
-    Made {
-        refused: t.refused,
-        length: t.length,
-    }
+    let tried = write(sheet, rows, values, cells, &mut stream, out)?;
+    Ok(tried.unwrap())
 }
 
 // Questions 1 to 11 over arrays for the longest sheet.
 #[inline(never)]
-fn make_long(sheet: &[u8], out: &mut [u8]) -> Made
-    ensures answer { result ≡ made_answer (file_made sheet.now (length out.old)) }
+fn make_long(sheet: &[u8], out: &mut [u8]) -> Result<usize, Refusal>
+    ensures answer { Makes (file_made sheet.now (length out.old)) result }
     ensures written { out.new ≡ output_after (file_made sheet.now (length out.old)) out.old }
 {
     let mut values = [0u8; VALUES];
     let mut cells = [0u16; CELLS];
-    let a = read_long(sheet, &mut values, &mut cells);
-    if a.refused != 0 {
-        return Made {
-            refused: a.refused,
-            length: 0,
-        };
-    }
-    write_long(sheet, a, &values, &mut cells, out)
+    let rows = read_long(sheet, &mut values, &mut cells)?;
+    write_long(sheet, &rows, &values, &mut cells, out)
 }
 
-// Over short arrays for a sheet below `short` bytes, over middle ones below `middle`; and where the stream is too long for
-// them over the long ones, by a call of itself. Each size's arrays stand in a function that is not inlined, so that a short
-// sheet does not take the stack of a long one.
-fn make_by(sheet: &[u8], out: &mut [u8], short: usize, middle: usize) -> Made
-    requires { (short ≤ 65) × (middle ≤ 513) }
-    ensures answer { result ≡ made_answer (file_made sheet.now (length out.old)) }
+// Make a table: the file of a sheet's bytes over the front of the lent output, and how many bytes it has. Over short or middle arrays,
+// and where the stream is too long for them over the long ones.
+pub fn make_table(sheet: &[u8], out: &mut [u8]) -> Result<usize, Refusal>
+    ensures answer { Makes (file_made sheet.now (length out.old)) result }
     ensures written { out.new ≡ output_after (file_made sheet.now (length out.old)) out.old }
 {
-    let n = sheet.len();
-    if n < short {
-        let t = make_short(sheet, out);
-        if t.done {
-            return Made {
-                refused: t.refused,
-                length: t.length,
-            };
+    if sheet.len() < SHORT {
+        if let Some(n) = make_in::<SHORT_CELLS, SHORT_VALUES, SHORT_STREAM>(sheet, out)? {
+            return Ok(n);
         }
-        return make_by(sheet, out, n, n);
+        return make_long(sheet, out);
     }
-    if n < middle {
-        let u = make_middle(sheet, out);
-        if u.done {
-            return Made {
-                refused: u.refused,
-                length: u.length,
-            };
+    if sheet.len() < MIDDLE {
+        if let Some(n) = make_in::<MIDDLE_CELLS, MIDDLE_VALUES, MIDDLE_STREAM>(sheet, out)? {
+            return Ok(n);
         }
-        return make_by(sheet, out, short, n);
+        return make_long(sheet, out);
     }
     make_long(sheet, out)
 }
 
-// Make a table: the file of a sheet's bytes over the front of the lent output.
-pub fn make_table(sheet: &[u8], out: &mut [u8]) -> Made
-    ensures answer { result ≡ made_answer (file_made sheet.now (length out.old)) }
-    ensures written { out.new ≡ output_after (file_made sheet.now (length out.old)) out.old }
-{
-    make_by(sheet, out, SHORT, MIDDLE)
-}
-
-// Check a sheet: the number of the first of questions 1 to 10 that fails, or 0. Where there is no room for a file,
-// question 11 is the first to fail exactly if 1 to 10 pass.
-pub fn check_sheet(sheet: &[u8]) -> u8
-    ensures { result ≡ refusal (table_made sheet.now) }
+// Check a sheet, questions 1 to 10. Where there is no room for a file, question 11 is the first to fail exactly if 1 to 10 pass.
+pub fn check_sheet(sheet: &[u8]) -> Result<(), Refusal>
+    ensures { Checks (table_made sheet.now) result }
 {
     let mut none = [0u8; 1];
-    let m = make_table(sheet, &mut none);
-    if m.refused == NO_ROOM {
-        return 0;
+    match make_table(sheet, &mut none) {
+        Ok(_) => Ok(()),
+        Err(r) => {
+            if r == Refusal::NoRoom {
+                return Ok(());
+            }
+            Err(r)
+        }
     }
-    m.refused
 }

@@ -1,11 +1,13 @@
--- A sheet that is refused, or what is written of it.
-use native.Mathlib.Omega.{arith}
+-- A sheet that is refused.
 use lib.ListN.{length}
-use Rattle.making.proofs.MakingLaws.{made_refused, answer_refused, output_same}
+use Rattle.std.proofs.lemmas.Result.{err_from_is_err_and}
+use Rattle.making.proofs.MakingLaws.{refuses, made_refused}
 use Rattle.making.proofs.make_long.Goals as goal
 
-pub returns-then-a-ne0 : goal.returns-then-a-ne0
-returns-then-a-ne0 c = let a = c.args in
-    let r = c.read_long-a in
-    let e = made_refused a.sheet.now r.result r.new.values r.new.cells r.ensures (length a.out.now) (λ z. omega arith) in
-    record { answer = answer_refused _ _ e; written = output_same _ _ a.out.now e }
+pub returns-in_err-rows : goal.returns-in_err-rows
+returns-in_err-rows c =
+    let a = c.args in
+    let r = c.read_long in
+    let p = err_from_is_err_and c.from_residual.result c.from_residual.ensures.1 in
+    let z = refuses _ _ a.out.now (made_refused a.sheet.now r.new.values r.new.cells (length a.out.now) _ c.in_err-rows.ensures) in
+    rw (p.1, p.2) (record { answer = z.0; written = z.1 })

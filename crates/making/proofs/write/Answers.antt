@@ -1,64 +1,68 @@
 -- Each way out by the question that decides it.
-use mathlib.Core.Path.{◌≡◌, refl, ◌∙◌, sym, ap}
-use mathlib.Core.List.{List}
-use Prim.Native.Nat.{ℕ, ◌-◌}
 use native.Mathlib.Omega.{arith}
-use borrow.Author.Tests.{not-true, not-false}
-use lib.ListN.{length, take}
-use Rattle.pcrl.specs.Answers.{stream_filed, output_after}
-use Rattle.pcrl.specs.Result.{Result}
-use Rattle.laws.specs.Says.{said_yes, said_no}
-use Rattle.making.specs.Making.{made_answer}
-use Rattle.making.proofs.MakingLaws.{made_10, made_stream, wrote_length, filed_refused, filed_bytes, answer_refused, output_same}
+use mathlib.Core.Path.{◌≡◌, sym, ◌∙◌}
+use Prim.Native.Nat.{◌≤◌}
+use denote.Enum.Bare.{same_false}
+use lib.ListN.{length}
+use lib.Seq.{length-take-le}
+use Rattle.std.proofs.lemmas.Result.{err_from_is_err_and}
+use Rattle.making.proofs.MakingLaws.{refuses, made_10, made_stream, wrote_length}
+use Rattle.pcrl.specs.Limits.{max_stream}
+use Rattle.refusals.specs.declared.Refusal.TheVariants.{NotWithin, NoRoom}
+use Rattle.refusals.specs.contracts.Refusal.{the_type}
 use Rattle.making.proofs.write.Goals as goal
-
-pub write_table-w-requires : goal.write_table-w-requires
-write_table-w-requires c = c.requires.refused_value.2
-
-pub returns-then-too_short : goal.returns-then-too_short
-returns-then-too_short c =
-    let k = c.write_table-w.auto.out in
-    let s = c.too_short in
-    let i = said_yes s.result s.ensures c.if-too_short.true in
-    record { answer = λ d. absurd (let z : ◌≡◌ {A = ℕ} 0 1 = cc in omega arith); output = λ d. absurd (let z : ◌≡◌ {A = ℕ} 0 1 = cc in omega arith); same = λ d. refl; full = λ d. absurd (omega arith) }
-
-pub returns-then-not-w : goal.returns-then-not-w
-returns-then-not-w c =
-    let a = c.args in
-    let p = c.requires in
-    let t = c.write_table-w in
-    let k = t.auto.out in
-    let s = c.too_short in
-    let e = made_10 a.sheet.now a.a a.values.now a.cells.now p.reads (length a.out.now) p.refused_value.0 p.refused_value.1 a.stream.now t.new.out t.result t.ensures p.refused_value.2 (λ h. said_no s.result s.ensures c.if-too_short.false (omega arith)) (not-true _ c.if-not-w.true) in
-    record { answer = λ d. answer_refused _ _ e; output = λ d. output_same _ _ a.out.now e; same = λ d. absurd (let z : ◌≡◌ {A = ℕ} 0 1 = cc in omega arith); full = λ d. refl }
+use Rattle.making.proofs.write.Goals.{else-eq-via-then-eq+else-stream-lt-MAX_STREAM, else-eq-via-else-eq}
 
 pub slice_bounds-write_file-end : goal.slice_bounds-write_file-end
-slice_bounds-write_file-end c = let a = c.args in
-    let p = c.requires in
-    let t = c.write_table-w in
-    let g = wrote_length a.sheet.now a.a a.values.now a.cells.now p.reads (length a.out.now) p.refused_value.0 p.refused_value.1 a.stream.now t.new.out t.result t.ensures p.refused_value.2 (not-false _ c.if-not-w.false) in
-    let k = t.auto.out in omega arith
+slice_bounds-write_file-end c =
+    let a = c.args in
+    let r = c.requires in
+    let t = c.write_table in
+    let k = t.auto.out in
+    let l = wrote_length a.sheet.now a.values.now a.cells.now (length a.out.now) a.rows.now r.reads r.rooms.0 a.stream.now t.new.out r.rooms.1 c.in-Ok.n c.in-Ok.ensures in
+    omega arith
 
-pub write_file-f-requires : goal.write_file-f-requires
-write_file-f-requires c = let a = c.args in
-    let p = c.requires in
-    let t = c.write_table-w in
-    (made_stream a.sheet.now a.a a.values.now a.cells.now p.reads (length a.out.now) p.refused_value.0 p.refused_value.1 a.stream.now t.new.out t.result t.ensures p.refused_value.2 (not-false _ c.if-not-w.false)).0
+pub slice_bounds-write_file-end-in-Ok : goal.slice_bounds-write_file-end-in-Ok
+slice_bounds-write_file-end-in-Ok c =
+    let a = c.args in
+    let r = c.requires in
+    let t = c.write_table in
+    let k = t.auto.out in
+    let l = wrote_length a.sheet.now a.values.now a.cells.now (length a.out.now) a.rows.now r.reads r.rooms.0 a.stream.now t.new.out r.rooms.1 c.in-Ok.n c.in-Ok.ensures in
+    sym (length-take-le c.in-Ok.n t.new.out (omega arith))
 
-pub returns-in-Refused : goal.returns-in-Refused
-returns-in-Refused c = let a = c.args in
-    let p = c.requires in
-    let t = c.write_table-w in
-    let e = (made_stream a.sheet.now a.a a.values.now a.cells.now p.reads (length a.out.now) p.refused_value.0 p.refused_value.1 a.stream.now t.new.out t.result t.ensures p.refused_value.2 (not-false _ c.if-not-w.false)).1 in
-    let x : Result (List ℕ) = stream_filed (take (t.result.length - 0) t.new.out) (length a.out.now) in
-    let f = c.write_file-f in
-    record { answer = λ d. filed_refused x f.result _ c.in-Refused.is f.ensures.answer ∙ ap made_answer (sym e); output = λ d. f.ensures.written ∙ ap (λ (y : Result (List ℕ)). output_after y a.out.now) (sym e); same = λ d. absurd (let z : ◌≡◌ {A = ℕ} 0 1 = cc in omega arith); full = λ d. refl }
+pub write_file-requires : goal.write_file-requires
+write_file-requires c =
+    let a = c.args in
+    let r = c.requires in
+    let t = c.write_table in
+    (made_stream a.sheet.now a.values.now a.cells.now (length a.out.now) a.rows.now r.reads r.rooms.0 a.stream.now t.new.out r.rooms.1 c.in-Ok.n c.in-Ok.ensures).0
 
-pub returns-in-Bytes : goal.returns-in-Bytes
-returns-in-Bytes c = let a = c.args in
-    let p = c.requires in
-    let t = c.write_table-w in
-    let e = (made_stream a.sheet.now a.a a.values.now a.cells.now p.reads (length a.out.now) p.refused_value.0 p.refused_value.1 a.stream.now t.new.out t.result t.ensures p.refused_value.2 (not-false _ c.if-not-w.false)).1 in
-    let x : Result (List ℕ) = stream_filed (take (t.result.length - 0) t.new.out) (length a.out.now) in
-    let f = c.write_file-f in
-    record { answer = λ d. filed_bytes x f.result _ c.in-Bytes.is f.ensures.answer ∙ ap made_answer (sym e); output = λ d. f.ensures.written ∙ ap (λ (y : Result (List ℕ)). output_after y a.out.now) (sym e); same = λ d. absurd (let z : ◌≡◌ {A = ℕ} 0 1 = cc in omega arith); full = λ d. refl }
+pub returns-in_err-m-in-Ok : goal.returns-in_err-m-in-Ok
+returns-in_err-m-in-Ok c =
+    let a = c.args in
+    let r = c.requires in
+    let t = c.write_table in
+    let p = err_from_is_err_and c.from_residual.result c.from_residual.ensures.1 in
+    let e = (made_stream a.sheet.now a.values.now a.cells.now (length a.out.now) a.rows.now r.reads r.rooms.0 a.stream.now t.new.out r.rooms.1 c.in-Ok.n c.in-Ok.ensures).1 in
+    rw (p.1, p.2, e) (c.in_err-m-in-Ok.ensures.answer, c.in_err-m-in-Ok.ensures.written)
+
+pub returns-in_ok-m-in-Ok : goal.returns-in_ok-m-in-Ok
+returns-in_ok-m-in-Ok c =
+    let a = c.args in
+    let r = c.requires in
+    let t = c.write_table in
+    let e = (made_stream a.sheet.now a.values.now a.cells.now (length a.out.now) a.rows.now r.reads r.rooms.0 a.stream.now t.new.out r.rooms.1 c.in-Ok.n c.in-Ok.ensures).1 in
+    rw e (c.in_ok-m-in-Ok.ensures.answer, c.in_ok-m-in-Ok.ensures.written)
+
+pub returns-else-eq : goal.returns-else-eq
+returns-else-eq c =
+    let a = c.args in
+    let r = c.requires in
+    let t = c.write_table in
+    let k = t.auto.out in
+    let full : c.in-Err.e ≡ NoRoom → max_stream ≤ length a.stream.now = elim c.else-eq.branch [
+      | else-eq-via-then-eq+else-stream-lt-MAX_STREAM w ↦ λ z. omega arith
+      | else-eq-via-else-eq w ↦ λ z. absurd (same_false the_type _ _ (sym c.eq.ensures ∙ w.if-eq.false) z)
+    ] in
+    refuses _ NotWithin a.out.now (made_10 a.sheet.now a.values.now a.cells.now (length a.out.now) a.rows.now r.reads r.rooms.0 a.stream.now t.new.out r.rooms.1 c.in-Err.e c.in-Err.ensures full)
