@@ -6,10 +6,11 @@ fn main(rt: HostRuntime) -> io::Result<()> {
     // more than the longest sheet: of a longer input the front is enough
     let mut sheet = [0u8; 65536];
     let n = streams::read_front(&mut rt.reader(), &mut sheet)?;
-    let r = making::check_sheet(&sheet[..n]);
-    if r == 0 {
-        println!(rt; "accepted")
-    } else {
-        println!(rt; "refused {r}")
+    match making::check_sheet(&sheet[..n]) {
+        Ok(()) => println!(rt; "accepted"),
+        Err(r) => {
+            let question = u8::from(r);
+            println!(rt; "refused {question}")
+        }
     }
 }

@@ -1,5 +1,5 @@
 #![tactic(auto)]
-// What the programs read: the front of a stream, as much as there is room for.
+// What the programs read and write: the front of a stream, as much as there is room for, and the front of a buffer.
 ghost use Rattle.std.specs.Prelude.{◌≤◌, length, IfOk};
 
 use std::io;
@@ -18,4 +18,12 @@ pub fn read_front<R: Read>(reader: &mut R, buf: &mut [u8]) -> io::Result<usize>
         done += n;
     }
     Ok(done)
+}
+
+// Writes the first n bytes to standard output; of a shorter buffer nothing.
+pub fn write_front(rt: &HostRuntime, buf: &[u8], n: usize) -> io::Result<()> {
+    match buf.get(..n) {
+        Some(front) => rt.write_all(front),
+        None => Ok(()),
+    }
 }

@@ -2,19 +2,11 @@
 // Reads a sheet from standard input and writes its walk: the first step up to 8 times, or `refused` and the number.
 use std::io;
 
-// The first n bytes.
-fn write_front(rt: &HostRuntime, text: &[u8], n: usize) -> io::Result<()> {
-    if n <= text.len() {
-        rt.write_all(&text[..n])?;
-    }
-    Ok(())
-}
-
 fn main(rt: HostRuntime) -> io::Result<()> {
     // more than the longest sheet: of a longer input the front is enough
     let mut sheet = [0u8; 65536];
     let n = streams::read_front(&mut rt.reader(), &mut sheet)?;
     let t = walker::walk_text(&sheet[..n]);
     let text = t.bytes;
-    write_front(&rt, &text, t.length)
+    streams::write_front(&rt, &text, t.length)
 }
