@@ -15,8 +15,7 @@ ghost use Rattle.terms.specs.Ends.{rests, ended};
 use elements::{cell, peek, wide};
 use lexer::bytes::{LETTER, class, name_byte};
 use lexer::token::word;
-
-const NAME: u8 = limits::MAX_NAME as u8;
+use limits::MAX_NAME;
 
 // Bool, or one of the words that are never names.
 fn reserved(n: &[u8]) -> bool
@@ -52,17 +51,8 @@ fn token_name(n: &[u8]) -> bool
 fn read_run(s: &[u8], at: usize) -> Option<usize>
     ensures { (rests (counted (tests.between? 1 max_name) (one (λ b. tests.T? (classes.name_byte b))) (drop at s.now)) ≡ ended s.now result) × OnSome result (at < length s.now) }
 {
-    if s.len() <= at {
-        return None;
-    }
-    let n = s[at];
-    if n < 1 {
-        return None;
-    }
-    if NAME < n {
-        return None;
-    }
-    let end = at + 1 + wide(n);
+    let n = terms::number_at(s, at, 1, MAX_NAME + 1)?;
+    let end = at + 1 + n;
     for i in at + 1..end {
         if s.len() <= i {
             return None;

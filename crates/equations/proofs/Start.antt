@@ -1,7 +1,7 @@
 -- The start: its equation's parameters stand at their place, and a value is read for each.
 use mathlib.Core.Path.{◌≡◌, sym, ap, ◌∙◌}
 use mathlib.Core.List.{List, []}
-use Prim.Native.Nat.{ℕ, suc, ◌<◌, ◌≤◌}
+use Prim.Native.Nat.{ℕ, suc, ◌<◌}
 use native.Mathlib.Omega.{arith}
 use lib.ListN.{length, get_or, drop, length-map}
 use Rattle.pcrl.specs.Tests.{below?}
@@ -12,7 +12,7 @@ use Rattle.pcrl.specs.Stream.{encode_numbers}
 use Rattle.pcrl.specs.Decode.{read_start}
 use Rattle.terms.specs.Stands.{list_at, KnownParams}
 use Rattle.terms.specs.Ends.{rests}
-use Rattle.terms.proofs.Rests.{byte_end, byte_bad, byte_pass}
+use Rattle.terms.proofs.Rests.{byte_no, byte_pass}
 use Rattle.terms.proofs.Places.{stands_there, as_many, list_is}
 
 module _ (S : Sig) (es : List Equation) (s sizes params : List ℕ) (sizes_are : sizes ≡ S.sorts) (known : KnownParams (params_of es) s params) (at : ℕ) where
@@ -20,15 +20,11 @@ module _ (S : Sig) (es : List Equation) (s sizes params : List ℕ) (sizes_are :
   unfolding params_of
   as_many_params = sym (length-map es (λ (e : Equation). e.params)) ∙ as_many encode_numbers s (params_of es) params known
 
-  pub start_end : length s ≤ at → rests (read_start S es (drop at s)) ≡ missing
+  pub start_no : ¬ ((at < length s) × (get_or s at 0 < length params)) → rests (read_start S es (drop at s)) ≡ missing
   unfolding read_start
-  start_end h = byte_end (below? (length es)) s at (λ e. each (λ D. one (below? (size S D))) (get_or (params_of es) e [])) h
-
-  pub start_bad : at < length s → length params ≤ get_or s at 0 → rests (read_start S es (drop at s)) ≡ missing
-  unfolding read_start
-  start_bad h l =
+  start_no n =
       let z = as_many_params in
-      byte_bad (below? (length es)) s at (λ e. each (λ D. one (below? (size S D))) (get_or (params_of es) e [])) h (λ (k : get_or s at 0 < length es). omega arith)
+      byte_no (below? (length es)) s at (λ e. each (λ D. one (below? (size S D))) (get_or (params_of es) e [])) (λ (h : (at < length s) × (get_or s at 0 < length es)). n (h.0, (let l = h.1 in omega arith)))
 
   pub start_pass : (j p : ℕ) (Ds : List ℕ) → j ≡ suc at → at < length s → get_or s at 0 < length params → p ≡ get_or params (get_or s at 0) 0 → Ds ≡ list_at s p
       → rests (read_start S es (drop at s)) ≡ rests (each (λ D. one (below? (get_or sizes D 0))) Ds (drop j s))

@@ -30,16 +30,7 @@ fn read_params(s: &[u8], sizes: &[u8], at: usize, params: &mut [u16]) -> Option<
     requires { (max_equations ≤ length params.old) × (length s.now < 65536) }
     ensures { Laid (counted (between? 1 max_equations) (read_sorts sizes.now frame_width) (drop at s.now)) encode_numbers s.now result (take (get_or s.now at 0) params.new) × OnSome result (get_or s.now at 0 ≤ max_equations) }
 {
-    if s.len() <= at {
-        return None;
-    }
-    let n = wide(s[at]);
-    if n < 1 {
-        return None;
-    }
-    if MAX_EQUATIONS < n {
-        return None;
-    }
+    let n = terms::number_at(s, at, 1, MAX_EQUATIONS + 1)?;
     let mut i = at + 1;
     for k in 0..n {
         let next = terms::read_list(s, i, 0, PARAMETERS, 0, sizes.len())?;
@@ -98,12 +89,7 @@ fn read_data(s: &[u8], sizes: &[u8], sorts: &[u8], at: usize) -> Option<usize>
 {
     let mut i = at;
     for d in sorts {
-        if s.len() <= i {
-            return None;
-        }
-        if peek(sizes, wide(*d)) <= s[i] {
-            return None;
-        }
+        terms::number_at(s, i, 0, cell(sizes, wide(*d)))?;
         i += 1;
     }
     Some(i)
@@ -113,13 +99,7 @@ fn read_data(s: &[u8], sizes: &[u8], sorts: &[u8], at: usize) -> Option<usize>
 pub fn read_start(s: &[u8], sizes: &[u8], params: &[u16], at: usize) -> Option<usize>
     ensures { ((S : Sig) (es : List Equation) → sizes.now ≡ S.sorts → KnownParams (params_of es) s.now params.now → rests (read_start S es (drop at s.now)) ≡ ended s.now result) × IfSome result (λ end. end ≤ length s.now) }
 {
-    if s.len() <= at {
-        return None;
-    }
-    let e = wide(s[at]);
-    if params.len() <= e {
-        return None;
-    }
+    let e = terms::number_at(s, at, 0, params.len())?;
     let sorts = terms::list_at(s, cell(params, e));
     read_data(s, sizes, sorts, at + 1)
 }

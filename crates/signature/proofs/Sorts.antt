@@ -26,18 +26,14 @@ use Rattle.terms.specs.Stands.{Standing, list_at}
 use Rattle.terms.specs.Laid.{Laid}
 use Rattle.terms.proofs.Places.{number_at, behind, list_is}
 use Rattle.terms.specs.Ends.{rests}
-use Rattle.terms.proofs.Rests.{number_end, number_bad, number_pass, pair_fail, pair_pass, test_bad, test_pass, missing_there}
+use Rattle.terms.proofs.Rests.{number_no, number_pass, pair_fail, pair_pass, test_bad, test_pass, missing_there}
 use Rattle.signature.specs.Reading.{BoolAt, names_there}
 use Rattle.action_names.proofs.Run.{fails}
 
 module _ (s : List ℕ) (at : ℕ) where
-  pub sort_end : length s ≤ at → rests (read_sort (drop at s)) ≡ missing
+  pub sort_no : ¬ ((at < length s) × Between 1 max_size (get_or s at 0)) → rests (read_sort (drop at s)) ≡ missing
   unfolding read_sort rests
-  sort_end h = pair_fail (one (between? 1 max_size)) (λ n. read_sort_name) (drop at s) (ap rests (number_end (between? 1 max_size) s at h))
-
-  pub sort_bad : at < length s → ¬ (Between 1 max_size (get_or s at 0)) → rests (read_sort (drop at s)) ≡ missing
-  unfolding read_sort rests
-  sort_bad h k = pair_fail (one (between? 1 max_size)) (λ n. read_sort_name) (drop at s) (ap rests (number_bad (between? 1 max_size) s at h k))
+  sort_no n = pair_fail (one (between? 1 max_size)) (λ n. read_sort_name) (drop at s) (ap rests (number_no (between? 1 max_size) s at n))
 
   pub sort_behind : (i : ℕ) → i ≡ suc at → at < length s → Between 1 max_size (get_or s at 0) → rests (read_sort (drop at s)) ≡ rests (read_sort_name (drop i s))
   unfolding read_sort rests

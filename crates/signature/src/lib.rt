@@ -20,8 +20,6 @@ const SORTS: u8 = limits::MAX_SORTS as u8;
 
 const BOOL_SIZE: u8 = limits::BOOL_SIZE as u8;
 
-const SIZE: u8 = limits::MAX_SIZE as u8;
-
 const ARITY: u8 = limits::MAX_ARITY as u8;
 
 // Where functions and actions end, and how many there are.
@@ -47,16 +45,7 @@ fn read_sizes(s: &[u8], at: usize) -> Option<usize>
 fn read_sort(s: &[u8], at: usize) -> Option<usize>
     ensures { (rests (read_sort (drop at s.now)) ≡ ended s.now result) × OnSome result (at < length s.now) }
 {
-    if s.len() <= at {
-        return None;
-    }
-    let n = s[at];
-    if n < 1 {
-        return None;
-    }
-    if SIZE < n {
-        return None;
-    }
+    terms::number_at(s, at, 1, MAX_SIZE + 1)?;
     action_names::read_sort_name(s, at + 1)
 }
 
@@ -65,16 +54,7 @@ fn read_named(s: &[u8], at: usize, sorts: &mut [u16]) -> Option<usize>
     requires { (max_sorts ≤ length sorts.old) × (length s.now < 65536) }
     ensures { Laid (counted (between? 1 max_sorts) read_sort (drop at s.now)) encode_sort s.now result (take (get_or s.now at 0) sorts.new) × OnSome result (Between 1 max_sorts (get_or s.now at 0)) }
 {
-    if s.len() <= at {
-        return None;
-    }
-    let n = wide(s[at]);
-    if n < 1 {
-        return None;
-    }
-    if MAX_SORTS < n {
-        return None;
-    }
+    let n = terms::number_at(s, at, 1, MAX_SORTS + 1)?;
     let mut i = at + 1;
     for k in 0..n {
         let next = read_sort(s, i)?;
@@ -178,12 +158,7 @@ fn read_values(s: &[u8], at: usize, n: usize, limit: u8) -> Option<usize>
 {
     let mut i = at;
     for _ in 0..n {
-        if s.len() <= i {
-            return None;
-        }
-        if limit <= s[i] {
-            return None;
-        }
+        terms::number_at(s, i, 0, wide(limit))?;
         i += 1;
     }
     Some(i)
@@ -194,13 +169,7 @@ fn read_func(s: &[u8], sizes: &[u8], at: usize) -> Option<usize>
     ensures { (rests (read_func sizes.now (drop at s.now)) ≡ ended s.now result) × OnSome result (at < length s.now) }
 {
     let i = terms::read_list(s, at, 1, ARITY, 0, sizes.len())?;
-    if s.len() <= i {
-        return None;
-    }
-    let d = wide(s[i]);
-    if sizes.len() <= d {
-        return None;
-    }
+    let d = terms::number_at(s, i, 0, sizes.len())?;
     let n = volume(sizes, terms::list_at(s, at));
     read_values(s, i + 1, n, sizes[d])
 }
@@ -210,13 +179,7 @@ fn read_funcs(s: &[u8], sizes: &[u8], at: usize, funcs: &mut [u16]) -> Option<us
     requires { (max_functions ≤ length funcs.old) × (length s.now < 65536) }
     ensures { Laid (counted (at_most? max_functions) (read_func sizes.now) (drop at s.now)) encode_func s.now result (take (get_or s.now at 0) funcs.new) × OnSome result (get_or s.now at 0 ≤ max_functions) }
 {
-    if s.len() <= at {
-        return None;
-    }
-    let n = wide(s[at]);
-    if MAX_FUNCTIONS < n {
-        return None;
-    }
+    let n = terms::number_at(s, at, 0, MAX_FUNCTIONS + 1)?;
     let mut i = at + 1;
     for k in 0..n {
         let next = read_func(s, sizes, i)?;
@@ -239,13 +202,7 @@ fn read_acts(s: &[u8], sizes: &[u8], at: usize, acts: &mut [u16]) -> Option<usiz
     requires { (max_actions ≤ length acts.old) × (length s.now < 65536) }
     ensures { Laid (counted (at_most? max_actions) (read_action sizes.now) (drop at s.now)) encode_action s.now result (take (get_or s.now at 0) acts.new) × OnSome result (get_or s.now at 0 ≤ max_actions) }
 {
-    if s.len() <= at {
-        return None;
-    }
-    let n = wide(s[at]);
-    if MAX_ACTIONS < n {
-        return None;
-    }
+    let n = terms::number_at(s, at, 0, MAX_ACTIONS + 1)?;
     let mut i = at + 1;
     for k in 0..n {
         let next = read_action(s, sizes, i)?;

@@ -26,10 +26,10 @@ module _ (S : Sig) where
   act_tau xs b e (yes k) = refl
   act_tau xs b e (no k) = absurd (k e)
 
-  act_bad : (xs : List ℕ) (b : ℕ) → ¬ (b ≡ tau_code) → length S.acts ≤ b → (d : Dec (b ≡ tau_code)) → act_by xs b d ≡ missing
+  act_bad : (xs : List ℕ) (b : ℕ) → ¬ (b ≡ tau_code) → ¬ (b < length S.acts) → (d : Dec (b ≡ tau_code)) → act_by xs b d ≡ missing
   unfolding act_by
   act_bad xs b n l (yes k) = absurd (n k)
-  act_bad xs b n l (no k) = drops (dec_lt b (length S.acts)) (action b) xs (λ (q : b < length S.acts). omega arith)
+  act_bad xs b n l (no k) = drops (dec_lt b (length S.acts)) (action b) xs l
 
   act_good : (xs : List ℕ) (b : ℕ) → ¬ (b ≡ tau_code) → b < length S.acts → (d : Dec (b ≡ tau_code)) → act_by xs b d ≡ found (action b) xs
   unfolding act_by
@@ -48,12 +48,12 @@ module _ (S : Sig) (Γ s : List ℕ) (at : ℕ) where
       (rw (drop-cons s at 0 h) (act_tau S (drop (suc at) s) (get_or s at 0) e (ℕ_discrete (get_or s at 0) tau_code))))
 
   module _ (acts : List ℕ) (known : KnownActs S s acts) (h : at < length s) (n : ¬ (get_or s at 0 ≡ tau_code)) where
-    pub label_bad : length acts ≤ get_or s at 0 → rests (read_label S Γ (drop at s)) ≡ missing
+    pub label_bad : ¬ (get_or s at 0 < length acts) → rests (read_label S Γ (drop at s)) ≡ missing
     unfolding read_label read_act rests act_by
     label_bad l =
         let q = as_many encode_action s S.acts acts known in
         pair_fail (read_act S) (λ a. each (read_term S Γ) (takes_of S a)) (drop at s)
-        (rw (drop-cons s at 0 h) (ap rests (act_bad S (drop (suc at) s) (get_or s at 0) n (omega arith) (ℕ_discrete (get_or s at 0) tau_code))))
+        (rw (drop-cons s at 0 h) (ap rests (act_bad S (drop (suc at) s) (get_or s at 0) n (λ (k : get_or s at 0 < length S.acts). l (omega arith)) (ℕ_discrete (get_or s at 0) tau_code))))
 
     -- p: where the action stands
     pub label_pass : (j p : ℕ) (Ds : List ℕ) → j ≡ suc at → get_or s at 0 < length acts → p ≡ get_or acts (get_or s at 0) 0 → Ds ≡ list_at s (p + 1 + get_or s p 0)

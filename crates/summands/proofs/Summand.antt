@@ -1,7 +1,7 @@
 -- A summand from its parts: calls, conditions, label, and the variables that come into scope.
 use mathlib.Core.Path.{◌≡◌, sym, ap, ◌∙◌}
 use mathlib.Core.List.{List, [], ◌++◌, append_assoc}
-use Prim.Native.Nat.{ℕ, suc, ◌+◌, ◌-◌, ◌<◌, ◌≤◌}
+use Prim.Native.Nat.{ℕ, suc, ◌+◌, ◌-◌, ◌<◌}
 use native.Mathlib.Omega.{arith}
 use borrow.Rule.Slice.PartMut.{put_mid}
 use lib.ListN.{length, get_or, take, drop, length-append}
@@ -15,24 +15,24 @@ use Rattle.pcrl.specs.Decode.{read_term, read_sorts, read_act, read_cond, read_c
 use Rattle.terms.specs.Stands.{Stands, KnownParams, list_at}
 use Rattle.terms.specs.Ends.{rests}
 use Rattle.terms.specs.Numbers.{read_list}
-use Rattle.terms.proofs.Rests.{view_rests, pair_pass, pair_fail, pair_with, nest_pass, nest_fail, byte_bad, byte_pass}
+use Rattle.terms.proofs.Rests.{view_rests, pair_pass, pair_fail, pair_with, nest_pass, nest_fail, byte_no, byte_pass}
 use Rattle.terms.proofs.Places.{stands_there, as_many, list_is}
 use Rattle.terms.proofs.Lists.{sorts_list, list_found}
 use Rattle.summands.specs.Parts.{read_label, read_body}
 
 -- A CALL
 
-module _ (S : Sig) (Ps : List (List ℕ)) (Γ s params : List ℕ) (known : KnownParams Ps s params) (at : ℕ) (h : at < length s) where
-  pub call_bad : length params ≤ get_or s at 0 → rests (read_call S Ps Γ (drop at s)) ≡ missing
+module _ (S : Sig) (Ps : List (List ℕ)) (Γ s params : List ℕ) (known : KnownParams Ps s params) (at : ℕ) where
+  pub call_bad : ¬ ((at < length s) × (get_or s at 0 < length params)) → rests (read_call S Ps Γ (drop at s)) ≡ missing
   unfolding read_call
-  call_bad l =
+  call_bad n =
       let q = as_many encode_numbers s Ps params known in
-      byte_bad (below? (length Ps)) s at (λ e. each (read_term S Γ) (get_or Ps e [])) h (λ (k : get_or s at 0 < length Ps). omega arith)
+      byte_no (below? (length Ps)) s at (λ e. each (read_term S Γ) (get_or Ps e [])) (λ (k : (at < length s) × (get_or s at 0 < length Ps)). n (k.0, (let l = k.1 in omega arith)))
 
-  pub call_pass : (j p : ℕ) (Ds : List ℕ) → j ≡ suc at → get_or s at 0 < length params → p ≡ get_or params (get_or s at 0) 0 → Ds ≡ list_at s p
+  pub call_pass : at < length s → (j p : ℕ) (Ds : List ℕ) → j ≡ suc at → get_or s at 0 < length params → p ≡ get_or params (get_or s at 0) 0 → Ds ≡ list_at s p
       → rests (read_call S Ps Γ (drop at s)) ≡ rests (each (read_term S Γ) Ds (drop j s))
   unfolding read_call
-  call_pass j p Ds z l w e =
+  call_pass h j p Ds z l w e =
       let q = as_many encode_numbers s Ps params known in
       let st : Stands s (get_or params (get_or s at 0) 0) (encode_numbers (get_or Ps (get_or s at 0) [])) = stands_there encode_numbers s Ps params known [] (get_or s at 0) (omega arith) in
       let y : get_or Ps (get_or s at 0) [] ≡ Ds = sym (list_is s (get_or params (get_or s at 0) 0) (get_or Ps (get_or s at 0) []) st) ∙ ap (λ (i : ℕ). list_at s i) (sym w) ∙ sym e in

@@ -11,25 +11,16 @@ ghost use Rattle.terms.specs.Ends.{rests, ended};
 ghost use Rattle.summands.specs.Parts.{read_label, read_body};
 
 use elements::{cell, peek, wide};
-use limits::{FRAME_WIDTH, TAU, VARIABLES};
+use limits::{FRAME_WIDTH, MAX_CALLS, MAX_CONDITIONS, MAX_SUMMANDS, TAU, VARIABLES};
 
 // Per summand.
 const SUMS: u8 = limits::MAX_VARIABLES as u8;
-
-const CONDITIONS: u8 = limits::MAX_CONDITIONS as u8;
-
-const CALLS: u8 = limits::MAX_CALLS as u8;
 
 // A condition: the wanted value and a term of Bool.
 fn read_cond(s: &[u8], sizes: &[u8], funcs: &[u16], scope: &[u8], at: usize) -> Option<usize>
     ensures { (S : Sig) → KnownData S s.now sizes.now funcs.now → rests (read_cond S scope.now (drop at s.now)) ≡ ended s.now result }
 {
-    if s.len() <= at {
-        return None;
-    }
-    if 2 <= s[at] {
-        return None;
-    }
+    terms::number_at(s, at, 0, 2)?;
     terms::read_term(s, sizes, funcs, scope, at + 1, 0)
 }
 
@@ -37,13 +28,7 @@ fn read_cond(s: &[u8], sizes: &[u8], funcs: &[u16], scope: &[u8], at: usize) -> 
 fn read_conds(s: &[u8], sizes: &[u8], funcs: &[u16], scope: &[u8], at: usize) -> Option<usize>
     ensures { (S : Sig) → KnownData S s.now sizes.now funcs.now → rests (counted (at_most? max_conditions) (read_cond S scope.now) (drop at s.now)) ≡ ended s.now result }
 {
-    if s.len() <= at {
-        return None;
-    }
-    let n = s[at];
-    if CONDITIONS < n {
-        return None;
-    }
+    let n = terms::number_at(s, at, 0, MAX_CONDITIONS + 1)?;
     let mut i = at + 1;
     for _ in 0..n {
         i = read_cond(s, sizes, funcs, scope, i)?;
@@ -62,13 +47,7 @@ fn read_call(
 ) -> Option<usize>
     ensures { (S : Sig) (Ps : List (List ℕ)) → KnownData S s.now sizes.now funcs.now → KnownParams Ps s.now params.now → rests (read_call S Ps scope.now (drop at s.now)) ≡ ended s.now result }
 {
-    if s.len() <= at {
-        return None;
-    }
-    let e = wide(s[at]);
-    if params.len() <= e {
-        return None;
-    }
+    let e = terms::number_at(s, at, 0, params.len())?;
     let sorts = terms::list_at(s, cell(params, e));
     terms::read_terms(s, sizes, funcs, scope, sorts, at + 1)
 }
@@ -84,13 +63,7 @@ fn read_calls(
 ) -> Option<usize>
     ensures { (S : Sig) (Ps : List (List ℕ)) → KnownData S s.now sizes.now funcs.now → KnownParams Ps s.now params.now → rests (counted (at_most? max_calls) (read_call S Ps scope.now) (drop at s.now)) ≡ ended s.now result }
 {
-    if s.len() <= at {
-        return None;
-    }
-    let n = s[at];
-    if CALLS < n {
-        return None;
-    }
+    let n = terms::number_at(s, at, 0, MAX_CALLS + 1)?;
     let mut i = at + 1;
     for _ in 0..n {
         i = read_call(s, sizes, funcs, params, scope, i)?;
@@ -112,15 +85,11 @@ fn read_label(
     if s.len() <= at {
         return None;
     }
-    let a = s[at];
-    if a == TAU {
+    if s[at] == TAU {
         return Some(at + 1);
     }
-    let k = wide(a);
-    if acts.len() <= k {
-        return None;
-    }
-    let p = cell(acts, k);
+    let a = terms::number_at(s, at, 0, acts.len())?;
+    let p = cell(acts, a);
     let sorts = terms::list_at(s, p + 1 + wide(peek(s, p)));
     terms::read_terms(s, sizes, funcs, scope, sorts, at + 1)
 }
@@ -179,10 +148,7 @@ pub fn read_summands(
 ) -> Option<usize>
     ensures { ((S : Sig) (Ps : List (List ℕ)) → KnownData S s.now sizes.now funcs.now → KnownActs S s.now acts.now → KnownParams Ps s.now params.now → length own.now ≤ frame_width → rests (read_summands S Ps own.now (drop at s.now)) ≡ ended s.now result) × OnSome result (at < length s.now) }
 {
-    if s.len() <= at {
-        return None;
-    }
-    let n = s[at];
+    let n = terms::number_at(s, at, 0, MAX_SUMMANDS + 1)?;
     let mut i = at + 1;
     for _ in 0..n {
         i = read_summand(s, sizes, funcs, acts, params, own, i)?;

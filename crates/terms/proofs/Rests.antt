@@ -3,8 +3,10 @@ use mathlib.Core.Path.{◌≡◌, refl, sym, ap, ◌∙◌}
 use mathlib.Core.List.{List, ◌∷◌}
 use Prim.Native.Nat.{ℕ, suc, ◌<◌, ◌≤◌}
 use Rattle.std.specs.Prelude.{Option, Some, None, OnSome}
+use native.Mathlib.Omega.{arith}
 use lib.ListN.{length, get_or, drop, drop_of_length-le}
 use lib.Seq.{drop-cons}
+use Rattle.std.proofs.Math.Decide.{dec_lt}
 use Rattle.pcrl.specs.Reader.{Got, missing, found, Reader, bind, keep, one, test, pair, view, times, counted, each}
 use Rattle.codec.specs.Lawful.{never, keeps}
 use Rattle.terms.specs.Ends.{rests}
@@ -114,28 +116,29 @@ module _ {P : ℕ → Type 0} (p : (n : ℕ) → Dec (P n)) (s : List ℕ) (i : 
   unfolding one
   number_pass j z h k = rw (z, drop-cons s i 0 h) (keeps (p (get_or s i 0)) (get_or s i 0) (drop (suc i) s) k)
 
+  -- there is none, or another
+  pub number_no : ¬ ((i < length s) × P (get_or s i 0)) → one p (drop i s) ≡ missing
+  number_no n = go (dec_lt i (length s)) (p (get_or s i 0))
+    where
+      go : Dec (i < length s) → Dec (P (get_or s i 0)) → one p (drop i s) ≡ missing
+      go (no h) d = number_end (omega arith)
+      go (yes h) (no k) = number_bad h k
+      go (yes h) (yes k) = absurd (n (h, k))
+
   -- and what it chooses
   module _ {B : Type 0} (t : ℕ → Reader ℕ B) where
-    pub byte_end : length s ≤ i → rests (pair (one p) t (drop i s)) ≡ missing
+    pub byte_no : ¬ ((i < length s) × P (get_or s i 0)) → rests (pair (one p) t (drop i s)) ≡ missing
     unfolding rests
-    byte_end h = pair_fail (one p) t (drop i s) (ap rests (number_end h))
-
-    pub byte_bad : i < length s → ¬ P (get_or s i 0) → rests (pair (one p) t (drop i s)) ≡ missing
-    unfolding rests
-    byte_bad h k = pair_fail (one p) t (drop i s) (ap rests (number_bad h k))
+    byte_no n = pair_fail (one p) t (drop i s) (ap rests (number_no n))
 
     pub byte_pass : (j : ℕ) → j ≡ suc i → i < length s → P (get_or s i 0) → rests (pair (one p) t (drop i s)) ≡ rests (t (get_or s i 0) (drop j s))
     byte_pass j z h k = pair_with (one p) t (drop i s) (get_or s i 0) (drop j s) (number_pass j z h k)
 
   -- and as many values
   module _ {A : Type 0} (r : Reader ℕ A) where
-    pub counted_end : length s ≤ i → rests (counted p r (drop i s)) ≡ missing
+    pub counted_no : ¬ ((i < length s) × P (get_or s i 0)) → rests (counted p r (drop i s)) ≡ missing
     unfolding counted bind rests
-    counted_end h = rw (number_end h)
-
-    pub counted_bad : i < length s → ¬ P (get_or s i 0) → rests (counted p r (drop i s)) ≡ missing
-    unfolding counted bind rests
-    counted_bad h k = rw (number_bad h k)
+    counted_no n = rw (number_no n)
 
     pub counted_pass : (j : ℕ) → j ≡ suc i → i < length s → P (get_or s i 0) → counted p r (drop i s) ≡ times r (get_or s i 0) (drop j s)
     unfolding counted bind

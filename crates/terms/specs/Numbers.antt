@@ -4,6 +4,10 @@ use Rattle.std.proofs.Math.Decide.{dec_le, dec_lt}
 use Rattle.pcrl.specs.Tests.{both?, between?}
 use Rattle.pcrl.specs.Reader.{Reader, one, counted}
 
+-- a number from low to below limit stands at a place
+abbrev pub NumberAt : List ℕ → ℕ → ℕ → ℕ → Type 0
+NumberAt s at low limit = (at < length s) × ((low ≤ get_or s at 0) × (get_or s at 0 < limit))
+
 -- low ≤ n < limit
 unfoldable pub from? : (low limit n : ℕ) → Dec ((low ≤ n) × (n < limit))
 from? low limit n = both? (dec_le low n) (dec_lt n limit)

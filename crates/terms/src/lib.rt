@@ -1,6 +1,6 @@
 #![tactic(auto)]
 // Data terms of a table's stream, and counted lists of numbers: each function says where its piece ends.
-ghost use Rattle.std.specs.Prelude.{◌≡◌, List, ◌∷◌, ◌++◌, ℕ, ◌+◌, ◌-◌, ◌≤◌, ◌<◌, length, get_or, drop, IfSome};
+ghost use Rattle.std.specs.Prelude.{◌≡◌, List, ◌∷◌, ◌++◌, ℕ, ◌+◌, ◌-◌, ◌≤◌, ◌<◌, length, get_or, drop, MatchOption, IfSome};
 ghost use Rattle.pcrl.specs.Sheet.{Sig};
 ghost use Rattle.pcrl.specs.Reader.{found, each};
 ghost use Rattle.pcrl.specs.Decode.{Node, node_of, read_node, Fits, wants, read_term};
@@ -8,7 +8,7 @@ ghost use Rattle.laws.specs.Says.{Says};
 ghost use Rattle.terms.specs.Stands.{KnownData, list_at, size_in};
 ghost use Rattle.terms.specs.Ends.{rests, ended};
 ghost use Rattle.terms.specs.Fitting.{NextFits};
-ghost use Rattle.terms.specs.Numbers.{read_list, ListEnds};
+ghost use Rattle.terms.specs.Numbers.{NumberAt, read_list, ListEnds};
 
 use elements::{cell, low, peek, wide};
 use limits::{
@@ -221,31 +221,31 @@ pub fn read_terms(
     Some(i)
 }
 
-// A counted list: from least to most numbers, each from low to below limit.
-pub fn read_list(s: &[u8], at: usize, least: u8, most: u8, low: u8, limit: usize) -> Option<usize>
-    ensures { (rests (read_list least most low limit (drop at s.now)) ≡ ended s.now result) × IfSome result (λ end. ListEnds s.now at most end) }
+// The number that stands at a place, from low to below limit.
+pub fn number_at(s: &[u8], at: usize, low: usize, limit: usize) -> Option<usize>
+    ensures { MatchOption result (NumberAt s.now at low limit → ⊥) (λ n. (n ≡ get_or s.now at 0) × NumberAt s.now at low limit) }
 {
     if s.len() <= at {
         return None;
     }
-    let n = s[at];
-    if n < least {
+    let n = wide(s[at]);
+    if n < low {
         return None;
     }
-    if most < n {
+    if limit <= n {
         return None;
     }
-    let end = at + 1 + wide(n);
+    Some(n)
+}
+
+// A counted list: from least to most numbers, each from low to below limit.
+pub fn read_list(s: &[u8], at: usize, least: u8, most: u8, low: u8, limit: usize) -> Option<usize>
+    ensures { (rests (read_list least most low limit (drop at s.now)) ≡ ended s.now result) × IfSome result (λ end. ListEnds s.now at most end) }
+{
+    let n = number_at(s, at, wide(least), wide(most) + 1)?;
+    let end = at + 1 + n;
     for i in at + 1..end {
-        if s.len() <= i {
-            return None;
-        }
-        if s[i] < low {
-            return None;
-        }
-        if limit <= wide(s[i]) {
-            return None;
-        }
+        number_at(s, i, wide(low), limit)?;
     }
     Some(end)
 }

@@ -12,38 +12,34 @@ use Rattle.pcrl.specs.Stream.{encode_numbers}
 use Rattle.pcrl.specs.Tests.{between?}
 use Rattle.terms.proofs.Laying.{lay_done, lay_fail, lay_pass, lay_start, not_laid, times_more, times_none}
 use Rattle.terms.proofs.Lists.{sorts_list}
-use Rattle.terms.proofs.Rests.{counted_bad, counted_end, counted_pass, missing_there}
+use Rattle.terms.proofs.Rests.{counted_no, counted_pass, missing_there}
 use Rattle.terms.specs.Ends.{rests}
 use Rattle.terms.specs.Laid.{Laid}
 use Rattle.equations.proofs.read_params.Goals as goal
 
-pub returns-then-s-at : goal.returns-then-s-at
-returns-then-s-at c = (not_laid (counted (between? 1 max_equations) (read_sorts c.args.sizes.now frame_width) (drop c.args.at c.args.s.now)) encode_numbers c.args.s.now _ (missing_there (counted (between? 1 max_equations) (read_sorts c.args.sizes.now frame_width) (drop c.args.at c.args.s.now)) (counted_end (between? 1 max_equations) c.args.s.now c.args.at (read_sorts c.args.sizes.now frame_width) c.if-s-at.true)), tt)
-
-pub returns-then-n-lt1 : goal.returns-then-n-lt1
-returns-then-n-lt1 c = (not_laid (counted (between? 1 max_equations) (read_sorts c.args.sizes.now frame_width) (drop c.args.at c.args.s.now)) encode_numbers c.args.s.now _ (missing_there (counted (between? 1 max_equations) (read_sorts c.args.sizes.now frame_width) (drop c.args.at c.args.s.now)) (counted_bad (between? 1 max_equations) c.args.s.now c.args.at (read_sorts c.args.sizes.now frame_width) (omega arith) (λ k. let l = k.0 in omega arith))), tt)
-
-pub returns-then-n-gt-MAX_EQUATIONS : goal.returns-then-n-gt-MAX_EQUATIONS
-returns-then-n-gt-MAX_EQUATIONS c = (not_laid (counted (between? 1 max_equations) (read_sorts c.args.sizes.now frame_width) (drop c.args.at c.args.s.now)) encode_numbers c.args.s.now _ (missing_there (counted (between? 1 max_equations) (read_sorts c.args.sizes.now frame_width) (drop c.args.at c.args.s.now)) (counted_bad (between? 1 max_equations) c.args.s.now c.args.at (read_sorts c.args.sizes.now frame_width) (omega arith) (λ k. let l = k.1 in omega arith))), tt)
+pub returns-in_err-n : goal.returns-in_err-n
+returns-in_err-n c =
+    let a = c.args in
+    let lists = counted (between? 1 max_equations) (read_sorts a.sizes.now frame_width) (drop a.at a.s.now) in
+    rw c.from_residual.ensures (not_laid lists encode_numbers a.s.now _ (missing_there lists (counted_no (between? 1 max_equations) a.s.now a.at (read_sorts a.sizes.now frame_width) (λ h. c.in_err-n.ensures (h.0, (h.1.0, omega (arith, h.1.1)))))), tt)
 
 pub loop-k-init : goal.loop-k-init
-loop-k-init c = let z : get_or c.args.s.now c.args.at 0 ≡ c.wide-n.result - 0 = omega arith in
-    let w = c.wide-n.ensures.0 in (
-      omega arith,
-      refl,
-      omega arith,
-      c.requires.1,
-      omega arith,
-      omega arith,
-      lay_start (counted (between? 1 max_equations) (read_sorts c.args.sizes.now frame_width) (drop c.args.at c.args.s.now)) encode_numbers c.args.s.now (times (read_sorts c.args.sizes.now frame_width) (c.wide-n.result - 0) (drop (c.args.at + 1) c.args.s.now)) (counted_pass (between? 1 max_equations) c.args.s.now c.args.at (read_sorts c.args.sizes.now frame_width) (c.args.at + 1) (omega arith) (omega arith) (omega arith, omega arith) ∙ ap (λ (m : ℕ). times (read_sorts c.args.sizes.now frame_width) m (drop (c.args.at + 1) c.args.s.now)) z),
-    )
+loop-k-init c = let z : get_or c.args.s.now c.args.at 0 ≡ c.in_ok-n.n - 0 = omega arith in (
+  omega arith,
+  refl,
+  omega arith,
+  c.requires.1,
+  omega arith,
+  omega arith,
+  lay_start (counted (between? 1 max_equations) (read_sorts c.args.sizes.now frame_width) (drop c.args.at c.args.s.now)) encode_numbers c.args.s.now (times (read_sorts c.args.sizes.now frame_width) (c.in_ok-n.n - 0) (drop (c.args.at + 1) c.args.s.now)) (counted_pass (between? 1 max_equations) c.args.s.now c.args.at (read_sorts c.args.sizes.now frame_width) (c.args.at + 1) (omega arith) (omega arith) (omega arith, omega arith) ∙ ap (λ (m : ℕ). times (read_sorts c.args.sizes.now frame_width) m (drop (c.args.at + 1) c.args.s.now)) z),
+)
 
 pub shape_of-params-in_err-next : goal.shape_of-params-in_err-next
 shape_of-params-in_err-next c = c.loop-k.invariant.1
 
 pub returns-in_err-next : goal.returns-in_err-next
 returns-in_err-next c =
-    rw c.from_residual.ensures (not_laid (counted (between? 1 max_equations) (read_sorts c.args.sizes.now frame_width) (drop c.args.at c.args.s.now)) encode_numbers c.args.s.now _ (lay_fail (counted (between? 1 max_equations) (read_sorts c.args.sizes.now frame_width) (drop c.args.at c.args.s.now)) encode_numbers c.args.s.now (read_sorts c.args.sizes.now frame_width) (times (read_sorts c.args.sizes.now frame_width) (c.wide-n.result - c.loop-k.k - 1)) (times (read_sorts c.args.sizes.now frame_width) (c.wide-n.result - c.loop-k.k) (drop c.loop-k.i c.args.s.now)) (take c.loop-k.k c.loop-k.params) (drop c.loop-k.i c.args.s.now) c.loop-k.invariant.6 (times_more (read_sorts c.args.sizes.now frame_width) (c.wide-n.result - c.loop-k.k) (c.wide-n.result - c.loop-k.k - 1) (drop c.loop-k.i c.args.s.now) (omega arith)) ((ap rests (sorts_list c.args.sizes.now (drop c.loop-k.i c.args.s.now) frame_width) ∙ c.in_err-next.ensures.0))), tt)
+    rw c.from_residual-in_err-next.ensures (not_laid (counted (between? 1 max_equations) (read_sorts c.args.sizes.now frame_width) (drop c.args.at c.args.s.now)) encode_numbers c.args.s.now _ (lay_fail (counted (between? 1 max_equations) (read_sorts c.args.sizes.now frame_width) (drop c.args.at c.args.s.now)) encode_numbers c.args.s.now (read_sorts c.args.sizes.now frame_width) (times (read_sorts c.args.sizes.now frame_width) (c.in_ok-n.n - c.loop-k.k - 1)) (times (read_sorts c.args.sizes.now frame_width) (c.in_ok-n.n - c.loop-k.k) (drop c.loop-k.i c.args.s.now)) (take c.loop-k.k c.loop-k.params) (drop c.loop-k.i c.args.s.now) c.loop-k.invariant.6 (times_more (read_sorts c.args.sizes.now frame_width) (c.in_ok-n.n - c.loop-k.k) (c.in_ok-n.n - c.loop-k.k - 1) (drop c.loop-k.i c.args.s.now) (omega arith)) ((ap rests (sorts_list c.args.sizes.now (drop c.loop-k.i c.args.s.now) frame_width) ∙ c.in_err-next.ensures.0))), tt)
 
 pub overflow_cast-params : goal.overflow_cast-params
 overflow_cast-params c = let h = c.in_ok-next.ensures.1 in omega arith
@@ -56,7 +52,7 @@ loop-k-preserved c = (
   c.loop-k.invariant.3,
   c.loop-k.invariant.4,
   c.loop-k.invariant.5,
-  lay_pass (counted (between? 1 max_equations) (read_sorts c.args.sizes.now frame_width) (drop c.args.at c.args.s.now)) encode_numbers c.args.s.now (read_sorts c.args.sizes.now frame_width) (sorts_lawful c.args.sizes.now frame_width) (times (read_sorts c.args.sizes.now frame_width) (c.wide-n.result - (c.loop-k.k + 1))) (times (read_sorts c.args.sizes.now frame_width) (c.wide-n.result - c.loop-k.k) (drop c.loop-k.i c.args.s.now)) c.loop-k.params c.loop-k.k (c.loop-k.k + 1) c.loop-k.i c.in_ok-next.next c.loop-k.invariant.6 (times_more (read_sorts c.args.sizes.now frame_width) (c.wide-n.result - c.loop-k.k) (c.wide-n.result - (c.loop-k.k + 1)) (drop c.loop-k.i c.args.s.now) (omega arith)) (omega arith) (omega arith) ((ap rests (sorts_list c.args.sizes.now (drop c.loop-k.i c.args.s.now) frame_width) ∙ c.in_ok-next.ensures.0)),
+  lay_pass (counted (between? 1 max_equations) (read_sorts c.args.sizes.now frame_width) (drop c.args.at c.args.s.now)) encode_numbers c.args.s.now (read_sorts c.args.sizes.now frame_width) (sorts_lawful c.args.sizes.now frame_width) (times (read_sorts c.args.sizes.now frame_width) (c.in_ok-n.n - (c.loop-k.k + 1))) (times (read_sorts c.args.sizes.now frame_width) (c.in_ok-n.n - c.loop-k.k) (drop c.loop-k.i c.args.s.now)) c.loop-k.params c.loop-k.k (c.loop-k.k + 1) c.loop-k.i c.in_ok-next.next c.loop-k.invariant.6 (times_more (read_sorts c.args.sizes.now frame_width) (c.in_ok-n.n - c.loop-k.k) (c.in_ok-n.n - (c.loop-k.k + 1)) (drop c.loop-k.i c.args.s.now) (omega arith)) (omega arith) (omega arith) ((ap rests (sorts_list c.args.sizes.now (drop c.loop-k.i c.args.s.now) frame_width) ∙ c.in_ok-next.ensures.0)),
 )
 
 pub shape_of-params : goal.shape_of-params
@@ -64,4 +60,4 @@ shape_of-params c = c.loop-k.invariant.1
 
 pub returns : goal.returns
 returns c = let z : c.loop-k.k ≡ get_or c.args.s.now c.args.at 0 = omega arith in
-    (subst (λ (m : ℕ). Laid (counted (between? 1 max_equations) (read_sorts c.args.sizes.now frame_width) (drop c.args.at c.args.s.now)) encode_numbers c.args.s.now (Some c.loop-k.i) (take m c.loop-k.params)) z (lay_done (counted (between? 1 max_equations) (read_sorts c.args.sizes.now frame_width) (drop c.args.at c.args.s.now)) encode_numbers c.args.s.now (times (read_sorts c.args.sizes.now frame_width) (c.wide-n.result - c.loop-k.k) (drop c.loop-k.i c.args.s.now)) (take c.loop-k.k c.loop-k.params) c.loop-k.i c.loop-k.invariant.6 (times_none (read_sorts c.args.sizes.now frame_width) (c.wide-n.result - c.loop-k.k) (drop c.loop-k.i c.args.s.now) (omega arith))), omega arith)
+    (subst (λ (m : ℕ). Laid (counted (between? 1 max_equations) (read_sorts c.args.sizes.now frame_width) (drop c.args.at c.args.s.now)) encode_numbers c.args.s.now (Some c.loop-k.i) (take m c.loop-k.params)) z (lay_done (counted (between? 1 max_equations) (read_sorts c.args.sizes.now frame_width) (drop c.args.at c.args.s.now)) encode_numbers c.args.s.now (times (read_sorts c.args.sizes.now frame_width) (c.in_ok-n.n - c.loop-k.k) (drop c.loop-k.i c.args.s.now)) (take c.loop-k.k c.loop-k.params) c.loop-k.i c.loop-k.invariant.6 (times_none (read_sorts c.args.sizes.now frame_width) (c.in_ok-n.n - c.loop-k.k) (drop c.loop-k.i c.args.s.now) (omega arith))), omega arith)

@@ -2,18 +2,14 @@
 use mathlib.Core.Path.{◌∙◌}
 use Prim.Native.Nat.{◌+◌}
 use native.Mathlib.Omega.{arith}
-use Rattle.std.proofs.lemmas.Option.{IfSome_then}
-use Rattle.signature.proofs.Sorts.{sort_end, sort_bad, sort_behind}
+use Rattle.terms.proofs.Rests.{on_some}
+use Rattle.signature.proofs.Sorts.{sort_no, sort_behind}
 use Rattle.signature.proofs.read_sort.Goals as goal
 
-pub returns-then-s-at : goal.returns-then-s-at
-returns-then-s-at c = (sort_end c.args.s.now c.args.at c.if-s-at.true, tt)
-
-pub returns-then-n-lt1 : goal.returns-then-n-lt1
-returns-then-n-lt1 c = (sort_bad c.args.s.now c.args.at (omega arith) (λ k. let l = k.0 in omega arith), tt)
-
-pub returns-then-n-gt-SIZE : goal.returns-then-n-gt-SIZE
-returns-then-n-gt-SIZE c = (sort_bad c.args.s.now c.args.at (omega arith) (λ k. let l = k.1 in omega arith), tt)
+pub returns-in_err-number_at : goal.returns-in_err-number_at
+returns-in_err-number_at c = rw c.from_residual.ensures (sort_no c.args.s.now c.args.at (λ h. c.in_err-number_at.ensures (h.0, (h.1.0, omega (arith, h.1.1)))), tt)
 
 pub returns : goal.returns
-returns c = (sort_behind c.args.s.now c.args.at (c.args.at + 1) (omega arith) (omega arith) (omega arith, omega arith) ∙ c.read_sort_name.ensures.0, IfSome_then c.read_sort_name.result c.read_sort_name.ensures.1 (λ x p. omega arith))
+returns c =
+    let size = c.in_ok-number_at.ensures.1 in
+    (sort_behind c.args.s.now c.args.at (c.args.at + 1) (omega arith) size.0 (size.1.0, omega (arith, size.1.1)) ∙ c.read_sort_name.ensures.0, on_some c.read_sort_name.result size.0)

@@ -5,55 +5,48 @@ use native.Mathlib.Omega.{arith}
 use lib.ListN.{drop, get_or}
 use Rattle.pcrl.specs.Reader.{found, one, times}
 use Rattle.pcrl.specs.Tests.{between?}
-use Rattle.terms.proofs.Rests.{counted_bad, counted_end, counted_pass, number_bad, number_end, number_pass, times_done, times_fail, times_pass}
+use Rattle.terms.proofs.Rests.{counted_no, counted_pass, number_no, number_pass, times_done, times_fail, times_pass}
 use Rattle.terms.specs.Ends.{rests}
 use Rattle.terms.specs.Numbers.{from?, read_list}
 use Rattle.terms.proofs.read_list.Goals as goal
 
-pub returns-then-s-at : goal.returns-then-s-at
+pub returns-in_err-n : goal.returns-in_err-n
 unfolding read_list
-returns-then-s-at c = (counted_end (between? c.args.least c.args.most) c.args.s.now c.args.at (one (from? c.args.low c.args.limit)) c.if-s-at.true, tt)
-
-pub returns-then-n-least : goal.returns-then-n-least
-unfolding read_list
-returns-then-n-least c = (counted_bad (between? c.args.least c.args.most) c.args.s.now c.args.at (one (from? c.args.low c.args.limit)) (omega arith) (λ k. let l = k.0 in omega arith), tt)
-
-pub returns-then-most-n : goal.returns-then-most-n
-unfolding read_list
-returns-then-most-n c = (counted_bad (between? c.args.least c.args.most) c.args.s.now c.args.at (one (from? c.args.low c.args.limit)) (omega arith) (λ k. let l = k.1 in omega arith), tt)
+returns-in_err-n c =
+    let a = c.args in
+    rw c.from_residual.ensures (counted_no (between? a.least a.most) a.s.now a.at (one (from? a.low a.limit)) (λ h. c.in_err-n.ensures (h.0, (omega (arith, c.wide.ensures.0), omega (arith, c.wide-2.ensures.0)))), tt)
 
 pub loop-i-init : goal.loop-i-init
 unfolding read_list
 loop-i-init c =
     let a = c.args in
     let numbers = one (from? a.low a.limit) in
-    let count : get_or a.s.now a.at 0 ≡ a.at + 1 + c.wide.result - (a.at + 1) = omega (arith, c.wide.ensures.0) in
-    (omega arith, ap rests (counted_pass (between? a.least a.most) a.s.now a.at numbers (a.at + 1) (omega arith) (omega arith) (omega arith, omega arith) ∙ ap (λ (n : ℕ). times numbers n (drop (a.at + 1) a.s.now)) count))
+    let n = c.in_ok-n in
+    let count : get_or a.s.now a.at 0 ≡ a.at + 1 + n.n - (a.at + 1) = omega arith in
+    (omega arith, ap rests (counted_pass (between? a.least a.most) a.s.now a.at numbers (a.at + 1) (omega arith) (omega arith) (omega (arith, c.wide.ensures.0), omega (arith, c.wide-2.ensures.0)) ∙ ap (λ (n : ℕ). times numbers n (drop (a.at + 1) a.s.now)) count))
 
-pub returns-then-s-i : goal.returns-then-s-i
+pub returns-in_err-number_at : goal.returns-in_err-number_at
 unfolding rests
-returns-then-s-i c = (c.loop-i.invariant.1 ∙ times_fail (one (from? c.args.low c.args.limit)) ((c.args.at + 1 + c.wide.result) - c.loop-i.i) ((c.args.at + 1 + c.wide.result) - (c.loop-i.i + 1)) (drop c.loop-i.i c.args.s.now) (omega arith) (ap rests (number_end (from? c.args.low c.args.limit) c.args.s.now c.loop-i.i c.if-s-i.true)), tt)
-
-pub returns-then-s-i-2 : goal.returns-then-s-i-2
-unfolding rests
-returns-then-s-i-2 c = (c.loop-i.invariant.1 ∙ times_fail (one (from? c.args.low c.args.limit)) ((c.args.at + 1 + c.wide.result) - c.loop-i.i) ((c.args.at + 1 + c.wide.result) - (c.loop-i.i + 1)) (drop c.loop-i.i c.args.s.now) (omega arith) (ap rests (number_bad (from? c.args.low c.args.limit) c.args.s.now c.loop-i.i (omega arith) (λ k. let l = k.0 in omega arith))), tt)
-
-pub returns-then-limit-wide : goal.returns-then-limit-wide
-unfolding rests
-returns-then-limit-wide c = (c.loop-i.invariant.1 ∙ times_fail (one (from? c.args.low c.args.limit)) ((c.args.at + 1 + c.wide.result) - c.loop-i.i) ((c.args.at + 1 + c.wide.result) - (c.loop-i.i + 1)) (drop c.loop-i.i c.args.s.now) (omega arith) (ap rests (number_bad (from? c.args.low c.args.limit) c.args.s.now c.loop-i.i (omega arith) (λ k. let l = k.1 in omega arith))), tt)
+returns-in_err-number_at c =
+    let a = c.args in
+    let l = c.loop-i in
+    let end = a.at + 1 + c.in_ok-n.n in
+    let wrong = number_no (from? a.low a.limit) a.s.now l.i (λ h. c.in_err-number_at.ensures (h.0, (omega (arith, c.wide-in-loop-i.ensures.0), h.1.1))) in
+    rw c.from_residual-in_err-number_at.ensures (l.invariant.1 ∙ times_fail (one (from? a.low a.limit)) (end - l.i) (end - (l.i + 1)) (drop l.i a.s.now) (omega arith) (ap rests wrong), tt)
 
 pub loop-i-preserved : goal.loop-i-preserved
 unfolding rests
-loop-i-preserved c = (
-  omega arith,
-  c.loop-i.invariant.1
-      ∙ times_pass (one (from? c.args.low c.args.limit)) ((c.args.at + 1 + c.wide.result) - c.loop-i.i) ((c.args.at + 1 + c.wide.result) - (c.loop-i.i + 1)) (drop c.loop-i.i c.args.s.now) (drop (c.loop-i.i + 1) c.args.s.now) (omega arith) (ap rests (number_pass (from? c.args.low c.args.limit) c.args.s.now c.loop-i.i (c.loop-i.i + 1) (omega arith) (omega arith) (omega arith, omega arith))),
-)
+loop-i-preserved c =
+    let a = c.args in
+    let l = c.loop-i in
+    let end = a.at + 1 + c.in_ok-n.n in
+    let right = number_pass (from? a.low a.limit) a.s.now l.i (l.i + 1) (omega arith) (omega (arith, c.in_ok-number_at.ensures.1.0)) (omega (arith, c.in_ok-number_at.ensures.1.1.0, c.wide-in-loop-i.ensures.0), c.in_ok-number_at.ensures.1.1.1) in
+    (omega (arith, c.in_ok-number_at.ensures.1.0), l.invariant.1 ∙ times_pass (one (from? a.low a.limit)) (end - l.i) (end - (l.i + 1)) (drop l.i a.s.now) (drop (l.i + 1) a.s.now) (omega arith) (ap rests right))
 
 pub returns : goal.returns
 returns c =
     let a = c.args in
     let l = c.loop-i in
-    let end = a.at + 1 + c.wide.result in
+    let end = a.at + 1 + c.in_ok-n.n in
     let done : l.i ≡ end = omega arith in
-    (l.invariant.1 ∙ times_done (one (from? a.low a.limit)) (end - l.i) (drop l.i a.s.now) (omega arith) ∙ ap (λ (n : ℕ). found tt (drop n a.s.now)) done, record { end = omega (arith, c.wide.ensures.0); inside = omega arith; few = omega (arith, c.wide.ensures.0) })
+    (l.invariant.1 ∙ times_done (one (from? a.low a.limit)) (end - l.i) (drop l.i a.s.now) (omega arith) ∙ ap (λ (n : ℕ). found tt (drop n a.s.now)) done, record { end = omega arith; inside = omega arith; few = omega (arith, c.wide-2.ensures.0) })
