@@ -154,15 +154,7 @@ impl Cursor {
 pub fn same(a: &[u8], b: &[u8]) -> bool
     ensures { Says result (a.now ≡ b.now) }
 {
-    if a.len() != b.len() {
-        return false;
-    }
-    for i in 0..a.len() {
-        if a[i] != b[i] {
-            return false;
-        }
-    }
-    true
+    a == b
 }
 
 // 2: "hex 20 to 7E or hex 0A"

@@ -4,9 +4,6 @@ use Rattle.lexer.specs.Cells.{cell_token}
 use Rattle.lexer.proofs.Depth.{opened_step, open_end}
 use Rattle.lexer.proofs.brackets.opened.Goals as goal
 
-pub loop-c-init : goal.loop-c-init
-loop-c-init c = (omega arith, λ s. omega arith)
-
 pub loop-c-preserved : goal.loop-c-preserved
 loop-c-preserved c = let a = c.args in let here = c.loop-c in
     (omega arith, λ s. let before = here.invariant.1 s in omega (arith, opened_step (cell_token s) a.cells.now here.c-index here.count c.opens-count.result (omega arith) (c.opens-count.ensures.1 s here.count)))

@@ -1,6 +1,6 @@
 -- `lexer::brackets::shallow`: above the limit, the most from here on is the most of all.
 use mathlib.Core.List.{map}
-use mathlib.Core.Path.{refl, sym, ◌∙◌}
+use mathlib.Core.Path.{sym, ◌∙◌}
 use Prim.Native.Nat.{◌+◌}
 use native.Mathlib.Omega.{arith}
 use Rattle.lexer.specs.Cells.{cell_token}
@@ -9,9 +9,6 @@ use Rattle.lexer.proofs.brackets.shallow.Goals as goal
 
 pub returns-then-wide-le-MAX_OPEN : goal.returns-then-wide-le-MAX_OPEN
 returns-then-wide-le-MAX_OPEN c = λ s. few_open (map (cell_token s) c.args.cells.now) c.opened.result (c.opened.ensures s) (omega arith)
-
-pub loop-c-init : goal.loop-c-init
-loop-c-init c = (omega arith, λ s. refl)
 
 pub returns-then-count-gt-MAX_OPEN : goal.returns-then-count-gt-MAX_OPEN
 returns-then-count-gt-MAX_OPEN c = λ s. too_deep (cell_token s) c.args.cells.now (c.loop-c.c-index + 1) c.open_behind-count.result

@@ -1,16 +1,7 @@
 -- `lexer::bytes::all_printable`: the bytes of the blocks passed are printable.
-use mathlib.Core.Path.{◌≡◌, ap, ◌∙◌, subst, subst⁻¹}
 use native.Mathlib.Omega.{arith}
-use Rattle.std.specs.Slice.Iter.{chunks_rest, chunks_size}
-use Rattle.pcrl.specs.Bytes.{Printable}
 use Rattle.lexer.proofs.EachByte.{none_printable, both_printable, front_printable, back_printable}
 use Rattle.lexer.proofs.bytes.all_printable.Goals as goal
-
-pub loop-block-init : goal.loop-block-init
-loop-block-init c =
-    let e : chunks_rest c.into_iter-block-iterator.result ≡ c.args.s.now = ap chunks_rest c.into_iter-block-iterator.ensures.into_iter_gives ∙ c.chunks-block-items.ensures.rest in
-    let n : chunks_size c.into_iter-block-iterator.result ≡ 256 = ap chunks_size c.into_iter-block-iterator.ensures.into_iter_gives ∙ c.chunks-block-items.ensures.size in
-    (omega arith, tt, λ p. subst Printable e p, λ p. subst⁻¹ Printable e p)
 
 pub returns-then-not-block_printable : goal.returns-then-not-block_printable
 returns-then-not-block_printable c =

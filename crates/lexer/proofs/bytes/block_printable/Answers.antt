@@ -5,9 +5,6 @@ use Rattle.laws.specs.Says.{says_as}
 use Rattle.lexer.proofs.EachByte.{says_more, all_printable, each_printable}
 use Rattle.lexer.proofs.bytes.block_printable.Goals as goal
 
-pub loop-b-init : goal.loop-b-init
-loop-b-init c = λ k h. absurd (omega arith)
-
 pub loop-b-preserved : goal.loop-b-preserved
 loop-b-preserved c = says_more printable c.args.block.now c.loop-b.b-index c.loop-b.good c.printable-good.result c.printable-good.ensures c.loop-b.invariant
 

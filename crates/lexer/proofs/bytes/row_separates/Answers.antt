@@ -5,9 +5,6 @@ use Rattle.laws.specs.Says.{says_as}
 use Rattle.lexer.proofs.EachByte.{says_more}
 use Rattle.lexer.proofs.bytes.row_separates.Goals as goal
 
-pub loop-b-init : goal.loop-b-init
-loop-b-init c = λ k h. absurd (omega arith)
-
 pub loop-b-preserved : goal.loop-b-preserved
 loop-b-preserved c = says_more separator c.args.row.now c.loop-b.b-index c.loop-b.good c.separator-good.result c.separator-good.ensures c.loop-b.invariant
 

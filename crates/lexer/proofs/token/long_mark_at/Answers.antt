@@ -1,6 +1,6 @@
 -- `lexer::token::long_mark_at`: what `long_mark` found of the two bytes is the mark that the definition finds; where it found none and `=` does not stand there, no mark does.
 use mathlib.Core.List.{[], ◌∷◌}
-use mathlib.Core.Path.{◌∙◌, sym, ap₂}
+use mathlib.Core.Path.{◌∙◌, ap₂}
 use Prim.Native.Nat.{ℕ}
 use native.Mathlib.Omega.{arith}
 use Rattle.lexer.specs.Cells.{first_long_mark, long_marks}
@@ -8,14 +8,8 @@ use Rattle.lexer.specs.Classes.{sign_cell}
 use Rattle.lexer.proofs.FirstToken.{reads_no_pair, reads_pair, pair_fits}
 use Rattle.lexer.proofs.token.long_mark_at.Goals as goal
 
-pub equals_at-requires : goal.equals_at-requires
-equals_at-requires c = (omega arith, sym c.peek-a.ensures ∙ c.if-a-eq61.true)
-
 pub returns-then-a-eq61 : goal.returns-then-a-eq61
 returns-then-a-eq61 c = c.equals_at.ensures
-
-pub long_mark-requires : goal.long_mark-requires
-long_mark-requires c = c.if-a-eq61.false
 
 pub returns-in_err-cell-clause-reads : goal.returns-in_err-cell-clause-reads
 returns-in_err-cell-clause-reads c = let a = c.args in

@@ -14,7 +14,7 @@ use Rattle.pcrl.specs.Tokens.{Lexeme, punctuation}
 use Rattle.laws.specs.Tests.{is_true}
 use Rattle.lexer.specs.Classes.{alone, leads}
 use Rattle.lexer.specs.Cells.{Reads}
-use Rattle.lexer.proofs.Match.{and_right, keyed_test, from_all, ranged_test}
+use Rattle.lexer.proofs.Match.{keyed_test, from_all, ranged_test}
 use Rattle.lexer.proofs.Signs.{unlike}
 use Rattle.lexer.proofs.FirstToken.{neither, of_name, of_numeral, of_long_mark, reads_mark, reads_other}
 use Rattle.lexer.proofs.token.token_at.Goals.{then-b-lt91, else-b-lt91+else-b-lt97+then-b-lt123, in-45-1, in_default+else-b-lt60+then-b-lt62, in-33-1, in_default+then-b-lt60+else-b-lt40+then-b-lt42, in_default+then-b-lt60+else-b-lt40+else-b-lt42+else-b-lt43+then-b-lt45, in_default+then-b-lt60+else-b-lt40+else-b-lt42+else-b-lt43+else-b-lt45+else-b-lt58}
@@ -28,15 +28,6 @@ plain_digit b = and (negated (letter b)) (digit b)
 
 abbrev other : ℕ → Bool
 other = neither (λ b. unlike b punctuation)
-
-pub numeral_at-requires : goal.numeral_at-requires
-numeral_at-requires c = let a = c.args in let b = get_or a.s.now a.at 0 in let d = ranged_test plain_digit keys 45 13 tt b (omega arith) (omega arith) (search) in (omega arith, is_true (digit b) (and_right (negated (letter b)) (digit b) d))
-
-pub name_at-requires : goal.name_at-requires
-name_at-requires c = let a = c.args in let b = get_or a.s.now a.at 0 in let d : T (letter b) = elim c.in-65-to-90-1.branch [ then-b-lt91 w ↦ from_all letter 65 26 tt b (omega arith) (omega arith) | else-b-lt91+else-b-lt97+then-b-lt123 w ↦ from_all letter 97 26 tt b (omega arith) (omega arith) ] in (omega arith, omega arith, is_true (letter b) d)
-
-pub long_mark_at-requires : goal.long_mark_at-requires
-long_mark_at-requires c = let a = c.args in let b = get_or a.s.now a.at 0 in let d : T (leads b) = elim c.in-45-1.branch [ in-45-1 w ↦ keyed_test leads (45 ∷ 47 ∷ 92 ∷ 124 ∷ []) tt b (search) | in_default+else-b-lt60+then-b-lt62 w ↦ from_all leads 60 2 tt b (omega arith) (omega arith) ] in (omega arith, is_true (leads b) d)
 
 pub returns-in-48-to-57-clause-reads : goal.returns-in-48-to-57-clause-reads
 returns-in-48-to-57-clause-reads c = let a = c.args in let b = get_or a.s.now a.at 0 in let d = ranged_test plain_digit keys 45 13 tt b (omega arith) (omega arith) (search) in subst⁻¹ (λ (x : Option Lexeme). Reads a.s.now x c.numeral_at.result) (of_numeral a.s.now a.at (omega arith) d) c.numeral_at.ensures.reads

@@ -1,5 +1,5 @@
 -- `lexer::token::value_of`: the value so far and the digits left spell the whole; a value above the most only grows.
-use mathlib.Core.Path.{◌≡◌, refl, sym, ap, ◌∙◌}
+use mathlib.Core.Path.{◌≡◌, sym, ap, ◌∙◌}
 use Prim.Native.Nat.{ℕ, ◌+◌, ◌*◌}
 use native.Mathlib.Omega.{arith}
 use lib.ListN.{drop}
@@ -7,12 +7,6 @@ use Rattle.pcrl.specs.Tokens.{value_of}
 use Rattle.lexer.specs.Classes.{capped}
 use Rattle.lexer.proofs.Reading.{value_ge, value_step, value_end, capped_over, capped_within}
 use Rattle.lexer.proofs.token.value_of.Goals as goal
-
-pub loop-b-init : goal.loop-b-init
-loop-b-init c = (omega arith, refl)
-
-pub overflow_add-v : goal.overflow_add-v
-overflow_add-v c = omega (arith, c.type_inv.t c.loop-b.b-index)
 
 pub returns-then-v-gt-MAX_NUMERAL : goal.returns-then-v-gt-MAX_NUMERAL
 returns-then-v-gt-MAX_NUMERAL c = let t = c.args.t.now in let v = c.loop-b.v in let i = c.loop-b.b-index in

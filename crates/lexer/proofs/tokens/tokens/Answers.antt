@@ -13,14 +13,8 @@ pub loop-cursor-init : goal.loop-cursor-init
 unfolding tokens
 loop-cursor-init c = (omega arith, omega arith, refl, glue_nil (tokens c.args.sheet.now))
 
-pub shape_of-out-then-sheet-at : goal.shape_of-out-then-sheet-at
-shape_of-out-then-sheet-at c = c.loop-cursor.invariant.2
-
 pub returns-then-sheet-at : goal.returns-then-sheet-at
 returns-then-sheet-at c = record { count_in_bounds = omega arith; lexes = all_written c.args.sheet.now c.loop-cursor.out c.loop-cursor.cursor.at c.loop-cursor.n c.skip-cursor.result.at c.loop-cursor.invariant.3 c.skip-cursor.ensures (omega arith) (omega arith) }
-
-pub shape_of-out-in_default : goal.shape_of-out-in_default
-shape_of-out-in_default c = c.loop-cursor.invariant.2
 
 pub returns-in_default-clause-lexes : goal.returns-in_default-clause-lexes
 returns-in_default-clause-lexes c = none_written c.args.sheet.now c.loop-cursor.out c.loop-cursor.cursor.at c.loop-cursor.n c.skip-cursor.result.at c.loop-cursor.invariant.3 c.skip-cursor.ensures (omega arith) c.token_at.result c.token_at.ensures.reads c.in_default.is

@@ -1,13 +1,10 @@
 -- `lexer::bytes::Cursor::skip`: the place and the separators left lead to the same place.
-use mathlib.Core.Path.{refl, sym, ◌∙◌}
+use mathlib.Core.Path.{sym, ◌∙◌}
 use native.Mathlib.Omega.{arith}
 use lib.ListN.{get_or}
 use Rattle.pcrl.specs.Bytes.{separator}
 use Rattle.lexer.proofs.Runs.{run_end, run_more, run_stop, no_separator}
 use Rattle.lexer.proofs.bytes.Cursor.skip.Goals as goal
-
-pub loop-at-init : goal.loop-at-init
-loop-at-init c = (omega arith, refl)
 
 pub returns-then-b-gt32 : goal.returns-then-b-gt32
 returns-then-b-gt32 c = omega (arith, run_stop separator c.args.s.now c.loop-at.at (omega arith) (no_separator (get_or c.args.s.now c.loop-at.at 0) (λ e. omega arith) (λ e. omega arith)))
