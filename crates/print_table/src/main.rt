@@ -16,11 +16,11 @@ fn main(rt: HostRuntime) -> io::Result<()> {
     let mut file = [0u8; 65537];
     let n = streams::read_front(&mut rt.reader(), &mut file)?;
     let mut text = [0u8; 4096];
-    let m = printer::delivery::print_table(&file[..n], &mut text);
-    if m.refused == 0 {
-        write_front(&rt, &text, m.length)
-    } else {
-        let r = m.refused;
-        eprintln!(rt; "refused {r}")
+    match printer::delivery::print_table(&file[..n], &mut text) {
+        Ok(m) => write_front(&rt, &text, m),
+        Err(refusal) => {
+            let r = u8::from(refusal);
+            eprintln!(rt; "refused {r}")
+        }
     }
 }

@@ -1,7 +1,7 @@
 -- Parameters in brackets, one more at a time; lines of processes and the start from their pieces.
 use mathlib.Core.Path.{◌≡◌, refl, sym, ap, ap₂, ◌∙◌}
 use mathlib.Core.List.{List, [], ◌∷◌, ◌++◌, map, append_assoc, append-nil}
-use Prim.Native.Nat.{ℕ, suc, ◌+◌, ◌≤◌, ◌<◌}
+use Prim.Native.Nat.{ℕ, suc, ◌+◌, ◌-◌, ◌≤◌, ◌<◌}
 use native.Mathlib.Omega.{arith}
 use lib.ListN.{length, get_or, take, drop, length-drop}
 use lib.Seq.{take_all, get_or-drop}
@@ -38,26 +38,18 @@ bracketed_none [] f e = refl
 bracketed_none (a ∷ l) f e = absurd (omega arith)
 
 -- one more behind the first
-pub numbered_next : (f : ℕ → ℕ → List ℕ) (l : List ℕ) (i : ℕ) → i + 1 < length l → concat (numbered f 1 (take (i + 1) (drop 1 l))) ≡ concat (numbered f 1 (take i (drop 1 l))) ++ f (i + 1) (get_or l (i + 1) 0)
-numbered_next f l i h =
+pub numbered_next : (f : ℕ → ℕ → List ℕ) (l : List ℕ) (i : ℕ) → 1 ≤ i → i < length l → concat (numbered f 1 (take (i + 1 - 1) (drop 1 l))) ≡ concat (numbered f 1 (take (i - 1) (drop 1 l))) ++ f i (get_or l i 0)
+numbered_next f l i k h =
     let n = length-drop 1 l in
-    let z : 1 + i ≡ i + 1 = omega arith in
-    numbered_more f 1 (drop 1 l) 0 i (omega arith) ∙ ap₂ (λ (k v : ℕ). concat (numbered f 1 (take i (drop 1 l))) ++ f k v) z (get_or-drop 1 l i 0 ∙ ap (λ (k : ℕ). get_or l k 0) z)
+    let j = i - 1 in
+    let z : 1 + j ≡ i = omega arith in
+    let y : i + 1 - 1 ≡ j + 1 = omega arith in
+    ap (λ (m : ℕ). concat (numbered f 1 (take m (drop 1 l)))) y
+    ∙ numbered_more f 1 (drop 1 l) 0 j (omega arith) ∙ ap₂ (λ (k v : ℕ). concat (numbered f 1 (take j (drop 1 l))) ++ f k v) z (get_or-drop 1 l j 0 ∙ ap (λ (k : ℕ). get_or l k 0) z)
 
 pub start_none : (f : ℕ → ℕ → List ℕ) (l : List ℕ) → [] ≡ concat (numbered f 1 (take 0 l))
 unfolding concat numbered all
 start_none f l = refl
-
--- values in brackets
-pub values_none : (l : List ℕ) → length l ≡ 0 → [] ≡ bracketed_text (map decimal l)
-unfolding bracketed_text
-values_none [] e = refl
-values_none (a ∷ l) e = absurd (omega arith)
-
-pub values_some : (l : List ℕ) → (length l ≡ 0 → ⊥) → bytes "(" ++ (joined_text (bytes ",") (map decimal l) ++ bytes ")") ≡ bracketed_text (map decimal l)
-unfolding bracketed_text
-values_some [] h = absurd (h refl)
-values_some (a ∷ l) h = refl
 
 module _ (S : Sig) (l : List ℕ) (known : Lettered S l) where
   param_is : (i D : ℕ) → i < 256 → D < length S.sorts → param_by l i D ≡ param_text S i D

@@ -1,8 +1,8 @@
 -- A right table has what its text asks of it; the whole text from its lines.
-use mathlib.Core.Path.{◌≡◌, sym, subst, ◌∙◌}
+use mathlib.Core.Path.{◌≡◌, sym, subst}
 use mathlib.Core.List.{List, [], ◌∷◌, ◌++◌}
 use mathlib.Core.Bool.{Bool, true}
-use Prim.Native.Nat.{ℕ, ◌+◌, ◌≤◌, ◌<◌}
+use Prim.Native.Nat.{ℕ, ◌≤◌, ◌<◌}
 use native.Mathlib.Omega.{arith}
 use lib.Dec.{T}
 use lib.ListN.{length, get_or, drop}
@@ -11,7 +11,6 @@ use Rattle.pcrl.specs.Bytes.{name_byte}
 use Rattle.pcrl.specs.Reader.{all}
 use Rattle.pcrl.specs.Sheet.{sort_name}
 use Rattle.pcrl.specs.Table.{Table}
-use Rattle.pcrl.specs.Stream.{encode_start}
 use Rattle.pcrl.specs.Right.{RightSizes, RightName, RightAction, action_names, RightSig, RightTable}
 use Rattle.pcrl.specs.Printer.{numbered, taken, table_text}
 use Rattle.laws.specs.Tests.{is_true}
@@ -24,13 +23,10 @@ use Rattle.printing.specs.SortNames.{PlainNames, right_names}
 use Rattle.rendering.specs.Texts.{concat, sort_line_text, func_line_text, act_line_text, proc_line_text, init_line_text, sheet_text}
 use Rattle.rendering.specs.LinePieces.{Spellable}
 use Rattle.rendering.proofs.LinePieces.{text_is}
-use Rattle.terms.specs.Stands.{Stands}
 use Rattle.lettering.specs.Named.{names_at, cells, Lettered}
 use Rattle.lettering.proofs.Given.{names_are, names_right, acts_are}
 use Rattle.tables.specs.declared.Index.{Index}
 use Rattle.tables.specs.Indexed.{Indexed}
-use Rattle.printer.specs.declared.Counts.{Counts}
-use Rattle.printer.specs.Counted.{Counted}
 
 first_byte : (n : List ℕ) → 1 ≤ length n → Every (λ b. T (name_byte b)) n → name_byte (get_or n 0 0) ≡ true
 unfolding Every
@@ -88,13 +84,3 @@ module _ (U : Table) (right : RightTable U) where
       let S = U.sig in
       let sorts = names_are S right_sig U.layout (names_right U s index right ix) l index.sort_count ix.sorts_are x.sorts_are in
       free_names r (subst (λ (ns : List (List ℕ)). Says r (Every (λ x. Every (Unlike x) ns) S.sort_names)) (acts_are U s index right ix) (subst (λ (ns : List (List ℕ)). Says r (Every (λ x. Every (Unlike x) (names_at s index.acts index.actions)) ns)) sorts h))
-
--- the counts of an index
-pub index_counts : (U : Table) (s : List ℕ) (index : Index) (n : Counts) → Indexed U s index → n.sorts ≡ index.sort_count → n.functions ≡ index.functions → n.actions ≡ index.actions → n.equations ≡ index.equations → n.start ≡ index.start → Counted U s n
-index_counts U s index n k o a b c d = record {
-  sorts_are = o ∙ k.sorts_are;
-  functions_are = a ∙ k.functions_are;
-  actions_are = b ∙ k.actions_are;
-  equations_are = c ∙ k.equations_are;
-  start_stands = subst (λ (p : ℕ). Stands s p (encode_start U.start)) (sym d) k.parts.start_stands;
-}

@@ -1,4 +1,3 @@
 pub mod Lines
-pub mod Counted
 pub mod Watching
 pub mod Printing

@@ -1,21 +1,23 @@
--- The kinds of tokens and the states of the watch (printing, Watched) as numbers.
-use Rattle.std.specs.Prelude.{ℕ, zero, suc}
-use Rattle.printing.specs.Watched.{Kind, value, equals, not, other, Watch, nothing, behind_not, behind_value, behind_equals, met}
+-- The program's kinds of tokens and states of the watch are those of the definition (printing, Watched).
+use Rattle.std.specs.Prelude.{◌≡◌, true}
+use Rattle.printing.specs.Watched as W
+use Rattle.printer.specs.declared.watch.Kind.{Kind}
+use Rattle.printer.specs.declared.watch.Kind.TheVariants.{Other, Value, Equals, Not}
+use Rattle.printer.specs.declared.watch.State.{State}
+use Rattle.printer.specs.declared.watch.State.TheVariants.{Nothing, BehindNot, BehindValue, BehindEquals, Met}
 
-unfoldable pub kind_of : ℕ → Kind
-kind_of zero = other
-kind_of (suc zero) = value
-kind_of (suc (suc zero)) = equals
-kind_of (suc (suc (suc zero))) = not
-kind_of (suc (suc (suc (suc n)))) = other
+abbrev pub kind_of : Kind → W.Kind
+kind_of Other = W.other
+kind_of Value = W.value
+kind_of Equals = W.equals
+kind_of Not = W.not
 
-unfoldable pub watch_of : ℕ → Watch
-watch_of zero = nothing
-watch_of (suc zero) = behind_not
-watch_of (suc (suc zero)) = behind_value
-watch_of (suc (suc (suc zero))) = behind_equals
-watch_of (suc (suc (suc (suc n)))) = met
+abbrev pub state_of : State → W.Watch
+state_of Nothing = W.nothing
+state_of BehindNot = W.behind_not
+state_of BehindValue = W.behind_value
+state_of BehindEquals = W.behind_equals
+state_of Met = W.met
 
--- the number of `met`, above those of the other states
-abbrev pub met_number : ℕ
-met_number = 4
+abbrev pub Unmet : State → Type 0
+Unmet s = W.unmet (state_of s) ≡ true

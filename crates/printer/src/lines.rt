@@ -1,7 +1,6 @@
 // The lines of processes and init as text, read from the stream.
-ghost use Rattle.std.specs.Prelude.{◌≡◌, List, map, ℕ, ◌≤◌, ◌<◌, length};
+ghost use Rattle.std.specs.Prelude.{◌≡◌, List, ℕ, ◌≤◌, ◌<◌, length};
 ghost use Rattle.pcrl.specs.Limits.{max_stream};
-ghost use Rattle.pcrl.specs.Text.{decimal};
 ghost use Rattle.pcrl.specs.Table.{Table, equation};
 ghost use Rattle.pcrl.specs.Stream.{encode_start};
 ghost use Rattle.pcrl.specs.Printer.{numbered};
@@ -13,10 +12,10 @@ ghost use Rattle.firing.specs.Known.{KnownTable};
 ghost use Rattle.printer.specs.Lines.{param_by, proc_head_by};
 
 use clauses::put_right;
-use declarations::{bytes_at, put_values};
-use elements::{cell, peek, smaller, wide};
+use declarations::bytes_at;
+use elements::{cell, peek, wide};
 use lettering::{PROCS, VARS, put_name, put_sort};
-use texts::{put_byte, put_bytes};
+use texts::{put_bracketed, put_byte, put_bytes};
 
 // "`v:sort`"
 fn put_param(out: &mut [u8], at: usize, l: &[u8], i: usize, d: u8) -> usize
@@ -38,11 +37,9 @@ fn put_params(sorts: &[u8], l: &[u8], out: &mut [u8], at: usize) -> usize
     }
     let a = put_byte(out, at, b'(');
     let mut p = put_param(out, a, l, 0, sorts[0]);
-    let mut i: usize = 0;
-    while i + 1 < sorts.len() {
+    for i in 1..sorts.len() {
         let q = put_byte(out, p, b',');
-        p = put_param(out, q, l, i + 1, sorts[i + 1]);
-        i += 1;
+        p = put_param(out, q, l, i, sorts[i]);
     }
     put_byte(out, p, b')')
 }
@@ -75,7 +72,7 @@ fn put_proc(
     ensures wrote { (T : Table) → KnownTable T s.now funcs.now acts.now params.now rows.now → Lettered T.sig l.now → e < length T.equations → Wrote out.old at (proc_line_text T.sig e (equation T e)) out.new result }
 {
     let sorts = terms::list_at(s, cell(params, e));
-    let n = smaller(sorts.len(), 255);
+    let n = sorts.len().min(255);
     let a = put_proc_head(sorts, e, l, out, at);
     let b = put_right(s, funcs, acts, params, l, cell(rows, e), n, out, a);
     put_byte(out, b, b';')
@@ -104,19 +101,6 @@ pub fn put_procs(
     p
 }
 
-// Values in brackets, with commas between; nothing for none.
-fn put_bracketed(vs: &[u8], out: &mut [u8], at: usize) -> usize
-    requires { at ≤ length out.old }
-    ensures { Wrote out.old at (bracketed_text (map decimal vs.now)) out.new result }
-{
-    if vs.len() == 0 {
-        return at;
-    }
-    let a = put_byte(out, at, b'(');
-    let b = put_values(vs, out, a);
-    put_byte(out, b, b')')
-}
-
 // "`init` a call": the start that stands at a place.
 pub fn put_init(s: &[u8], params: &[u16], from: usize, l: &[u8], out: &mut [u8], at: usize) -> usize
     requires { (at ≤ length out.old) × ((length s.now ≤ max_stream) × (from ≤ max_stream)) }
@@ -128,6 +112,6 @@ pub fn put_init(s: &[u8], params: &[u16], from: usize, l: &[u8], out: &mut [u8],
     let vs = bytes_at(s, from + 1, n);
     let a = put_bytes(out, at, b"init ");
     let b = put_name(out, a, l, b'p', PROCS, e);
-    let c = put_bracketed(vs, out, b);
+    let c = put_bracketed(out, b, vs);
     put_byte(out, c, b';')
 }

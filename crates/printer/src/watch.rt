@@ -1,78 +1,75 @@
 // `==` over two values, seen in one pass over the cells of a text's tokens (printing, Watched): a numeral with no `!` before it, `==`, a numeral.
-ghost use Rattle.std.specs.Prelude.{◌≡◌, List, map, ℕ, ◌≤◌, ◌<◌, length, take};
+ghost use Rattle.std.specs.Prelude.{◌≡◌, List, map, ℕ};
 ghost use Rattle.printing.specs.Watched as W;
 ghost use Rattle.lexer.specs.Cells.{cell_token};
-ghost use Rattle.printer.specs.Watching.{kind_of, watch_of, met_number};
+ghost use Rattle.printer.specs.Watching.{kind_of, state_of, Unmet};
 
 use lexer::{BANG, FIRST_NAME, FIRST_NUMERAL, SAME};
 
-// Kinds of tokens: any other, a numeral, `==`, `!`.
-const OTHER: u8 = 0;
-
-const VALUE: u8 = 1;
-
-const EQUALS: u8 = 2;
-
-const NOT: u8 = 3;
+// Kinds of tokens.
+#[derive(Clone, Copy, Debug, PartialEq, Eq)]
+enum Kind {
+    Other,
+    Value,
+    Equals,
+    Not,
+}
 
 // States of the watch: nothing of it yet; behind `!`; behind a numeral with no `!` before it; behind that and `==`; it was met.
-const NOTHING: u8 = 0;
-
-const BEHIND_NOT: u8 = 1;
-
-const BEHIND_VALUE: u8 = 2;
-
-const BEHIND_EQUALS: u8 = 3;
-
-const MET: u8 = 4;
+#[derive(Clone, Copy, Debug, PartialEq, Eq)]
+enum State {
+    Nothing,
+    BehindNot,
+    BehindValue,
+    BehindEquals,
+    Met,
+}
 
 // The kind of a cell's token.
-fn kind(c: u16) -> u8
+fn cell_kind(c: u16) -> Kind
     ensures { (s : List ℕ) → kind_of result ≡ W.kind (cell_token s c) }
 {
     if FIRST_NAME <= c {
-        return OTHER;
+        return Kind::Other;
     }
     if FIRST_NUMERAL <= c {
-        return VALUE;
+        return Kind::Value;
     }
     match c {
-        SAME => EQUALS,
-        BANG => NOT,
-        _ => OTHER,
+        SAME => Kind::Equals,
+        BANG => Kind::Not,
+        _ => Kind::Other,
     }
 }
 
 // The state behind a token of kind k.
-fn next(state: u8, k: u8) -> u8
-    requires { state < met_number }
-    ensures { (result ≤ met_number) × (watch_of result ≡ W.next (watch_of state) (kind_of k)) }
+fn next(state: State, k: Kind) -> State
+    requires { Unmet state }
+    ensures { state_of result ≡ W.next (state_of state) (kind_of k) }
 {
     match k {
-        VALUE => match state {
-            BEHIND_NOT => NOTHING,
-            BEHIND_EQUALS => MET,
-            _ => BEHIND_VALUE,
+        Kind::Value => match state {
+            State::BehindNot => State::Nothing,
+            State::BehindEquals => State::Met,
+            _ => State::BehindValue,
         },
-        EQUALS => if state == BEHIND_VALUE {
-            BEHIND_EQUALS
-        } else {
-            NOTHING
+        Kind::Equals => match state {
+            State::BehindValue => State::BehindEquals,
+            _ => State::Nothing,
         },
-        NOT => BEHIND_NOT,
-        _ => NOTHING,
+        Kind::Not => State::BehindNot,
+        Kind::Other => State::Nothing,
     }
 }
 
-// Is there no `==` over two values among the first n cells?
-pub fn apart(cells: &[u16], n: usize) -> bool
-    requires { n ≤ length cells.now }
-    ensures { (s : List ℕ) → result ≡ W.apart (map (cell_token s) (take n cells.now)) }
+// Is there no `==` over two values among the cells?
+pub fn apart(cells: &[u16]) -> bool
+    ensures { (s : List ℕ) → result ≡ W.apart (map (cell_token s) cells.now) }
 {
-    let mut state = NOTHING;
-    for i in 0..n {
-        state = next(state, kind(cells[i]));
-        if state == MET {
+    let mut state = State::Nothing;
+    for c in cells {
+        state = next(state, cell_kind(*c));
+        if let State::Met = state {
             return false;
         }
     }

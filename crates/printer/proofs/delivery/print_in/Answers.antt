@@ -1,40 +1,42 @@
 -- Refused by 12 to 14, or the text delivered.
 use native.Mathlib.Omega.{arith}
-use mathlib.Core.Path.{◌≡◌, refl, sym, ap, subst, ◌∙◌}
-use mathlib.Core.List.{List}
-use Prim.Native.Nat.{ℕ, ◌-◌}
-use lib.ListN.{length, take, length-take}
-use Rattle.printer.specs.Printing.{printed_answer}
-use Rattle.pcrl.specs.Result.{Result}
-use Rattle.pcrl.specs.Answers.{output_after}
-use Rattle.printer.proofs.Seventeen.{delivered_refused, printed_refused, printed_checked}
+use lib.ListN.{length-take}
+use Rattle.std.proofs.lemmas.Result.{err_from_is_err_and}
+use Rattle.refusals.specs.declared.Refusal.TheVariants.{NoText}
 use Rattle.stepping.proofs.Loading.{load_refused, load_accepted, load_count}
-use Rattle.tables.specs.Indexed.{Indexed}
+use Rattle.printer.proofs.Seventeen.{delivered_refused, delivered_as, printed_refused, not_free}
 use Rattle.printer.proofs.delivery.print_in.Goals as goal
 
-pub returns-then-f-ne0 : goal.returns-then-f-ne0
-returns-then-f-ne0 c =
+pub returns-in_err-f : goal.returns-in_err-f
+returns-in_err-f c =
     let a = c.args in
-    let l = c.load-f in
-    delivered_refused _ _ a.out.now _ _ (printed_refused a.file.now _ _ (load_refused _ l.new.stream l.result l.ensures (λ e. omega (arith, c.if-f-ne0.true)))) c.refuse.ensures refl
+    let p = err_from_is_err_and c.from_residual.result c.from_residual.ensures.1 in
+    let d = delivered_refused _ a.out.now _ (printed_refused a.file.now _ _ (load_refused _ c.load.new.stream _ c.in_err-f.ensures)) in
+    rw (p.1, p.2) record { answer = d.0; written = d.1 }
 
 pub slice_bounds-put_sheet-end : goal.slice_bounds-put_sheet-end
-slice_bounds-put_sheet-end c = let l = c.load-f in omega (arith, load_count _ l.new.stream l.result l.ensures (omega arith))
+slice_bounds-put_sheet-end c = load_count _ c.load.new.stream _ c.in_ok-f.ensures
 
-pub put_sheet-p-requires : goal.put_sheet-p-requires
-put_sheet-p-requires c = let l = c.load-f in omega (arith, c.requires, length-take (l.result.count - 0) l.new.stream)
+pub slice_bounds-put_sheet-end-2 : goal.slice_bounds-put_sheet-end-2
+slice_bounds-put_sheet-end-2 c = omega (arith, length-take c.in_ok-f.f.count c.load.new.stream, load_count _ c.load.new.stream _ c.in_ok-f.ensures)
+
+pub put_sheet-requires : goal.put_sheet-requires
+put_sheet-requires c = omega (arith, c.requires.1, length-take c.in_ok-f.f.count c.load.new.stream, c.load.auto.stream)
+
+pub returns-in_default : goal.returns-in_default
+returns-in_default c =
+    let a = c.args in
+    let f = c.in_ok-f.f in
+    let (U, checked, (right, x)) = load_accepted _ c.load.new.stream f c.in_ok-f.ensures in
+    let lacks = c.in_default.ensures.wrote U right x in
+    let d = delivered_as a.file.now a.out.now U _ _ checked (delivered_refused _ a.out.now NoText (not_free U right _ lacks.0)) in
+    record { answer = d.0; written = d.1 }
 
 pub returns : goal.returns
 returns c =
     let a = c.args in
-    let l = c.load-f in
-    let (U, checked, both) = load_accepted _ l.new.stream l.result l.ensures (omega arith) in
-    let right = both.0 in
-    let indexed = both.1 in
-    let n : l.result.count ≡ l.result.count - 0 = omega arith in
-    let put = c.put_sheet-p.ensures.wrote U right (subst (λ (m : ℕ). Indexed U (take m l.new.stream) l.result.index) n indexed) in
-    let end = c.put_sheet-p.result.at in
-    let m : end - 0 ≡ end = omega arith in
-    let done = c.deliver.ensures U right (ap (λ (k : ℕ). take k c.put_sheet-p.new.out) m ∙ put.0.text) indexed.equations_are put.1 in
-    let same = printed_checked a.file.now (length a.out.now) U checked in
-    (done.0 ∙ sym (ap printed_answer same), done.1 ∙ sym (ap (λ (x : Result (List ℕ)). output_after x a.out.now) same))
+    let f = c.in_ok-f.f in
+    let (U, checked, (right, x)) = load_accepted _ c.load.new.stream f c.in_ok-f.ensures in
+    let put = c.in-Some.ensures.wrote U right x in
+    let d = delivered_as a.file.now a.out.now U _ _ checked (c.deliver.ensures U right put.1.text x.equations_are put.0) in
+    record { answer = d.0; written = d.1 }

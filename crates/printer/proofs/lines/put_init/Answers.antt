@@ -1,9 +1,10 @@
 -- Four pieces; the start's equation and values stand in the stream.
 use native.Mathlib.Omega.{arith}
 use mathlib.Core.Path.{◌≡◌, sym, ap, ◌∙◌}
-use Prim.Native.Nat.{ℕ, ◌-◌}
+use Prim.Native.Nat.{ℕ}
 use lib.ListN.{length, get_or}
 use Rattle.texts.proofs.Writing.{wrote_fits, wrote_as}
+use Rattle.declarations.proofs.Chains.{values_bracketed}
 use Rattle.printer.proofs.Chained.{four}
 use Rattle.printer.proofs.Params.{init_line}
 use Rattle.printer.proofs.Known.{start_at, start_values, start_count, start_small}
@@ -12,7 +13,7 @@ use Rattle.printer.proofs.lines.put_init.Goals as goal
 pub returns : goal.returns
 returns c =
     let a = c.args in
-    let all = four _ _ _ _ _ _ _ _ _ _ _ _ _ _ (omega (arith, c.requires)) c.put_bytes-a.ensures c.put_name-b.ensures c.put_bracketed-c.ensures c.put_byte.ensures in
+    let all = four _ _ _ _ _ _ _ _ _ _ _ _ _ _ (omega (arith, c.requires)) c.put_bytes-a.ensures c.put_name-b.ensures (wrote_as _ _ _ _ _ _ (values_bracketed c.bytes_at-vs.result.now) c.put_bracketed-c.ensures) c.put_byte.ensures in
     let fits = wrote_fits _ _ _ _ _ all in
     record {
       upper_bound = (omega (arith, fits, all.same), all.same);

@@ -1,6 +1,5 @@
 -- Three pieces, one behind another.
 use native.Mathlib.Omega.{arith}
-use Prim.Native.Nat.{◌-◌}
 use Rattle.printer.proofs.Chained.{three}
 use Rattle.printer.proofs.lines.put_param.Goals as goal
 

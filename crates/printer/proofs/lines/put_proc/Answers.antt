@@ -1,7 +1,7 @@
 -- Three pieces; the equation's sorts and summands stand in the stream.
 use native.Mathlib.Omega.{arith}
 use mathlib.Core.Path.{◌≡◌, sym, ap, ◌∙◌}
-use Prim.Native.Nat.{ℕ, ◌-◌}
+use Prim.Native.Nat.{ℕ}
 use lib.ListN.{length, drop}
 use Rattle.texts.proofs.Writing.{wrote_fits, wrote_as}
 use Rattle.pcrl.specs.Table.{equation, params_of}
@@ -25,7 +25,7 @@ returns c =
           let sorts = c.list_at-sorts.ensures ∙ ap (list_at s) c.cell.ensures.0 ∙ sorts_at T s a.funcs.now a.acts.now a.params.now a.rows.now k a.e below in
           let few = few_sorts T s a.funcs.now a.acts.now a.params.now a.rows.now k a.e below in
           let long = ap length sorts in
-          let n : c.smaller-n.result ≡ length (equation T a.e).params = let z = c.smaller-n.ensures in omega arith in
+          let n : c.min-n.result ≡ length (equation T a.e).params = let z = c.min-n.ensures in omega arith in
           let row = k.rows_at a.e below in
           let there = ap (λ (q : ℕ). drop q s) c.cell-2.ensures.0 ∙ row.1 in
           let wrote = right.wrote T.sig (params_of T.equations) (equation T a.e).params (equation T a.e).summands row.0 k.terms k.parts (right_summands T s a.funcs.now a.acts.now a.params.now a.rows.now k a.e below) (sym n) (omega arith) x there in

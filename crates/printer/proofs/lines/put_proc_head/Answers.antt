@@ -1,6 +1,5 @@
 -- Four pieces, one behind another.
 use native.Mathlib.Omega.{arith}
-use Prim.Native.Nat.{◌-◌}
 use Rattle.printer.proofs.Chained.{four}
 use Rattle.printer.proofs.lines.put_proc_head.Goals as goal
 

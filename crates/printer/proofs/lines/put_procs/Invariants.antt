@@ -1,5 +1,5 @@
 use mathlib.Core.Path.{◌≡◌}
-use Prim.Native.Nat.{◌-◌, ◌≤◌}
+use Prim.Native.Nat.{◌≤◌}
 use lib.ListN.{length, take}
 use Rattle.texts.specs.Wrote.{Wrote}
 use Rattle.pcrl.specs.Table.{Table}
@@ -11,4 +11,3 @@ use Rattle.printer.proofs.lines.put_procs.Given as goal
 
 abbrev pub invariant-loop-e : goal.invariant-loop-e
 invariant-loop-e l = (l.e ≤ l.n) × (((l.p ≤ length l.out) × (length l.out ≡ length l.initial.out)) × ((T : Table) → KnownTable T l.s l.funcs l.acts l.params l.rows → Lettered T.sig l.l → l.n ≡ length T.equations → Wrote l.initial.out l.at (concat (numbered (proc_line_text T.sig) 0 (take l.e T.equations))) l.out l.p))
-

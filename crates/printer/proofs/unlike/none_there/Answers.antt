@@ -1,10 +1,9 @@
 -- The loop's invariant: each of the names passed is none of the others.
 use native.Mathlib.Omega.{arith}
 use borrow.Author.Count.{below_more}
-use borrow.Author.Tests.{not-false, not-true}
 use mathlib.Core.Path.{sym, ap, subst, ◌∙◌}
 use mathlib.Core.List.{List}
-use Prim.Native.Nat.{ℕ, ◌-◌}
+use Prim.Native.Nat.{ℕ}
 use Rattle.pcrl.specs.Tests.{Every}
 use Rattle.laws.specs.Says.{said_yes, said_no}
 use Rattle.theory.specs.Distinct.{Unlike}

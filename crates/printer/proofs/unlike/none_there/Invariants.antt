@@ -1,4 +1,4 @@
-use Prim.Native.Nat.{ℕ, ◌-◌, ◌≤◌, ◌<◌}
+use Prim.Native.Nat.{ℕ, ◌≤◌, ◌<◌}
 use lib.ListN.{get_or}
 use Rattle.pcrl.specs.Tests.{Every}
 use Rattle.theory.specs.Distinct.{Unlike}
@@ -8,4 +8,3 @@ use Rattle.printer.proofs.unlike.none_there.Given as goal
 
 abbrev pub invariant-loop-d : goal.invariant-loop-d
 invariant-loop-d l = (l.d ≤ l.m) × ((k : ℕ) → k < l.d → Every (Unlike (list_at l.names (get_or l.cells k 0))) (names_at l.s l.places l.n))
-

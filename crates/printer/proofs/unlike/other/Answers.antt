@@ -2,7 +2,6 @@
 use native.Mathlib.Omega.{arith}
 use borrow.Author.Count.{below_more}
 use mathlib.Core.Path.{sym, ap, ◌∙◌}
-use Prim.Native.Nat.{◌-◌}
 use Rattle.laws.specs.Says.{said_yes, said_no}
 use Rattle.theory.specs.Distinct.{Unlike}
 use Rattle.terms.specs.Stands.{list_at}

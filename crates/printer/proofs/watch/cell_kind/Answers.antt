@@ -1,7 +1,7 @@
--- `printer::watch::kind`: a name, a numeral, the two marks, and any other.
+-- `printer::watch::cell_kind`: a name, a numeral, the two marks, and any other.
 use native.Mathlib.Omega.{arith}
 use Rattle.printer.proofs.WatchLaws.{name_kind, value_kind, equals_kind, not_kind, other_kind}
-use Rattle.printer.proofs.watch.kind.Goals as goal
+use Rattle.printer.proofs.watch.cell_kind.Goals as goal
 
 pub returns-then-c-ge-FIRST_NAME : goal.returns-then-c-ge-FIRST_NAME
 returns-then-c-ge-FIRST_NAME c = λ s. name_kind s c.args.c (omega arith)
