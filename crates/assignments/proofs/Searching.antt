@@ -1,7 +1,7 @@
 -- The search with all conditions as one part, or in two parts, says what is found with all.
 use mathlib.Core.Path.{◌≡◌, sym, ◌∙◌, ap, subst}
 use mathlib.Core.List.{List}
-use mathlib.Core.Bool.{Bool, true, false}
+use mathlib.Core.Bool.{Bool}
 use Prim.Native.Nat.{ℕ, ◌+◌, ◌-◌, ◌*◌, ◌/◌, ◌%◌, ◌≤◌, ◌<◌, min}
 use lib.ListN.{length, get_or, drop}
 use Rattle.assignments.specs.Places.{product, digits_of, places}

@@ -7,7 +7,7 @@ ghost use Rattle.assignments.specs.Conditions.{env, code, Finds};
 ghost use Rattle.assignments.specs.Parting.{Standing, part_met, Part, Gapped};
 
 use crate::one_part::{find_from, find_in};
-use crate::{Conditions, Gap, PerSum, PerVariable, block_size, grain};
+use crate::{Conditions, Gap, PerSum, Space, block_size, grain};
 use limits::VARIABLES;
 
 // Assignments of a variable before a gap, one in it and one behind it, at the fewest: two values each.
@@ -82,19 +82,15 @@ pub fn gap_of(s: &[u8], p: usize, z: PerSum, c: &Conditions, g: usize, round: us
 // The k-th of the assignments below `total` that meet the conditions asked, where there is a gap:
 // in each block of the variables before it, what is met for its first values is met for all its values.
 fn find_around(
-    s: &[u8],
-    funcs: &[u16],
-    params: PerVariable,
-    p: usize,
-    z: PerSum,
+    space: &Space,
     c: &Conditions,
     g: usize,
     t: Gap,
     total: usize,
     k: u64,
 ) -> Result<usize, u64>
-    requires { (p ≤ frame_width) × (((i : ℕ) → p ≤ i → get_or params.at i 0 ≡ 0) × ((c.now.count ≤ max_conditions) × (Sizes z.at × ((total ≤ 65536) × ((0 < g) × ((g ≤ 65536) × ((0 < t.behind) × ((t.behind ≤ t.before) × (t.before ≤ 65536))))))))) }
-    ensures { IfOk result (λ at. at ≤ 196608) × (IfErr result (λ left. left ≤ k) × ((l m : ℕ) → g ≡ product (drop l z.at) → total ≡ product (drop m z.at) → ((i : ℕ) → i < c.now.count → Part s.now p z.at c.now.froms c.now.ends c.now.blocks g i) → Gapped s.now p z.at c.now.froms c.now.ends c.now.blocks c.now.count total t.before t.behind → Finds (places (λ j. part_met s.now funcs.now c.now.froms c.now.ends c.now.blocks c.now.count (env p params.at (digits_of z.at j))) total 0) k result)) }
+    requires { (space.now.p ≤ frame_width) × (((i : ℕ) → space.now.p ≤ i → get_or space.now.params.at i 0 ≡ 0) × ((c.now.count ≤ max_conditions) × (Sizes space.now.z.at × ((total ≤ 65536) × ((0 < g) × ((g ≤ 65536) × ((0 < t.behind) × ((t.behind ≤ t.before) × (t.before ≤ 65536))))))))) }
+    ensures { IfOk result (λ at. at ≤ 196608) × (IfErr result (λ left. left ≤ k) × ((l m : ℕ) → g ≡ product (drop l space.now.z.at) → total ≡ product (drop m space.now.z.at) → ((i : ℕ) → i < c.now.count → Part space.now.s.now space.now.p space.now.z.at c.now.froms c.now.ends c.now.blocks g i) → Gapped space.now.s.now space.now.p space.now.z.at c.now.froms c.now.ends c.now.blocks c.now.count total t.before t.behind → Finds (places (λ j. part_met space.now.s.now space.now.funcs.now c.now.froms c.now.ends c.now.blocks c.now.count (env space.now.p space.now.params.at (digits_of space.now.z.at j))) total 0) k result)) }
 {
     let w = t.before;
     let b = t.behind;
@@ -103,14 +99,14 @@ fn find_around(
     let mut left = k;
     while j < total {
         let to = j + b;
-        let rest = match find_from(s, funcs, params, p, z, c, g, j, to, left) {
+        let rest = match find_from(space, c, g, j, to, left) {
             Ok(at) => return Ok(at),
             Err(rest) => rest,
         };
         let m = left - rest;
         if left / rounds < m {
             let i = left % m;
-            let at = find_from(s, funcs, params, p, z, c, g, j, to, i)?;
+            let at = find_from(space, c, g, j, to, i)?;
             return Ok((left / m) as usize * b + at);
         }
         left -= m * rounds;
@@ -121,22 +117,18 @@ fn find_around(
 
 // The k-th of the assignments in one round, around the gap if there is one.
 pub fn find_once(
-    s: &[u8],
-    funcs: &[u16],
-    params: PerVariable,
-    p: usize,
-    z: PerSum,
+    space: &Space,
     c: &Conditions,
     g: usize,
     t: Option<Gap>,
     round: usize,
     k: u64,
 ) -> Result<usize, u64>
-    requires { (p ≤ frame_width) × (((i : ℕ) → p ≤ i → get_or params.at i 0 ≡ 0) × ((c.now.count ≤ max_conditions) × (Sizes z.at × ((round ≤ 65536) × ((0 < g) × ((g ≤ 65536) × IfSome t (λ t. (0 < t.behind) × ((t.behind ≤ t.before) × (t.before ≤ 65536))))))))) }
-    ensures { IfOk result (λ at. at ≤ 196608) × (IfErr result (λ left. left ≤ k) × ((l m : ℕ) → g ≡ product (drop l z.at) → round ≡ product (drop m z.at) → ((i : ℕ) → i < c.now.count → Part s.now p z.at c.now.froms c.now.ends c.now.blocks g i) → IfSome t (λ t. Gapped s.now p z.at c.now.froms c.now.ends c.now.blocks c.now.count round t.before t.behind) → Finds (places (λ j. part_met s.now funcs.now c.now.froms c.now.ends c.now.blocks c.now.count (env p params.at (digits_of z.at j))) round 0) k result)) }
+    requires { (space.now.p ≤ frame_width) × (((i : ℕ) → space.now.p ≤ i → get_or space.now.params.at i 0 ≡ 0) × ((c.now.count ≤ max_conditions) × (Sizes space.now.z.at × ((round ≤ 65536) × ((0 < g) × ((g ≤ 65536) × IfSome t (λ t. (0 < t.behind) × ((t.behind ≤ t.before) × (t.before ≤ 65536))))))))) }
+    ensures { IfOk result (λ at. at ≤ 196608) × (IfErr result (λ left. left ≤ k) × ((l m : ℕ) → g ≡ product (drop l space.now.z.at) → round ≡ product (drop m space.now.z.at) → ((i : ℕ) → i < c.now.count → Part space.now.s.now space.now.p space.now.z.at c.now.froms c.now.ends c.now.blocks g i) → IfSome t (λ t. Gapped space.now.s.now space.now.p space.now.z.at c.now.froms c.now.ends c.now.blocks c.now.count round t.before t.behind) → Finds (places (λ j. part_met space.now.s.now space.now.funcs.now c.now.froms c.now.ends c.now.blocks c.now.count (env space.now.p space.now.params.at (digits_of space.now.z.at j))) round 0) k result)) }
 {
     match t {
-        Some(gap) => find_around(s, funcs, params, p, z, c, g, gap, round, k),
-        None => find_in(s, funcs, params, p, z, c, g, round, k),
+        Some(gap) => find_around(space, c, g, gap, round, k),
+        None => find_in(space, c, g, round, k),
     }
 }

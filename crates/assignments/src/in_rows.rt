@@ -8,7 +8,7 @@ ghost use Rattle.assignments.specs.Lanes.{Came};
 
 use crate::one_part::next;
 use crate::strips::by_strips;
-use crate::{Conditions, PerSum, PerVariable, Reached, block_size};
+use crate::{Conditions, PerSum, Reached, Space, block_size};
 use evaluation::lanes::{LANES, MARK_ROOM, ROW_ROOM};
 use limits::MAX_VARIABLES;
 
@@ -71,26 +71,22 @@ pub fn narrow(x: usize) -> u32
 
 // The search goes on by rows from `from` on, as far as rows stand before `to`: what is found, or how far it came and how much of k is left there.
 pub fn find_rows(
-    s: &[u8],
-    funcs: &[u16],
-    params: PerVariable,
-    p: usize,
-    z: PerSum,
+    space: &Space,
     c: &Conditions,
     g: usize,
     from: usize,
     to: usize,
     k: u64,
 ) -> Result<usize, Reached>
-    requires { (p ≤ frame_width) × (((i : ℕ) → p ≤ i → get_or params.at i 0 ≡ 0) × ((c.now.count ≤ max_conditions) × (Sizes z.at × ((to ≤ 131072) × ((0 < g) × (g ≤ 65536)))))) }
-    ensures { IfOk result (λ at. at ≤ to) × (IfErr result (λ r. from ≤ r.at) × (IfErr result (λ r. r.left ≤ k) × ((l : ℕ) → g ≡ product (drop l z.at) → ((i : ℕ) → i < c.now.count → Part s.now p z.at c.now.froms c.now.ends c.now.blocks g i) → Came (λ j. part_met s.now funcs.now c.now.froms c.now.ends c.now.blocks c.now.count (env p params.at (digits_of z.at j))) to from k result))) }
+    requires { (space.now.p ≤ frame_width) × (((i : ℕ) → space.now.p ≤ i → get_or space.now.params.at i 0 ≡ 0) × ((c.now.count ≤ max_conditions) × (Sizes space.now.z.at × ((to ≤ 131072) × ((0 < g) × (g ≤ 65536)))))) }
+    ensures { IfOk result (λ at. at ≤ to) × (IfErr result (λ r. from ≤ r.at) × (IfErr result (λ r. r.left ≤ k) × ((l : ℕ) → g ≡ product (drop l space.now.z.at) → ((i : ℕ) → i < c.now.count → Part space.now.s.now space.now.p space.now.z.at c.now.froms c.now.ends c.now.blocks g i) → Came (λ j. part_met space.now.s.now space.now.funcs.now c.now.froms c.now.ends c.now.blocks c.now.count (env space.now.p space.now.params.at (digits_of space.now.z.at j))) to from k result))) }
 {
     let here = Reached { at: from, left: k };
-    let Some(l) = row_level(z, g) else {
+    let Some(l) = row_level(space.z, g) else {
         return Err(here);
     };
-    let w = block_size(z, l);
-    let Some(u) = row_level(z, w) else {
+    let w = block_size(space.z, l);
+    let Some(u) = row_level(space.z, w) else {
         return Err(here);
     };
     if l <= u {
@@ -102,7 +98,6 @@ pub fn find_rows(
     let mut fast = [0u8; LANES];
     let mut met = [0u8; LANES];
     by_strips(
-        s, funcs, params, p, z, c, g, l, u, w, from, to, k, &mut rows, &mut marks, &mut slow,
-        &mut fast, &mut met,
+        space, c, g, l, u, w, from, to, k, &mut rows, &mut marks, &mut slow, &mut fast, &mut met,
     )
 }

@@ -28,6 +28,16 @@ pub struct PerVariable {
     pub at: [u8; VARIABLES],
 }
 
+// What is searched: p parameters have values, and the sum variables sorts of these sizes; terms stand in the stream.
+#[derive(Clone, Copy)]
+pub struct Space<'a> {
+    pub s: &'a [u8],
+    pub funcs: &'a [u16],
+    pub params: PerVariable,
+    pub p: usize,
+    pub z: PerSum,
+}
+
 // The conditions of a summand: where each begins and ends, the block of assignments that it fails on as a whole;
 // how many there are, one more than the highest variable that they name, the lowest sum variable that they name, and where they all end.
 #[derive(Clone, Copy)]
@@ -191,10 +201,17 @@ pub fn find(
     }
     let g = grain(sizes, c.reach, p);
     let round = grain(sizes, c.low, p);
+    let space = Space {
+        s: s,
+        funcs: funcs,
+        params: params,
+        p: p,
+        z: sizes,
+    };
     if 1 < c.count {
         if let Some(t) = split(s, p, sizes, c, g, c.low) {
-            return find_parted(s, funcs, params, p, sizes, c, t, g, round, k);
+            return find_parted(&space, c, t, g, round, k);
         }
     }
-    find_rounds(s, funcs, params, p, sizes, c, g, round, k)
+    find_rounds(&space, c, g, round, k)
 }

@@ -7,7 +7,7 @@ ghost use Rattle.assignments.specs.Conditions.{env, holds, tried_of, Tested, Fin
 ghost use Rattle.assignments.specs.Parting.{Standing, asked, part_met, Part};
 
 use crate::in_rows::{find_rows, first_row};
-use crate::{Conditions, PerSum, PerVariable, environment, values, wide_block};
+use crate::{Conditions, Space, environment, values, wide_block};
 
 // The first number of the next block of d.
 pub fn next(j: usize, d: usize) -> usize
@@ -48,26 +48,22 @@ pub fn test(s: &[u8], funcs: &[u16], e: &[u8], c: &Conditions, least: u32) -> u3
 
 // The k-th of the assignments from `from` on and before `to` that meet the conditions asked, or how much of k is left; what they say changes only between blocks of g.
 pub fn find_from(
-    s: &[u8],
-    funcs: &[u16],
-    params: PerVariable,
-    p: usize,
-    z: PerSum,
+    space: &Space,
     c: &Conditions,
     g: usize,
     from: usize,
     to: usize,
     k: u64,
 ) -> Result<usize, u64>
-    requires { (p ≤ frame_width) × (((i : ℕ) → p ≤ i → get_or params.at i 0 ≡ 0) × ((c.now.count ≤ max_conditions) × (Sizes z.at × ((to ≤ 131072) × ((0 < g) × (g ≤ 65536)))))) }
-    ensures { IfOk result (λ at. at ≤ to) × (IfErr result (λ left. left ≤ k) × ((l : ℕ) → g ≡ product (drop l z.at) → ((i : ℕ) → i < c.now.count → Part s.now p z.at c.now.froms c.now.ends c.now.blocks g i) → Finds (places (λ j. part_met s.now funcs.now c.now.froms c.now.ends c.now.blocks c.now.count (env p params.at (digits_of z.at j))) (to - from) from) k result)) }
+    requires { (space.now.p ≤ frame_width) × (((i : ℕ) → space.now.p ≤ i → get_or space.now.params.at i 0 ≡ 0) × ((c.now.count ≤ max_conditions) × (Sizes space.now.z.at × ((to ≤ 131072) × ((0 < g) × (g ≤ 65536)))))) }
+    ensures { IfOk result (λ at. at ≤ to) × (IfErr result (λ left. left ≤ k) × ((l : ℕ) → g ≡ product (drop l space.now.z.at) → ((i : ℕ) → i < c.now.count → Part space.now.s.now space.now.p space.now.z.at c.now.froms c.now.ends c.now.blocks g i) → Finds (places (λ j. part_met space.now.s.now space.now.funcs.now c.now.froms c.now.ends c.now.blocks c.now.count (env space.now.p space.now.params.at (digits_of space.now.z.at j))) (to - from) from) k result)) }
 {
     let mut j = from;
     let mut left = k;
-    let mut start = first_row(z, g, from, to);
+    let mut start = first_row(space.z, g, from, to);
     while j < to {
         if start <= j {
-            let r = match find_rows(s, funcs, params, p, z, c, g, j, to, left) {
+            let r = match find_rows(space, c, g, j, to, left) {
                 Ok(at) => return Ok(at),
                 Err(r) => r,
             };
@@ -76,9 +72,9 @@ pub fn find_from(
             j = r.at;
             continue;
         }
-        let e = environment(params, p, values(z, j));
+        let e = environment(space.params, space.p, values(space.z, j));
         let a = e.at;
-        let d = test(s, funcs, &a, c, 0);
+        let d = test(space.s, space.funcs, &a, c, 0);
         if d == 0 {
             let r = next(j, g).min(to);
             let m = (r - j) as u64;
@@ -95,19 +91,9 @@ pub fn find_from(
 }
 
 // The same from the first assignment on.
-pub fn find_in(
-    s: &[u8],
-    funcs: &[u16],
-    params: PerVariable,
-    p: usize,
-    z: PerSum,
-    c: &Conditions,
-    g: usize,
-    total: usize,
-    k: u64,
-) -> Result<usize, u64>
-    requires { (p ≤ frame_width) × (((i : ℕ) → p ≤ i → get_or params.at i 0 ≡ 0) × ((c.now.count ≤ max_conditions) × (Sizes z.at × ((total ≤ 65536) × ((0 < g) × (g ≤ 65536)))))) }
-    ensures { IfOk result (λ at. at ≤ 65536) × (IfErr result (λ left. left ≤ k) × ((l : ℕ) → g ≡ product (drop l z.at) → ((i : ℕ) → i < c.now.count → Part s.now p z.at c.now.froms c.now.ends c.now.blocks g i) → Finds (places (λ j. part_met s.now funcs.now c.now.froms c.now.ends c.now.blocks c.now.count (env p params.at (digits_of z.at j))) total 0) k result)) }
+pub fn find_in(space: &Space, c: &Conditions, g: usize, total: usize, k: u64) -> Result<usize, u64>
+    requires { (space.now.p ≤ frame_width) × (((i : ℕ) → space.now.p ≤ i → get_or space.now.params.at i 0 ≡ 0) × ((c.now.count ≤ max_conditions) × (Sizes space.now.z.at × ((total ≤ 65536) × ((0 < g) × (g ≤ 65536)))))) }
+    ensures { IfOk result (λ at. at ≤ 65536) × (IfErr result (λ left. left ≤ k) × ((l : ℕ) → g ≡ product (drop l space.now.z.at) → ((i : ℕ) → i < c.now.count → Part space.now.s.now space.now.p space.now.z.at c.now.froms c.now.ends c.now.blocks g i) → Finds (places (λ j. part_met space.now.s.now space.now.funcs.now c.now.froms c.now.ends c.now.blocks c.now.count (env space.now.p space.now.params.at (digits_of space.now.z.at j))) total 0) k result)) }
 {
-    find_from(s, funcs, params, p, z, c, g, 0, total, k)
+    find_from(space, c, g, 0, total, k)
 }

@@ -6,26 +6,22 @@ ghost use Rattle.assignments.specs.Conditions.{env, Finds};
 ghost use Rattle.assignments.specs.Parting.{part_met, Part, Above};
 
 use crate::gaps::{find_once, gap_of};
-use crate::{Conditions, PerSum, PerVariable, block_size};
+use crate::{Conditions, Space, block_size};
 
 // The k-th of all assignments that meet the conditions asked, or how much of k is left: they say the same again after each round.
 pub fn find_rounds(
-    s: &[u8],
-    funcs: &[u16],
-    params: PerVariable,
-    p: usize,
-    z: PerSum,
+    space: &Space,
     c: &Conditions,
     g: usize,
     round: usize,
     k: u64,
 ) -> Result<usize, u64>
-    requires { (p ≤ frame_width) × (((i : ℕ) → p ≤ i → get_or params.at i 0 ≡ 0) × ((c.now.count ≤ max_conditions) × (Sizes z.at × ((round ≤ 65536) × ((0 < round) × ((0 < g) × (g ≤ 65536))))))) }
-    ensures { IfOk result (λ at. at ≤ 262144) × (IfErr result (λ left. left ≤ k) × ((l low : ℕ) → g ≡ product (drop l z.at) → round ≡ product (drop (low - p) z.at) → ((i : ℕ) → i < c.now.count → Part s.now p z.at c.now.froms c.now.ends c.now.blocks g i) → Above s.now p c.now.froms c.now.ends c.now.blocks c.now.count low → Finds (places (λ j. part_met s.now funcs.now c.now.froms c.now.ends c.now.blocks c.now.count (env p params.at (digits_of z.at j))) (product z.at) 0) k result)) }
+    requires { (space.now.p ≤ frame_width) × (((i : ℕ) → space.now.p ≤ i → get_or space.now.params.at i 0 ≡ 0) × ((c.now.count ≤ max_conditions) × (Sizes space.now.z.at × ((round ≤ 65536) × ((0 < round) × ((0 < g) × (g ≤ 65536))))))) }
+    ensures { IfOk result (λ at. at ≤ 262144) × (IfErr result (λ left. left ≤ k) × ((l low : ℕ) → g ≡ product (drop l space.now.z.at) → round ≡ product (drop (low - space.now.p) space.now.z.at) → ((i : ℕ) → i < c.now.count → Part space.now.s.now space.now.p space.now.z.at c.now.froms c.now.ends c.now.blocks g i) → Above space.now.s.now space.now.p c.now.froms c.now.ends c.now.blocks c.now.count low → Finds (places (λ j. part_met space.now.s.now space.now.funcs.now c.now.froms c.now.ends c.now.blocks c.now.count (env space.now.p space.now.params.at (digits_of space.now.z.at j))) (product space.now.z.at) 0) k result)) }
 {
-    let total = block_size(z, 0);
-    let t = gap_of(s, p, z, c, g, round);
-    let left = match find_once(s, funcs, params, p, z, c, g, t, round, k) {
+    let total = block_size(space.z, 0);
+    let t = gap_of(space.s, space.p, space.z, c, g, round);
+    let left = match find_once(space, c, g, t, round, k) {
         Ok(at) => return Ok(at),
         Err(left) => left,
     };
@@ -42,6 +38,6 @@ pub fn find_rounds(
         return Err(k - m * rounds);
     }
     let i = k % m;
-    let at = find_once(s, funcs, params, p, z, c, g, t, round, i)?;
+    let at = find_once(space, c, g, t, round, i)?;
     Ok((q as usize) * round + at)
 }

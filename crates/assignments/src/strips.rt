@@ -10,9 +10,7 @@ ghost use Rattle.assignments.specs.Lanes.{inner, Sifted, RowMet, Strip, Lent, Ro
 
 use crate::in_rows::narrow;
 use crate::one_part::{next, test};
-use crate::{
-    Conditions, PerSum, PerVariable, Reached, block_size, environment, values, wide_block,
-};
+use crate::{Conditions, Reached, Space, block_size, environment, values, wide_block};
 use elements::wide;
 use evaluation::lanes::LANES;
 
@@ -204,11 +202,7 @@ fn in_lanes(
 
 // The same for a strip that begins with assignment j, or past a block that the conditions shut out.
 fn in_strip(
-    s: &[u8],
-    funcs: &[u16],
-    params: PerVariable,
-    p: usize,
-    z: PerSum,
+    space: &Space,
     c: &Conditions,
     g: usize,
     l: usize,
@@ -223,33 +217,34 @@ fn in_strip(
     fast: &mut [u8],
     met: &mut [u8],
 ) -> Result<usize, Reached>
-    requires { ((p ≤ frame_width) × (((i : ℕ) → p ≤ i → get_or params.at i 0 ≡ 0) × ((c.now.count ≤ max_conditions) × (Sizes z.at × ((to ≤ 131072) × ((0 < g) × (g ≤ 65536))))))) × ((j < to) × (Rowed z.at l u g w × Lent rows.old marks.old slow.old fast.old met.old)) }
-    ensures { IfOk result (λ at. at ≤ to) × (IfErr result (λ r. j ≤ r.at) × (IfErr result (λ r. r.left ≤ k) × (((i : ℕ) → i < c.now.count → Part s.now p z.at c.now.froms c.now.ends c.now.blocks g i) → Marked rows.old marks.old → Zeros rows.old → Marked rows.new marks.new × (Zeros rows.new × Came (λ j. part_met s.now funcs.now c.now.froms c.now.ends c.now.blocks c.now.count (env p params.at (digits_of z.at j))) to j k result)))) }
+    requires { ((space.now.p ≤ frame_width) × (((i : ℕ) → space.now.p ≤ i → get_or space.now.params.at i 0 ≡ 0) × ((c.now.count ≤ max_conditions) × (Sizes space.now.z.at × ((to ≤ 131072) × ((0 < g) × (g ≤ 65536))))))) × ((j < to) × (Rowed space.now.z.at l u g w × Lent rows.old marks.old slow.old fast.old met.old)) }
+    ensures { IfOk result (λ at. at ≤ to) × (IfErr result (λ r. j ≤ r.at) × (IfErr result (λ r. r.left ≤ k) × (((i : ℕ) → i < c.now.count → Part space.now.s.now space.now.p space.now.z.at c.now.froms c.now.ends c.now.blocks g i) → Marked rows.old marks.old → Zeros rows.old → Marked rows.new marks.new × (Zeros rows.new × Came (λ j. part_met space.now.s.now space.now.funcs.now c.now.froms c.now.ends c.now.blocks c.now.count (env space.now.p space.now.params.at (digits_of space.now.z.at j))) to j k result)))) }
 {
     if j % w != 0 {
         return Err(Reached { at: j, left: k });
     }
-    let b = narrow(block_size(z, u));
-    let e = environment(params, p, values(z, j));
+    let b = narrow(block_size(space.z, u));
+    let e = environment(space.params, space.p, values(space.z, j));
     let a = e.at;
-    let d = test(s, funcs, &a, c, b - 1);
+    let d = test(space.s, space.funcs, &a, c, b - 1);
     if b <= d {
         let at = next(j, wide_block(d));
         return Err(Reached { at: at, left: k });
     }
+    let z = space.z;
     let sizes = z.at;
     let size = sizes[l];
-    let first = a[p + u];
+    let first = a[space.p + u];
     let m = rows_in(size, sizes[u], first);
     if m == 0 {
         return Err(Reached { at: j, left: k });
     }
     in_lanes(
-        s,
-        funcs,
+        space.s,
+        space.funcs,
         &a,
-        p + u,
-        p + l,
+        space.p + u,
+        space.p + l,
         size,
         first,
         m * wide(size),
@@ -269,11 +264,7 @@ fn in_strip(
 
 // The same for one strip after another, up to `to`.
 pub fn by_strips(
-    s: &[u8],
-    funcs: &[u16],
-    params: PerVariable,
-    p: usize,
-    z: PerSum,
+    space: &Space,
     c: &Conditions,
     g: usize,
     l: usize,
@@ -288,14 +279,14 @@ pub fn by_strips(
     fast: &mut [u8],
     met: &mut [u8],
 ) -> Result<usize, Reached>
-    requires { ((p ≤ frame_width) × (((i : ℕ) → p ≤ i → get_or params.at i 0 ≡ 0) × ((c.now.count ≤ max_conditions) × (Sizes z.at × ((to ≤ 131072) × ((0 < g) × (g ≤ 65536))))))) × (Rowed z.at l u g w × Lent rows.old marks.old slow.old fast.old met.old) }
-    ensures { IfOk result (λ at. at ≤ to) × (IfErr result (λ r. from ≤ r.at) × (IfErr result (λ r. r.left ≤ k) × (((i : ℕ) → i < c.now.count → Part s.now p z.at c.now.froms c.now.ends c.now.blocks g i) → Marked rows.old marks.old → Zeros rows.old → Came (λ j. part_met s.now funcs.now c.now.froms c.now.ends c.now.blocks c.now.count (env p params.at (digits_of z.at j))) to from k result))) }
+    requires { ((space.now.p ≤ frame_width) × (((i : ℕ) → space.now.p ≤ i → get_or space.now.params.at i 0 ≡ 0) × ((c.now.count ≤ max_conditions) × (Sizes space.now.z.at × ((to ≤ 131072) × ((0 < g) × (g ≤ 65536))))))) × (Rowed space.now.z.at l u g w × Lent rows.old marks.old slow.old fast.old met.old) }
+    ensures { IfOk result (λ at. at ≤ to) × (IfErr result (λ r. from ≤ r.at) × (IfErr result (λ r. r.left ≤ k) × (((i : ℕ) → i < c.now.count → Part space.now.s.now space.now.p space.now.z.at c.now.froms c.now.ends c.now.blocks g i) → Marked rows.old marks.old → Zeros rows.old → Came (λ j. part_met space.now.s.now space.now.funcs.now c.now.froms c.now.ends c.now.blocks c.now.count (env space.now.p space.now.params.at (digits_of space.now.z.at j))) to from k result))) }
 {
     let mut j = from;
     let mut left = k;
     while j < to {
         let r = match in_strip(
-            s, funcs, params, p, z, c, g, l, u, w, j, to, left, rows, marks, slow, fast, met,
+            space, c, g, l, u, w, j, to, left, rows, marks, slow, fast, met,
         ) {
             Ok(at) => return Ok(at),
             Err(r) => r,

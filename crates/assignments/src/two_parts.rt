@@ -8,7 +8,7 @@ ghost use Rattle.assignments.specs.Parting.{Apart};
 use crate::gaps::term_low;
 use crate::one_part::find_in;
 use crate::rounds::find_rounds;
-use crate::{Conditions, Parts, PerSum, PerVariable, block_size, grain, wide_block};
+use crate::{Conditions, Parts, PerSum, Space, block_size, grain, wide_block};
 use limits::{MAX_CONDITIONS, VARIABLES};
 
 // The conditions in two parts: blocks of the early ones, which are of b assignments at least, and of the late ones; 0 for a condition that is not of the part.
@@ -91,19 +91,15 @@ pub fn split(
 
 // The k-th assignment that meets the conditions of both parts: each block that the early ones accept has in it what the late ones accept of one.
 pub fn find_parted(
-    s: &[u8],
-    funcs: &[u16],
-    params: PerVariable,
-    p: usize,
-    z: PerSum,
+    space: &Space,
     c: &Conditions,
     t: Parts,
     g: usize,
     round: usize,
     k: u64,
 ) -> Result<usize, u64>
-    requires { (p ≤ frame_width) × (((i : ℕ) → p ≤ i → get_or params.at i 0 ≡ 0) × ((c.now.count ≤ max_conditions) × (Sizes z.at × ((round ≤ 65536) × ((0 < round) × ((0 < g) × ((g ≤ 65536) × ((0 < t.grain) × (t.grain ≤ 65536))))))))) }
-    ensures { (blocks : List ℕ) (reach low : ℕ) → g ≡ product (drop (reach - p) z.at) → round ≡ product (drop (low - p) z.at) → ((i : ℕ) → i < c.now.count → Ready s.now p z.at c.now.froms c.now.ends blocks reach low i) → Apart s.now p z.at c.now.froms c.now.ends blocks c.now.count t → Finds (places (λ j. met s.now funcs.now c.now.froms c.now.ends c.now.count (env p params.at (digits_of z.at j))) (product z.at) 0) k result }
+    requires { (space.now.p ≤ frame_width) × (((i : ℕ) → space.now.p ≤ i → get_or space.now.params.at i 0 ≡ 0) × ((c.now.count ≤ max_conditions) × (Sizes space.now.z.at × ((round ≤ 65536) × ((0 < round) × ((0 < g) × ((g ≤ 65536) × ((0 < t.grain) × (t.grain ≤ 65536))))))))) }
+    ensures { (blocks : List ℕ) (reach low : ℕ) → g ≡ product (drop (reach - space.now.p) space.now.z.at) → round ≡ product (drop (low - space.now.p) space.now.z.at) → ((i : ℕ) → i < c.now.count → Ready space.now.s.now space.now.p space.now.z.at c.now.froms c.now.ends blocks reach low i) → Apart space.now.s.now space.now.p space.now.z.at c.now.froms c.now.ends blocks c.now.count t → Finds (places (λ j. met space.now.s.now space.now.funcs.now c.now.froms c.now.ends c.now.count (env space.now.p space.now.params.at (digits_of space.now.z.at j))) (product space.now.z.at) 0) k result }
 {
     let mut early = *c;
     let blocks = t.early;
@@ -112,11 +108,11 @@ pub fn find_parted(
     let blocks = t.late;
     late.blocks = blocks;
     let d = t.grain;
-    let b = grain(z, t.low, p);
+    let b = grain(space.z, t.low, space.p);
     let w = b as u64;
-    let total = block_size(z, 0) as u64;
+    let total = block_size(space.z, 0) as u64;
     // More is asked for than there is, so what is left says how many are met.
-    let left = match find_in(s, funcs, params, p, z, &late, g, b, w) {
+    let left = match find_in(space, &late, g, b, w) {
         Ok(_) => return Err(k),
         Err(left) => left,
     };
@@ -125,9 +121,9 @@ pub fn find_parted(
         return Err(k);
     }
     let q = (k / m).min(total) * w;
-    match find_rounds(s, funcs, params, p, z, &early, d, round, q) {
+    match find_rounds(space, &early, d, round, q) {
         Ok(first) => {
-            let at = find_in(s, funcs, params, p, z, &late, g, b, k % m)?;
+            let at = find_in(space, &late, g, b, k % m)?;
             Ok(first + at)
         }
         Err(rest) => Err(k - (q - rest) / w * m),

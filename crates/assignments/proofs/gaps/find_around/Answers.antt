@@ -10,7 +10,6 @@ use lib.ListN.{length, get_or}
 use Rattle.assignments.specs.Places.{digits_of}
 use Rattle.assignments.specs.Conditions.{env}
 use Rattle.assignments.specs.Parting.{part_met}
-use Rattle.assignments.proofs.Counter.{per_sum_length, per_variable_length}
 use Rattle.assignments.proofs.Passing.{going_start, none_left, from_first}
 use Rattle.assignments.proofs.Between.{rounds_pos, later_below, past_below, around_first, around_later, around_past, turn_same, turn_fits, turn_whole, turn_next}
 use Rattle.assignments.proofs.gaps.find_around.Goals as goal
@@ -32,12 +31,12 @@ returns-in-Ok c = let q = c.requires in (
   omega (arith, c.in-Ok.ensures.0, q.1.1.1.1.0, q.1.1.1.1.1.1.1),
   (
     tt,
-    λ l m ge te part gapped. let a = c.args in let here = c.loop-j in let len = per_sum_length a.z _ c.well_formed.1.1.1.1.0 in
-        let positive : (i : ℕ) → i < length a.z.at → 0 < get_or a.z.at i 0 = λ i h. (c.requires.1.1.1.0 i (omega arith)).0 in
-        let few : a.p ≤ length a.params.at = let w = per_variable_length a.params _ c.well_formed.1.1.0 in omega (arith, c.requires.0) in
-        let acc : ℕ → Bool = λ i. part_met a.s.now a.funcs.now a.c.now.froms a.c.now.ends a.c.now.blocks a.c.now.count (env a.p a.params.at (digits_of a.z.at i)) in
+    λ l m ge te part gapped. let a = c.args in let here = c.loop-j in
+        let positive : (i : ℕ) → i < length a.space.now.z.at → 0 < get_or a.space.now.z.at i 0 = λ i h. (c.requires.1.1.1.0 i (omega arith)).0 in
+        let few : a.space.now.p ≤ length a.space.now.params.at = omega (arith, c.requires.0) in
+        let acc : ℕ → Bool = λ i. part_met a.space.now.s.now a.space.now.funcs.now a.c.now.froms a.c.now.ends a.c.now.blocks a.c.now.count (env a.space.now.p a.space.now.params.at (digits_of a.space.now.z.at i)) in
         let turn = here.invariant.1 l m ge te part gapped in
-        from_first acc a.total a.k (Ok c.in-Ok.at) (around_first acc here.j a.t.behind (a.t.before / a.t.behind) a.t.before (turn_whole a.s.now a.funcs.now a.c.now.froms a.c.now.ends a.c.now.blocks a.c.now.count a.p a.z.at a.params.at few positive a.total a.t.before a.t.behind gapped m te a.k here.j here.left turn c.loop-j-test.true) (rounds_pos a.t.before a.t.behind c.requires.1.1.1.1.1.1.1.0 c.requires.1.1.1.1.1.1.1.1.0) (turn_same a.s.now a.funcs.now a.c.now.froms a.c.now.ends a.c.now.blocks a.c.now.count a.p a.z.at a.params.at few positive a.total a.t.before a.t.behind gapped m te a.k here.j here.left turn c.loop-j-test.true) a.total 0 a.k here.left (turn_fits a.s.now a.funcs.now a.c.now.froms a.c.now.ends a.c.now.blocks a.c.now.count a.p a.z.at a.params.at few positive a.total a.t.before a.t.behind gapped m te a.k here.j here.left turn c.loop-j-test.true) turn.2 c.in-Ok.at (c.in-Ok.ensures.1.1 l ge part)),
+        from_first acc a.total a.k (Ok c.in-Ok.at) (around_first acc here.j a.t.behind (a.t.before / a.t.behind) a.t.before (turn_whole a.space.now.s.now a.space.now.funcs.now a.c.now.froms a.c.now.ends a.c.now.blocks a.c.now.count a.space.now.p a.space.now.z.at a.space.now.params.at few positive a.total a.t.before a.t.behind gapped m te a.k here.j here.left turn c.loop-j-test.true) (rounds_pos a.t.before a.t.behind c.requires.1.1.1.1.1.1.1.0 c.requires.1.1.1.1.1.1.1.1.0) (turn_same a.space.now.s.now a.space.now.funcs.now a.c.now.froms a.c.now.ends a.c.now.blocks a.c.now.count a.space.now.p a.space.now.z.at a.space.now.params.at few positive a.total a.t.before a.t.behind gapped m te a.k here.j here.left turn c.loop-j-test.true) a.total 0 a.k here.left (turn_fits a.space.now.s.now a.space.now.funcs.now a.c.now.froms a.c.now.ends a.c.now.blocks a.c.now.count a.space.now.p a.space.now.z.at a.space.now.params.at few positive a.total a.t.before a.t.behind gapped m te a.k here.j here.left turn c.loop-j-test.true) turn.2 c.in-Ok.at (c.in-Ok.ensures.1.1 l ge part)),
   ),
 )
 
@@ -61,12 +60,12 @@ returns-in_err-at c = let p = err_from_is_err_and c.from_residual.result c.from_
   tt,
   (
     omega (arith, c.in_err-at.ensures.1.0, mod-le c.loop-j.left (c.loop-j.left - c.in-Err.rest), c.loop-j.invariant.0),
-    λ l m ge te part gapped. let a = c.args in let here = c.loop-j in let len = per_sum_length a.z _ c.well_formed.1.1.1.1.0 in
-        let positive : (i : ℕ) → i < length a.z.at → 0 < get_or a.z.at i 0 = λ i h. (c.requires.1.1.1.0 i (omega arith)).0 in
-        let few : a.p ≤ length a.params.at = let w = per_variable_length a.params _ c.well_formed.1.1.0 in omega (arith, c.requires.0) in
-        let acc : ℕ → Bool = λ i. part_met a.s.now a.funcs.now a.c.now.froms a.c.now.ends a.c.now.blocks a.c.now.count (env a.p a.params.at (digits_of a.z.at i)) in
+    λ l m ge te part gapped. let a = c.args in let here = c.loop-j in
+        let positive : (i : ℕ) → i < length a.space.now.z.at → 0 < get_or a.space.now.z.at i 0 = λ i h. (c.requires.1.1.1.0 i (omega arith)).0 in
+        let few : a.space.now.p ≤ length a.space.now.params.at = omega (arith, c.requires.0) in
+        let acc : ℕ → Bool = λ i. part_met a.space.now.s.now a.space.now.funcs.now a.c.now.froms a.c.now.ends a.c.now.blocks a.c.now.count (env a.space.now.p a.space.now.params.at (digits_of a.space.now.z.at i)) in
         let turn = here.invariant.1 l m ge te part gapped in
-        absurd (around_later acc here.j a.t.behind (a.t.before / a.t.behind) a.t.before (turn_whole a.s.now a.funcs.now a.c.now.froms a.c.now.ends a.c.now.blocks a.c.now.count a.p a.z.at a.params.at few positive a.total a.t.before a.t.behind gapped m te a.k here.j here.left turn c.loop-j-test.true) (rounds_pos a.t.before a.t.behind c.requires.1.1.1.1.1.1.1.0 c.requires.1.1.1.1.1.1.1.1.0) (turn_same a.s.now a.funcs.now a.c.now.froms a.c.now.ends a.c.now.blocks a.c.now.count a.p a.z.at a.params.at few positive a.total a.t.before a.t.behind gapped m te a.k here.j here.left turn c.loop-j-test.true) a.total 0 a.k here.left (turn_fits a.s.now a.funcs.now a.c.now.froms a.c.now.ends a.c.now.blocks a.c.now.count a.p a.z.at a.params.at few positive a.total a.t.before a.t.behind gapped m te a.k here.j here.left turn c.loop-j-test.true) turn.2 c.in-Err.rest (c.in-Err.ensures.1.1 l ge part) (here.left - c.in-Err.rest) refl c.if-left-rounds.true (Err _) (c.in_err-at.ensures.1.1 l ge part)),
+        absurd (around_later acc here.j a.t.behind (a.t.before / a.t.behind) a.t.before (turn_whole a.space.now.s.now a.space.now.funcs.now a.c.now.froms a.c.now.ends a.c.now.blocks a.c.now.count a.space.now.p a.space.now.z.at a.space.now.params.at few positive a.total a.t.before a.t.behind gapped m te a.k here.j here.left turn c.loop-j-test.true) (rounds_pos a.t.before a.t.behind c.requires.1.1.1.1.1.1.1.0 c.requires.1.1.1.1.1.1.1.1.0) (turn_same a.space.now.s.now a.space.now.funcs.now a.c.now.froms a.c.now.ends a.c.now.blocks a.c.now.count a.space.now.p a.space.now.z.at a.space.now.params.at few positive a.total a.t.before a.t.behind gapped m te a.k here.j here.left turn c.loop-j-test.true) a.total 0 a.k here.left (turn_fits a.space.now.s.now a.space.now.funcs.now a.c.now.froms a.c.now.ends a.c.now.blocks a.c.now.count a.space.now.p a.space.now.z.at a.space.now.params.at few positive a.total a.t.before a.t.behind gapped m te a.k here.j here.left turn c.loop-j-test.true) turn.2 c.in-Err.rest (c.in-Err.ensures.1.1 l ge part) (here.left - c.in-Err.rest) refl c.if-left-rounds.true (Err _) (c.in_err-at.ensures.1.1 l ge part)),
   ),
 )
 
@@ -75,12 +74,12 @@ returns-then-left-rounds c = let q = c.requires in (
   omega (arith, later_below c.args.t.before c.args.t.behind c.loop-j.left (c.loop-j.left - c.in-Err.rest) c.requires.1.1.1.1.1.1.1.0 c.requires.1.1.1.1.1.1.1.1.0 c.if-left-rounds.true, c.in_ok-at.ensures.0, q.1.1.1.1.0, q.1.1.1.1.1.1.1),
   (
     tt,
-    λ l m ge te part gapped. let a = c.args in let here = c.loop-j in let len = per_sum_length a.z _ c.well_formed.1.1.1.1.0 in
-        let positive : (i : ℕ) → i < length a.z.at → 0 < get_or a.z.at i 0 = λ i h. (c.requires.1.1.1.0 i (omega arith)).0 in
-        let few : a.p ≤ length a.params.at = let w = per_variable_length a.params _ c.well_formed.1.1.0 in omega (arith, c.requires.0) in
-        let acc : ℕ → Bool = λ i. part_met a.s.now a.funcs.now a.c.now.froms a.c.now.ends a.c.now.blocks a.c.now.count (env a.p a.params.at (digits_of a.z.at i)) in
+    λ l m ge te part gapped. let a = c.args in let here = c.loop-j in
+        let positive : (i : ℕ) → i < length a.space.now.z.at → 0 < get_or a.space.now.z.at i 0 = λ i h. (c.requires.1.1.1.0 i (omega arith)).0 in
+        let few : a.space.now.p ≤ length a.space.now.params.at = omega (arith, c.requires.0) in
+        let acc : ℕ → Bool = λ i. part_met a.space.now.s.now a.space.now.funcs.now a.c.now.froms a.c.now.ends a.c.now.blocks a.c.now.count (env a.space.now.p a.space.now.params.at (digits_of a.space.now.z.at i)) in
         let turn = here.invariant.1 l m ge te part gapped in
-        from_first acc a.total a.k _ (around_later acc here.j a.t.behind (a.t.before / a.t.behind) a.t.before (turn_whole a.s.now a.funcs.now a.c.now.froms a.c.now.ends a.c.now.blocks a.c.now.count a.p a.z.at a.params.at few positive a.total a.t.before a.t.behind gapped m te a.k here.j here.left turn c.loop-j-test.true) (rounds_pos a.t.before a.t.behind c.requires.1.1.1.1.1.1.1.0 c.requires.1.1.1.1.1.1.1.1.0) (turn_same a.s.now a.funcs.now a.c.now.froms a.c.now.ends a.c.now.blocks a.c.now.count a.p a.z.at a.params.at few positive a.total a.t.before a.t.behind gapped m te a.k here.j here.left turn c.loop-j-test.true) a.total 0 a.k here.left (turn_fits a.s.now a.funcs.now a.c.now.froms a.c.now.ends a.c.now.blocks a.c.now.count a.p a.z.at a.params.at few positive a.total a.t.before a.t.behind gapped m te a.k here.j here.left turn c.loop-j-test.true) turn.2 c.in-Err.rest (c.in-Err.ensures.1.1 l ge part) (here.left - c.in-Err.rest) refl c.if-left-rounds.true (Ok c.in_ok-at.at) (c.in_ok-at.ensures.1.1 l ge part)),
+        from_first acc a.total a.k _ (around_later acc here.j a.t.behind (a.t.before / a.t.behind) a.t.before (turn_whole a.space.now.s.now a.space.now.funcs.now a.c.now.froms a.c.now.ends a.c.now.blocks a.c.now.count a.space.now.p a.space.now.z.at a.space.now.params.at few positive a.total a.t.before a.t.behind gapped m te a.k here.j here.left turn c.loop-j-test.true) (rounds_pos a.t.before a.t.behind c.requires.1.1.1.1.1.1.1.0 c.requires.1.1.1.1.1.1.1.1.0) (turn_same a.space.now.s.now a.space.now.funcs.now a.c.now.froms a.c.now.ends a.c.now.blocks a.c.now.count a.space.now.p a.space.now.z.at a.space.now.params.at few positive a.total a.t.before a.t.behind gapped m te a.k here.j here.left turn c.loop-j-test.true) a.total 0 a.k here.left (turn_fits a.space.now.s.now a.space.now.funcs.now a.c.now.froms a.c.now.ends a.c.now.blocks a.c.now.count a.space.now.p a.space.now.z.at a.space.now.params.at few positive a.total a.t.before a.t.behind gapped m te a.k here.j here.left turn c.loop-j-test.true) turn.2 c.in-Err.rest (c.in-Err.ensures.1.1 l ge part) (here.left - c.in-Err.rest) refl c.if-left-rounds.true (Ok c.in_ok-at.at) (c.in_ok-at.ensures.1.1 l ge part)),
   ),
 )
 
@@ -99,12 +98,12 @@ loop-j-smaller c = omega (arith, c.requires.1.1.1.1.1.1.1.0, c.requires.1.1.1.1.
 pub loop-j-preserved : goal.loop-j-preserved
 loop-j-preserved c = (
   omega arith,
-  λ l m ge te part gapped. let a = c.args in let here = c.loop-j in let len = per_sum_length a.z _ c.well_formed.1.1.1.1.0 in
-      let positive : (i : ℕ) → i < length a.z.at → 0 < get_or a.z.at i 0 = λ i h. (c.requires.1.1.1.0 i (omega arith)).0 in
-      let few : a.p ≤ length a.params.at = let w = per_variable_length a.params _ c.well_formed.1.1.0 in omega (arith, c.requires.0) in
-      let acc : ℕ → Bool = λ i. part_met a.s.now a.funcs.now a.c.now.froms a.c.now.ends a.c.now.blocks a.c.now.count (env a.p a.params.at (digits_of a.z.at i)) in
+  λ l m ge te part gapped. let a = c.args in let here = c.loop-j in
+      let positive : (i : ℕ) → i < length a.space.now.z.at → 0 < get_or a.space.now.z.at i 0 = λ i h. (c.requires.1.1.1.0 i (omega arith)).0 in
+      let few : a.space.now.p ≤ length a.space.now.params.at = omega (arith, c.requires.0) in
+      let acc : ℕ → Bool = λ i. part_met a.space.now.s.now a.space.now.funcs.now a.c.now.froms a.c.now.ends a.c.now.blocks a.c.now.count (env a.space.now.p a.space.now.params.at (digits_of a.space.now.z.at i)) in
       let turn = here.invariant.1 l m ge te part gapped in
-      turn_next a.s.now a.funcs.now a.c.now.froms a.c.now.ends a.c.now.blocks a.c.now.count a.p a.z.at a.params.at few positive a.total a.t.before a.t.behind gapped m te a.k here.j here.left turn c.loop-j-test.true (here.left - (c.loop-j.left - c.in-Err.rest) * (a.t.before / a.t.behind)) (around_past acc here.j a.t.behind (a.t.before / a.t.behind) a.t.before (turn_whole a.s.now a.funcs.now a.c.now.froms a.c.now.ends a.c.now.blocks a.c.now.count a.p a.z.at a.params.at few positive a.total a.t.before a.t.behind gapped m te a.k here.j here.left turn c.loop-j-test.true) (rounds_pos a.t.before a.t.behind c.requires.1.1.1.1.1.1.1.0 c.requires.1.1.1.1.1.1.1.1.0) (turn_same a.s.now a.funcs.now a.c.now.froms a.c.now.ends a.c.now.blocks a.c.now.count a.p a.z.at a.params.at few positive a.total a.t.before a.t.behind gapped m te a.k here.j here.left turn c.loop-j-test.true) a.total 0 a.k here.left (turn_fits a.s.now a.funcs.now a.c.now.froms a.c.now.ends a.c.now.blocks a.c.now.count a.p a.z.at a.params.at few positive a.total a.t.before a.t.behind gapped m te a.k here.j here.left turn c.loop-j-test.true) turn.2 c.in-Err.rest (c.in-Err.ensures.1.1 l ge part) (here.left - c.in-Err.rest) refl c.if-left-rounds.false),
+      turn_next a.space.now.s.now a.space.now.funcs.now a.c.now.froms a.c.now.ends a.c.now.blocks a.c.now.count a.space.now.p a.space.now.z.at a.space.now.params.at few positive a.total a.t.before a.t.behind gapped m te a.k here.j here.left turn c.loop-j-test.true (here.left - (c.loop-j.left - c.in-Err.rest) * (a.t.before / a.t.behind)) (around_past acc here.j a.t.behind (a.t.before / a.t.behind) a.t.before (turn_whole a.space.now.s.now a.space.now.funcs.now a.c.now.froms a.c.now.ends a.c.now.blocks a.c.now.count a.space.now.p a.space.now.z.at a.space.now.params.at few positive a.total a.t.before a.t.behind gapped m te a.k here.j here.left turn c.loop-j-test.true) (rounds_pos a.t.before a.t.behind c.requires.1.1.1.1.1.1.1.0 c.requires.1.1.1.1.1.1.1.1.0) (turn_same a.space.now.s.now a.space.now.funcs.now a.c.now.froms a.c.now.ends a.c.now.blocks a.c.now.count a.space.now.p a.space.now.z.at a.space.now.params.at few positive a.total a.t.before a.t.behind gapped m te a.k here.j here.left turn c.loop-j-test.true) a.total 0 a.k here.left (turn_fits a.space.now.s.now a.space.now.funcs.now a.c.now.froms a.c.now.ends a.c.now.blocks a.c.now.count a.space.now.p a.space.now.z.at a.space.now.params.at few positive a.total a.t.before a.t.behind gapped m te a.k here.j here.left turn c.loop-j-test.true) turn.2 c.in-Err.rest (c.in-Err.ensures.1.1 l ge part) (here.left - c.in-Err.rest) refl c.if-left-rounds.false),
 )
 
 pub returns : goal.returns
@@ -112,10 +111,10 @@ returns c = (
   tt,
   (
     c.loop-j.invariant.0,
-    λ l m ge te part gapped. let a = c.args in let here = c.loop-j in let len = per_sum_length a.z _ c.well_formed.1.1.1.1.0 in
-        let positive : (i : ℕ) → i < length a.z.at → 0 < get_or a.z.at i 0 = λ i h. (c.requires.1.1.1.0 i (omega arith)).0 in
-        let few : a.p ≤ length a.params.at = let w = per_variable_length a.params _ c.well_formed.1.1.0 in omega (arith, c.requires.0) in
-        let acc : ℕ → Bool = λ i. part_met a.s.now a.funcs.now a.c.now.froms a.c.now.ends a.c.now.blocks a.c.now.count (env a.p a.params.at (digits_of a.z.at i)) in
+    λ l m ge te part gapped. let a = c.args in let here = c.loop-j in
+        let positive : (i : ℕ) → i < length a.space.now.z.at → 0 < get_or a.space.now.z.at i 0 = λ i h. (c.requires.1.1.1.0 i (omega arith)).0 in
+        let few : a.space.now.p ≤ length a.space.now.params.at = omega (arith, c.requires.0) in
+        let acc : ℕ → Bool = λ i. part_met a.space.now.s.now a.space.now.funcs.now a.c.now.froms a.c.now.ends a.c.now.blocks a.c.now.count (env a.space.now.p a.space.now.params.at (digits_of a.space.now.z.at i)) in
         let turn = here.invariant.1 l m ge te part gapped in
         from_first acc a.total a.k _ (none_left acc a.total 0 a.k here.j here.left c.loop-j-test.false turn.2),
   ),

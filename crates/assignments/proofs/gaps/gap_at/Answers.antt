@@ -1,7 +1,6 @@
 -- The blocks on both sides of the gap, which is as long as no condition names a variable.
 use native.Mathlib.Omega.{arith}
 use Prim.Native.Nat.{ℕ, ◌-◌, ◌<◌}
-use mathlib.Core.Path.{◌≡◌}
 use lib.ListN.{length, get_or}
 use Rattle.assignments.proofs.Counter.{per_sum_length}
 use Rattle.assignments.proofs.Blocks.{product_pos}

@@ -1,4 +1,4 @@
-use Prim.Native.Nat.{ℕ, ◌-◌, ◌≤◌, ◌<◌}
+use Prim.Native.Nat.{ℕ, ◌≤◌, ◌<◌}
 use Rattle.assignments.specs.Conditions.{Tested}
 use Rattle.assignments.specs.Parting.{Standing, asked}
 use Rattle.assignments.proofs.one_part.test.Given as goal

@@ -3,15 +3,14 @@ use native.Mathlib.Omega.{arith}
 use native.Mathlib.Nat.{mod-le}
 use Rattle.std.specs.Prelude.{Ok, Err, Option, IfSome}
 use Rattle.std.proofs.lemmas.Option.{IfSome_then}
-use Rattle.std.proofs.lemmas.Result.{IfOk-weaker, err_from_is_err_and}
+use Rattle.std.proofs.lemmas.Result.{err_from_is_err_and}
 use Prim.Native.Nat.{ℕ, ◌-◌, ◌*◌, ◌/◌, ◌≤◌, ◌<◌}
-use mathlib.Core.Path.{◌≡◌, refl, ap}
+use mathlib.Core.Path.{refl, ap}
 use mathlib.Core.List.{List}
 use lib.ListN.{length, get_or}
 use native.Mathlib.Nat.{mul-le-mul_left, mul-le-mul_right, mul-div-le, div-mul-le_self}
 use Rattle.assignments.specs.Parting.{Standing, Gapped}
 use Rattle.assignments.specs.declared.Gap.{Gap}
-use Rattle.assignments.proofs.Counter.{per_sum_length, per_variable_length}
 use Rattle.assignments.proofs.Periods.{search_whole, search_first, search_none, search_past, search_later}
 use Rattle.assignments.proofs.rounds.find_rounds.Goals as goal
 
@@ -31,11 +30,11 @@ returns-in-Ok c = (
   omega (arith, c.in-Ok.ensures.0),
   (
     tt,
-    λ l low e z part above. let a = c.args in let len = per_sum_length a.z _ c.well_formed.1.1.1.1.0 in
-        let positive : (i : ℕ) → i < length a.z.at → 0 < get_or a.z.at i 0 = λ i h. (c.requires.1.1.1.0 i (omega arith)).0 in
-        let few : a.p ≤ length a.params.at = let w = per_variable_length a.params _ c.well_formed.1.1.0 in omega (arith, c.requires.0) in
-        let gapped = gap_known a.s.now a.p a.z.at a.c.now.froms a.c.now.ends a.c.now.blocks a.c.now.count a.round c.gap_of-t.result c.gap_of-t.ensures (λ i k. (part i k).standing) in
-        search_first a.s.now a.funcs.now a.c.now.froms a.c.now.ends a.c.now.blocks a.c.now.count a.p low a.z.at a.params.at few positive above a.round z a.k c.in-Ok.at (c.in-Ok.ensures.1.1 l (low - a.p) e z part gapped),
+    λ l low e z part above. let a = c.args in
+        let positive : (i : ℕ) → i < length a.space.now.z.at → 0 < get_or a.space.now.z.at i 0 = λ i h. (c.requires.1.1.1.0 i (omega arith)).0 in
+        let few : a.space.now.p ≤ length a.space.now.params.at = omega (arith, c.requires.0) in
+        let gapped = gap_known a.space.now.s.now a.space.now.p a.space.now.z.at a.c.now.froms a.c.now.ends a.c.now.blocks a.c.now.count a.round c.gap_of-t.result c.gap_of-t.ensures (λ i k. (part i k).standing) in
+        search_first a.space.now.s.now a.space.now.funcs.now a.c.now.froms a.c.now.ends a.c.now.blocks a.c.now.count a.space.now.p low a.space.now.z.at a.space.now.params.at few positive above a.round z a.k c.in-Ok.at (c.in-Ok.ensures.1.1 l (low - a.space.now.p) e z part gapped),
   ),
 )
 
@@ -44,11 +43,11 @@ returns-then-m-eq0 c = (
   tt,
   (
     c.in-Err.ensures.1.0,
-    λ l low e z part above. let a = c.args in let len = per_sum_length a.z _ c.well_formed.1.1.1.1.0 in
-        let positive : (i : ℕ) → i < length a.z.at → 0 < get_or a.z.at i 0 = λ i h. (c.requires.1.1.1.0 i (omega arith)).0 in
-        let few : a.p ≤ length a.params.at = let w = per_variable_length a.params _ c.well_formed.1.1.0 in omega (arith, c.requires.0) in
-        let gapped = gap_known a.s.now a.p a.z.at a.c.now.froms a.c.now.ends a.c.now.blocks a.c.now.count a.round c.gap_of-t.result c.gap_of-t.ensures (λ i k. (part i k).standing) in
-        search_none a.s.now a.funcs.now a.c.now.froms a.c.now.ends a.c.now.blocks a.c.now.count a.p low a.z.at a.params.at few positive above a.round z a.k c.in-Err.left (c.in-Err.ensures.1.1 l (low - a.p) e z part gapped) (a.k - c.in-Err.left) refl (omega arith),
+    λ l low e z part above. let a = c.args in
+        let positive : (i : ℕ) → i < length a.space.now.z.at → 0 < get_or a.space.now.z.at i 0 = λ i h. (c.requires.1.1.1.0 i (omega arith)).0 in
+        let few : a.space.now.p ≤ length a.space.now.params.at = omega (arith, c.requires.0) in
+        let gapped = gap_known a.space.now.s.now a.space.now.p a.space.now.z.at a.c.now.froms a.c.now.ends a.c.now.blocks a.c.now.count a.round c.gap_of-t.result c.gap_of-t.ensures (λ i k. (part i k).standing) in
+        search_none a.space.now.s.now a.space.now.funcs.now a.c.now.froms a.c.now.ends a.c.now.blocks a.c.now.count a.space.now.p low a.space.now.z.at a.space.now.params.at few positive above a.round z a.k c.in-Err.left (c.in-Err.ensures.1.1 l (low - a.space.now.p) e z part gapped) (a.k - c.in-Err.left) refl (omega arith),
   ),
 )
 
@@ -57,11 +56,11 @@ returns-then-round-total c = (
   tt,
   (
     c.in-Err.ensures.1.0,
-    λ l low e z part above. let a = c.args in let len = per_sum_length a.z _ c.well_formed.1.1.1.1.0 in
-        let positive : (i : ℕ) → i < length a.z.at → 0 < get_or a.z.at i 0 = λ i h. (c.requires.1.1.1.0 i (omega arith)).0 in
-        let few : a.p ≤ length a.params.at = let w = per_variable_length a.params _ c.well_formed.1.1.0 in omega (arith, c.requires.0) in
-        let gapped = gap_known a.s.now a.p a.z.at a.c.now.froms a.c.now.ends a.c.now.blocks a.c.now.count a.round c.gap_of-t.result c.gap_of-t.ensures (λ i k. (part i k).standing) in
-        search_whole a.s.now a.funcs.now a.c.now.froms a.c.now.ends a.c.now.blocks a.c.now.count a.p low a.z.at a.params.at few positive above a.round z a.k (Err c.in-Err.left) (c.in-Err.ensures.1.1 l (low - a.p) e z part gapped) (omega (arith, c.block_size-total.ensures.0)),
+    λ l low e z part above. let a = c.args in
+        let positive : (i : ℕ) → i < length a.space.now.z.at → 0 < get_or a.space.now.z.at i 0 = λ i h. (c.requires.1.1.1.0 i (omega arith)).0 in
+        let few : a.space.now.p ≤ length a.space.now.params.at = omega (arith, c.requires.0) in
+        let gapped = gap_known a.space.now.s.now a.space.now.p a.space.now.z.at a.c.now.froms a.c.now.ends a.c.now.blocks a.c.now.count a.round c.gap_of-t.result c.gap_of-t.ensures (λ i k. (part i k).standing) in
+        search_whole a.space.now.s.now a.space.now.funcs.now a.c.now.froms a.c.now.ends a.c.now.blocks a.c.now.count a.space.now.p low a.space.now.z.at a.space.now.params.at few positive above a.round z a.k (Err c.in-Err.left) (c.in-Err.ensures.1.1 l (low - a.space.now.p) e z part gapped) (omega (arith, c.block_size-total.ensures.0)),
   ),
 )
 
@@ -79,11 +78,11 @@ returns-then-rounds-q c = (
   tt,
   (
     omega arith,
-    λ l low e z part above. let a = c.args in let len = per_sum_length a.z _ c.well_formed.1.1.1.1.0 in
-        let positive : (i : ℕ) → i < length a.z.at → 0 < get_or a.z.at i 0 = λ i h. (c.requires.1.1.1.0 i (omega arith)).0 in
-        let few : a.p ≤ length a.params.at = let w = per_variable_length a.params _ c.well_formed.1.1.0 in omega (arith, c.requires.0) in
-        let gapped = gap_known a.s.now a.p a.z.at a.c.now.froms a.c.now.ends a.c.now.blocks a.c.now.count a.round c.gap_of-t.result c.gap_of-t.ensures (λ i k. (part i k).standing) in
-        search_past a.s.now a.funcs.now a.c.now.froms a.c.now.ends a.c.now.blocks a.c.now.count a.p low a.z.at a.params.at few positive above a.round z a.k c.in-Err.left (c.in-Err.ensures.1.1 l (low - a.p) e z part gapped) (a.k - c.in-Err.left) refl (omega arith) (c.block_size-total.result / a.round) (ap (λ (x : ℕ). x / a.round) c.block_size-total.ensures.0) (omega arith),
+    λ l low e z part above. let a = c.args in
+        let positive : (i : ℕ) → i < length a.space.now.z.at → 0 < get_or a.space.now.z.at i 0 = λ i h. (c.requires.1.1.1.0 i (omega arith)).0 in
+        let few : a.space.now.p ≤ length a.space.now.params.at = omega (arith, c.requires.0) in
+        let gapped = gap_known a.space.now.s.now a.space.now.p a.space.now.z.at a.c.now.froms a.c.now.ends a.c.now.blocks a.c.now.count a.round c.gap_of-t.result c.gap_of-t.ensures (λ i k. (part i k).standing) in
+        search_past a.space.now.s.now a.space.now.funcs.now a.c.now.froms a.c.now.ends a.c.now.blocks a.c.now.count a.space.now.p low a.space.now.z.at a.space.now.params.at few positive above a.round z a.k c.in-Err.left (c.in-Err.ensures.1.1 l (low - a.space.now.p) e z part gapped) (a.k - c.in-Err.left) refl (omega arith) (c.block_size-total.result / a.round) (ap (λ (x : ℕ). x / a.round) c.block_size-total.ensures.0) (omega arith),
   ),
 )
 
@@ -95,11 +94,11 @@ returns-in_err-at c = let p = err_from_is_err_and c.from_residual.result c.from_
   tt,
   (
     omega (arith, c.in_err-at.ensures.1.0, mod-le c.args.k (c.args.k - c.in-Err.left)),
-    λ l low e z part above. let a = c.args in let len = per_sum_length a.z _ c.well_formed.1.1.1.1.0 in
-        let positive : (i : ℕ) → i < length a.z.at → 0 < get_or a.z.at i 0 = λ i h. (c.requires.1.1.1.0 i (omega arith)).0 in
-        let few : a.p ≤ length a.params.at = let w = per_variable_length a.params _ c.well_formed.1.1.0 in omega (arith, c.requires.0) in
-        let gapped = gap_known a.s.now a.p a.z.at a.c.now.froms a.c.now.ends a.c.now.blocks a.c.now.count a.round c.gap_of-t.result c.gap_of-t.ensures (λ i k. (part i k).standing) in
-        absurd (search_later a.s.now a.funcs.now a.c.now.froms a.c.now.ends a.c.now.blocks a.c.now.count a.p low a.z.at a.params.at few positive above a.round z a.k c.in-Err.left (c.in-Err.ensures.1.1 l (low - a.p) e z part gapped) (a.k - c.in-Err.left) refl (omega arith) (c.block_size-total.result / a.round) (ap (λ (x : ℕ). x / a.round) c.block_size-total.ensures.0) (omega arith) (Err _) (c.in_err-at.ensures.1.1 l (low - a.p) e z part gapped)),
+    λ l low e z part above. let a = c.args in
+        let positive : (i : ℕ) → i < length a.space.now.z.at → 0 < get_or a.space.now.z.at i 0 = λ i h. (c.requires.1.1.1.0 i (omega arith)).0 in
+        let few : a.space.now.p ≤ length a.space.now.params.at = omega (arith, c.requires.0) in
+        let gapped = gap_known a.space.now.s.now a.space.now.p a.space.now.z.at a.c.now.froms a.c.now.ends a.c.now.blocks a.c.now.count a.round c.gap_of-t.result c.gap_of-t.ensures (λ i k. (part i k).standing) in
+        absurd (search_later a.space.now.s.now a.space.now.funcs.now a.c.now.froms a.c.now.ends a.c.now.blocks a.c.now.count a.space.now.p low a.space.now.z.at a.space.now.params.at few positive above a.round z a.k c.in-Err.left (c.in-Err.ensures.1.1 l (low - a.space.now.p) e z part gapped) (a.k - c.in-Err.left) refl (omega arith) (c.block_size-total.result / a.round) (ap (λ (x : ℕ). x / a.round) c.block_size-total.ensures.0) (omega arith) (Err _) (c.in_err-at.ensures.1.1 l (low - a.space.now.p) e z part gapped)),
   ),
 )
 
@@ -114,10 +113,10 @@ returns c = let h : c.args.k / (c.args.k - c.in-Err.left) ≤ (c.block_size-tota
   omega (arith, c.in_ok-at.ensures.0),
   (
     tt,
-    λ l low e z part above. let a = c.args in let len = per_sum_length a.z _ c.well_formed.1.1.1.1.0 in
-        let positive : (i : ℕ) → i < length a.z.at → 0 < get_or a.z.at i 0 = λ i h. (c.requires.1.1.1.0 i (omega arith)).0 in
-        let few : a.p ≤ length a.params.at = let w = per_variable_length a.params _ c.well_formed.1.1.0 in omega (arith, c.requires.0) in
-        let gapped = gap_known a.s.now a.p a.z.at a.c.now.froms a.c.now.ends a.c.now.blocks a.c.now.count a.round c.gap_of-t.result c.gap_of-t.ensures (λ i k. (part i k).standing) in
-        search_later a.s.now a.funcs.now a.c.now.froms a.c.now.ends a.c.now.blocks a.c.now.count a.p low a.z.at a.params.at few positive above a.round z a.k c.in-Err.left (c.in-Err.ensures.1.1 l (low - a.p) e z part gapped) (a.k - c.in-Err.left) refl (omega arith) (c.block_size-total.result / a.round) (ap (λ (x : ℕ). x / a.round) c.block_size-total.ensures.0) (omega arith) (Ok c.in_ok-at.at) (c.in_ok-at.ensures.1.1 l (low - a.p) e z part gapped),
+    λ l low e z part above. let a = c.args in
+        let positive : (i : ℕ) → i < length a.space.now.z.at → 0 < get_or a.space.now.z.at i 0 = λ i h. (c.requires.1.1.1.0 i (omega arith)).0 in
+        let few : a.space.now.p ≤ length a.space.now.params.at = omega (arith, c.requires.0) in
+        let gapped = gap_known a.space.now.s.now a.space.now.p a.space.now.z.at a.c.now.froms a.c.now.ends a.c.now.blocks a.c.now.count a.round c.gap_of-t.result c.gap_of-t.ensures (λ i k. (part i k).standing) in
+        search_later a.space.now.s.now a.space.now.funcs.now a.c.now.froms a.c.now.ends a.c.now.blocks a.c.now.count a.space.now.p low a.space.now.z.at a.space.now.params.at few positive above a.round z a.k c.in-Err.left (c.in-Err.ensures.1.1 l (low - a.space.now.p) e z part gapped) (a.k - c.in-Err.left) refl (omega arith) (c.block_size-total.result / a.round) (ap (λ (x : ℕ). x / a.round) c.block_size-total.ensures.0) (omega arith) (Ok c.in_ok-at.at) (c.in_ok-at.ensures.1.1 l (low - a.space.now.p) e z part gapped),
   ),
 )

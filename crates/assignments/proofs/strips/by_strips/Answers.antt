@@ -2,7 +2,7 @@
 use native.Mathlib.Omega.{arith}
 use Rattle.std.specs.Prelude.{Ok, Err}
 use Prim.Native.Nat.{ℕ}
-use mathlib.Core.Path.{◌≡◌, refl, ◌∙◌}
+use mathlib.Core.Path.{refl, ◌∙◌}
 use mathlib.Core.Bool.{Bool}
 use Rattle.assignments.specs.Places.{digits_of}
 use Rattle.assignments.specs.Conditions.{env}
@@ -33,7 +33,7 @@ pub shape_of-met-in-Ok : goal.shape_of-met-in-Ok
 shape_of-met-in-Ok c = c.in_strip.auto.met ∙ c.loop-j.invariant.1.0.1.1.1.1
 
 pub returns-in-Ok : goal.returns-in-Ok
-returns-in-Ok c = let a = c.args in let l = c.loop-j in let r = c.in-Ok in let acc : ℕ → Bool = λ i. part_met a.s.now a.funcs.now a.c.now.froms a.c.now.ends a.c.now.blocks a.c.now.count (env a.p a.params.at (digits_of a.z.at i)) in (r.ensures.0, (tt, (tt, λ part w z. let q = l.invariant.1.1 part w z in came_then acc a.to a.from a.k l.j l.left q.1.1 (Ok r.at) (r.ensures.1.1.1 part q.0 q.1.0).1.1)))
+returns-in-Ok c = let a = c.args in let l = c.loop-j in let r = c.in-Ok in let acc : ℕ → Bool = λ i. part_met a.space.now.s.now a.space.now.funcs.now a.c.now.froms a.c.now.ends a.c.now.blocks a.c.now.count (env a.space.now.p a.space.now.params.at (digits_of a.space.now.z.at i)) in (r.ensures.0, (tt, (tt, λ part w z. let q = l.invariant.1.1 part w z in came_then acc a.to a.from a.k l.j l.left q.1.1 (Ok r.at) (r.ensures.1.1.1 part q.0 q.1.0).1.1)))
 
 pub shape_of-rows-then-r-j : goal.shape_of-rows-then-r-j
 shape_of-rows-then-r-j c = c.in_strip.auto.rows ∙ c.loop-j.invariant.1.0.0
@@ -51,10 +51,10 @@ pub shape_of-met-then-r-j : goal.shape_of-met-then-r-j
 shape_of-met-then-r-j c = c.in_strip.auto.met ∙ c.loop-j.invariant.1.0.1.1.1.1
 
 pub returns-then-r-j : goal.returns-then-r-j
-returns-then-r-j c = let a = c.args in let l = c.loop-j in let r = c.in-Err in let acc : ℕ → Bool = λ i. part_met a.s.now a.funcs.now a.c.now.froms a.c.now.ends a.c.now.blocks a.c.now.count (env a.p a.params.at (digits_of a.z.at i)) in (tt, (omega (arith, r.ensures.1.0, l.invariant.0.0), (omega (arith, r.ensures.1.1.0, l.invariant.0.1), λ part w z. let q = l.invariant.1.1 part w z in came_then acc a.to a.from a.k l.j l.left q.1.1 (Err r.r) (r.ensures.1.1.1 part q.0 q.1.0).1.1)))
+returns-then-r-j c = let a = c.args in let l = c.loop-j in let r = c.in-Err in let acc : ℕ → Bool = λ i. part_met a.space.now.s.now a.space.now.funcs.now a.c.now.froms a.c.now.ends a.c.now.blocks a.c.now.count (env a.space.now.p a.space.now.params.at (digits_of a.space.now.z.at i)) in (tt, (omega (arith, r.ensures.1.0, l.invariant.0.0), (omega (arith, r.ensures.1.1.0, l.invariant.0.1), λ part w z. let q = l.invariant.1.1 part w z in came_then acc a.to a.from a.k l.j l.left q.1.1 (Err r.r) (r.ensures.1.1.1 part q.0 q.1.0).1.1)))
 
 pub loop-j-preserved : goal.loop-j-preserved
-loop-j-preserved c = let a = c.args in let l = c.loop-j in let r = c.in-Err in let s = c.in_strip.auto in let n = l.invariant.1.0 in let acc : ℕ → Bool = λ i. part_met a.s.now a.funcs.now a.c.now.froms a.c.now.ends a.c.now.blocks a.c.now.count (env a.p a.params.at (digits_of a.z.at i)) in ((omega (arith, r.ensures.1.0, l.invariant.0.0), omega (arith, r.ensures.1.1.0, l.invariant.0.1)), ((s.rows ∙ n.0, (s.marks ∙ n.1.0, (s.slow ∙ n.1.1.0, (s.fast ∙ n.1.1.1.0, s.met ∙ n.1.1.1.1)))), λ part w z. let q = l.invariant.1.1 part w z in let t = r.ensures.1.1.1 part q.0 q.1.0 in (t.0, (t.1.0, rows_past acc a.to a.from a.k l.j l.left q.1.1 r.r t.1.1))))
+loop-j-preserved c = let a = c.args in let l = c.loop-j in let r = c.in-Err in let s = c.in_strip.auto in let n = l.invariant.1.0 in let acc : ℕ → Bool = λ i. part_met a.space.now.s.now a.space.now.funcs.now a.c.now.froms a.c.now.ends a.c.now.blocks a.c.now.count (env a.space.now.p a.space.now.params.at (digits_of a.space.now.z.at i)) in ((omega (arith, r.ensures.1.0, l.invariant.0.0), omega (arith, r.ensures.1.1.0, l.invariant.0.1)), ((s.rows ∙ n.0, (s.marks ∙ n.1.0, (s.slow ∙ n.1.1.0, (s.fast ∙ n.1.1.1.0, s.met ∙ n.1.1.1.1)))), λ part w z. let q = l.invariant.1.1 part w z in let t = r.ensures.1.1.1 part q.0 q.1.0 in (t.0, (t.1.0, rows_past acc a.to a.from a.k l.j l.left q.1.1 r.r t.1.1))))
 
 pub shape_of-rows : goal.shape_of-rows
 shape_of-rows c = c.loop-j.invariant.1.0.0
@@ -72,4 +72,4 @@ pub shape_of-met : goal.shape_of-met
 shape_of-met c = c.loop-j.invariant.1.0.1.1.1.1
 
 pub returns : goal.returns
-returns c = let a = c.args in let l = c.loop-j in let acc : ℕ → Bool = λ i. part_met a.s.now a.funcs.now a.c.now.froms a.c.now.ends a.c.now.blocks a.c.now.count (env a.p a.params.at (digits_of a.z.at i)) in (tt, (omega (arith, l.invariant.0.0), (omega (arith, l.invariant.0.1), λ part w z. came_to acc a.to a.from a.k (record { at = l.j; left = l.left }) (l.invariant.1.1 part w z).1.1)))
+returns c = let a = c.args in let l = c.loop-j in let acc : ℕ → Bool = λ i. part_met a.space.now.s.now a.space.now.funcs.now a.c.now.froms a.c.now.ends a.c.now.blocks a.c.now.count (env a.space.now.p a.space.now.params.at (digits_of a.space.now.z.at i)) in (tt, (omega (arith, l.invariant.0.0), (omega (arith, l.invariant.0.1), λ part w z. came_to acc a.to a.from a.k (record { at = l.j; left = l.left }) (l.invariant.1.1 part w z).1.1)))

@@ -1,7 +1,7 @@
 -- The lanes are made, sifted by the conditions, and searched.
 use native.Mathlib.Omega.{arith}
 use Rattle.std.specs.Prelude.{Ok, Err, Option, None, Some, IfSome}
-use Prim.Native.Nat.{ℕ, ◌+◌, ◌*◌, ◌≤◌}
+use Prim.Native.Nat.{◌+◌, ◌*◌, ◌≤◌}
 use mathlib.Core.Path.{◌≡◌, refl, ◌∙◌}
 use Rattle.assignments.proofs.Passing.{going_start}
 use Rattle.assignments.proofs.InRows.{row_small, lent_again, met_lane, came_to, came_lanes}

@@ -2,7 +2,7 @@
 use native.Mathlib.Omega.{arith}
 use Prim.Native.Nat.{ℕ, ◌+◌, ◌-◌, ◌*◌}
 use mathlib.Core.Path.{◌≡◌, refl, sym, subst}
-use Rattle.assignments.proofs.InRows.{Lane, lane_below, row_small, lane_start, lane_none, lane_some, lane_found, lane_end}
+use Rattle.assignments.proofs.InRows.{Lane, lane_below, lane_start, lane_none, lane_some, lane_found, lane_end}
 use Rattle.assignments.proofs.strips.in_row.Goals as goal
 use Rattle.assignments.proofs.strips.in_row.Goals.{then-lanes-i-ne0+else-left-m, else-lanes-i-ne0}
 

@@ -1,6 +1,6 @@
 -- A condition that is not asked, or not of the row, leaves all lanes; the others are evaluated.
 use native.Mathlib.Omega.{arith}
-use mathlib.Core.Path.{refl, ◌∙◌, ap}
+use mathlib.Core.Path.{◌∙◌, ap}
 use mathlib.Core.Bool.{Bool}
 use lib.ListN.{get_or}
 use Rattle.evaluation.specs.Run.{pick}

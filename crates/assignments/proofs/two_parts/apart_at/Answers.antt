@@ -1,7 +1,6 @@
 -- The conditions are parted, or are not apart.
 use native.Mathlib.Omega.{arith}
 use Prim.Native.Nat.{ℕ, ◌<◌}
-use mathlib.Core.Path.{◌≡◌}
 use lib.ListN.{length, get_or}
 use Rattle.std.proofs.lemmas.Option.{IfSome_then}
 use Rattle.assignments.proofs.Counter.{per_sum_length}

@@ -1,6 +1,6 @@
 -- Each condition is put in its part.
 use native.Mathlib.Omega.{arith}
-use Prim.Native.Nat.{◌+◌, ◌-◌}
+use Prim.Native.Nat.{◌-◌}
 use mathlib.Core.Path.{refl}
 use lib.ListN.{get_or, length-set}
 use Rattle.evaluation.specs.Run.{peak}
