@@ -38,6 +38,10 @@ pub none_last : (e : List ℕ) → some e ⊕ none ≡ none
 unfolding ◌⊕◌
 none_last e = refl
 
+pub then_missing : (e : List ℕ) (a : Option (List ℕ)) → (some e ⊕ none) ⊕ a ≡ none
+unfolding ◌⊕◌
+then_missing e a = refl
+
 pub none_behind : (a : Option (List ℕ)) → a ⊕ none ≡ none
 unfolding ◌⊕◌
 none_behind none = refl

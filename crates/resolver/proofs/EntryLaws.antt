@@ -3,10 +3,10 @@ use mathlib.Core.Path.{◌≡◌, refl, sym, ap, ◌∙◌, subst}
 use mathlib.Core.Bool.{false}
 use mathlib.Core.List.{List, [], ◌++◌}
 use Rattle.std.specs.Prelude.{Option as Given, Some, None}
-use mathlib.Core.Option.{Option, none, some, some-injective}
-use Prim.Native.Nat.{ℕ, ◌+◌, ◌≤◌, ◌<◌}
+use mathlib.Core.Option.{Option, none, some}
+use Prim.Native.Nat.{ℕ, ◌+◌}
 use native.Mathlib.Omega.{arith}
-use lib.ListN.{length, drop, get_or}
+use lib.ListN.{drop, get_or}
 use Rattle.pcrl.specs.Maybe.{◌>>=◌}
 use Rattle.pcrl.specs.Tests.{Every}
 use Rattle.pcrl.specs.Tokens.{name}
@@ -23,31 +23,24 @@ use Rattle.names.proofs.Symbols.{name_of_cell}
 use Rattle.parser.specs.declared.Step.{Step}
 use Rattle.resolver.specs.Raw.{choice, enc_term, resolve_term, term_depth}
 use Rattle.resolver.specs.Sorting.{scope_sorts, scope_results, Gives, KnownSorts}
-use Rattle.resolver.specs.Writing.{Writes}
-use Rattle.resolver.specs.Resolving.{Outcome, lost, took, term_cells, ResolvesTerm, Whole, Answers, ResolvesRight, called, ResolvesInit}
+use Rattle.resolver.specs.Resolving.{Outcome, term_cells, ResolvesTerm, Answers, ResolvesRight, called, ResolvesInit}
 use Rattle.resolver.proofs.Symbols.{next, pair}
 use Rattle.resolver.proofs.DataCells.{node_cells}
 use Rattle.resolver.proofs.GivenLaws.{ResolvesNode}
 
 -- the answer by the place
-answered : (raw : List ℕ) (ys rest : List Symbol) (w : ℕ) (o : List ℕ) (a : Step) (o' : List ℕ) (p : Option Proc) (r : Given Step) → Whole raw a r
-    → Outcome raw ys rest w o a.at a.w o' (◌>>=◌ p (λ q. some (enc false q))) → Answers ys rest w o p r o'
+answered : (raw : List ℕ) (ys rest : List Symbol) (w : ℕ) (o : List ℕ) (r : Given Step) (o' : List ℕ) (p : Option Proc)
+    → Outcome raw ys rest w o r o' (◌>>=◌ p (λ q. some (enc false q))) → Answers ys rest w o p r o'
 unfolding Answers
-answered raw ys rest w o a o' none r k h = by h refl
-  where
-    by : {X : Option (List ℕ)} → Outcome raw ys rest w o a.at a.w o' X → X ≡ none → Answers ys rest w o none r o'
-    by (lost z) q = rw (k.past z) tt
-    by (took z d ws) q = absurd (cc)
-answered raw ys rest w o a o' (some p) r k h = by h refl
-  where
-    by : {X : Option (List ℕ)} → Outcome raw ys rest w o a.at a.w o' X → X ≡ some (enc false p) → Answers ys rest w o (some p) r o'
-    by (lost z) q = absurd (cc)
-    by (took {e} z d ws) q = rw (k.reached z) (d, subst (λ (l : List ℕ). Writes l w o a.w o') (some-injective e (enc false p) q) ws)
+answered raw ys rest w o None o' none h = tt
+answered raw ys rest w o (Some a) o' none h = absurd h
+answered raw ys rest w o None o' (some p) h = absurd h
+answered raw ys rest w o (Some a) o' (some p) h = (h.1, h.2)
 
-pub right_answered : (s raw names : List ℕ) (kinds : Kinds) (scope : List ℕ) (n at w : ℕ) (o : List ℕ) (a : Step) (o' : List ℕ) (r : Given Step) → Whole raw a r
-    → ResolvesTerm s raw names kinds scope n at false w o a o' → ResolvesRight s raw names kinds scope n at w o r o'
+pub right_answered : (s raw names : List ℕ) (kinds : Kinds) (scope : List ℕ) (n at w : ℕ) (o : List ℕ) (r : Given Step) (o' : List ℕ)
+    → ResolvesTerm s raw names kinds scope n at false w o r o' → ResolvesRight s raw names kinds scope n at w o r o'
 unfolding enc_term term_depth term_cells resolve_term
-right_answered s raw names kinds scope n at w o a o' r k f N S t rest dec so e d = answered raw (symbols s raw) rest w o a o' _ r k (f N S (choice t) rest dec so e d)
+right_answered s raw names kinds scope n at w o r o' f N S t rest dec so e d = answered raw (symbols s raw) rest w o r o' _ (f N S (choice t) rest dec so e d)
 
 -- where nothing is in scope
 none_sorted : (kinds : Kinds) (scope : List ℕ) (S : Sig) → Gives kinds (scope_results scope) S → KnownSorts kinds scope 0 S
@@ -76,10 +69,10 @@ module _ (s raw names : List ℕ) (kinds : Kinds) (scope : List ℕ) (at w : ℕ
       rw v tt
 
   pub init_answered : (k : ℕ) → number_of (name_at s c) (procs_in s names kinds) ≡ some k → (first : ℕ) → first ≡ first_cell k (one_if false) call_kind
-      → (a : Step) (o' : List ℕ) (r : Given Step) → Whole raw a r → ResolvesNode s raw names kinds scope 0 (at + 1) first w o a o'
+      → (r : Given Step) (o' : List ℕ) → ResolvesNode s raw names kinds scope 0 (at + 1) first w o r o'
       → ResolvesInit s raw names kinds scope at w o r o'
   unfolding resolve_init enc_init node_cells scope_at scope_sorts enc one_if
-  init_answered k u first ef a o' r whole g N S l rest gi f p e =
+  init_answered k u first ef r o' g N S l rest gi f p e =
       let y = init_name N l rest e in
       let v : number_of l.name N.procs ≡ some k = ap (number_of l.name) p ∙ ap (λ (x : Name). number_of x (procs_in s names kinds)) (sym y) ∙ u in
       rw v (by (resolve_given N S [] [] l.data_given) (g N S l.name l.data_given rest f (none_sorted kinds scope S gi) (next s raw at (tag init_tag) (enc_call l.name l.data_given ++ rest) e).behind))
@@ -88,6 +81,6 @@ module _ (s raw names : List ℕ) (kinds : Kinds) (scope : List ℕ) (at w : ℕ
       same none = refl
       same (some es) = ap (λ (i : ℕ). some (enc_node i es)) ef
 
-      by : (q : Option (List Data)) → Outcome raw (symbols s raw) rest w o a.at a.w o' (◌>>=◌ q (λ es. some (enc_node first es)))
+      by : (q : Option (List Data)) → Outcome raw (symbols s raw) rest w o r o' (◌>>=◌ q (λ es. some (enc_node first es)))
           → Answers (symbols s raw) rest w o (called (◌>>=◌ q (λ ds. some (k, ds)))) r o'
-      by q h = answered raw (symbols s raw) rest w o a o' (called (◌>>=◌ q (λ ds. some (k, ds)))) r whole (subst (λ (x : Option (List ℕ)). Outcome raw (symbols s raw) rest w o a.at a.w o' x) (same q) h)
+      by q h = answered raw (symbols s raw) rest w o r o' (called (◌>>=◌ q (λ ds. some (k, ds)))) (subst (λ (x : Option (List ℕ)). Outcome raw (symbols s raw) rest w o r o' x) (same q) h)

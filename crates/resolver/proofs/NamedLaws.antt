@@ -1,12 +1,12 @@
 -- A name as a part: an action's number first, else a process's.
-use mathlib.Core.Path.{◌≡◌, refl, sym, ap, ◌∙◌, subst}
-use mathlib.Core.Bool.{Bool, true, false}
+use mathlib.Core.Path.{◌≡◌, refl, sym, ap, ◌∙◌}
+use mathlib.Core.Bool.{Bool, false}
 use mathlib.Core.List.{List, ◌++◌}
-use Rattle.std.specs.Prelude.{Some, None}
+use Rattle.std.specs.Prelude.{Option as Given, Some, None}
 use mathlib.Core.Option.{Option, none, some}
 use Prim.Native.Nat.{ℕ, ◌+◌, ◌<◌}
 use native.Mathlib.Omega.{arith}
-use lib.ListN.{length, drop, get_or}
+use lib.ListN.{drop, get_or}
 use Rattle.std.proofs.lemmas.Option.{same_Some}
 use Rattle.pcrl.specs.Tokens.{name}
 use Rattle.pcrl.specs.Tree.{Name, RawDatas, Part}
@@ -21,10 +21,10 @@ use Rattle.names.proofs.Symbols.{name_of_cell}
 use Rattle.parser.specs.declared.Step.{Step}
 use Rattle.resolver.specs.Raw.{Term, part, enc_term, tokens_of}
 use Rattle.resolver.specs.Sorting.{scope_sorts}
-use Rattle.resolver.specs.Resolving.{Outcome, lost, term_cells, Naming, ResolvesNamed}
+use Rattle.resolver.specs.Resolving.{Outcome, term_cells, Naming, ResolvesNamed}
 use Rattle.resolver.proofs.Symbols.{pair}
 use Rattle.resolver.proofs.DataCells.{node_cells}
-use Rattle.resolver.proofs.DataLaws.{became}
+use Rattle.resolver.proofs.DataLaws.{became, became_none}
 use Rattle.resolver.proofs.GivenLaws.{ResolvesNode}
 use Rattle.resolver.proofs.ProcessCells.{action_cells, process_cells, unnamed_cells}
 use Rattle.resolver.proofs.Terms.{SingleTag, only_tag, plain_tag, last_tag, group_tag, View, single, plus, cond, then, delta, tau, bare, given, sum, seen}
@@ -65,35 +65,35 @@ module _ (s raw names : List ℕ) (kinds : Kinds) (scope : List ℕ) (n at : ℕ
   by_name P t k rest (sum v D p) q h h' e f = absurd (h' q)
 
   module _ (c : ℕ) (ec : c ≡ get_or raw (at + 1) 0) where
-    pub part_lost : Naming after (number_of (name_at s c) (acts_in s names kinds)) (number_of (name_at s c) (procs_in s names kinds)) None → (r : Step) (o' : List ℕ) → length raw < r.at → ResolvesNamed s raw names kinds scope n at after w o r o'
+    pub part_lost : Naming after (number_of (name_at s c) (acts_in s names kinds)) (number_of (name_at s c) (procs_in s names kinds)) None → (o' : List ℕ) → ResolvesNamed s raw names kinds scope n at after w o None o'
     unfolding Naming
-    part_lost naming r o' z N S t rest so fs as' ps e h h' =
+    part_lost naming o' N S t rest so fs as' ps e h h' =
         let v = seen s raw at t rest e in
-        by_name (λ t. Outcome raw (symbols s raw) rest w o r.at r.w o' (term_cells N S (scope_at s scope n) (scope_sorts scope n) after t)) t v.tag_of rest v.view v.cell h h' e
+        by_name (λ t. Outcome raw (symbols s raw) rest w o None o' (term_cells N S (scope_at s scope n) (scope_sorts scope n) after t)) t v.tag_of rest v.view v.cell h h' e
         (λ x ds q d. go (number_of (name_at s c) (acts_in s names kinds)) (number_of (name_at s c) (procs_in s names kinds)) refl refl naming x ds (ap (name_at s) ec ∙ q))
       where
         go : (i k : Option ℕ) → number_of (name_at s c) (acts_in s names kinds) ≡ i → number_of (name_at s c) (procs_in s names kinds) ≡ k → Naming after i k None
-            → (x : Name) (ds : Option RawDatas) → name_at s c ≡ x → Outcome raw (symbols s raw) rest w o r.at r.w o' (term_cells N S (scope_at s scope n) (scope_sorts scope n) after (part (Part.named x ds)))
+            → (x : Name) (ds : Option RawDatas) → name_at s c ≡ x → Outcome raw (symbols s raw) rest w o None o' (term_cells N S (scope_at s scope n) (scope_sorts scope n) after (part (Part.named x ds)))
         go (some i) k p q m x ds y = absurd (cc)
         go none (some k) p q m x ds y = absurd (cc)
-        go none none p q m x ds y = became (sym (unnamed_cells N S (scope_at s scope n) (scope_sorts scope n) after x ds (cc) (cc))) (lost z)
+        go none none p q m x ds y = became_none _ _ _ _ _ _ (unnamed_cells N S (scope_at s scope n) (scope_sorts scope n) after x ds (cc) (cc))
 
     pub part_took : (f : ℕ) → Naming after (number_of (name_at s c) (acts_in s names kinds)) (number_of (name_at s c) (procs_in s names kinds)) (Some f)
-        → (r : Step) (o' : List ℕ) → ResolvesNode s raw names kinds scope n at f w o r o' → ResolvesNamed s raw names kinds scope n at after w o r o'
+        → (r : Given Step) (o' : List ℕ) → ResolvesNode s raw names kinds scope n at f w o r o' → ResolvesNamed s raw names kinds scope n at after w o r o'
     unfolding Naming
     part_took f naming r o' resolves N S t rest so fs as' ps e h h' =
         let v = seen s raw at t rest e in
-        by_name (λ t. Outcome raw (symbols s raw) rest w o r.at r.w o' (term_cells N S (scope_at s scope n) (scope_sorts scope n) after t)) t v.tag_of rest v.view v.cell h h' e
+        by_name (λ t. Outcome raw (symbols s raw) rest w o r o' (term_cells N S (scope_at s scope n) (scope_sorts scope n) after t)) t v.tag_of rest v.view v.cell h h' e
         (λ x ds q d. go (number_of (name_at s c) (acts_in s names kinds)) (number_of (name_at s c) (procs_in s names kinds)) refl refl naming x ds (ap (name_at s) ec ∙ q) (resolves N S x ds rest fs so d))
       where
         go : (i k : Option ℕ) → number_of (name_at s c) (acts_in s names kinds) ≡ i → number_of (name_at s c) (procs_in s names kinds) ≡ k → Naming after i k (Some f)
             → (x : Name) (ds : Option RawDatas) → name_at s c ≡ x
-            → Outcome raw (symbols s raw) rest w o r.at r.w o' (node_cells N S (scope_at s scope n) (scope_sorts scope n) f ds)
-            → Outcome raw (symbols s raw) rest w o r.at r.w o' (term_cells N S (scope_at s scope n) (scope_sorts scope n) after (part (Part.named x ds)))
+            → Outcome raw (symbols s raw) rest w o r o' (node_cells N S (scope_at s scope n) (scope_sorts scope n) f ds)
+            → Outcome raw (symbols s raw) rest w o r o' (term_cells N S (scope_at s scope n) (scope_sorts scope n) after (part (Part.named x ds)))
         go (some i) k p q m x ds y u =
-            became (ap (λ (j : ℕ). node_cells N S (scope_at s scope n) (scope_sorts scope n) j ds) (same_Some f _ m)
+            became _ _ _ _ _ _ _ (ap (λ (j : ℕ). node_cells N S (scope_at s scope n) (scope_sorts scope n) j ds) (same_Some f _ m)
             ∙ sym (action_cells N S (scope_at s scope n) (scope_sorts scope n) after x ds i (cc))) u
         go none (some k) p q m x ds y u =
-            became (ap (λ (j : ℕ). node_cells N S (scope_at s scope n) (scope_sorts scope n) j ds) (same_Some f _ m)
+            became _ _ _ _ _ _ _ (ap (λ (j : ℕ). node_cells N S (scope_at s scope n) (scope_sorts scope n) j ds) (same_Some f _ m)
             ∙ sym (process_cells N S (scope_at s scope n) (scope_sorts scope n) after x ds k (cc) (cc))) u
         go none none p q m x ds y u = absurd (cc)

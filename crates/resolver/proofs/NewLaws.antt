@@ -1,9 +1,10 @@
 -- A new variable is unlike all declared names. The sum that binds it: its node, and the variable in scope.
+use Rattle.std.specs.Prelude.{Some, None}
 use mathlib.Core.Path.{◌≡◌, refl, sym, ap, ◌∙◌}
 use mathlib.Core.Bool.{Bool, true, false}
 use mathlib.Core.List.{List, [], ◌∷◌, ◌++◌, map}
 use mathlib.Core.Option.{none, some}
-use Prim.Native.Nat.{ℕ, suc, ◌+◌, ◌*◌, ◌≤◌, ◌<◌}
+use Prim.Native.Nat.{ℕ, ◌+◌, ◌*◌, ◌≤◌, ◌<◌}
 use native.Mathlib.Omega.{arith}
 use native.Mathlib.Numerals.{add-one}
 use lib.ListN.{length, take, drop, get_or, set, length-drop}
@@ -17,20 +18,19 @@ use Rattle.parser.specs.Cells.{Symbol, tag, token, sum_tag}
 use Rattle.parser.specs.Reading.{Put}
 use Rattle.nodes.specs.Scoped.{max_scope}
 use Rattle.nodes.specs.Layout.{first_cell, one_if, sum_kind, variable_tag}
-use Rattle.names.specs.NameCells.{or_count, name_at, scope_at}
+use Rattle.names.specs.NameCells.{name_at, scope_at}
 use Rattle.names.specs.NameKinds.{total_of, sorts_in}
 use Rattle.names.specs.declared.Kinds.{Kinds}
 use Rattle.names.specs.Standing.{symbols}
 use Rattle.names.proofs.KindLaws.{kinds_joined}
 use Rattle.names.proofs.Symbols.{name_of_cell}
-use Rattle.parser.specs.declared.Step.{Step}
 use Rattle.resolver.specs.Writing.{Writes}
 use Rattle.resolver.specs.Sorting.{first_sort, first_result, scope_cells, scope_sorts, scope_results, ScopeKept}
-use Rattle.resolver.specs.Resolving.{lost, took, Declared, binder_cells, sort_found, Binds}
+use Rattle.resolver.specs.Resolving.{Declared, binder_cells, sort_found, Binds}
 use Rattle.resolver.proofs.Writing.{writes_then, writes_cell}
 use Rattle.resolver.proofs.Symbols.{next, pair}
 use Rattle.resolver.proofs.Lookup.{scope_many}
-use Rattle.resolver.proofs.DataLaws.{became}
+use Rattle.resolver.proofs.DataLaws.{became, became_none}
 
 -- a variable that may come into scope
 abbrev pub SaysNew : (s names : List ℕ) → Kinds → (scope : List ℕ) (n x : ℕ) → Bool → Type 0
@@ -100,33 +100,33 @@ two_names s raw at x D rest e =
     }
 
 module _ (s raw names : List ℕ) (kinds : Kinds) (scope : List ℕ) (n at : ℕ) (after : Bool) (w : ℕ) (o : List ℕ) (few : n ≤ length scope) where
-  pub binder_full : (r : Step) (o' : List ℕ) → max_scope ≤ n → Binds s raw names kinds scope n at after w o r o'
-  binder_full r o' h N S x D rest dec e l = absurd (omega arith)
+  pub binder_full : (o' : List ℕ) → max_scope ≤ n → Binds s raw names kinds scope n at after w o None o'
+  binder_full o' h N S x D rest dec e l = absurd (omega arith)
 
   module _ (c : ℕ) (ec : c ≡ get_or raw (at + 1) 0) (new : Bool) (says : SaysNew s names kinds scope n c new) where
-    pub binder_old : new ≡ false → (r : Step) (o' : List ℕ) → length raw < r.at → Binds s raw names kinds scope n at after w o r o'
+    pub binder_old : new ≡ false → (o' : List ℕ) → Binds s raw names kinds scope n at after w o None o'
     unfolding binder_cells
-    binder_old b r o' z N S x D rest dec e l =
+    binder_old b o' N S x D rest dec e l =
         let t = two_names s raw at x D rest e in
         let q : new_variable N (scope_at s scope n) x ≡ false = ap (new_variable N (scope_at s scope n)) (sym (ap (name_at s) ec ∙ t.variable)) ∙ sym (says N dec) ∙ b in
-        became (sym (rw q refl)) (lost z)
+        became_none _ _ _ _ _ _ (rw q refl)
 
     module _ (b : new ≡ true) (c₂ : ℕ) (ec₂ : c₂ ≡ get_or raw (at + 2) 0) where
-      pub binder_no_sort : number_of (name_at s c₂) (sorts_in s names kinds) ≡ none → (r : Step) (o' : List ℕ) → length raw < r.at → Binds s raw names kinds scope n at after w o r o'
+      pub binder_no_sort : number_of (name_at s c₂) (sorts_in s names kinds) ≡ none → (o' : List ℕ) → Binds s raw names kinds scope n at after w o None o'
       unfolding binder_cells
-      binder_no_sort h r o' z N S x D rest dec e l =
+      binder_no_sort h o' N S x D rest dec e l =
           let t = two_names s raw at x D rest e in
           let q : new_variable N (scope_at s scope n) x ≡ true = ap (new_variable N (scope_at s scope n)) (sym (ap (name_at s) ec ∙ t.variable)) ∙ sym (says N dec) ∙ b in
           let f : number_of D N.sorts ≡ none = ap (number_of D) dec.sorts_are ∙ ap (λ (y : Name). number_of y (sorts_in s names kinds)) (sym (ap (name_at s) ec₂ ∙ t.sort)) ∙ h in
-          became (sym (rw (q, f) refl)) (lost z)
+          became_none _ _ _ _ _ _ (rw (q, f) refl)
 
       pub binder_took : (i : ℕ) → number_of (name_at s c₂) (sorts_in s names kinds) ≡ some i → (first v v₁ w' : ℕ) (o₁ o' : List ℕ) → first ≡ first_cell i (one_if after) sum_kind → v ≡ 4 * n + 1 → Writes (first ∷ 1 ∷ 1 ∷ []) w o v₁ o₁ → Put o₁ v₁ v w' o'
-          → Binds s raw names kinds scope n at after w o (record { at = at + 3; w = w' }) o'
+          → Binds s raw names kinds scope n at after w o (Some (record { at = at + 3; w = w' })) o'
       unfolding binder_cells
       binder_took i h first v v₁ w' o₁ o' ef ev ws put N S x D rest dec e l =
           let t = two_names s raw at x D rest e in
           let q : new_variable N (scope_at s scope n) x ≡ true = ap (new_variable N (scope_at s scope n)) (sym (ap (name_at s) ec ∙ t.variable)) ∙ sym (says N dec) ∙ b in
           let f : number_of D N.sorts ≡ some i = ap (number_of D) dec.sorts_are ∙ ap (λ (y : Name). number_of y (sorts_in s names kinds)) (sym (ap (name_at s) ec₂ ∙ t.sort)) ∙ h in
           let g : v ≡ 4 * length (scope_at s scope n) + variable_tag = let y = scope_many s scope n few in omega arith in
-          became (ap (λ (y : ℕ). some (y ∷ 1 ∷ 1 ∷ v ∷ [])) ef ∙ ap (λ (y : ℕ). some (first_cell i (one_if after) sum_kind ∷ 1 ∷ 1 ∷ y ∷ [])) g ∙ sym (rw (q, f) refl))
-          (took t.inside t.behind (writes_then ws (writes_cell put)))
+          became _ _ _ _ _ _ _ (ap (λ (y : ℕ). some (y ∷ 1 ∷ 1 ∷ v ∷ [])) ef ∙ ap (λ (y : ℕ). some (first_cell i (one_if after) sum_kind ∷ 1 ∷ 1 ∷ y ∷ [])) g ∙ sym (rw (q, f) refl))
+          (t.inside, t.behind, writes_then ws (writes_cell put))

@@ -1,7 +1,7 @@
 -- What the resolver answers: for every raw term that stands at a place of the cells, and every list of names that the scope
--- and the cells of the declared names stand for, the cells of the resolved term, or a place past the end.
-use Rattle.std.specs.Prelude.{◌≡◌, List, [], ◌∷◌, ◌++◌, Bool, true, false, ℕ, zero, suc, ◌+◌, ◌*◌, ◌≤◌, ◌<◌, min, max, eqb, length, drop, get_or, set}
-use Rattle.std.specs.Prelude.{Option as Given, Some, None}
+-- and the cells of the declared names stand for, the cells of the resolved term, or none.
+use Rattle.std.specs.Prelude.{◌≡◌, List, [], ◌∷◌, ◌++◌, Bool, false, ℕ, zero, suc, ◌+◌, ◌*◌, ◌≤◌, ◌<◌, max, eqb, length, drop, get_or, set}
+use Rattle.std.specs.Prelude.{Option as Given, Some, None, IfSome, MatchOption}
 use Rattle.std.proofs.Math.Option.{Option, none, some}
 use Rattle.pcrl.specs.Limits.{max_sorts, max_functions, max_actions, max_processes}
 use Rattle.pcrl.specs.Maybe.{◌>>=◌, ◌>>◌, provided}
@@ -26,14 +26,13 @@ use Rattle.resolver.specs.Raw.{Term, enc_term, resolve_term, term_depth, sum_dep
 use Rattle.resolver.specs.Writing.{Writes}
 use Rattle.resolver.specs.Sorting.{first_sort, scope_cells, scope_sorts, scope_results, Gives, KnownSorts, cell_sort}
 
--- The next place is not before `at`, or it is past the end of n cells.
-abbrev pub Ahead : ℕ → ℕ → ℕ → Type 0
-Ahead n at next = min at (suc n) ≤ next
+-- The cells were written and the place stands before the rest,
+abbrev pub Took : (raw : List ℕ) (symbols rest : List Symbol) (w : ℕ) (o o' : List ℕ) → List ℕ → Step → Type 0
+Took raw symbols rest w o o' e a = (a.at ≤ length raw) × (drop a.at symbols ≡ rest) × Writes e w o a.w o'
 
--- Where there is a value its cells were written and `next` stands before the rest; else `next` is past the end.
-pub data Outcome (raw : List ℕ) (symbols rest : List Symbol) (w : ℕ) (o : List ℕ) (next w' : ℕ) (o' : List ℕ) : Option (List ℕ) → Type 0 where
-  lost : length raw < next → Outcome raw symbols rest w o next w' o' none
-  took : {e : List ℕ} → next ≤ length raw → drop next symbols ≡ rest → Writes e w o w' o' → Outcome raw symbols rest w o next w' o' (some e)
+-- where there are any; else there is no place.
+abbrev pub Outcome : (raw : List ℕ) (symbols rest : List Symbol) (w : ℕ) (o : List ℕ) → Given Step → List ℕ → Option (List ℕ) → Type 0
+Outcome raw symbols rest w o r o' X = Yields (Took raw symbols rest w o o') X r
 
 -- the cells of these names, so many of each kind, stand for the declared names
 pub record Declared (s names : List ℕ) (kinds : Kinds) (N : Names) : Type 0 where
@@ -124,36 +123,40 @@ a ⊕ b = do
 
 infixr 60 ◌⊕◌
 -- for every term of a kind that stands at `at`, written in the raw tree by enc and in the resolved one by cells
-abbrev pub Resolves : {A : Type 0} → (A → List Symbol) → (Names → Sig → List Name → List ℕ → A → Option (List ℕ)) → (s raw names : List ℕ) (kinds : Kinds) (scope : List ℕ) (n at w : ℕ) (o : List ℕ) → Step → List ℕ → Type 0
+abbrev pub Resolves : {A : Type 0} → (A → List Symbol) → (Names → Sig → List Name → List ℕ → A → Option (List ℕ)) → (s raw names : List ℕ) (kinds : Kinds) (scope : List ℕ) (n at w : ℕ) (o : List ℕ) → Given Step → List ℕ → Type 0
 Resolves {A} enc cells s raw names kinds scope n at w o r o' = (N : Names) (S : Sig) (a : A) (rest : List Symbol) → N.funcs ≡ funcs_in s names kinds → KnownSorts kinds scope n S
-    → drop at (symbols s raw) ≡ enc a ++ rest → Outcome raw (symbols s raw) rest w o r.at r.w o' (cells N S (scope_at s scope n) (scope_sorts scope n) a)
+    → drop at (symbols s raw) ≡ enc a ++ rest → Outcome raw (symbols s raw) rest w o r o' (cells N S (scope_at s scope n) (scope_sorts scope n) a)
 
-abbrev pub ResolvesData : (s raw names : List ℕ) (kinds : Kinds) (scope : List ℕ) (n at w : ℕ) (o : List ℕ) → Step → List ℕ → Type 0
+abbrev pub ResolvesData : (s raw names : List ℕ) (kinds : Kinds) (scope : List ℕ) (n at w : ℕ) (o : List ℕ) → Given Step → List ℕ → Type 0
 ResolvesData = Resolves raw_data data_cells
 
-abbrev pub ResolvesConjunction : (s raw names : List ℕ) (kinds : Kinds) (scope : List ℕ) (n at w : ℕ) (o : List ℕ) → Step → List ℕ → Type 0
+abbrev pub ResolvesConjunction : (s raw names : List ℕ) (kinds : Kinds) (scope : List ℕ) (n at w : ℕ) (o : List ℕ) → Given Step → List ℕ → Type 0
 ResolvesConjunction = Resolves enc_conjunction conjunction_cells
 
-abbrev pub ResolvesComparison : (s raw names : List ℕ) (kinds : Kinds) (scope : List ℕ) (n at w : ℕ) (o : List ℕ) → Step → List ℕ → Type 0
+abbrev pub ResolvesComparison : (s raw names : List ℕ) (kinds : Kinds) (scope : List ℕ) (n at w : ℕ) (o : List ℕ) → Given Step → List ℕ → Type 0
 ResolvesComparison = Resolves enc_comparison comparison_cells
 
-abbrev pub ResolvesNegation : (s raw names : List ℕ) (kinds : Kinds) (scope : List ℕ) (n at w : ℕ) (o : List ℕ) → Step → List ℕ → Type 0
+abbrev pub ResolvesNegation : (s raw names : List ℕ) (kinds : Kinds) (scope : List ℕ) (n at w : ℕ) (o : List ℕ) → Given Step → List ℕ → Type 0
 ResolvesNegation = Resolves enc_negation negation_cells
 
-abbrev pub ResolvesAtom : (s raw names : List ℕ) (kinds : Kinds) (scope : List ℕ) (n at w : ℕ) (o : List ℕ) → Step → List ℕ → Type 0
+abbrev pub ResolvesAtom : (s raw names : List ℕ) (kinds : Kinds) (scope : List ℕ) (n at w : ℕ) (o : List ℕ) → Given Step → List ℕ → Type 0
 ResolvesAtom = Resolves enc_atom atom_cells
 
-abbrev pub ResolvesDatas : (s raw names : List ℕ) (kinds : Kinds) (scope : List ℕ) (n at w : ℕ) (o : List ℕ) → DataRun → List ℕ → Type 0
+-- data terms, and how many they are
+abbrev pub Listed : (raw : List ℕ) (symbols rest : List Symbol) (w : ℕ) (o o' : List ℕ) → RawDatas → List ℕ → DataRun → Type 0
+Listed raw symbols rest w o o' ds e l = Took raw symbols rest w o o' e (record { at = l.at; w = l.w }) × (l.count ≡ count_of ds) × (l.count < cell_limit)
+
+abbrev pub ResolvesDatas : (s raw names : List ℕ) (kinds : Kinds) (scope : List ℕ) (n at w : ℕ) (o : List ℕ) → Given DataRun → List ℕ → Type 0
 ResolvesDatas s raw names kinds scope n at w o r o' = (N : Names) (S : Sig) (ds : RawDatas) (rest : List Symbol) → N.funcs ≡ funcs_in s names kinds → KnownSorts kinds scope n S
     → drop at (symbols s raw) ≡ raw_datas ds ++ rest
-    → Outcome raw (symbols s raw) rest w o r.at r.w o' (datas_cells N S (scope_at s scope n) (scope_sorts scope n) ds) × (r.at ≤ length raw → (r.count ≡ count_of ds) × (r.count < cell_limit))
+    → Yields (Listed raw (symbols s raw) rest w o o' ds) (datas_cells N S (scope_at s scope n) (scope_sorts scope n) ds) r
 
-abbrev pub ResolvesGiven : (s raw names : List ℕ) (kinds : Kinds) (scope : List ℕ) (n at w : ℕ) (o : List ℕ) → Step → List ℕ → Type 0
+abbrev pub ResolvesGiven : (s raw names : List ℕ) (kinds : Kinds) (scope : List ℕ) (n at w : ℕ) (o : List ℕ) → Given Step → List ℕ → Type 0
 ResolvesGiven s raw names kinds scope n at w o r o' = (N : Names) (S : Sig) (x : Name) (ds : Option RawDatas) (rest : List Symbol)
     → N.funcs ≡ funcs_in s names kinds → KnownSorts kinds scope n S
-    → drop at (symbols s raw) ≡ enc_call x ds ++ rest → Outcome raw (symbols s raw) rest w o r.at r.w o' (given_cells N S (scope_at s scope n) (scope_sorts scope n) ds)
+    → drop at (symbols s raw) ≡ enc_call x ds ++ rest → Outcome raw (symbols s raw) rest w o r o' (given_cells N S (scope_at s scope n) (scope_sorts scope n) ds)
 
-abbrev pub ResolvesCondition : (s raw names : List ℕ) (kinds : Kinds) (scope : List ℕ) (n at w : ℕ) (o : List ℕ) → Step → List ℕ → Type 0
+abbrev pub ResolvesCondition : (s raw names : List ℕ) (kinds : Kinds) (scope : List ℕ) (n at w : ℕ) (o : List ℕ) → Given Step → List ℕ → Type 0
 ResolvesCondition = Resolves raw_data condition_cells
 
 -- the cell of `==` over data with these first cells, if it fits
@@ -172,30 +175,30 @@ Naming after none (some k) r = r ≡ Some (first_cell k 0 call_kind)
 Naming after none none r = r ≡ None
 
 -- the node of a sum, up to its term; if it is written, the variable is in scope
-abbrev pub Binds : (s raw names : List ℕ) (kinds : Kinds) (scope : List ℕ) (n at : ℕ) → Bool → (w : ℕ) (o : List ℕ) → Step → List ℕ → Type 0
+abbrev pub Binds : (s raw names : List ℕ) (kinds : Kinds) (scope : List ℕ) (n at : ℕ) → Bool → (w : ℕ) (o : List ℕ) → Given Step → List ℕ → Type 0
 Binds s raw names kinds scope n at after w o r o' = (N : Names) (S : Sig) (x D : Name) (rest : List Symbol) → Declared s names kinds N
     → drop at (symbols s raw) ≡ tag sum_tag ∷ token (name x) ∷ token (name D) ∷ rest → n < max_scope
-    → Outcome raw (symbols s raw) rest w o r.at r.w o' (binder_cells N S (scope_at s scope n) (scope_sorts scope n) after x D)
+    → Outcome raw (symbols s raw) rest w o r o' (binder_cells N S (scope_at s scope n) (scope_sorts scope n) after x D)
 
 -- the number of a sort by its name's cell
 abbrev pub sort_found : (s names : List ℕ) → Kinds → ℕ → ℕ
 sort_found s names kinds c = or_count (suc kinds.sorts) (number_of (name_at s c) (sorts_in s names kinds))
 
-abbrev pub InScope : (s raw names : List ℕ) (kinds : Kinds) (scope : List ℕ) (n at : ℕ) → Step → List ℕ → Type 0
+abbrev pub InScope : (s raw names : List ℕ) (kinds : Kinds) (scope : List ℕ) (n at : ℕ) → Given Step → List ℕ → Type 0
 InScope s raw names kinds scope n at r scope' =
-    r.at ≤ length raw → (n < max_scope) × (scope' ≡ set (set scope n (get_or raw (at + 1) 0)) (first_sort + n) (sort_found s names kinds (get_or raw (at + 2) 0)))
+    IfSome r (λ a. (n < max_scope) × (scope' ≡ set (set scope n (get_or raw (at + 1) 0)) (first_sort + n) (sort_found s names kinds (get_or raw (at + 2) 0))))
 
 -- delta or tau
-abbrev pub ResolvesConstant : (raw : List ℕ) (at : ℕ) → Bool → (w : ℕ) (o : List ℕ) → Step → List ℕ → Type 0
+abbrev pub ResolvesConstant : (raw : List ℕ) (at : ℕ) → Bool → (w : ℕ) (o : List ℕ) → Given Step → List ℕ → Type 0
 ResolvesConstant raw at after w o r o' = (s : List ℕ) (N : Names) (S : Sig) (scope : List Name) (Γ : List ℕ) (t : Term) (rest : List Symbol) → drop at (symbols s raw) ≡ enc_term t ++ rest
-    → tokens_of (get_or raw at 0) ≡ 0 → kids_of (get_or raw at 0) ≡ 0 → Outcome raw (symbols s raw) rest w o r.at r.w o' (term_cells N S scope Γ after t)
+    → tokens_of (get_or raw at 0) ≡ 0 → kids_of (get_or raw at 0) ≡ 0 → Outcome raw (symbols s raw) rest w o r o' (term_cells N S scope Γ after t)
 
 -- a name, with or without data
-abbrev pub ResolvesNamed : (s raw names : List ℕ) (kinds : Kinds) (scope : List ℕ) (n at : ℕ) → Bool → (w : ℕ) (o : List ℕ) → Step → List ℕ → Type 0
+abbrev pub ResolvesNamed : (s raw names : List ℕ) (kinds : Kinds) (scope : List ℕ) (n at : ℕ) → Bool → (w : ℕ) (o : List ℕ) → Given Step → List ℕ → Type 0
 ResolvesNamed s raw names kinds scope n at after w o r o' = (N : Names) (S : Sig) (t : Term) (rest : List Symbol) → KnownSorts kinds scope n S
     → N.funcs ≡ funcs_in s names kinds → N.acts ≡ acts_in s names kinds → N.procs ≡ procs_in s names kinds
     → drop at (symbols s raw) ≡ enc_term t ++ rest → 0 < tokens_of (get_or raw at 0) → (get_or raw at 0 ≡ sum_tag → ⊥)
-    → Outcome raw (symbols s raw) rest w o r.at r.w o' (term_cells N S (scope_at s scope n) (scope_sorts scope n) after t)
+    → Outcome raw (symbols s raw) rest w o r o' (term_cells N S (scope_at s scope n) (scope_sorts scope n) after t)
 
 -- A term of two parts: its cells are those of its head, of the first and of the second.
 -- The second stands behind the first, or, if that is further on, behind what was read for the head.
@@ -209,11 +212,12 @@ pub record Forked (s raw : List ℕ) (N : Names) (S : Sig) (scope : List Name) (
   pub second_depth : term_depth second ≤ term_depth t
   pub cells : term_cells N S scope Γ after t ≡ head ⊕ (term_cells N S scope Γ r.left first ⊕ term_cells N S scope Γ (eqb (get_or raw at 0) then_tag) second)
   pub outcome : (p next : ℕ) → at < p → p ≤ length raw → drop p (symbols s raw) ≡ between → next ≡ max p r.at
-      → Outcome raw (symbols s raw) (enc_term second ++ rest) w o next r.w o' head
+      → Outcome raw (symbols s raw) (enc_term second ++ rest) w o (Some (record { at = next; w = r.w })) o' head
 
-abbrev pub Forks : (s raw names : List ℕ) (kinds : Kinds) (scope : List ℕ) (n at : ℕ) → Bool → (w : ℕ) (o : List ℕ) → Fork → List ℕ → Type 0
+abbrev pub Forks : (s raw names : List ℕ) (kinds : Kinds) (scope : List ℕ) (n at : ℕ) → Bool → (w : ℕ) (o : List ℕ) → Given Fork → List ℕ → Type 0
 Forks s raw names kinds scope n at after w o r o' = (N : Names) (S : Sig) (t : Term) (rest : List Symbol) → N.funcs ≡ funcs_in s names kinds → KnownSorts kinds scope n S
-    → drop at (symbols s raw) ≡ enc_term t ++ rest → 1 < kids_of (get_or raw at 0) → Forked s raw N S (scope_at s scope n) (scope_sorts scope n) at after t rest w o r o'
+    → drop at (symbols s raw) ≡ enc_term t ++ rest → 1 < kids_of (get_or raw at 0)
+    → MatchOption r (term_cells N S (scope_at s scope n) (scope_sorts scope n) after t ≡ none) (λ f. Forked s raw N S (scope_at s scope n) (scope_sorts scope n) at after t rest w o f o')
 
 -- A term of two parts, up to its second: its cells are those of the head, now with the first part, and of the second.
 pub record Halved (s raw : List ℕ) (N : Names) (S : Sig) (scope : List Name) (Γ : List ℕ) (at : ℕ) (after : Bool) (t : Term) (rest : List Symbol) (w : ℕ) (o : List ℕ) (r : Step) (o' : List ℕ) : Type 0 where
@@ -221,24 +225,20 @@ pub record Halved (s raw : List ℕ) (N : Names) (S : Sig) (scope : List Name) (
   pub head : Option (List ℕ)
   pub second_depth : term_depth second ≤ term_depth t
   pub cells : term_cells N S scope Γ after t ≡ head ⊕ term_cells N S scope Γ (eqb (get_or raw at 0) then_tag) second
-  pub outcome : Outcome raw (symbols s raw) (enc_term second ++ rest) w o r.at r.w o' head
+  pub outcome : Outcome raw (symbols s raw) (enc_term second ++ rest) w o (Some r) o' head
 
 module _ (s raw names : List ℕ) (kinds : Kinds) (scope : List ℕ) (n : ℕ) where
-  abbrev pub ResolvesTerm : (at : ℕ) → Bool → ℕ → List ℕ → Step → List ℕ → Type 0
+  abbrev pub ResolvesTerm : (at : ℕ) → Bool → ℕ → List ℕ → Given Step → List ℕ → Type 0
   ResolvesTerm at after w o r o' = (N : Names) (S : Sig) (t : Term) (rest : List Symbol) → Declared s names kinds N → KnownSorts kinds scope n S
       → drop at (symbols s raw) ≡ enc_term t ++ rest → n + term_depth t ≤ max_scope
-      → Outcome raw (symbols s raw) rest w o r.at r.w o' (term_cells N S (scope_at s scope n) (scope_sorts scope n) after t)
+      → Outcome raw (symbols s raw) rest w o r o' (term_cells N S (scope_at s scope n) (scope_sorts scope n) after t)
 
-  abbrev pub ResolvesFirst : (at : ℕ) → Bool → ℕ → List ℕ → Step → List ℕ → Type 0
+  abbrev pub ResolvesFirst : (at : ℕ) → Bool → ℕ → List ℕ → Given Step → List ℕ → Type 0
   ResolvesFirst at after w o r o' = (N : Names) (S : Sig) (t : Term) (rest : List Symbol) → Declared s names kinds N → KnownSorts kinds scope n S
-      → drop at (symbols s raw) ≡ enc_term t ++ rest → n + term_depth t ≤ max_scope → 1 < kids_of (get_or raw at 0) → Halved s raw N S (scope_at s scope n) (scope_sorts scope n) at after t rest w o r o'
+      → drop at (symbols s raw) ≡ enc_term t ++ rest → n + term_depth t ≤ max_scope → 1 < kids_of (get_or raw at 0)
+      → MatchOption r (term_cells N S (scope_at s scope n) (scope_sorts scope n) after t ≡ none) (λ a. Halved s raw N S (scope_at s scope n) (scope_sorts scope n) at after t rest w o a o')
 
 -- ---- what the layers above are told
--- what was read, where its place is not past the end
-pub record Whole (raw : List ℕ) (a : Step) (r : Given Step) : Type 0 where
-  pub reached : a.at ≤ length raw → r ≡ Some a
-  pub past : length raw < a.at → r ≡ None
-
 -- Resolved or not. If so: the place behind the raw term, and the term's cells behind those before w, if there was room.
 unfoldable pub Answers : List Symbol → List Symbol → ℕ → List ℕ → Option Proc → Given Step → List ℕ → Type 0
 Answers symbols rest w o p r o' = Yields (λ p a. (drop a.at symbols ≡ rest) × Writes (enc false p) w o a.w o') p r

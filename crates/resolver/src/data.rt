@@ -1,7 +1,7 @@
 // "In data a name without brackets is a variable in scope, one with brackets a function."
-ghost use Rattle.std.specs.Prelude.{◌+◌, ◌<◌, length};
+ghost use Rattle.std.specs.Prelude.{◌≤◌, IfSome};
 ghost use Rattle.names.specs.NameList.{names_in, kinds_in, KeyedNames};
-ghost use Rattle.resolver.specs.Resolving.{Ahead, Few, ResolvesData, ResolvesConjunction, ResolvesComparison, ResolvesNegation, ResolvesAtom, ResolvesDatas, ResolvesGiven, ResolvesCondition};
+ghost use Rattle.resolver.specs.Resolving.{Few, ResolvesData, ResolvesConjunction, ResolvesComparison, ResolvesNegation, ResolvesAtom, ResolvesDatas, ResolvesGiven, ResolvesCondition};
 
 use crate::DataRun;
 use crate::cells::{put_joins, span};
@@ -11,7 +11,7 @@ use lexer::{FIRST_NAME, FIRST_NUMERAL};
 use names::find::scope_number;
 use names::keys::func_in;
 use parser::Step;
-use parser::cells::{lost, put};
+use parser::cells::put;
 use parser::codes::{
     ALONE_TAG, APPLY_TAG, BARE_TAG, EQUAL_TAG, FIRST_ANDS, FIRST_ORS, GIVEN_TAG, MORE_TAG,
     NEST_TAG, NOT_TAG, ONE_TAG, VALUE_TAG, VARIABLE_TAG,
@@ -35,29 +35,27 @@ pub fn data_term(
     at: usize,
     out: &mut [u16],
     w: usize,
-) -> Step
+) -> Option<Step>
     requires { Few raw.now (kinds_in declared.now) scope.now n × KeyedNames s.now declared.now }
-    ensures ahead { Ahead (length raw.now) at result.at }
+    ensures ahead { IfSome result (λ r. at ≤ r.at) }
     ensures resolves { ResolvesData s.now raw.now (names_in declared.now) (kinds_in declared.now) scope.now n at w out.old result out.new }
 {
     let k = peek(raw, at);
     if k < FIRST_ORS {
-        return lost(raw, w);
+        return None;
     }
     if k >= FIRST_ANDS {
-        return lost(raw, w);
+        return None;
     }
     let more = wide(k - FIRST_ORS);
     let mut p = at + 1;
     let mut v = put_joins(out, w, OR_CELL, more);
-    let mut i: usize = 0;
-    while i <= more {
-        let a = conjunction(s, raw, declared, scope, n, p, out, v);
+    for i in 0..more + 1 {
+        let a = conjunction(s, raw, declared, scope, n, p, out, v)?;
         p = a.at;
         v = a.w;
-        i += 1;
     }
-    Step { at: p, w: v }
+    Some(Step { at: p, w: v })
 }
 
 // Comparisons joined by `/\`, which groups to the left.
@@ -71,26 +69,24 @@ fn conjunction(
     at: usize,
     out: &mut [u16],
     w: usize,
-) -> Step
+) -> Option<Step>
     requires { Few raw.now (kinds_in declared.now) scope.now n × KeyedNames s.now declared.now }
-    ensures ahead { Ahead (length raw.now) at result.at }
+    ensures ahead { IfSome result (λ r. at ≤ r.at) }
     ensures resolves { ResolvesConjunction s.now raw.now (names_in declared.now) (kinds_in declared.now) scope.now n at w out.old result out.new }
 {
     let k = peek(raw, at);
     if k < FIRST_ANDS {
-        return lost(raw, w);
+        return None;
     }
     let more = wide(k - FIRST_ANDS);
     let mut p = at + 1;
     let mut v = put_joins(out, w, AND_CELL, more);
-    let mut i: usize = 0;
-    while i <= more {
-        let a = comparison(s, raw, declared, scope, n, p, out, v);
+    for i in 0..more + 1 {
+        let a = comparison(s, raw, declared, scope, n, p, out, v)?;
         p = a.at;
         v = a.w;
-        i += 1;
     }
-    Step { at: p, w: v }
+    Some(Step { at: p, w: v })
 }
 
 // A negation, or two with `==`: its cell is put when both stand behind it.
@@ -104,9 +100,9 @@ fn comparison(
     at: usize,
     out: &mut [u16],
     w: usize,
-) -> Step
+) -> Option<Step>
     requires { Few raw.now (kinds_in declared.now) scope.now n × KeyedNames s.now declared.now }
-    ensures ahead { Ahead (length raw.now) at result.at }
+    ensures ahead { IfSome result (λ r. at ≤ r.at) }
     ensures resolves { ResolvesComparison s.now raw.now (names_in declared.now) (kinds_in declared.now) scope.now n at w out.old result out.new }
 {
     let k = peek(raw, at);
@@ -114,16 +110,16 @@ fn comparison(
         return negation(s, raw, declared, scope, n, at + 1, out, w);
     }
     if k != EQUAL_TAG {
-        return lost(raw, w);
+        return None;
     }
     let c = put(out, w, 0);
     let v = put(out, c, 2);
-    let a = negation(s, raw, declared, scope, n, at + 1, out, v);
-    let b = negation(s, raw, declared, scope, n, a.at, out, a.w);
+    let a = negation(s, raw, declared, scope, n, at + 1, out, v)?;
+    let b = negation(s, raw, declared, scope, n, a.at, out, a.w)?;
     let x = peek(out, v);
     let y = peek(out, a.w);
     put(out, w, equal_cell(scope, x, y));
-    Step { at: b.at, w: b.w }
+    Some(b)
 }
 
 // An atom behind any number of `!`.
@@ -137,9 +133,9 @@ fn negation(
     at: usize,
     out: &mut [u16],
     w: usize,
-) -> Step
+) -> Option<Step>
     requires { Few raw.now (kinds_in declared.now) scope.now n × KeyedNames s.now declared.now }
-    ensures ahead { Ahead (length raw.now) at result.at }
+    ensures ahead { IfSome result (λ r. at ≤ r.at) }
     ensures resolves { ResolvesNegation s.now raw.now (names_in declared.now) (kinds_in declared.now) scope.now n at w out.old result out.new }
 {
     let mut p = at;
@@ -163,9 +159,9 @@ fn atom(
     at: usize,
     out: &mut [u16],
     w: usize,
-) -> Step
+) -> Option<Step>
     requires { Few raw.now (kinds_in declared.now) scope.now n × KeyedNames s.now declared.now }
-    ensures ahead { Ahead (length raw.now) at result.at }
+    ensures ahead { IfSome result (λ r. at ≤ r.at) }
     ensures resolves { ResolvesAtom s.now raw.now (names_in declared.now) (kinds_in declared.now) scope.now n at w out.old result out.new }
 {
     let k = peek(raw, at);
@@ -175,36 +171,32 @@ fn atom(
     if k == VALUE_TAG {
         let c = peek(raw, at + 1);
         if c < FIRST_NUMERAL {
-            return lost(raw, w);
+            return None;
         }
         if c >= FIRST_NAME {
-            return lost(raw, w);
+            return None;
         }
-        return Step {
+        return Some(Step {
             at: at + 2,
             w: put(out, w, (c - FIRST_NUMERAL) * 4),
-        };
+        });
     }
     if k == VARIABLE_TAG {
-        let Some(i) = scope_number(s, scope, n, peek(raw, at + 1)) else {
-            return lost(raw, w);
-        };
-        return Step {
+        let i = scope_number(s, scope, n, peek(raw, at + 1))?;
+        return Some(Step {
             at: at + 2,
             w: put(out, w, short(4 * i + 1)),
-        };
+        });
     }
     if k != APPLY_TAG {
-        return lost(raw, w);
+        return None;
     }
-    let Some(f) = func_in(s, declared, peek(raw, at + 1)) else {
-        return lost(raw, w);
-    };
+    let f = func_in(s, declared, peek(raw, at + 1))?;
     let v = put(out, w, short(4 * f + 2));
     let d = put(out, v, 0);
-    let l = data_list(s, raw, declared, scope, n, at + 2, out, d);
+    let l = data_list(s, raw, declared, scope, n, at + 2, out, d)?;
     put(out, v, short(l.count));
-    Step { at: l.at, w: l.w }
+    Some(Step { at: l.at, w: l.w })
 }
 
 // Data of a list, one behind another, and how many they are.
@@ -218,34 +210,29 @@ pub fn data_list(
     at: usize,
     out: &mut [u16],
     w: usize,
-) -> DataRun
+) -> Option<DataRun>
     requires { Few raw.now (kinds_in declared.now) scope.now n × KeyedNames s.now declared.now }
-    ensures ahead { Ahead (length raw.now) at result.at }
+    ensures ahead { IfSome result (λ r. at ≤ r.at) }
     ensures resolves { ResolvesDatas s.now raw.now (names_in declared.now) (kinds_in declared.now) scope.now n at w out.old result out.new }
 {
     let mut p = at;
     let mut v = w;
     let mut count: usize = 0;
     while peek(raw, p) == MORE_TAG {
-        let a = data_term(s, raw, declared, scope, n, p + 1, out, v);
+        let a = data_term(s, raw, declared, scope, n, p + 1, out, v)?;
         p = a.at;
         v = a.w;
         count += 1;
     }
     if peek(raw, p) != ONE_TAG {
-        let l = lost(raw, v);
-        return DataRun {
-            at: l.at,
-            w: v,
-            count: count,
-        };
+        return None;
     }
-    let a = data_term(s, raw, declared, scope, n, p + 1, out, v);
-    DataRun {
-        at: a.at,
-        w: a.w,
+    let b = data_term(s, raw, declared, scope, n, p + 1, out, v)?;
+    Some(DataRun {
+        at: b.at,
+        w: b.w,
         count: count + 1,
-    }
+    })
 }
 
 // The data given to the name at `at`: how many cells they take, how many they are, and they.
@@ -258,24 +245,24 @@ pub fn given(
     at: usize,
     out: &mut [u16],
     w: usize,
-) -> Step
+) -> Option<Step>
     requires { Few raw.now (kinds_in declared.now) scope.now n × KeyedNames s.now declared.now }
-    ensures ahead { Ahead (length raw.now) at result.at }
+    ensures ahead { IfSome result (λ r. at ≤ r.at) }
     ensures resolves { ResolvesGiven s.now raw.now (names_in declared.now) (kinds_in declared.now) scope.now n at w out.old result out.new }
 {
     let k = peek(raw, at);
     let c = put(out, w, 0);
     let v = put(out, c, 0);
     if k == BARE_TAG {
-        return Step { at: at + 2, w: v };
+        return Some(Step { at: at + 2, w: v });
     }
     if k != GIVEN_TAG {
-        return lost(raw, w);
+        return None;
     }
-    let l = data_list(s, raw, declared, scope, n, at + 2, out, v);
+    let l = data_list(s, raw, declared, scope, n, at + 2, out, v)?;
     put(out, c, short(l.count));
     put(out, w, span(v, l.w));
-    Step { at: l.at, w: l.w }
+    Some(Step { at: l.at, w: l.w })
 }
 
 // A condition: how many cells it takes, that it is one data term, and it.
@@ -288,13 +275,13 @@ pub fn condition(
     at: usize,
     out: &mut [u16],
     w: usize,
-) -> Step
+) -> Option<Step>
     requires { Few raw.now (kinds_in declared.now) scope.now n × KeyedNames s.now declared.now }
     ensures { ResolvesCondition s.now raw.now (names_in declared.now) (kinds_in declared.now) scope.now n at w out.old result out.new }
 {
     let c = put(out, w, 0);
     let v = put(out, c, 1);
-    let d = data_term(s, raw, declared, scope, n, at, out, v);
+    let d = data_term(s, raw, declared, scope, n, at, out, v)?;
     put(out, w, span(v, d.w));
-    d
+    Some(d)
 }

@@ -2,7 +2,7 @@
 ghost use Rattle.std.specs.Prelude.{◌<◌, length};
 ghost use Rattle.names.specs.NameList.{names_in, kinds_in, KeyedNames};
 ghost use Rattle.resolver.specs.Sorting.{ScopeKept};
-ghost use Rattle.resolver.specs.Resolving.{Few, Whole, ResolvesRight, ResolvesInit};
+ghost use Rattle.resolver.specs.Resolving.{Few, ResolvesRight, ResolvesInit};
 
 use crate::cells::first_cell;
 use crate::data::given;
@@ -12,13 +12,6 @@ use names::keys::proc_in;
 use nodes::CALL;
 use parser::Step;
 use parser::cells::put;
-
-// What was read, if every name in it was as it must be: else its place is past the end.
-fn whole(raw: &[u16], a: Step) -> Option<Step>
-    ensures { Whole raw.now a result }
-{
-    if a.at > raw.len() { None } else { Some(a) }
-}
 
 // The right side of a process at `at`, with n names in scope: the place behind it and the next free cell, if every name is as it must be.
 pub fn right_side(
@@ -36,8 +29,7 @@ pub fn right_side(
     ensures resolves { ResolvesRight s.now raw.now (names_in declared.now) (kinds_in declared.now) scope.old n at w out.old result out.new }
 {
     let from = Step { at: at, w: w };
-    let a = term(s, raw, declared, scope, n, from, false, out);
-    whole(raw, a)
+    term(s, raw, declared, scope, n, from, false, out)
 }
 
 // The same of the call of init, whose line stands at `at`; nothing is in scope.
@@ -55,6 +47,5 @@ pub fn init(
 {
     let k = proc_in(s, declared, peek(raw, at + 2))?;
     let v = put(out, w, first_cell(k, false, CALL));
-    let a = given(s, raw, declared, scope, 0, at + 1, out, v);
-    whole(raw, a)
+    given(s, raw, declared, scope, 0, at + 1, out, v)
 }

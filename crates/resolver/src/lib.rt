@@ -16,8 +16,7 @@ pub const FIRST_RESULT: usize = FIRST_SORT + MAX_SCOPE;
 
 pub const SCOPE_CELLS: usize = FIRST_RESULT + MAX_FUNCTIONS;
 
-// A place among the cells of the raw tree, the next free cell, and how many data terms there were. A place past the end, as in a Step:
-// some name is not as it must be.
+// A place among the cells of the raw tree, the next free cell, and how many data terms there were.
 #[derive(Clone, Copy)]
 pub struct DataRun {
     pub at: usize,

@@ -1,13 +1,13 @@
 // Choices, conditionals, sequences and parts, as one kind of term: what stands last in a term is read by going on in the loop,
 // what stands first by recursion. So a chain of `.` or `+` takes no stack, only brackets do.
-ghost use Rattle.std.specs.Prelude.{◌+◌, ◌≤◌, ◌<◌, length};
+ghost use Rattle.std.specs.Prelude.{◌≤◌, ◌<◌, IfSome, length};
 ghost use Rattle.pcrl.specs.Limits.{max_actions, max_processes};
 ghost use Rattle.pcrl.specs.Names.{number_of};
 ghost use Rattle.names.specs.NameCells.{name_at};
 ghost use Rattle.names.specs.NameKinds.{acts_in, procs_in};
 ghost use Rattle.names.specs.NameList.{names_in, kinds_in, KeyedNames};
 ghost use Rattle.resolver.specs.Sorting.{ScopeKept};
-ghost use Rattle.resolver.specs.Resolving.{Ahead, Few, Naming, InScope, Binds, ResolvesConstant, ResolvesNamed, Forks, ResolvesFirst, ResolvesTerm};
+ghost use Rattle.resolver.specs.Resolving.{Few, Naming, InScope, Binds, ResolvesConstant, ResolvesNamed, Forks, ResolvesFirst, ResolvesTerm};
 
 use crate::cells::{first_cell, kids, node, skip, tokens};
 use crate::data::{condition, given};
@@ -18,7 +18,7 @@ use names::fresh::new_variable;
 use names::keys::{part_in, sort_in};
 use nodes::{ALT, ATOM, CALL, COND, DELTA, MAX_SCOPE, SEQ, SUM};
 use parser::Step;
-use parser::cells::{lost, put};
+use parser::cells::put;
 use parser::codes::{DELTA_TAG, PLUS_TAG, SUM_TAG, TAU_TAG, THEN_TAG};
 
 // "As a part a name is an action or a process": the first cell of its node, if the name is known.
@@ -44,52 +44,50 @@ fn binder(
     from: Step,
     after: bool,
     out: &mut [u16],
-) -> Step
+) -> Option<Step>
     requires { Few raw.now (kinds_in declared.now) scope.old n × (from.at < length raw.now) × KeyedNames s.now declared.now }
-    ensures ahead { Ahead (length raw.now) (from.at + 1) result.at }
+    ensures ahead { IfSome result (λ r. from.at < r.at) }
     ensures kept { ScopeKept n scope.old scope.new }
     ensures bound { InScope s.now raw.now (names_in declared.now) (kinds_in declared.now) scope.old n from.at result scope.new }
     ensures binds { Binds s.now raw.now (names_in declared.now) (kinds_in declared.now) scope.old n from.at after from.w out.old result out.new }
 {
     let x = peek(raw, from.at + 1);
     if !new_variable(s, declared, scope, n, x) {
-        return lost(raw, from.w);
+        return None;
     }
-    let Some(d) = sort_in(s, declared, peek(raw, from.at + 2)) else {
-        return lost(raw, from.w);
-    };
+    let d = sort_in(s, declared, peek(raw, from.at + 2))?;
     if n >= MAX_SCOPE {
-        return lost(raw, from.w);
+        return None;
     }
     scope[n] = x;
     scope[FIRST_SORT + n] = short(d);
     let v = node(out, from.w, first_cell(d, after, SUM), 1, 1);
-    Step {
+    Some(Step {
         at: from.at + 3,
         w: put(out, v, short(4 * n + 1)),
-    }
+    })
 }
 
 // delta or tau
-fn constant(raw: &[u16], at: usize, after: bool, out: &mut [u16], w: usize) -> Step
+fn constant(raw: &[u16], at: usize, after: bool, out: &mut [u16], w: usize) -> Option<Step>
     requires { at < length raw.now }
-    ensures ahead { Ahead (length raw.now) at result.at }
+    ensures ahead { IfSome result (λ r. at ≤ r.at) }
     ensures resolves { ResolvesConstant raw.now at after w out.old result out.new }
 {
     let k = peek(raw, at);
     if k == DELTA_TAG {
-        return Step {
+        return Some(Step {
             at: at + 1,
             w: node(out, w, first_cell(0, after, DELTA), 0, 0),
-        };
+        });
     }
     if k == TAU_TAG {
-        return Step {
+        return Some(Step {
             at: at + 1,
             w: node(out, w, first_cell(0, after, ATOM), 0, 0),
-        };
+        });
     }
-    lost(raw, w)
+    None
 }
 
 // The node of a `+`, a `.` or a conditional, whose condition stands behind the first part and is resolved before it.
@@ -102,32 +100,32 @@ fn fork(
     from: Step,
     after: bool,
     out: &mut [u16],
-) -> Fork
+) -> Option<Fork>
     requires { Few raw.now (kinds_in declared.now) scope.now n × (from.at < length raw.now) × KeyedNames s.now declared.now }
     ensures { Forks s.now raw.now (names_in declared.now) (kinds_in declared.now) scope.now n from.at after from.w out.old result out.new }
 {
     let k = peek(raw, from.at);
     if k == THEN_TAG {
-        return Fork {
+        return Some(Fork {
             at: from.at,
             w: node(out, from.w, first_cell(0, false, SEQ), 0, 0),
             left: after,
-        };
+        });
     }
     if k == PLUS_TAG {
-        return Fork {
+        return Some(Fork {
             at: from.at,
             w: node(out, from.w, first_cell(0, after, ALT), 0, 0),
             left: false,
-        };
+        });
     }
     let v = put(out, from.w, first_cell(0, after, COND));
-    let d = condition(s, raw, declared, scope, n, skip(raw, from.at + 1), out, v);
-    Fork {
+    let d = condition(s, raw, declared, scope, n, skip(raw, from.at + 1), out, v)?;
+    Some(Fork {
         at: d.at,
         w: d.w,
         left: false,
-    }
+    })
 }
 
 // A name, and the data given to it.
@@ -140,14 +138,12 @@ fn named_part(
     from: Step,
     after: bool,
     out: &mut [u16],
-) -> Step
+) -> Option<Step>
     requires { Few raw.now (kinds_in declared.now) scope.now n × (from.at < length raw.now) × KeyedNames s.now declared.now }
-    ensures ahead { Ahead (length raw.now) from.at result.at }
+    ensures ahead { IfSome result (λ r. from.at ≤ r.at) }
     ensures resolves { ResolvesNamed s.now raw.now (names_in declared.now) (kinds_in declared.now) scope.now n from.at after from.w out.old result out.new }
 {
-    let Some(first) = named(s, declared, peek(raw, from.at + 1), after) else {
-        return lost(raw, from.w);
-    };
+    let first = named(s, declared, peek(raw, from.at + 1), after)?;
     let v = put(out, from.w, first);
     given(s, raw, declared, scope, n, from.at, out, v)
 }
@@ -163,23 +159,23 @@ fn first_part(
     from: Step,
     after: bool,
     out: &mut [u16],
-) -> Step
+) -> Option<Step>
     requires { Few raw.now (kinds_in declared.now) scope.old n × (from.at < length raw.now) × KeyedNames s.now declared.now }
-    ensures ahead { from.at + 1 ≤ result.at }
+    ensures ahead { IfSome result (λ r. from.at < r.at) }
     ensures kept { ScopeKept n scope.old scope.new }
     ensures resolves { ResolvesFirst s.now raw.now (names_in declared.now) (kinds_in declared.now) scope.old n from.at after from.w out.old result out.new }
 {
-    let h = fork(s, raw, declared, scope, n, from, after, out);
+    let h = fork(s, raw, declared, scope, n, from, after, out)?;
     let next = Step {
         at: from.at + 1,
         w: h.w,
     };
-    let a = term(s, raw, declared, scope, n, next, h.left, out);
+    let a = term(s, raw, declared, scope, n, next, h.left, out)?;
     // the second part stands behind the condition, if there is one
     if a.at < h.at {
-        return Step { at: h.at, w: a.w };
+        return Some(Step { at: h.at, w: a.w });
     }
-    a
+    Some(a)
 }
 
 // A choice, conditional, sequence or part at `from.at`, with n names in scope; whether it stands after a first part.
@@ -193,9 +189,9 @@ pub fn term(
     from: Step,
     after: bool,
     out: &mut [u16],
-) -> Step
+) -> Option<Step>
     requires { Few raw.now (kinds_in declared.now) scope.old n × KeyedNames s.now declared.now }
-    ensures ahead { Ahead (length raw.now) from.at result.at }
+    ensures ahead { IfSome result (λ r. from.at ≤ r.at) }
     ensures kept { ScopeKept n scope.old scope.new }
     ensures resolves { ResolvesTerm s.now raw.now (names_in declared.now) (kinds_in declared.now) scope.old n from.at after from.w out.old result out.new }
 {
@@ -206,7 +202,7 @@ pub fn term(
     while p < raw.len() {
         let k = peek(raw, p);
         if k == SUM_TAG {
-            let b = binder(s, raw, declared, scope, m, Step { at: p, w: v }, r, out);
+            let b = binder(s, raw, declared, scope, m, Step { at: p, w: v }, r, out)?;
             p = b.at;
             m += 1;
             r = false;
@@ -225,10 +221,10 @@ pub fn term(
             p += 1;
             continue;
         }
-        let h = first_part(s, raw, declared, scope, m, Step { at: p, w: v }, r, out);
+        let h = first_part(s, raw, declared, scope, m, Step { at: p, w: v }, r, out)?;
         p = h.at;
         r = k == THEN_TAG;
         v = h.w;
     }
-    lost(raw, v)
+    None
 }

@@ -29,20 +29,14 @@ decreases-negation l = 2 * (length l.raw.now - l.at) + 1
 abbrev pub invariant-conjunction-loop-i : goal.invariant-conjunction-loop-i
 invariant-conjunction-loop-i l = ((l.at + 1 ≤ l.p) × (l.i ≤ l.more + 1) × (length l.out ≡ length l.initial.out)) × OperandsLeft enc_comparison comparison_cells l.s l.raw (names_in l.declared) (kinds_in l.declared) l.scope l.n (l.at + 1) (l.more + 1) l.initial.v l.initial.out l.p l.v l.i l.out
 
-abbrev pub decreases-conjunction-loop-i : goal.decreases-conjunction-loop-i
-decreases-conjunction-loop-i l = l.more + 1 - l.i
+abbrev pub invariant-data_list-loop-out : goal.invariant-data_list-loop-out
+invariant-data_list-loop-out l = ((l.count + l.at ≤ l.p) × (length l.out ≡ length l.initial.out)) × DatasLeft l.s l.raw (names_in l.declared) (kinds_in l.declared) l.scope l.n l.at l.w l.initial.out l.p l.v l.count l.out
 
-abbrev pub invariant-data_list-loop-p : goal.invariant-data_list-loop-p
-invariant-data_list-loop-p l = ((l.count + l.at ≤ l.p) × (length l.out ≡ length l.initial.out)) × DatasLeft l.s l.raw (names_in l.declared) (kinds_in l.declared) l.scope l.n l.at l.w l.initial.out l.p l.v l.count l.out
-
-abbrev pub decreases-data_list-loop-p : goal.decreases-data_list-loop-p
-decreases-data_list-loop-p l = length l.raw - l.p
+abbrev pub decreases-data_list-loop-out : goal.decreases-data_list-loop-out
+decreases-data_list-loop-out l = length l.raw - l.p
 
 abbrev pub invariant-data_term-loop-i : goal.invariant-data_term-loop-i
 invariant-data_term-loop-i l = ((l.at + 1 ≤ l.p) × (l.i ≤ l.more + 1) × (length l.out ≡ length l.initial.out)) × OperandsLeft enc_conjunction conjunction_cells l.s l.raw (names_in l.declared) (kinds_in l.declared) l.scope l.n (l.at + 1) (l.more + 1) l.initial.v l.initial.out l.p l.v l.i l.out
-
-abbrev pub decreases-data_term-loop-i : goal.decreases-data_term-loop-i
-decreases-data_term-loop-i l = l.more + 1 - l.i
 
 abbrev pub invariant-negation-loop-out : goal.invariant-negation-loop-out
 invariant-negation-loop-out l = ((l.at ≤ l.p) × (length l.out ≡ length l.initial.out)) × NotsLeft l.s l.raw (names_in l.declared) (kinds_in l.declared) l.scope l.n l.at l.w l.initial.out l.p l.v l.out

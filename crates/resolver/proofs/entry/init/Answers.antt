@@ -26,18 +26,18 @@ returns-in_err-k c =
 pub overflow_add-at-2 : goal.overflow_add-at-2
 overflow_add-at-2 c = let q = c.requires in omega arith
 
-pub given-a-requires : goal.given-a-requires
-given-a-requires c = let q = c.requires in let f = q.0 in (omega arith, q.2)
+pub given-requires : goal.given-requires
+given-requires c = let q = c.requires in let f = q.0 in (omega arith, q.2)
 
 pub shape_of-out : goal.shape_of-out
-shape_of-out c = c.given-a.auto.out ∙ c.put-v.auto.out
+shape_of-out c = c.given.auto.out ∙ c.put-v.auto.out
 
 pub returns : goal.returns
 returns c =
     let args = c.args in
     let put = c.put-v in
-    let given = c.given-a in
+    let given = c.given in
     init_answered args.s.now args.raw.now (names_in args.declared.now) (kinds_in args.declared.now) args.scope.now args.at args.w args.out.now c.peek.result c.peek.ensures c.in_ok-k.k
     (is_found (number_of (name_at args.s.now c.peek.result) (procs_in args.s.now (names_in args.declared.now) (kinds_in args.declared.now))) c.in_ok-k.k c.in_ok-k.ensures.number)
-    c.first_cell.result c.first_cell.ensures given.result given.new.out c.whole.result c.whole.ensures
+    c.first_cell.result c.first_cell.ensures given.result given.new.out
     (node_put args.s.now args.raw.now (names_in args.declared.now) (kinds_in args.declared.now) args.scope.now 0 (args.at + 1) c.first_cell.result args.w args.out.now put.result put.new.out put.ensures given.result given.new.out given.ensures.resolves)

@@ -21,9 +21,7 @@ pub returns-then-not-new_variable : goal.returns-then-not-new_variable
 returns-then-not-new_variable c =
     let args = c.args in
     let few = c.requires.0 in
-    let q = c.requires.1 in
-    let z = c.lost.ensures in
-    record { ahead = omega arith; kept = nothing_changed args.n args.scope.now; bound = λ h. absurd (omega arith); binds = binder_old args.s.now args.raw.now (names_in args.declared.now) (kinds_in args.declared.now) args.scope.now args.n args.from.at args.after args.from.w args.out.now (omega arith) c.peek-x.result c.peek-x.ensures c.new_variable.result (says_new args.s.now (names_in args.declared.now) (kinds_in args.declared.now) args.scope.now args.n c.peek-x.result c.new_variable.result c.new_variable.ensures) c.if-not-new_variable.true c.lost.result args.out.now c.lost.ensures }
+    record { ahead = tt; kept = nothing_changed args.n args.scope.now; bound = tt; binds = binder_old args.s.now args.raw.now (names_in args.declared.now) (kinds_in args.declared.now) args.scope.now args.n args.from.at args.after args.from.w args.out.now (omega arith) c.peek-x.result c.peek-x.ensures c.new_variable.result (says_new args.s.now (names_in args.declared.now) (kinds_in args.declared.now) args.scope.now args.n c.peek-x.result c.new_variable.result c.new_variable.ensures) c.if-not-new_variable.true args.out.now }
 
 pub overflow_add-from-2 : goal.overflow_add-from-2
 overflow_add-from-2 c = let q = c.requires in omega arith
@@ -31,21 +29,17 @@ overflow_add-from-2 c = let q = c.requires in omega arith
 pub sort_in-requires : goal.sort_in-requires
 sort_in-requires c = c.requires.2
 
-pub returns-in_default : goal.returns-in_default
-returns-in_default c =
+pub returns-in_err-d : goal.returns-in_err-d
+returns-in_err-d c =
     let args = c.args in
     let few = c.requires.0 in
-    let q = c.requires.1 in
-    let z = c.lost-in_default.ensures in
-    record { ahead = omega arith; kept = nothing_changed args.n args.scope.now; bound = λ h. absurd (omega arith); binds = binder_no_sort args.s.now args.raw.now (names_in args.declared.now) (kinds_in args.declared.now) args.scope.now args.n args.from.at args.after args.from.w args.out.now (omega arith) c.peek-x.result c.peek-x.ensures c.new_variable.result (says_new args.s.now (names_in args.declared.now) (kinds_in args.declared.now) args.scope.now args.n c.peek-x.result c.new_variable.result c.new_variable.ensures) c.if-not-new_variable.false c.peek.result c.peek.ensures (not_found (number_of (name_at args.s.now c.peek.result) (sorts_in args.s.now (names_in args.declared.now) (kinds_in args.declared.now))) c.in_default.ensures.number) c.lost-in_default.result args.out.now c.lost-in_default.ensures }
+    rw c.from_residual.ensures (record { ahead = tt; kept = nothing_changed args.n args.scope.now; bound = tt; binds = binder_no_sort args.s.now args.raw.now (names_in args.declared.now) (kinds_in args.declared.now) args.scope.now args.n args.from.at args.after args.from.w args.out.now (omega arith) c.peek-x.result c.peek-x.ensures c.new_variable.result (says_new args.s.now (names_in args.declared.now) (kinds_in args.declared.now) args.scope.now args.n c.peek-x.result c.new_variable.result c.new_variable.ensures) c.if-not-new_variable.false c.peek.result c.peek.ensures (not_found (number_of (name_at args.s.now c.peek.result) (sorts_in args.s.now (names_in args.declared.now) (kinds_in args.declared.now))) c.in_err-d.ensures.number) args.out.now })
 
 pub returns-then-n-ge-MAX_SCOPE : goal.returns-then-n-ge-MAX_SCOPE
 returns-then-n-ge-MAX_SCOPE c =
     let args = c.args in
     let few = c.requires.0 in
-    let q = c.requires.1 in
-    let z = c.lost-then-n-ge-MAX_SCOPE.ensures in
-    record { ahead = omega arith; kept = nothing_changed args.n args.scope.now; bound = λ h. absurd (omega arith); binds = binder_full args.s.now args.raw.now (names_in args.declared.now) (kinds_in args.declared.now) args.scope.now args.n args.from.at args.after args.from.w args.out.now (omega arith) c.lost-then-n-ge-MAX_SCOPE.result args.out.now c.if-n-ge-MAX_SCOPE.true }
+    record { ahead = tt; kept = nothing_changed args.n args.scope.now; bound = tt; binds = binder_full args.s.now args.raw.now (names_in args.declared.now) (kinds_in args.declared.now) args.scope.now args.n args.from.at args.after args.from.w args.out.now (omega arith) args.out.now c.if-n-ge-MAX_SCOPE.true }
 
 pub offset_bounds-scope-n : goal.offset_bounds-scope-n
 offset_bounds-scope-n c = let q = c.requires in omega arith
@@ -82,8 +76,8 @@ returns c =
     let args = c.args in
     let few = c.requires.0 in
     let q = c.requires.1 in
-    let found : c.in-Some.d ≤ (kinds_in args.declared.now).sorts = c.in-Some.ensures.most in
-    let number = is_found (number_of (name_at args.s.now c.peek.result) (sorts_in args.s.now (names_in args.declared.now) (kinds_in args.declared.now))) c.in-Some.d c.in-Some.ensures.number in
+    let found : c.in_ok-d.d ≤ (kinds_in args.declared.now).sorts = c.in_ok-d.ensures.most in
+    let number = is_found (number_of (name_at args.s.now c.peek.result) (sorts_in args.s.now (names_in args.declared.now) (kinds_in args.declared.now))) c.in_ok-d.d c.in_ok-d.ensures.number in
     let deep : args.n < 32 = c.if-n-ge-MAX_SCOPE.false in
     let sort = c.short.ensures (omega arith) in
-    record { ahead = omega arith; kept = push_kept args.scope.now args.n c.peek-x.result c.short.result deep few.scope_many; bound = λ h. (deep, both_pushed args.s.now args.raw.now (names_in args.declared.now) (kinds_in args.declared.now) args.scope.now args.n args.from.at c.peek-x.result c.peek.result c.short.result c.in-Some.d c.peek-x.ensures c.peek.ensures (sym (ap (or_count (suc (kinds_in args.declared.now).sorts)) number)) sort); binds = binder_took args.s.now args.raw.now (names_in args.declared.now) (kinds_in args.declared.now) args.scope.now args.n args.from.at args.after args.from.w args.out.now (omega arith) c.peek-x.result c.peek-x.ensures c.new_variable.result (says_new args.s.now (names_in args.declared.now) (kinds_in args.declared.now) args.scope.now args.n c.peek-x.result c.new_variable.result c.new_variable.ensures) c.if-not-new_variable.false c.peek.result c.peek.ensures c.in-Some.d number c.first_cell.result c.short-2.result c.node-v.result c.put.result c.node-v.new.out c.put.new.out c.first_cell.ensures (c.short-2.ensures (omega arith)) c.node-v.ensures c.put.ensures }
+    record { ahead = omega arith; kept = push_kept args.scope.now args.n c.peek-x.result c.short.result deep few.scope_many; bound = (deep, both_pushed args.s.now args.raw.now (names_in args.declared.now) (kinds_in args.declared.now) args.scope.now args.n args.from.at c.peek-x.result c.peek.result c.short.result c.in_ok-d.d c.peek-x.ensures c.peek.ensures (sym (ap (or_count (suc (kinds_in args.declared.now).sorts)) number)) sort); binds = binder_took args.s.now args.raw.now (names_in args.declared.now) (kinds_in args.declared.now) args.scope.now args.n args.from.at args.after args.from.w args.out.now (omega arith) c.peek-x.result c.peek-x.ensures c.new_variable.result (says_new args.s.now (names_in args.declared.now) (kinds_in args.declared.now) args.scope.now args.n c.peek-x.result c.new_variable.result c.new_variable.ensures) c.if-not-new_variable.false c.peek.result c.peek.ensures c.in_ok-d.d number c.first_cell.result c.short-2.result c.node-v.result c.put.result c.node-v.new.out c.put.new.out c.first_cell.ensures (c.short-2.ensures (omega arith)) c.node-v.ensures c.put.ensures }
