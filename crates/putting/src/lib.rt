@@ -155,7 +155,7 @@ pub fn put_terms(
 {
     let mut p = at;
     let mut v = w;
-    for j in 0..count {
+    for _ in 0..count {
         let r = put_term(cells, p, slots, n, out, v)?;
         p = r.next;
         v = r.w;
