@@ -7,14 +7,9 @@ use elements::cell;
 use limits::MAX_PROCESSES;
 
 // The numbers of the first new equations of all processes.
-#[derive(Clone, Copy)]
-pub struct Firsts {
-    pub at: [u8; MAX_PROCESSES],
-}
-
-pub fn first_numbers(cells: &[u16], starts: &[u16], n: usize) -> Firsts
+pub fn first_numbers(cells: &[u16], starts: &[u16], n: usize) -> [u8; MAX_PROCESSES]
     requires { n ≤ row_width }
-    ensures { NumbersFirst cells.now starts.now n result.at }
+    ensures { NumbersFirst cells.now starts.now n result }
 {
     let mut t = [0u8; MAX_PROCESSES];
     let mut c = n;
@@ -24,5 +19,5 @@ pub fn first_numbers(cells: &[u16], starts: &[u16], n: usize) -> Firsts
         t[k] = c as u8;
         c = following::later(c, s.own);
     }
-    Firsts { at: t }
+    t
 }

@@ -164,16 +164,16 @@ module _ (procs cells starts counts firsts : List ℕ) (n : Outline) (rows : Lis
       → length p ≡ length o → Written k v p → PutsAll procs cells starts counts firsts n rows total f w o (Err x) q
   unfolding bytes_at
   written_wrong k s v p x q l src put same sofar H g few sw =
-        let a = sofar H g few in
-        let es = equation_count H in
-        let short = list_put k s v p (Err x) q l src put H g few (fits_at H sw k (omega (arith, g.total_is))) in
-        let more : concatenated (k + 1) (bytes_at H) ≡ concatenated k (bytes_at H) ++ bytes_at H k = ap (λ (i : ℕ). concatenated i (bytes_at H)) (add-one k) ∙ concatenated_last k (bytes_at H) in
-        let grows = concatenated_longer (bytes_at H) (k + 1) (length (table_of H).equations) (omega (arith, g.total_is)) in
-        (short.0, omega (arith, short.1, a.place, ap length more, length-append (concatenated k (bytes_at H)) (bytes_at H k), ap length (bytes_are H)))
+      let a = sofar H g few in
+      let es = equation_count H in
+      let short = list_put k s v p (Err x) q l src put H g few (fits_at H sw k (omega (arith, g.total_is))) in
+      let more : concatenated (k + 1) (bytes_at H) ≡ concatenated k (bytes_at H) ++ bytes_at H k = ap (λ (i : ℕ). concatenated i (bytes_at H)) (add-one k) ∙ concatenated_last k (bytes_at H) in
+      let grows = concatenated_longer (bytes_at H) (k + 1) (length (table_of H).equations) (omega (arith, g.total_is)) in
+      (short.0, omega (arith, short.1, a.place, ap length more, length-append (concatenated k (bytes_at H)) (bytes_at H k), ap length (bytes_are H)))
 
   pub written_done : (k v : ℕ) (p : List ℕ) → k ≤ total → total ≤ k → v ≤ length o → Written k v p → PutsAll procs cells starts counts firsts n rows total f w o (Ok v) p
   written_done k v p a b end sofar H g few =
-        let s = sofar H g few in
-        let z : k ≡ length (table_of H).equations = omega (arith, g.total_is, equation_count H) in
-        let bytes : concatenated k (bytes_at H) ≡ summands_bytes (table_of H).equations = ap (λ (i : ℕ). concatenated i (bytes_at H)) z ∙ bytes_are H in
-        (record { few = few; each = at_within H (λ j h. s.within j (omega arith)) }, s.place ∙ ap (λ (l : List ℕ). w + length l) bytes, s.adds ∙ ap (λ (l : List ℕ). take w o ++ l) bytes, end)
+      let s = sofar H g few in
+      let z : k ≡ length (table_of H).equations = omega (arith, g.total_is, equation_count H) in
+      let bytes : concatenated k (bytes_at H) ≡ summands_bytes (table_of H).equations = ap (λ (i : ℕ). concatenated i (bytes_at H)) z ∙ bytes_are H in
+      (record { few = few; each = at_within H (λ j h. s.within j (omega arith)) }, s.place ∙ ap (λ (l : List ℕ). w + length l) bytes, s.adds ∙ ap (λ (l : List ℕ). take w o ++ l) bytes, end)

@@ -182,8 +182,7 @@ pub fn put_summands(
     let total = n.procs + count;
     let mut counts = [0u16; counting::ROOM];
     counting::rounds(cells, starts, n.procs, fuel, &mut counts);
-    let f = heads::numbering::first_numbers(cells, starts, n.procs);
-    let firsts = f.at;
+    let firsts = heads::numbering::first_numbers(cells, starts, n.procs);
     if count_all(procs, cells, starts, &counts, &firsts, n, rows, total, fuel) > MAX_SUMMANDS {
         return Err(Refusal::NotWithin);
     }

@@ -13,10 +13,10 @@ pub returns-then-count_all-gt-MAX_SUMMANDS : goal.returns-then-count_all-gt-MAX_
 returns-then-count_all-gt-MAX_SUMMANDS c =
     let a = c.args in
     let tally = c.rounds in
-    let first = c.first_numbers-f in
+    let first = c.first_numbers-firsts in
     let x = c.count_all in
     let i = c.if-count_all-gt-MAX_SUMMANDS in
-    too_many a.procs.now a.cells.now a.starts.now a.n a.rows.now a.count c.requires.1 tally.new.t first.result.at (a.n.procs + 1) refl tally.ensures first.ensures (a.n.procs + a.count) refl a.w a.out.now x.result NotWithin a.out.now x.ensures (omega arith)
+    too_many a.procs.now a.cells.now a.starts.now a.n a.rows.now a.count c.requires.1 tally.new.t first.result (a.n.procs + 1) refl tally.ensures first.ensures (a.n.procs + a.count) refl a.w a.out.now x.result NotWithin a.out.now x.ensures (omega arith)
 
 pub put_all-requires : goal.put_all-requires
 put_all-requires c = let p = c.requires in let i = c.if-w-out in (omega arith, omega arith, omega arith, p.2)
@@ -25,8 +25,8 @@ pub returns : goal.returns
 returns c =
     let a = c.args in
     let tally = c.rounds in
-    let first = c.first_numbers-f in
+    let first = c.first_numbers-firsts in
     let x = c.count_all in
     let i = c.if-count_all-gt-MAX_SUMMANDS in
     let t = c.put_all in
-    all_listed a.procs.now a.cells.now a.starts.now a.n a.rows.now a.count c.requires.1 tally.new.t first.result.at (a.n.procs + 1) refl tally.ensures first.ensures (a.n.procs + a.count) refl a.w a.out.now x.result t.result t.new.out t.auto.out x.ensures (omega arith) t.ensures
+    all_listed a.procs.now a.cells.now a.starts.now a.n a.rows.now a.count c.requires.1 tally.new.t first.result (a.n.procs + 1) refl tally.ensures first.ensures (a.n.procs + a.count) refl a.w a.out.now x.result t.result t.new.out t.auto.out x.ensures (omega arith) t.ensures
