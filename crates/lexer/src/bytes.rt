@@ -6,7 +6,7 @@ ghost use Rattle.pcrl.specs.Tokens as T;
 ghost use Rattle.laws.specs.Says.{Says};
 ghost use Rattle.lexer.specs.Classes.{class_of, in_classes};
 
-// Classes: those of a name stand one after another.
+// Classes: those of a name stand one after another. They are numbers and no enum, since a run is tested against a range of them (run_within).
 pub const SEPARATOR: u8 = 1;
 
 pub const DIGIT: u8 = 2;

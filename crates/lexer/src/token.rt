@@ -116,10 +116,8 @@ fn numeral(t: &[u8]) -> Option<Taken>
     ensures long { IfSome result (λ n. n.len ≡ length t.now) }
     ensures reads { (s : List ℕ) → Reads s (T.numeral_of t.now) result }
 {
-    if t.len() != 1 {
-        if peek(t, 0) <= b'0' {
-            return None;
-        }
+    if t.len() != 1 && peek(t, 0) <= b'0' {
+        return None;
     }
     let v = value_of(t)?;
     Some(Taken {

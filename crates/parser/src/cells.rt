@@ -20,7 +20,7 @@ pub fn put(out: &mut [u16], w: usize, v: u16) -> usize
     }
 }
 
-// A wrong form: past the end.
+// A wrong form as a place past the end, for the readers of names and data that still answer so.
 pub fn lost(toks: &[u16], w: usize) -> Step
     ensures { length toks.now < result.at }
 {

@@ -1,4 +1,5 @@
-// The tags and counts of the tree's cells (specs/Cells.antt). Other cells are tokens, as the lexer writes them.
+// The tags and counts of the tree's cells (specs/Cells.antt). Other cells are tokens, as the lexer writes them. All are numbers, since they
+// stand in an array that is lent (fixed memory).
 pub const VALUE_TAG: u16 = 1;
 
 pub const VARIABLE_TAG: u16 = 2;

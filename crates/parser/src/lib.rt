@@ -32,7 +32,7 @@ pub struct Run {
     pub count: usize,
 }
 
-// How many lines of each kind there are, and where in the cells each stands, of as many as there may be.
+// How many lines of each kind there are, and where in the cells each stands, of as many as there may be: arrays with counts (fixed memory).
 #[derive(Clone, Copy)]
 pub struct Lines {
     pub sorts: [u16; MAX_SORTS],
