@@ -19,12 +19,6 @@ pub struct Heads {
     pub next: usize,
 }
 
-// The processes at the head of each right side.
-#[derive(Clone, Copy)]
-pub struct HeadSets {
-    pub of: [u32; MAX_PROCESSES],
-}
-
 // A call at the head is its process, no other node is one; a set has as many numbers as those of variables.
 fn with_call(set: u32, kind: usize, number: usize) -> u32
     ensures { WithCall set kind number result }
@@ -73,17 +67,17 @@ pub fn heads_of(cells: &[u16], at: usize) -> Heads
 }
 
 // The processes at the head of each of the first n right sides.
-pub fn head_sets(cells: &[u16], starts: &[u16], n: usize) -> HeadSets
+pub fn head_sets(cells: &[u16], starts: &[u16], n: usize) -> [u32; MAX_PROCESSES]
     requires { n ≤ max_processes }
-    ensures of_len { length result.of ≡ max_processes }
-    ensures sets_at { SetsAt cells.now starts.now n result.of }
+    ensures of_len { length result ≡ max_processes }
+    ensures sets_at { SetsAt cells.now starts.now n result }
 {
-    let mut of = [0u32; MAX_PROCESSES];
+    let mut sets = [0u32; MAX_PROCESSES];
     for k in 0..n {
         let r = heads_of(cells, cell(starts, k));
-        of[k] = r.set;
+        sets[k] = r.set;
     }
-    HeadSets { of: of }
+    sets
 }
 
 // Have all processes of a set passed?
@@ -104,23 +98,22 @@ fn with_if(set: u32, k: usize, passes: bool) -> u32
 }
 
 // A process passes one round later than all the processes at its head.
-fn next_round(sets: HeadSets, procs: usize, passed: u32) -> u32
-    requires { (procs ≤ max_processes) × (length sets.of ≡ max_processes) }
-    ensures { NextRound sets.of procs passed result }
+fn next_round(sets: &[u32], procs: usize, passed: u32) -> u32
+    requires { (procs ≤ max_processes) × (length sets.now ≡ max_processes) }
+    ensures { NextRound sets.now procs passed result }
 {
-    let of = sets.of;
     let mut r: u32 = 0;
     for k in 0..procs {
-        let passes = all_passed(of[k], passed);
+        let passes = all_passed(sets[k], passed);
         r = with_if(r, k, passes);
     }
     r
 }
 
 // As many rounds as there are processes.
-fn passed_after(sets: HeadSets, procs: usize) -> u32
-    requires { (procs ≤ max_processes) × (length sets.of ≡ max_processes) }
-    ensures { PassedAfter sets.of procs result }
+fn passed_after(sets: &[u32], procs: usize) -> u32
+    requires { (procs ≤ max_processes) × (length sets.now ≡ max_processes) }
+    ensures { PassedAfter sets.now procs result }
 {
     let mut passed: u32 = 0;
     for i in 0..procs {
@@ -148,6 +141,6 @@ pub fn guarded_sheet(cells: &[u16], starts: &[u16], n: Outline) -> bool
         return false;
     }
     let sets = head_sets(cells, starts, n.procs);
-    let passed = passed_after(sets, n.procs);
+    let passed = passed_after(&sets, n.procs);
     all_passed(all_processes(n.procs), passed)
 }

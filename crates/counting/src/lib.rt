@@ -7,7 +7,7 @@ ghost use Rattle.checker.specs.Circles.{HeadsOf};
 ghost use Rattle.counting.specs.Limits.{most_heads, row_width, max_fuel, counts_room, cut, row};
 ghost use Rattle.counting.specs.Counting.{leaf_of, Counts, Placed, Tallied, PartOf, SameIn, Unchanged, NextCount};
 
-use checker::circles::{HeadSets, head_sets};
+use checker::circles::head_sets;
 use elements::cell;
 use limits::{MAX_PROCESSES, MAX_SUMMANDS};
 use nodes::with_bit;
@@ -129,22 +129,13 @@ fn next_count(cells: &[u16], at: usize, t: &[u16], f: usize, k: usize, set: u32,
 }
 
 // One row more: calls followed once more. Row f is read while the row behind it is written.
-fn round(
-    cells: &[u16],
-    starts: &[u16],
-    n: usize,
-    f: usize,
-    sets: HeadSets,
-    same: u32,
-    t: &mut [u16],
-)
-    requires { (n ≤ row_width) × (f < max_fuel) × (length sets.of ≡ row_width) × (length t.old ≡ counts_room) }
-    ensures { (H : Sheet) → length H.procs ≡ n → Placed H cells.now starts.now → HeadsOf H n sets.of → Unchanged t.old f same → Tallied H f t.old → Tallied H (f + 1) t.new }
+fn round(cells: &[u16], starts: &[u16], n: usize, f: usize, sets: &[u32], same: u32, t: &mut [u16])
+    requires { (n ≤ row_width) × (f < max_fuel) × (length sets.now ≡ row_width) × (length t.old ≡ counts_room) }
+    ensures { (H : Sheet) → length H.procs ≡ n → Placed H cells.now starts.now → HeadsOf H n sets.now → Unchanged t.old f same → Tallied H f t.old → Tallied H (f + 1) t.new }
 {
-    let of = sets.of;
     for k in 0..n {
         let p = cell(starts, k);
-        let c = next_count(cells, p, t, f, k, of[k], same);
+        let c = next_count(cells, p, t, f, k, sets[k], same);
         t[ROW * (f + 1) + k] = c as u16;
     }
 }
@@ -171,7 +162,7 @@ pub fn rounds(cells: &[u16], starts: &[u16], n: usize, times: usize, t: &mut [u1
     let sets = head_sets(cells, starts, n);
     let mut same: u32 = 0;
     for f in 0..times {
-        round(cells, starts, n, f, sets, same, t);
+        round(cells, starts, n, f, &sets, same, t);
         same = unchanged(t, n, f);
     }
 }

@@ -16,7 +16,7 @@ loop-k-preserved c =
     let here = c.loop-k in
     let r = c.next_count-c in (
       (omega arith, length-set here.t _ _ ∙ here.invariant.0.1),
-      λ H e few p s u t. filled_next H few a.cells.now a.starts.now a.sets.of a.n a.f a.t.now here.t here.k c.cell-p.result a.same r.result e p s u t here.invariant.0.1 (omega arith) (omega arith) c.cell-p.ensures.0 r.ensures.next_count (here.invariant.1 H e few p s u t),
+      λ H e few p s u t. filled_next H few a.cells.now a.starts.now a.sets.now a.n a.f a.t.now here.t here.k c.cell-p.result a.same r.result e p s u t here.invariant.0.1 (omega arith) (omega arith) c.cell-p.ensures.0 r.ensures.next_count (here.invariant.1 H e few p s u t),
     )
 
 pub shape_of-t : goal.shape_of-t

@@ -9,4 +9,4 @@ use Rattle.counting.proofs.Rows.{Filled}
 use Rattle.counting.proofs.round.Given as goal
 
 abbrev pub invariant-loop-k : goal.invariant-loop-k
-invariant-loop-k l = ((l.k ≤ l.n) × (length l.t ≡ counts_room)) × ((H : Sheet) → length H.procs ≡ l.n → (few : length H.procs ≤ row_width) → Placed H l.cells l.starts → HeadsOf H l.n l.of → Unchanged l.initial.t l.f l.same → Tallied H l.f l.initial.t → Filled H few l.f l.initial.t l.t l.k)
+invariant-loop-k l = ((l.k ≤ l.n) × (length l.t ≡ counts_room)) × ((H : Sheet) → length H.procs ≡ l.n → (few : length H.procs ≤ row_width) → Placed H l.cells l.starts → HeadsOf H l.n l.sets → Unchanged l.initial.t l.f l.same → Tallied H l.f l.initial.t → Filled H few l.f l.initial.t l.t l.k)

@@ -19,7 +19,7 @@ loop-f-preserved c =
     let here = c.loop-f in
     let r = c.round in (
       (omega arith, r.auto.t ∙ here.invariant.0.1, unchanged_next r.new.t here.f c.unchanged-same.result c.unchanged-same.ensures),
-      λ H e few p. r.ensures H e p (sets_placed H c.args.cells.now c.args.starts.now c.args.n c.head_sets-sets.result.of e p c.head_sets-sets.ensures.sets_at) here.invariant.0.2 (here.invariant.1 H e few p),
+      λ H e few p. r.ensures H e p (sets_placed H c.args.cells.now c.args.starts.now c.args.n c.head_sets-sets.result e p c.head_sets-sets.ensures.sets_at) here.invariant.0.2 (here.invariant.1 H e few p),
     )
 
 pub shape_of-t : goal.shape_of-t

@@ -15,12 +15,12 @@ loop-k-preserved c =
     let a = c.args in
     let here = c.loop-k in
     let r = c.heads_of-r in (
-      (omega arith, length-set here.of _ _ ∙ here.invariant.0.1),
-      sets_more a.cells.now a.starts.now here.k c.cell.result here.of r.result (omega arith) c.cell.ensures.0 r.ensures.heads_at here.invariant.1,
+      (omega arith, length-set here.sets _ _ ∙ here.invariant.0.1),
+      sets_more a.cells.now a.starts.now here.k c.cell.result here.sets r.result (omega arith) c.cell.ensures.0 r.ensures.heads_at here.invariant.1,
     )
 
 pub returns : goal.returns
 returns c =
     let here = c.loop-k in
     let z : here.k ≡ c.args.n = omega arith in
-    record { of_len = here.invariant.0.1; sets_at = subst (λ (x : ℕ). SetsAt c.args.cells.now c.args.starts.now x here.of) z here.invariant.1 }
+    record { of_len = here.invariant.0.1; sets_at = subst (λ (x : ℕ). SetsAt c.args.cells.now c.args.starts.now x here.sets) z here.invariant.1 }
