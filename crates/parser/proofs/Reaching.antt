@@ -85,6 +85,10 @@ module _ {s toks : List ℕ} {A : Type 0} {enc : A → List Symbol} {w : ℕ} {o
   some_answer r i (lost l) = absurd (omega arith)
   some_answer r i (took k u) = one i u
 
+  -- the same, where its place is known
+  pub answer_at : (r : Step) {at : ℕ} {o' : List ℕ} {g : Got Token A} → r.at ≡ at → at ≤ length toks → Reaches s toks enc w o at r.w o' g → Reads s toks enc w o (R.Some r) o' g
+  answer_at r {o' = o'} {g = g} e i h = some_answer r (omega arith) (subst⁻¹ (λ (k : ℕ). Reaches s toks enc w o k r.w o' g) e h)
+
   pub no_answer : {next w' : ℕ} {o₁ o' : List ℕ} {g : Got Token A} → length toks < next → Reaches s toks enc w o next w' o₁ g → Reads s toks enc w o R.None o' g
   no_answer l (lost k) = none
   no_answer l (took k u) = absurd (omega arith)

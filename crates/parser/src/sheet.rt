@@ -3,11 +3,11 @@ ghost use Rattle.std.specs.Prelude.{◌≡◌, not, List, ◌++◌, ℕ, ◌+◌
 ghost use Rattle.pcrl.specs.Tokens.{Token};
 ghost use Rattle.pcrl.specs.Grammar.{sort_line, numerals, one_or_two, func_line, act_line, parameters, proc_line, init_line};
 ghost use Rattle.pcrl.specs.Grammar as G;
-ghost use Rattle.parser.specs.Cells.{enc_items, enc_name, enc_numeral, enc_param, enc_sort, enc_func, enc_act, enc_proc, enc_init};
+ghost use Rattle.parser.specs.Cells.{enc_items, enc_name, enc_numeral, enc_param, enc_sort, enc_func, enc_act, enc_proc, enc_init, end_tag};
 ghost use Rattle.lexer.specs.Cells.{cell_token};
 ghost use Rattle.parser.specs.Call.{params, called, all_called};
 ghost use Rattle.parser.specs.Kinds.{kind_of};
-ghost use Rattle.parser.specs.Reading.{rest, left, Ahead, Onward, Read};
+ghost use Rattle.parser.specs.Reading.{rest, left, Ahead, Onward, Put, Read};
 ghost use Rattle.parser.specs.Runs.{Ran};
 
 use crate::cells::{expect, name, numeral, put};
@@ -26,6 +26,17 @@ fn sort_line(toks: &[u16], at: usize, out: &mut [u16], w: usize) -> Option<Step>
     numeral(toks, x.at, out, x.w)
 }
 
+// The end of a list, behind what was read.
+fn ended(a: Step, out: &mut [u16]) -> Step
+    ensures place { result.at ≡ a.at }
+    ensures cell { Put out.old a.w end_tag result.w out.new }
+{
+    Step {
+        at: a.at,
+        w: put(out, a.w, codes::END_TAG),
+    }
+}
+
 // "values by commas"
 fn numerals(toks: &[u16], at: usize, out: &mut [u16], w: usize) -> Option<Step>
     ensures ahead { IfSome result (λ r. Ahead (length toks.now) at r.at) }
@@ -37,10 +48,7 @@ fn numerals(toks: &[u16], at: usize, out: &mut [u16], w: usize) -> Option<Step>
         let u = put(out, v, codes::ITEM_TAG);
         let a = numeral(toks, from, out, u)?;
         if peek(toks, a.at) != lexer::COMMA {
-            return Some(Step {
-                at: a.at,
-                w: put(out, a.w, codes::END_TAG),
-            });
+            return Some(ended(a, out));
         }
         from = a.at + 1;
         v = a.w;
@@ -55,17 +63,11 @@ fn one_or_two(toks: &[u16], at: usize, out: &mut [u16], w: usize) -> Option<Step
     let v = put(out, w, codes::ITEM_TAG);
     let a = name(toks, at, out, v)?;
     if peek(toks, a.at) != lexer::HASH {
-        return Some(Step {
-            at: a.at,
-            w: put(out, a.w, codes::END_TAG),
-        });
+        return Some(ended(a, out));
     }
     let u = put(out, a.w, codes::ITEM_TAG);
     let b = name(toks, a.at + 1, out, u)?;
-    Some(Step {
-        at: b.at,
-        w: put(out, b.w, codes::END_TAG),
-    })
+    Some(ended(b, out))
 }
 
 // "`func` name `:` sort, or sort `#` sort, `->` sort `=` values by commas, last argument fastest"
@@ -91,10 +93,7 @@ fn act_line(toks: &[u16], at: usize, out: &mut [u16], w: usize) -> Option<Step>
     let v = put(out, w, codes::ACT_TAG);
     let x = name(toks, at, out, v)?;
     if peek(toks, x.at) != lexer::COLON {
-        return Some(Step {
-            at: x.at,
-            w: put(out, x.w, codes::END_TAG),
-        });
+        return Some(ended(x, out));
     }
     one_or_two(toks, x.at + 1, out, x.w)
 }
@@ -113,10 +112,7 @@ fn parameters(toks: &[u16], at: usize, out: &mut [u16], w: usize) -> Option<Step
         let d = name(toks, c, out, x.w)?;
         if peek(toks, d.at) != lexer::COMMA {
             let at = expect(toks, d.at, lexer::CLOSE)?;
-            return Some(Step {
-                at,
-                w: put(out, d.w, codes::END_TAG),
-            });
+            return Some(ended(Step { at, w: d.w }, out));
         }
         from = d.at + 1;
         v = d.w;
@@ -129,10 +125,7 @@ fn params(toks: &[u16], at: usize, out: &mut [u16], w: usize) -> Option<Step>
     ensures read { at ≤ length toks.now → Read (left toks.now at) (enc_items enc_param) params toks.now at w out.old result out.new }
 {
     if peek(toks, at) != lexer::OPEN {
-        return Some(Step {
-            at: at,
-            w: put(out, w, codes::END_TAG),
-        });
+        return Some(ended(Step { at, w }, out));
     }
     parameters(toks, at + 1, out, w)
 }

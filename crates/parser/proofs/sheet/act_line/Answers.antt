@@ -1,7 +1,7 @@
 -- `sheet::act_line` meets its contract.
 use mathlib.Core.Path.{sym, ◌∙◌}
 use native.Mathlib.Omega.{arith}
-use Rattle.parser.proofs.Reaching.{past_end, put_any, reaches, answer, some_answer, no_answer}
+use Rattle.parser.proofs.Reaching.{past_end, put_any, reaches, answer, answer_at, no_answer}
 use Rattle.parser.proofs.LineLaws.{act_bare, act_sorts}
 use Rattle.parser.proofs.sheet.act_line.Goals as goal
 
@@ -11,7 +11,7 @@ returns-in_err-x-clause-read c =
 
 pub returns-then-peek-ne-COLON-clause-read : goal.returns-then-peek-ne-COLON-clause-read
 returns-then-peek-ne-COLON-clause-read c =
-    λ s f l. some_answer _ (omega (arith, c.in_ok-x.ensures.ahead)) (act_bare s c.args.toks.now c.args.at c.put-v.ensures (reaches (c.in_ok-x.ensures.read s 1 (omega arith))) (λ e. c.if-peek-ne-COLON.true (c.peek.ensures ∙ e)) c.put.ensures)
+    λ s f l. answer_at c.ended.result c.ended.ensures.place (omega (arith, c.in_ok-x.ensures.ahead)) (act_bare s c.args.toks.now c.args.at c.put-v.ensures (reaches (c.in_ok-x.ensures.read s 1 (omega arith))) (λ e. c.if-peek-ne-COLON.true (c.peek.ensures ∙ e)) c.ended.ensures.cell)
 
 pub returns-clause-read : goal.returns-clause-read
 returns-clause-read c =

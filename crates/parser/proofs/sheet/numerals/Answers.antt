@@ -1,7 +1,7 @@
 -- `sheet::numerals` meets its contract. The invariant: the reader goes on from a later place.
 use mathlib.Core.Path.{sym, ◌∙◌}
 use native.Mathlib.Omega.{arith}
-use Rattle.parser.proofs.Reaching.{past_end, put_any, reaches, some_answer, no_answer}
+use Rattle.parser.proofs.Reaching.{past_end, put_any, reaches, answer_at, no_answer}
 use Rattle.parser.proofs.Going.{goes_then}
 use Rattle.parser.proofs.LineLaws.{numerals_last, numerals_more}
 use Rattle.parser.proofs.sheet.numerals.Goals as goal
@@ -12,7 +12,7 @@ returns-in_err-a-clause-read c =
 
 pub returns-then-peek-ne-COMMA-clause-read : goal.returns-then-peek-ne-COMMA-clause-read
 returns-then-peek-ne-COMMA-clause-read c =
-    λ s f l. some_answer _ (omega (arith, c.in_ok-a.ensures.ahead)) ((c.loop-a.invariant.2 s).on (numerals_last s c.args.toks.now c.loop-a.from c.put-u.ensures (omega (arith, c.in_ok-a.ensures.ahead)) (reaches (c.in_ok-a.ensures.read s 1 (omega arith))) (λ e. c.if-peek-ne-COMMA.true (c.peek.ensures ∙ e)) c.put.ensures) f l)
+    λ s f l. answer_at c.ended.result c.ended.ensures.place (omega (arith, c.in_ok-a.ensures.ahead)) ((c.loop-a.invariant.2 s).on (numerals_last s c.args.toks.now c.loop-a.from c.put-u.ensures (omega (arith, c.in_ok-a.ensures.ahead)) (reaches (c.in_ok-a.ensures.read s 1 (omega arith))) (λ e. c.if-peek-ne-COMMA.true (c.peek.ensures ∙ e)) c.ended.ensures.cell) f l)
 
 pub loop-a-preserved : goal.loop-a-preserved
 loop-a-preserved c = (

@@ -4,7 +4,7 @@ use mathlib.Core.List.{[]}
 use Prim.Native.Nat.{◌+◌}
 use native.Mathlib.Omega.{arith}
 use lib.ListN.{length}
-use Rattle.parser.proofs.Reaching.{past_end, past_meets, put_any, meets, reaches, some_answer, no_answer}
+use Rattle.parser.proofs.Reaching.{past_end, past_meets, put_any, meets, reaches, answer_at, no_answer}
 use Rattle.parser.proofs.Going.{goes_then}
 use Rattle.parser.proofs.LineLaws.{parameters_last, parameters_more}
 use Rattle.parser.proofs.sheet.parameters.Goals as goal
@@ -27,7 +27,7 @@ returns-in_err-at-clause-read c =
 
 pub returns-then-peek-ne-COMMA-clause-read : goal.returns-then-peek-ne-COMMA-clause-read
 returns-then-peek-ne-COMMA-clause-read c =
-    λ s f l. some_answer _ (omega (arith, c.in_ok-at.ensures.ahead)) ((c.loop-x.invariant.2 s).on (parameters_last s c.args.toks.now c.loop-x.from c.put-u.ensures (omega (arith, c.in_ok-x.ensures.ahead)) (reaches (c.in_ok-x.ensures.read s 1 (omega arith))) (omega (arith, c.in_ok-x.ensures.ahead, c.in_ok-c.ensures.ahead)) (meets c.in_ok-c.ensures.read) (omega (arith, c.in_ok-d.ensures.ahead)) (λ i. (reaches (c.in_ok-d.ensures.read s 1 (omega arith)))) (λ e. c.if-peek-ne-COMMA.true (c.peek.ensures ∙ e)) (omega (arith, c.in_ok-d.ensures.ahead, c.in_ok-at.ensures.ahead)) (meets c.in_ok-at.ensures.read) c.put.ensures) f l)
+    λ s f l. answer_at c.ended.result c.ended.ensures.place (omega (arith, c.in_ok-at.ensures.ahead)) ((c.loop-x.invariant.2 s).on (parameters_last s c.args.toks.now c.loop-x.from c.put-u.ensures (omega (arith, c.in_ok-x.ensures.ahead)) (reaches (c.in_ok-x.ensures.read s 1 (omega arith))) (omega (arith, c.in_ok-x.ensures.ahead, c.in_ok-c.ensures.ahead)) (meets c.in_ok-c.ensures.read) (omega (arith, c.in_ok-d.ensures.ahead)) (λ i. (reaches (c.in_ok-d.ensures.read s 1 (omega arith)))) (λ e. c.if-peek-ne-COMMA.true (c.peek.ensures ∙ e)) (omega (arith, c.in_ok-d.ensures.ahead, c.in_ok-at.ensures.ahead)) (meets c.in_ok-at.ensures.read) c.ended.ensures.cell) f l)
 
 pub loop-x-preserved : goal.loop-x-preserved
 loop-x-preserved c = (

@@ -1,12 +1,12 @@
 -- `sheet::params` meets its contract.
 use mathlib.Core.Path.{sym, ◌∙◌}
-use Rattle.parser.proofs.Reaching.{reaches, answer, some_answer}
+use Rattle.parser.proofs.Reaching.{reaches, answer, answer_at}
 use Rattle.parser.proofs.LineLaws.{params_none, params_some}
 use Rattle.parser.proofs.sheet.params.Goals as goal
 
 pub returns-then-peek-ne-OPEN-clause-read : goal.returns-then-peek-ne-OPEN-clause-read
 returns-then-peek-ne-OPEN-clause-read c =
-    λ i s f l. some_answer _ i (params_none s c.args.toks.now c.args.at i (λ e. c.if-peek-ne-OPEN.true (c.peek.ensures ∙ e)) c.put.ensures f)
+    λ i s f l. answer_at c.ended.result c.ended.ensures.place i (params_none s c.args.toks.now c.args.at i (λ e. c.if-peek-ne-OPEN.true (c.peek.ensures ∙ e)) c.ended.ensures.cell f)
 
 pub returns-clause-read : goal.returns-clause-read
 returns-clause-read c =
