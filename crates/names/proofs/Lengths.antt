@@ -2,6 +2,7 @@
 use mathlib.Core.Path.{◌≡◌, refl, sym, ◌∙◌, ap}
 use mathlib.Core.List.{List, ◌∷◌}
 use Prim.Native.Nat.{ℕ, zero, suc, ◌+◌, ◌-◌, ◌≤◌, ◌<◌}
+use native.Mathlib.Decide.{dec_lt}
 use native.Mathlib.Omega.{arith}
 use lib.Dec.{eqb}
 use lib.ListN.{length, drop, get_or, length-take, length-drop, get_or-eq_default}
@@ -11,6 +12,14 @@ use Rattle.laws.specs.Says.{Says, says_as, says_eq}
 use Rattle.lexer.specs.Cells.{first_name}
 use Rattle.names.specs.NameCells.{name_at, shown}
 use Rattle.names.proofs.Runs.{run_at, run_ends, run_goes, shown_in_run, shown_own}
+
+-- where a walk from p over n bytes ends, at e: behind them all, or where it began
+pub walked : (n p e : ℕ) → n ≤ e → p ≤ e → (n < e → e ≡ p) → n - p ≡ e - p
+walked n p e h k f = by (dec_lt n e)
+  where
+    by : Dec (n < e) → n - p ≡ e - p
+    by (yes q) = let z = f q in omega arith
+    by (no q) = let z : n ≡ e = omega arith in ap (λ (m : ℕ). m - p) z
 
 -- the name of cell c begins at p, and what is left of it stands at e
 abbrev pub LengthLeft : List ℕ → ℕ → ℕ → ℕ → Type 0

@@ -31,15 +31,13 @@ pub fn items(cells: &[u16], step: usize, at: usize, most: usize) -> usize
     ensures count { result ≡ item_count cells.now step at most }
 {
     let mut p = at;
-    let mut n: usize = 0;
-    while n < most {
+    for n in 0..most {
         if peek(cells, p) == END_TAG {
             return n;
         }
         p += step;
-        n += 1;
     }
-    n
+    most
 }
 
 // "sizes 1 to 16"

@@ -126,14 +126,12 @@ fn name_length(s: &[u8], c: u16) -> usize
     ensures { result ≡ length (name_at s.now c) }
 {
     let p = first_byte(c);
-    let mut e = p;
-    while e < s.len() {
+    for e in p..s.len() {
         if letter(s[e]) == 0 {
             return e - p;
         }
-        e += 1;
     }
-    e - p
+    s.len().saturating_sub(p)
 }
 
 // Is the name of cell c, of l bytes, that of cell d? From the back: numbered names differ at their ends.

@@ -16,12 +16,10 @@ fn gather(cells: &[u16], places: &[u16], names: &mut [u16], n: usize) -> usize
     ensures next { result ≡ n + length places.now }
     ensures cells { take result names.new ≡ take n names.old ++ map (name_cell cells.now) places.now }
 {
-    let mut i: usize = 0;
-    while i < places.len() {
+    for i in 0..places.len() {
         names[n + i] = peek(cells, wide(places[i]) + 1);
-        i += 1;
     }
-    n + i
+    n + places.len()
 }
 
 // The cells of all declared names, but for Bool.

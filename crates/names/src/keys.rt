@@ -25,19 +25,21 @@ fn key(s: &[u8], c: u16) -> Digest
     ensures { (result.key ≡ key_of (name_at s.now c)) × (result.length ≡ length (name_at s.now c)) }
 {
     let p = first_byte(c);
-    let mut e = p;
     let mut k: u8 = 0;
-    while e < s.len() {
+    for e in p..s.len() {
         let b = letter(s[e]);
         if b == 0 {
-            let n = e - p;
-            return Digest { key: k, length: n };
+            return Digest {
+                key: k,
+                length: e - p,
+            };
         }
         k = mixed(k, b);
-        e += 1;
     }
-    let n = e - p;
-    Digest { key: k, length: n }
+    Digest {
+        key: k,
+        length: s.len().saturating_sub(p),
+    }
 }
 
 // The names that lines declare, so many of each kind, for each the next one with its key, these numbers and the first name of each key.

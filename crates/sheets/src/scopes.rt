@@ -6,7 +6,6 @@ ghost use Rattle.nodes.specs.Held.{func_width};
 ghost use Rattle.resolver.specs.Sorting.{scope_cells};
 ghost use Rattle.sheets.specs.ScopePuts.{SortsPut, ResultsPut};
 
-use elements::cell_of;
 use limits::MAX_FUNCTIONS;
 use nodes::{FUNC_ROW, GIVES};
 use resolver::{FIRST_RESULT, FIRST_SORT};
@@ -17,7 +16,7 @@ pub fn put_results(funcs: &[u8], scope: &mut [u16])
     ensures { ResultsPut funcs.now scope.old scope.new }
 {
     for f in 0..MAX_FUNCTIONS {
-        scope[FIRST_RESULT + f] = cell_of(funcs[FUNC_ROW * f + GIVES]);
+        scope[FIRST_RESULT + f] = u16::from(funcs[FUNC_ROW * f + GIVES]);
     }
 }
 
@@ -27,6 +26,6 @@ pub fn put_sorts(row: &[u8], n: usize, scope: &mut [u16])
     ensures { SortsPut row.now n scope.old scope.new }
 {
     for i in 0..n {
-        scope[FIRST_SORT + i] = cell_of(row[1 + i]);
+        scope[FIRST_SORT + i] = u16::from(row[1 + i]);
     }
 }

@@ -1,5 +1,5 @@
 -- Each name cell is written behind those before it.
-use mathlib.Core.Path.{◌≡◌, refl, sym, ◌∙◌, ap}
+use mathlib.Core.Path.{◌≡◌, refl, sym, ◌∙◌, ap, subst}
 use mathlib.Core.List.{List, ◌++◌, map, ◌∷◌, []}
 use Prim.Native.Nat.{ℕ, ◌+◌}
 use native.Mathlib.Omega.{arith}
@@ -39,5 +39,8 @@ shape_of-names c = c.loop-i.invariant.1.same
 
 pub returns : goal.returns
 returns c =
-    let z : c.loop-i.i ≡ length c.args.places.now = omega arith in
-    record { next = omega arith; cells = c.loop-i.invariant.1.cells ∙ ap (λ (l : List ℕ). take c.args.n c.args.names.now ++ map (name_cell c.args.cells.now) l) (ap (λ (n : ℕ). take n c.args.places.now) z ∙ take-length c.args.places.now) }
+    let a = c.args in
+    let names = c.loop-i.names in
+    let z : c.loop-i.i ≡ length a.places.now = omega arith in
+    let all = subst (λ (k : ℕ). take (a.n + k) names ≡ take a.n a.names.now ++ map (name_cell a.cells.now) (take k a.places.now)) z c.loop-i.invariant.1.cells in
+    record { next = omega arith; cells = all ∙ ap (λ (l : List ℕ). take a.n a.names.now ++ map (name_cell a.cells.now) l) (take-length a.places.now) }

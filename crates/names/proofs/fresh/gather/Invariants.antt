@@ -1,5 +1,5 @@
 use mathlib.Core.List.{map}
-use Prim.Native.Nat.{◌-◌, ◌≤◌}
+use Prim.Native.Nat.{◌≤◌}
 use lib.ListN.{length, take}
 use Rattle.names.specs.NameCells.{name_cell}
 use Rattle.names.proofs.Lists.{Copied}
@@ -7,6 +7,3 @@ use Rattle.names.proofs.fresh.gather.Given as goal
 
 abbrev pub invariant-loop-i : goal.invariant-loop-i
 invariant-loop-i l = (l.i ≤ length l.places) × Copied l.n l.i (map (name_cell l.cells) (take l.i l.places)) l.initial.names l.names
-
-abbrev pub decreases-loop-i : goal.decreases-loop-i
-decreases-loop-i l = length l.places - l.i

@@ -13,7 +13,7 @@ pub loop-f-preserved : goal.loop-f-preserved
 loop-f-preserved c =
     let here = c.loop-f in
     let q = c.requires in
-    ((omega arith, length-set here.scope _ _ ∙ here.invariant.0.1), results_more c.args.funcs.now c.args.scope.now here.f c.cell_of.result here.scope here.invariant.1 (omega arith) (here.invariant.0.1 ∙ q.1) c.cell_of.ensures)
+    ((omega arith, length-set here.scope _ _ ∙ here.invariant.0.1), results_more c.args.funcs.now c.args.scope.now here.f c.from.result here.scope here.invariant.1 (omega arith) (here.invariant.0.1 ∙ q.1) c.from.ensures)
 
 pub shape_of-scope : goal.shape_of-scope
 shape_of-scope c = c.loop-f.invariant.0.1

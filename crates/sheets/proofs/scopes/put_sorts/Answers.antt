@@ -13,7 +13,7 @@ pub loop-i-preserved : goal.loop-i-preserved
 loop-i-preserved c =
     let here = c.loop-i in
     let q = c.requires in
-    ((omega arith, length-set here.scope _ _ ∙ here.invariant.0.1), sorts_more c.args.row.now c.args.scope.now here.i c.cell_of.result here.scope here.invariant.1 (omega arith) (here.invariant.0.1 ∙ q.2) (omega arith) c.cell_of.ensures)
+    ((omega arith, length-set here.scope _ _ ∙ here.invariant.0.1), sorts_more c.args.row.now c.args.scope.now here.i c.from.result here.scope here.invariant.1 (omega arith) (here.invariant.0.1 ∙ q.2) (omega arith) c.from.ensures)
 
 pub shape_of-scope : goal.shape_of-scope
 shape_of-scope c = c.loop-i.invariant.0.1
