@@ -1,7 +1,7 @@
 -- Zeros at the end of the bytes: how they are found, many at a time, and what they do to the register.
 use mathlib.Core.Path.{◌≡◌, refl, sym, ap, ap₂, ◌∙◌}
 use mathlib.Core.List.{List, [], ◌∷◌, ◌++◌}
-use mathlib.Core.Bool.{Bool, true, false}
+use mathlib.Core.Bool.{Bool, true, false, ◌&&◌}
 use Prim.Native.Nat.{ℕ, zero, suc, ◌+◌, ◌-◌, ◌*◌, ◌%◌, ◌≤◌, ◌<◌}
 use native.Mathlib.Decide.{ℕ_discrete, dec_lt}
 use native.Mathlib.Omega.{arith}
@@ -9,7 +9,6 @@ use borrow.Author.Tests.{eqb-true}
 use lib.Bits.{bit_xor, xor_zero_r}
 use lib.Dec.{eqb}
 use lib.ListN.{length, take, drop, get_or, take-append-drop, get_or-eq_default}
-use Rattle.pcrl.specs.Tests.{and}
 use Rattle.pcrl.specs.Blocks.{crc_byte, crc_from, crc}
 use Rattle.blocks.proofs.Register.{shifted, shifts, shifts_below}
 use Rattle.blocks.proofs.Shifted.{Shifts}
@@ -20,7 +19,7 @@ use Rattle.blocks.proofs.Check.{crc_from_cons}
 abbrev pub Zeros : List ℕ → ℕ → ℕ → Type 0
 Zeros s at end = (k : ℕ) → at ≤ k → k < end → get_or s k 0 ≡ 0
 
-pub zeros_more : (s : List ℕ) (at i : ℕ) (good : Bool) → (good ≡ true → Zeros s at (at + i)) → and good (eqb (get_or s (at + i) 0) 0) ≡ true → Zeros s at (at + (i + 1))
+pub zeros_more : (s : List ℕ) (at i : ℕ) (good : Bool) → (good ≡ true → Zeros s at (at + i)) → (good && eqb (get_or s (at + i) 0) 0) ≡ true → Zeros s at (at + (i + 1))
 zeros_more s at i true z e k l h = elim (ℕ_discrete k (at + i)) [ yes a ↦ ap (λ (x : ℕ). get_or s x 0) a ∙ eqb-true (get_or s (at + i) 0) 0 e | no n ↦ z refl k l (omega arith) ]
 zeros_more s at i false z e k l h = let f : ◌≡◌ {A = Bool} false true = e in cc
 

@@ -7,7 +7,6 @@ use crate::shifts::{
     FEW_HIGH, FEW_LOW, MANY_HIGH, MANY_LOW, SHIFTED, SHIFTED_EIGHT, SHIFTED_FIVE, SHIFTED_FOUR,
     SHIFTED_SEVEN, SHIFTED_SIX, SHIFTED_THRICE, SHIFTED_TWICE,
 };
-use elements::both;
 
 // An entry by a byte's two halves.
 fn entry(t: &[u16; 32], b: u16) -> u16
@@ -25,6 +24,8 @@ fn entry_at(t: &[u16; 32], s: &[u8], i: usize) -> u16
     entry(t, s[i] as u16)
 }
 
+const GROUP: usize = 8;
+
 // The check of a run of bytes, eight bytes at a time: by the tables a register's two bytes, and the bytes that come after them, are
 // shifted independently.
 fn crc_bytes(s: &[u8]) -> u16
@@ -39,8 +40,9 @@ fn crc_bytes(s: &[u8]) -> u16
     let seven = SHIFTED_SEVEN;
     let eight = SHIFTED_EIGHT;
     let mut x: u16 = 0xffff;
-    let mut i = 0;
-    while 7 < s.len() - i {
+    let groups = s.len() / GROUP;
+    for k in 0..groups {
+        let i = k * GROUP;
         let top = (x / 256) ^ (s[i] as u16);
         let low = (x % 256) ^ (s[i + 1] as u16);
         let last = entry_at(&thrice, s, i + 5)
@@ -48,12 +50,10 @@ fn crc_bytes(s: &[u8]) -> u16
         let rest = entry_at(&six, s, i + 2)
             ^ (entry_at(&five, s, i + 3) ^ (entry_at(&four, s, i + 4) ^ last));
         x = (entry(&eight, top) ^ entry(&seven, low)) ^ rest;
-        i += 8;
     }
-    while i < s.len() {
+    for i in groups * GROUP..s.len() {
         let top = (x / 256) ^ (s[i] as u16);
         x = (x % 256 * 256) ^ entry(&once, top);
-        i += 1;
     }
     x
 }
@@ -70,12 +70,12 @@ fn zeros_at(s: &[u8], at: usize) -> bool
 {
     let mut good = true;
     for i in 0..FEW {
-        good = both(good, s[at + i] == 0);
+        good = good & (s[at + i] == 0);
     }
     good
 }
 
-// Where the zeros at the end begin that are passed at once.
+// Where the zeros at the end begin that are passed at once. The loop goes down, and ends where it has come to: no range says that plainer.
 fn before_zeros(s: &[u8]) -> usize
     ensures { (result ≤ length s.now) × ((length s.now - result) % 32 ≡ 0) × ((k : ℕ) → result ≤ k → get_or s.now k 0 ≡ 0) }
 {
@@ -97,15 +97,14 @@ pub fn crc16(s: &[u8]) -> u16
     let many_low = MANY_LOW;
     let few_high = FEW_HIGH;
     let few_low = FEW_LOW;
-    let mut i = before_zeros(s);
-    let mut x = crc_bytes(&s[0..i]);
-    while MANY <= s.len() - i {
+    let start = before_zeros(s);
+    let zeros = s.len() - start;
+    let mut x = crc_bytes(&s[..start]);
+    for _ in 0..zeros / MANY {
         x = entry(&many_high, x / 256) ^ entry(&many_low, x % 256);
-        i += MANY;
     }
-    while i < s.len() {
+    for _ in 0..zeros % MANY / FEW {
         x = entry(&few_high, x / 256) ^ entry(&few_low, x % 256);
-        i += FEW;
     }
     x
 }

@@ -1,16 +1,9 @@
-use Prim.Native.Nat.{◌-◌}
-use lib.ListN.{length}
+use Prim.Native.Nat.{◌+◌, ◌*◌, ◌/◌}
 use Rattle.blocks.proofs.PassingZeros.{Passing}
 use Rattle.blocks.proofs.crc.crc16.Given as goal
 
-abbrev pub invariant-loop-i : goal.invariant-loop-i
-invariant-loop-i l = Passing l.s l.i l.x
+abbrev pub invariant-loop : goal.invariant-loop
+invariant-loop l = Passing l.s (l.start + l.counter * 160) l.x
 
-abbrev pub decreases-loop-i : goal.decreases-loop-i
-decreases-loop-i l = length l.s - l.i
-
-abbrev pub invariant-loop-i-2 : goal.invariant-loop-i-2
-invariant-loop-i-2 l = Passing l.s l.i l.x
-
-abbrev pub decreases-loop-i-2 : goal.decreases-loop-i-2
-decreases-loop-i-2 l = length l.s - l.i
+abbrev pub invariant-loop-2 : goal.invariant-loop-2
+invariant-loop-2 l = Passing l.s (l.start + l.zeros / 160 * 160 + l.counter * 32) l.x
