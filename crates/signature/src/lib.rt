@@ -49,7 +49,8 @@ fn read_sort(s: &[u8], at: usize) -> Option<usize>
     action_names::read_sort_name(s, at + 1)
 }
 
-// The sorts with their names; where each stands goes into sorts.
+// The sorts with their names; where each stands goes into sorts. Functions and actions below are read alike, each by its own reader: one
+// function for all three would take the reader as a closure, which the C library's code may not call.
 fn read_named(s: &[u8], at: usize, sorts: &mut [u16]) -> Option<usize>
     requires { (max_sorts ≤ length sorts.old) × (length s.now < 65536) }
     ensures { Laid (counted (between? 1 max_sorts) read_sort (drop at s.now)) encode_sort s.now result (take (get_or s.now at 0) sorts.new) × OnSome result (Between 1 max_sorts (get_or s.now at 0)) }
@@ -69,6 +70,7 @@ fn copy_sizes(s: &[u8], sorts: &[u16], sizes: &mut [u8])
     requires { length sorts.now ≤ length sizes.old }
     ensures { take (length sorts.now) sizes.new ≡ map (λ p. get_or s.now p 0) sorts.now }
 {
+    // by an index, since two slices are gone over
     for k in 0..sorts.len() {
         sizes[k] = peek(s, cell(sorts, k));
     }

@@ -24,7 +24,8 @@ fn read_cond(s: &[u8], sizes: &[u8], funcs: &[u16], scope: &[u8], at: usize) -> 
     terms::read_term(s, sizes, funcs, scope, at + 1, 0)
 }
 
-// The conditions of a summand, behind their count.
+// The conditions of a summand, behind their count. Calls and summands below are read alike, each by its own reader: one function for all
+// three would take the reader as a closure, which the C library's code may not call.
 fn read_conds(s: &[u8], sizes: &[u8], funcs: &[u16], scope: &[u8], at: usize) -> Option<usize>
     ensures { (S : Sig) → KnownData S s.now sizes.now funcs.now → rests (counted (at_most? max_conditions) (read_cond S scope.now) (drop at s.now)) ≡ ended s.now result }
 {

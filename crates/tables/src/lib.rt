@@ -90,6 +90,7 @@ fn put_sizes(funcs: &mut [u16], sizes: &[u8])
     requires { (length funcs.old ≡ max_functions + max_sorts) × (length sizes.now ≡ max_sorts) }
     ensures { funcs.new ≡ take max_functions funcs.old ++ sizes.now }
 {
+    // by an index, since bytes go into cells
     for k in 0..sizes.len() {
         funcs[MAX_FUNCTIONS + k] = u16::from(sizes[k]);
     }
