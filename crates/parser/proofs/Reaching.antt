@@ -10,7 +10,7 @@ use Rattle.pcrl.specs.Tokens.{Token}
 use Rattle.pcrl.specs.Reader.{Got, missing, found, all}
 use Rattle.laws.specs.Places.{get_or_positive}
 use Rattle.parser.specs.Cells.{Symbol}
-use Rattle.parser.specs.Reading.{rest, Ahead, Put, Few, Writes, Expected, stands, other, Reads, none, one}
+use Rattle.parser.specs.Reading.{rest, Ahead, Put, Few, Writes, Expected, stands, other, Closed, closing, unclosed, Reads, none, one}
 use Rattle.parser.specs.Runs.{Placed, Ran, no_lines, some_lines}
 use Rattle.parser.specs.declared.Step.{Step}
 use Rattle.parser.specs.declared.Run.{Run}
@@ -61,6 +61,13 @@ pub meets : {toks : List ℕ} {at sign : ℕ} {r : R.Option ℕ} → Expected to
 meets (stands e) = next e
 meets (other n) = wrong n
 
+-- a bracket is closed as its sign is expected
+pub closed_some : {toks : List ℕ} {a : Step} {p : ℕ} → Expected toks a.at 41 (R.Some p) → Closed toks a (R.Some (record { at = p; w = a.w }))
+closed_some (stands e) = closing e
+
+pub closed_none : {toks : List ℕ} {a : Step} → Expected toks a.at 41 R.None → Closed toks a R.None
+closed_none (other n) = unclosed n
+
 -- past the end stands no sign
 pub past_end : (toks : List ℕ) (c : ℕ) → 0 < c → get_or toks (length toks + 1) 0 ≡ c → ⊥
 past_end toks c l e = let k = get_or_positive toks (length toks + 1) (omega arith) in omega arith
@@ -92,6 +99,13 @@ module _ {s toks : List ℕ} {A : Type 0} {enc : A → List Symbol} {w : ℕ} {o
   pub no_answer : {next w' : ℕ} {o₁ o' : List ℕ} {g : Got Token A} → length toks < next → Reaches s toks enc w o next w' o₁ g → Reads s toks enc w o R.None o' g
   no_answer l (lost k) = none
   no_answer l (took k u) = absurd (omega arith)
+
+  -- what is read ends with a closing bracket
+  pub closed_answer : {a : Step} {r : R.Option Step} {o' : List ℕ} {g : Got Token A} → Closed toks a r → ((e : ℕ) → After (length toks) a.at e → Meets toks a.at 41 e → Reaches s toks enc w o e a.w o' g) → Reads s toks enc w o r o' g
+  closed_answer {a = a} (closing e) f =
+      let k = get_or_positive toks a.at (omega arith) in
+      some_answer (record { at = a.at + 1; w = a.w }) (omega arith) (f (a.at + 1) (omega arith) (next e))
+  closed_answer (unclosed n) f = no_answer (omega arith) (f (length toks + 1) (omega arith) (wrong n))
 
   -- nothing is read
   pub none_answer : {o' : List ℕ} {g : Got Token A} → Reaches s toks enc w o (length toks + 1) 0 [] g → Reads s toks enc w o R.None o' g

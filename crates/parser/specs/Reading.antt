@@ -45,6 +45,11 @@ pub data Expected (toks : List ℕ) (at sign : ℕ) : R.Option ℕ → Type 0 wh
   stands : get_or toks at 0 ≡ sign → Expected toks at sign (R.Some (at + 1))
   other : (get_or toks at 0 ≡ sign → ⊥) → Expected toks at sign R.None
 
+-- A closing bracket (its cell is 41) stands behind what was read, and the answer is behind it; or it does not, and there is none.
+pub data Closed (toks : List ℕ) (a : Step) : R.Option Step → Type 0 where
+  closing : get_or toks a.at 0 ≡ 41 → Closed toks a (R.Some (record { at = a.at + 1; w = a.w }))
+  unclosed : (get_or toks a.at 0 ≡ 41 → ⊥) → Closed toks a R.None
+
 -- There is an answer exactly where the definition's reader finds a value: it is written, and the place stands behind it.
 pub data Reads (s toks : List ℕ) {A : Type 0} (enc : A → List Symbol) (w : ℕ) (o : List ℕ) : R.Option Step → List ℕ → Got Token A → Type 0 where
   none : {o' : List ℕ} → Reads s toks enc w o R.None o' missing

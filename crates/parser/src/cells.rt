@@ -2,7 +2,7 @@
 ghost use Rattle.std.specs.Prelude.{◌≡◌, ◌+◌, ◌≤◌, ◌<◌, length, IfSome};
 ghost use Rattle.pcrl.specs.Grammar.{a_name, a_numeral};
 ghost use Rattle.parser.specs.Cells.{first_ors, first_ands, enc_name, enc_numeral};
-ghost use Rattle.parser.specs.Reading.{Ahead, Put, Expected, Read};
+ghost use Rattle.parser.specs.Reading.{Ahead, Put, Expected, Closed, Read};
 
 use crate::Step;
 use crate::codes::FIRST_ORS;
@@ -20,16 +20,6 @@ pub fn put(out: &mut [u16], w: usize, v: u16) -> usize
     }
 }
 
-// A wrong form as a place past the end, for the readers of names and data that still answer so.
-pub fn lost(toks: &[u16], w: usize) -> Step
-    ensures { length toks.now < result.at }
-{
-    Step {
-        at: toks.len() + 1,
-        w: w,
-    }
-}
-
 // The sign stands next: the place behind it.
 pub fn expect(toks: &[u16], at: usize, sign: u16) -> Option<usize>
     requires { 0 < sign }
@@ -41,6 +31,15 @@ pub fn expect(toks: &[u16], at: usize, sign: u16) -> Option<usize>
     } else {
         None
     }
+}
+
+// A closing bracket stands behind what was read.
+pub fn closed(toks: &[u16], a: Step) -> Option<Step>
+    ensures ahead { IfSome result (λ r. Ahead (length toks.now) a.at r.at) }
+    ensures read { Closed toks.now a result }
+{
+    let at = expect(toks, a.at, lexer::CLOSE)?;
+    Some(Step { at, w: a.w })
 }
 
 // A name stands next: its cell is written.

@@ -6,7 +6,7 @@ ghost use Rattle.parser.specs.Cells.{enc_data, enc_conjunction, enc_comparison, 
 ghost use Rattle.parser.specs.Call.{call};
 ghost use Rattle.parser.specs.Reading.{Ahead, Read, left};
 
-use crate::cells::{counted, expect, name, put};
+use crate::cells::{closed, counted, name, put};
 use crate::{Step, codes};
 use elements::peek;
 
@@ -93,8 +93,7 @@ fn atom(toks: &[u16], at: usize, out: &mut [u16], w: usize) -> Option<Step>
     if t == lexer::OPEN {
         let v = put(out, w, codes::NEST_TAG);
         let a = data_term(toks, at + 1, out, v)?;
-        let at = expect(toks, a.at, lexer::CLOSE)?;
-        return Some(Step { at, w: a.w });
+        return closed(toks, a);
     }
     if t < lexer::FIRST_NUMERAL {
         return None;
@@ -128,8 +127,7 @@ pub fn data_list(toks: &[u16], at: usize, out: &mut [u16], w: usize) -> Option<S
         let u = put(out, v, codes::ONE_TAG);
         let a = data_term(toks, from, out, u)?;
         if peek(toks, a.at) != lexer::COMMA {
-            let at = expect(toks, a.at, lexer::CLOSE)?;
-            return Some(Step { at, w: a.w });
+            return closed(toks, a);
         }
         put(out, v, codes::MORE_TAG);
         from = a.at + 1;

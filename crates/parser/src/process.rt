@@ -5,7 +5,7 @@ ghost use Rattle.parser.specs.Cells.{enc_choice, enc_conditional, enc_sequence, 
 ghost use Rattle.parser.specs.Call.{sum_head};
 ghost use Rattle.parser.specs.Reading.{Ahead, Read, left};
 
-use crate::cells::{expect, name, put};
+use crate::cells::{closed, expect, name, put};
 use crate::data::{data_term, named};
 use crate::{Step, codes};
 use elements::peek;
@@ -90,14 +90,12 @@ fn part(toks: &[u16], at: usize, out: &mut [u16], w: usize) -> Option<Step>
         let v = put(out, w, codes::SUM_TAG);
         let h = sum_head(toks, at + 1, out, v)?;
         let a = choice(toks, h.at, out, h.w)?;
-        let at = expect(toks, a.at, lexer::CLOSE)?;
-        return Some(Step { at, w: a.w });
+        return closed(toks, a);
     }
     if t == lexer::OPEN {
         let v = put(out, w, codes::GROUP_TAG);
         let a = choice(toks, at + 1, out, v)?;
-        let at = expect(toks, a.at, lexer::CLOSE)?;
-        return Some(Step { at, w: a.w });
+        return closed(toks, a);
     }
     named(toks, at, out, w)
 }

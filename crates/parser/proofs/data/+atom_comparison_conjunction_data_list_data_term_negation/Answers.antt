@@ -4,7 +4,7 @@ use Prim.Native.Nat.{◌+◌}
 use lib.ListN.{length}
 use native.Mathlib.Omega.{arith}
 use Rattle.laws.specs.Places.{get_or_positive}
-use Rattle.parser.proofs.Reaching.{past_end, past_meets, put_any, meets, reaches, answer, some_answer, no_answer}
+use Rattle.parser.proofs.Reaching.{closed_answer, past_end, past_meets, put_any, reaches, answer, some_answer, no_answer}
 use Rattle.parser.proofs.Going.{goes_then}
 use Rattle.parser.proofs.Operands.{joins_then, or_last, or_more, data_read, and_last, and_more, conjunction_read}
 use Rattle.parser.proofs.DataLaws.{comparison_alone, comparison_equal, negation_atom, negation_not, atom_nest, atom_none, atom_value, atom_variable, atom_apply, list_one, list_more}
@@ -14,13 +14,9 @@ pub atom-returns-in_err-a-clause-read : goal.atom-returns-in_err-a-clause-read
 atom-returns-in_err-a-clause-read t c =
     rw c.from_residual.ensures (λ s f l. no_answer (omega arith) (atom_nest s c.args.toks.now c.args.at (sym c.peek-t.ensures ∙ c.if-t-eq-OPEN.true) c.put-v.ensures (omega arith) (λ g k. reaches (c.in_err-a.ensures.read s g k)) (omega arith) (past_meets c.args.toks.now 41 (omega arith)) f l))
 
-pub atom-returns-in_err-at-clause-read : goal.atom-returns-in_err-at-clause-read
-atom-returns-in_err-at-clause-read t c =
-    rw c.from_residual-in_err-at.ensures (λ s f l. no_answer (omega arith) (atom_nest s c.args.toks.now c.args.at (sym c.peek-t.ensures ∙ c.if-t-eq-OPEN.true) c.put-v.ensures (omega (arith, c.in_ok-a.ensures.ahead)) (λ g k. reaches (c.in_ok-a.ensures.read s g k)) (omega (arith, c.in_ok-a.ensures.ahead)) (meets c.in_err-at.ensures.read) f l))
-
 pub atom-returns-then-t-eq-OPEN-clause-read : goal.atom-returns-then-t-eq-OPEN-clause-read
 atom-returns-then-t-eq-OPEN-clause-read t c =
-    λ s f l. some_answer _ (omega (arith, c.in_ok-at.ensures.ahead)) (atom_nest s c.args.toks.now c.args.at (sym c.peek-t.ensures ∙ c.if-t-eq-OPEN.true) c.put-v.ensures (omega (arith, c.in_ok-a.ensures.ahead)) (λ g k. reaches (c.in_ok-a.ensures.read s g k)) (omega (arith, c.in_ok-a.ensures.ahead, c.in_ok-at.ensures.ahead)) (meets c.in_ok-at.ensures.read) f l)
+    λ s f l. closed_answer c.closed.ensures.read (λ e b x. atom_nest s c.args.toks.now c.args.at (sym c.peek-t.ensures ∙ c.if-t-eq-OPEN.true) c.put-v.ensures (omega (arith, c.in_ok-a.ensures.ahead)) (λ g k. reaches (c.in_ok-a.ensures.read s g k)) b x f l)
 
 pub atom-returns-then-t-lt-FIRST_NUMERAL-clause-read : goal.atom-returns-then-t-lt-FIRST_NUMERAL-clause-read
 atom-returns-then-t-lt-FIRST_NUMERAL-clause-read t c =
@@ -86,13 +82,9 @@ pub data_list-returns-in_err-a-clause-read : goal.data_list-returns-in_err-a-cla
 data_list-returns-in_err-a-clause-read t c =
     rw c.from_residual.ensures (λ s f l. no_answer (omega arith) ((c.loop-a.invariant.1 s).on (list_one s c.args.toks.now c.loop-a.from c.put-u.ensures (omega arith) (λ g k. reaches (c.in_err-a.ensures.read s g k)) (past_end c.args.toks.now 44 (omega arith)) (omega arith) (past_meets c.args.toks.now 41 (omega arith))) f l))
 
-pub data_list-returns-in_err-at-clause-read : goal.data_list-returns-in_err-at-clause-read
-data_list-returns-in_err-at-clause-read t c =
-    rw c.from_residual-in_err-at.ensures (λ s f l. no_answer (omega arith) ((c.loop-a.invariant.1 s).on (list_one s c.args.toks.now c.loop-a.from c.put-u.ensures (omega (arith, c.in_ok-a.ensures.ahead)) (λ g k. reaches (c.in_ok-a.ensures.read s g k)) (λ e. c.if-peek-ne-COMMA.true (c.peek.ensures ∙ e)) (omega (arith, c.in_ok-a.ensures.ahead)) (meets c.in_err-at.ensures.read)) f l))
-
 pub data_list-returns-then-peek-ne-COMMA-clause-read : goal.data_list-returns-then-peek-ne-COMMA-clause-read
 data_list-returns-then-peek-ne-COMMA-clause-read t c =
-    λ s f l. some_answer _ (omega (arith, c.in_ok-at.ensures.ahead)) ((c.loop-a.invariant.1 s).on (list_one s c.args.toks.now c.loop-a.from c.put-u.ensures (omega (arith, c.in_ok-a.ensures.ahead)) (λ g k. reaches (c.in_ok-a.ensures.read s g k)) (λ e. c.if-peek-ne-COMMA.true (c.peek.ensures ∙ e)) (omega (arith, c.in_ok-a.ensures.ahead, c.in_ok-at.ensures.ahead)) (meets c.in_ok-at.ensures.read)) f l)
+    λ s f l. closed_answer c.closed.ensures.read (λ e b x. (c.loop-a.invariant.1 s).on (list_one s c.args.toks.now c.loop-a.from c.put-u.ensures (omega (arith, c.in_ok-a.ensures.ahead)) (λ g k. reaches (c.in_ok-a.ensures.read s g k)) (λ e. c.if-peek-ne-COMMA.true (c.peek.ensures ∙ e)) b x) f l)
 
 pub data_list-loop-a-preserved : goal.data_list-loop-a-preserved
 data_list-loop-a-preserved t c =

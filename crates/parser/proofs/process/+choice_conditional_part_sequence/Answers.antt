@@ -5,7 +5,7 @@ use Prim.Native.Nat.{◌+◌}
 use native.Mathlib.Omega.{arith}
 use lib.ListN.{length}
 use Rattle.laws.specs.Places.{get_or_positive}
-use Rattle.parser.proofs.Reaching.{past_end, past_meets, meets, reaches, after, answer, some_answer, no_answer, none_answer}
+use Rattle.parser.proofs.Reaching.{closed_answer, past_end, past_meets, meets, reaches, after, answer, some_answer, no_answer, none_answer}
 use Rattle.parser.proofs.Going.{goes_then}
 use Rattle.parser.proofs.ProcessLaws.{choice_only, choice_plus, conditional_plain, conditional_cond, sequence_last, sequence_then, part_delta, part_tau, part_sum, part_group, part_named}
 use Rattle.parser.proofs.process.+choice_conditional_part_sequence.Goals as goal
@@ -76,25 +76,17 @@ pub part-returns-in_err-a-clause-read : goal.part-returns-in_err-a-clause-read
 part-returns-in_err-a-clause-read t c =
     rw c.from_residual-in_err-a.ensures (λ s f l. no_answer (omega arith) (part_sum s c.args.toks.now c.args.at (λ e. c.if-t-eq-DELTA.false (c.peek-t.ensures ∙ e)) (λ e. c.if-t-eq-TAU.false (c.peek-t.ensures ∙ e)) c.put-v.ensures (sym c.peek-t.ensures ∙ c.if-t-eq-SUM.true) (omega (arith, c.in_ok-h.ensures.ahead)) (reaches (c.in_ok-h.ensures.read s 1 (omega arith))) (omega arith) (λ i. (λ g k. reaches (c.in_err-a.ensures.read s g k))) (omega arith) (past_meets c.args.toks.now 41 (omega arith)) f l))
 
-pub part-returns-in_err-at-clause-read : goal.part-returns-in_err-at-clause-read
-part-returns-in_err-at-clause-read t c =
-    rw c.from_residual-in_err-at.ensures (λ s f l. no_answer (omega arith) (part_sum s c.args.toks.now c.args.at (λ e. c.if-t-eq-DELTA.false (c.peek-t.ensures ∙ e)) (λ e. c.if-t-eq-TAU.false (c.peek-t.ensures ∙ e)) c.put-v.ensures (sym c.peek-t.ensures ∙ c.if-t-eq-SUM.true) (omega (arith, c.in_ok-h.ensures.ahead)) (reaches (c.in_ok-h.ensures.read s 1 (omega arith))) (omega (arith, c.in_ok-a.ensures.ahead)) (λ i. (λ g k. reaches (c.in_ok-a.ensures.read s g k))) (omega (arith, c.in_ok-a.ensures.ahead)) (meets c.in_err-at.ensures.read) f l))
-
 pub part-returns-then-t-eq-SUM-clause-read : goal.part-returns-then-t-eq-SUM-clause-read
 part-returns-then-t-eq-SUM-clause-read t c =
-    λ s f l. some_answer _ (omega (arith, c.in_ok-at.ensures.ahead)) (part_sum s c.args.toks.now c.args.at (λ e. c.if-t-eq-DELTA.false (c.peek-t.ensures ∙ e)) (λ e. c.if-t-eq-TAU.false (c.peek-t.ensures ∙ e)) c.put-v.ensures (sym c.peek-t.ensures ∙ c.if-t-eq-SUM.true) (omega (arith, c.in_ok-h.ensures.ahead)) (reaches (c.in_ok-h.ensures.read s 1 (omega arith))) (omega (arith, c.in_ok-a.ensures.ahead)) (λ i. (λ g k. reaches (c.in_ok-a.ensures.read s g k))) (omega (arith, c.in_ok-a.ensures.ahead, c.in_ok-at.ensures.ahead)) (meets c.in_ok-at.ensures.read) f l)
+    λ s f l. closed_answer c.closed.ensures.read (λ e b x. part_sum s c.args.toks.now c.args.at (λ e. c.if-t-eq-DELTA.false (c.peek-t.ensures ∙ e)) (λ e. c.if-t-eq-TAU.false (c.peek-t.ensures ∙ e)) c.put-v.ensures (sym c.peek-t.ensures ∙ c.if-t-eq-SUM.true) (omega (arith, c.in_ok-h.ensures.ahead)) (reaches (c.in_ok-h.ensures.read s 1 (omega arith))) (omega (arith, c.in_ok-a.ensures.ahead)) (λ i. (λ g k. reaches (c.in_ok-a.ensures.read s g k))) b x f l)
 
 pub part-returns-in_err-a-2-clause-read : goal.part-returns-in_err-a-2-clause-read
 part-returns-in_err-a-2-clause-read t c =
     rw c.from_residual-in_err-a-2.ensures (λ s f l. no_answer (omega arith) (part_group s c.args.toks.now c.args.at (λ e. c.if-t-eq-DELTA.false (c.peek-t.ensures ∙ e)) (λ e. c.if-t-eq-TAU.false (c.peek-t.ensures ∙ e)) (λ e. c.if-t-eq-SUM.false (c.peek-t.ensures ∙ e)) c.put-v-then-t-eq-OPEN.ensures (sym c.peek-t.ensures ∙ c.if-t-eq-OPEN.true) (omega arith) (λ g k. reaches (c.in_err-a-2.ensures.read s g k)) (omega arith) (past_meets c.args.toks.now 41 (omega arith)) f l))
 
-pub part-returns-in_err-at-2-clause-read : goal.part-returns-in_err-at-2-clause-read
-part-returns-in_err-at-2-clause-read t c =
-    rw c.from_residual-in_err-at-2.ensures (λ s f l. no_answer (omega arith) (part_group s c.args.toks.now c.args.at (λ e. c.if-t-eq-DELTA.false (c.peek-t.ensures ∙ e)) (λ e. c.if-t-eq-TAU.false (c.peek-t.ensures ∙ e)) (λ e. c.if-t-eq-SUM.false (c.peek-t.ensures ∙ e)) c.put-v-then-t-eq-OPEN.ensures (sym c.peek-t.ensures ∙ c.if-t-eq-OPEN.true) (omega (arith, c.in_ok-a-2.ensures.ahead)) (λ g k. reaches (c.in_ok-a-2.ensures.read s g k)) (omega (arith, c.in_ok-a-2.ensures.ahead)) (meets c.in_err-at-2.ensures.read) f l))
-
 pub part-returns-then-t-eq-OPEN-clause-read : goal.part-returns-then-t-eq-OPEN-clause-read
 part-returns-then-t-eq-OPEN-clause-read t c =
-    λ s f l. some_answer _ (omega (arith, c.in_ok-at-2.ensures.ahead)) (part_group s c.args.toks.now c.args.at (λ e. c.if-t-eq-DELTA.false (c.peek-t.ensures ∙ e)) (λ e. c.if-t-eq-TAU.false (c.peek-t.ensures ∙ e)) (λ e. c.if-t-eq-SUM.false (c.peek-t.ensures ∙ e)) c.put-v-then-t-eq-OPEN.ensures (sym c.peek-t.ensures ∙ c.if-t-eq-OPEN.true) (omega (arith, c.in_ok-a-2.ensures.ahead)) (λ g k. reaches (c.in_ok-a-2.ensures.read s g k)) (omega (arith, c.in_ok-a-2.ensures.ahead, c.in_ok-at-2.ensures.ahead)) (meets c.in_ok-at-2.ensures.read) f l)
+    λ s f l. closed_answer c.closed-then-t-eq-OPEN.ensures.read (λ e b x. part_group s c.args.toks.now c.args.at (λ e. c.if-t-eq-DELTA.false (c.peek-t.ensures ∙ e)) (λ e. c.if-t-eq-TAU.false (c.peek-t.ensures ∙ e)) (λ e. c.if-t-eq-SUM.false (c.peek-t.ensures ∙ e)) c.put-v-then-t-eq-OPEN.ensures (sym c.peek-t.ensures ∙ c.if-t-eq-OPEN.true) (omega (arith, c.in_ok-a-2.ensures.ahead)) (λ g k. reaches (c.in_ok-a-2.ensures.read s g k)) b x f l)
 
 pub part-returns-clause-read : goal.part-returns-clause-read
 part-returns-clause-read t c =
