@@ -141,9 +141,7 @@ pub fn same_run(s: &[u8], c: u16, l: usize, d: u16) -> bool
 {
     let p = first_byte(c);
     let q = first_byte(d);
-    let mut i = l;
-    while i > 0 {
-        i -= 1;
+    for i in (0..l).rev() {
         if s[p + i] != peek(s, q + i) {
             return false;
         }

@@ -55,9 +55,7 @@ pub fn put_names(s: &[u8], names: &[u16], kinds: Kinds, declared: &mut [u16])
         declared[FIRST_PLACE + j] = short(n);
     }
     // the last name first: the first of its key so far is the next one after it
-    let mut i = n;
-    while i > 0 {
-        i -= 1;
+    for i in (0..n).rev() {
         let d = key(s, names[i]);
         let p = FIRST_PLACE + wide(d.key);
         declared[i] = names[i];

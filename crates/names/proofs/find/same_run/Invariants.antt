@@ -4,6 +4,3 @@ use Rattle.names.proofs.find.same_run.Given as goal
 
 abbrev pub invariant-loop-i : goal.invariant-loop-i
 invariant-loop-i l = (l.i ≤ l.l) × AgreeFrom l.s l.p l.q l.l l.i
-
-abbrev pub decreases-loop-i : goal.decreases-loop-i
-decreases-loop-i l = l.i

@@ -40,9 +40,6 @@ loop-i-init c =
     let loop = c.loop-j in
     (omega arith, listed_start c.args.s.now c.args.names.now loop.declared _ loop.invariant.0 (λ k h. loop.invariant.2 k (omega (arith, c.loop-j-test.false))))
 
-pub overflow_sub-i : goal.overflow_sub-i
-overflow_sub-i c = omega (arith, c.requires, c.loop-i.invariant.0, c.loop-i.invariant.1.many, c.loop-i-test.true)
-
 pub offset_bounds-names-i : goal.offset_bounds-names-i
 offset_bounds-names-i c = omega (arith, c.requires, c.loop-i.invariant.0, c.loop-i.invariant.1.many, c.loop-i-test.true)
 
@@ -96,9 +93,6 @@ bounds-declared-p-in-loop-i c =
     let few = length-set loop.declared (loop.i - 1) (get_or c.args.names.now (loop.i - 1) 0) in
     let few' = length-set l (max_names + (loop.i - 1)) (get_or l (first_place + wide.result) 0) in
     omega (arith, wide.ensures.1, loop.invariant.1.many)
-
-pub loop-i-smaller : goal.loop-i-smaller
-loop-i-smaller c = omega (arith, c.requires, c.loop-i.invariant.0, c.loop-i.invariant.1.many, c.loop-i-test.true)
 
 pub loop-i-preserved : goal.loop-i-preserved
 loop-i-preserved c =

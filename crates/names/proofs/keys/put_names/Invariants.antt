@@ -11,6 +11,3 @@ invariant-loop-j l = (length l.declared ≡ list_cells) × (l.j ≤ key_count) �
 
 abbrev pub invariant-loop-i : goal.invariant-loop-i
 invariant-loop-i l = (l.i ≤ l.n) × ListedFrom l.s l.names l.declared l.n l.i
-
-abbrev pub decreases-loop-i : goal.decreases-loop-i
-decreases-loop-i l = l.i
