@@ -44,8 +44,8 @@ pub fn items(cells: &[u16], step: usize, at: usize, most: usize) -> usize
 fn sizes_right(cells: &[u16], sorts: &[u16]) -> bool
     ensures { Says result (Every (λ p. Between 1 max_size (numeral_at cells.now (p + 2))) sorts.now) }
 {
-    for i in 0..sorts.len() {
-        let v = peek(cells, wide(sorts[i]) + 2);
+    for p in sorts {
+        let v = peek(cells, wide(*p) + 2);
         if v <= FIRST_NUMERAL {
             return false;
         }
@@ -60,8 +60,8 @@ fn sizes_right(cells: &[u16], sorts: &[u16]) -> bool
 fn params_few(cells: &[u16], procs: &[u16]) -> bool
     ensures { Says result (Every (λ p. item_count cells.now param_step (p + 2) (suc frame_width) ≤ frame_width) procs.now) }
 {
-    for i in 0..procs.len() {
-        if items(cells, PARAM_STEP, wide(procs[i]) + 2, FRAME_WIDTH + 1) > FRAME_WIDTH {
+    for p in procs {
+        if items(cells, PARAM_STEP, wide(*p) + 2, FRAME_WIDTH + 1) > FRAME_WIDTH {
             return false;
         }
     }
