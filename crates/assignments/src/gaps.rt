@@ -95,9 +95,8 @@ fn find_around(
     let w = t.before;
     let b = t.behind;
     let rounds = (w / b) as u64;
-    let mut j: usize = 0;
     let mut left = k;
-    while j < total {
+    for j in (0..total).step_by(w) {
         let to = j + b;
         let rest = match find_from(space, c, g, j, to, left) {
             Ok(at) => return Ok(at),
@@ -110,7 +109,6 @@ fn find_around(
             return Ok((left / m) as usize * b + at);
         }
         left -= m * rounds;
-        j += w;
     }
     Err(left)
 }

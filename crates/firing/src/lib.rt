@@ -81,7 +81,7 @@ fn frame_at(s: &[u8], funcs: &[u16], params: &[u16], e: &[u8], at: usize, out: &
 {
     let b = peek(s, at);
     let n = wide(parameters(s, params, wide(b)));
-    blocks::fill(out);
+    out.fill(0);
     out[0] = b;
     terms_at(s, funcs, e, at + 1, n, &mut out[1..FRAME])
 }

@@ -3,7 +3,7 @@ use native.Mathlib.Omega.{arith}
 use native.Mathlib.Nat.{mod-le}
 use Rattle.std.specs.Prelude.{Ok, Err}
 use Rattle.std.proofs.lemmas.Result.{err_from_is_err_and}
-use Prim.Native.Nat.{ℕ, ◌-◌, ◌*◌, ◌/◌, ◌≤◌, ◌<◌}
+use Prim.Native.Nat.{ℕ, ◌+◌, ◌-◌, ◌*◌, ◌/◌, ◌≤◌, ◌<◌}
 use mathlib.Core.Path.{refl}
 use mathlib.Core.Bool.{Bool}
 use lib.ListN.{length, get_or}
@@ -89,8 +89,8 @@ overflow_mul-left c = omega (arith, past_below (c.args.t.before / c.args.t.behin
 pub overflow_sub-left : goal.overflow_sub-left
 overflow_sub-left c = omega (arith, past_below (c.args.t.before / c.args.t.behind) c.loop-j.left (c.loop-j.left - c.in-Err.rest) (rounds_pos c.args.t.before c.args.t.behind c.requires.1.1.1.1.1.1.1.0 c.requires.1.1.1.1.1.1.1.1.0) c.if-left-rounds.false)
 
-pub overflow_add-j : goal.overflow_add-j
-overflow_add-j c = omega (arith, c.requires.1.1.1.1.0, c.requires.1.1.1.1.1.1.1)
+pub overflow_step-j : goal.overflow_step-j
+overflow_step-j c = omega (arith, c.requires.1.1.1.1.0, c.requires.1.1.1.1.1.1.1)
 
 pub loop-j-smaller : goal.loop-j-smaller
 loop-j-smaller c = omega (arith, c.requires.1.1.1.1.1.1.1.0, c.requires.1.1.1.1.1.1.1.1.0)
@@ -104,6 +104,20 @@ loop-j-preserved c = (
       let acc : ℕ → Bool = λ i. part_met a.space.now.s.now a.space.now.funcs.now a.c.now.froms a.c.now.ends a.c.now.blocks a.c.now.count (env a.space.now.p a.space.now.params.at (digits_of a.space.now.z.at i)) in
       let turn = here.invariant.1 l m ge te part gapped in
       turn_next a.space.now.s.now a.space.now.funcs.now a.c.now.froms a.c.now.ends a.c.now.blocks a.c.now.count a.space.now.p a.space.now.z.at a.space.now.params.at few positive a.total a.t.before a.t.behind gapped m te a.k here.j here.left turn c.loop-j-test.true (here.left - (c.loop-j.left - c.in-Err.rest) * (a.t.before / a.t.behind)) (around_past acc here.j a.t.behind (a.t.before / a.t.behind) a.t.before (turn_whole a.space.now.s.now a.space.now.funcs.now a.c.now.froms a.c.now.ends a.c.now.blocks a.c.now.count a.space.now.p a.space.now.z.at a.space.now.params.at few positive a.total a.t.before a.t.behind gapped m te a.k here.j here.left turn c.loop-j-test.true) (rounds_pos a.t.before a.t.behind c.requires.1.1.1.1.1.1.1.0 c.requires.1.1.1.1.1.1.1.1.0) (turn_same a.space.now.s.now a.space.now.funcs.now a.c.now.froms a.c.now.ends a.c.now.blocks a.c.now.count a.space.now.p a.space.now.z.at a.space.now.params.at few positive a.total a.t.before a.t.behind gapped m te a.k here.j here.left turn c.loop-j-test.true) a.total 0 a.k here.left (turn_fits a.space.now.s.now a.space.now.funcs.now a.c.now.froms a.c.now.ends a.c.now.blocks a.c.now.count a.space.now.p a.space.now.z.at a.space.now.params.at few positive a.total a.t.before a.t.behind gapped m te a.k here.j here.left turn c.loop-j-test.true) turn.2 c.in-Err.rest (c.in-Err.ensures.1.1 l ge part) (here.left - c.in-Err.rest) refl c.if-left-rounds.false),
+)
+
+pub returns-else-left-rounds : goal.returns-else-left-rounds
+returns-else-left-rounds c = (
+  tt,
+  (
+    omega (arith, c.loop-j.invariant.0),
+    λ l m ge te part gapped. let a = c.args in let here = c.loop-j in
+        let positive : (i : ℕ) → i < length a.space.now.z.at → 0 < get_or a.space.now.z.at i 0 = λ i h. (c.requires.1.1.1.0 i (omega arith)).0 in
+        let few : a.space.now.p ≤ length a.space.now.params.at = omega (arith, c.requires.0) in
+        let acc : ℕ → Bool = λ i. part_met a.space.now.s.now a.space.now.funcs.now a.c.now.froms a.c.now.ends a.c.now.blocks a.c.now.count (env a.space.now.p a.space.now.params.at (digits_of a.space.now.z.at i)) in
+        let turn = here.invariant.1 l m ge te part gapped in
+        from_first acc a.total a.k _ (none_left acc a.total 0 a.k (here.j + a.t.before) (here.left - (here.left - c.in-Err.rest) * (a.t.before / a.t.behind)) (omega arith) (turn_next a.space.now.s.now a.space.now.funcs.now a.c.now.froms a.c.now.ends a.c.now.blocks a.c.now.count a.space.now.p a.space.now.z.at a.space.now.params.at few positive a.total a.t.before a.t.behind gapped m te a.k here.j here.left turn c.loop-j-test.true (here.left - (c.loop-j.left - c.in-Err.rest) * (a.t.before / a.t.behind)) (around_past acc here.j a.t.behind (a.t.before / a.t.behind) a.t.before (turn_whole a.space.now.s.now a.space.now.funcs.now a.c.now.froms a.c.now.ends a.c.now.blocks a.c.now.count a.space.now.p a.space.now.z.at a.space.now.params.at few positive a.total a.t.before a.t.behind gapped m te a.k here.j here.left turn c.loop-j-test.true) (rounds_pos a.t.before a.t.behind c.requires.1.1.1.1.1.1.1.0 c.requires.1.1.1.1.1.1.1.1.0) (turn_same a.space.now.s.now a.space.now.funcs.now a.c.now.froms a.c.now.ends a.c.now.blocks a.c.now.count a.space.now.p a.space.now.z.at a.space.now.params.at few positive a.total a.t.before a.t.behind gapped m te a.k here.j here.left turn c.loop-j-test.true) a.total 0 a.k here.left (turn_fits a.space.now.s.now a.space.now.funcs.now a.c.now.froms a.c.now.ends a.c.now.blocks a.c.now.count a.space.now.p a.space.now.z.at a.space.now.params.at few positive a.total a.t.before a.t.behind gapped m te a.k here.j here.left turn c.loop-j-test.true) turn.2 c.in-Err.rest (c.in-Err.ensures.1.1 l ge part) (here.left - c.in-Err.rest) refl c.if-left-rounds.false)).2),
+  ),
 )
 
 pub returns : goal.returns
