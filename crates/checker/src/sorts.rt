@@ -7,23 +7,23 @@ ghost use Rattle.nodes.specs.Held.{proc_width};
 ghost use Rattle.checker.specs.Sorts.{ParamsInScope, ProcessesSay, SheetSays};
 
 use crate::functions::functions_complete;
-use crate::terms::{Variables, term_right};
+use crate::terms::term_right;
 use elements::cell;
 use limits::{FRAME_WIDTH, MAX_FUNCTIONS, MAX_PROCESSES};
 use nodes::{MAX_SCOPE, Outline, PROC_ROW};
 
 // The parameters of process k in scope.
-fn params_of(procs: &[u8], k: usize) -> Variables
+fn params_of(procs: &[u8], k: usize) -> [u16; MAX_SCOPE]
     requires { k < cell_limit }
-    ensures sorts_len { length result.sorts ≡ max_scope }
-    ensures params_in_scope { ParamsInScope procs.now (proc_width * k) result.sorts }
+    ensures sorts_len { length result ≡ max_scope }
+    ensures params_in_scope { ParamsInScope procs.now (proc_width * k) result }
 {
     let mut sorts = [0u16; MAX_SCOPE];
     let start = PROC_ROW * k;
     for i in 0..FRAME_WIDTH {
         sorts[i] = cell(procs, start + 1 + i) as u16;
     }
-    Variables { sorts: sorts }
+    sorts
 }
 
 // Is every right side rightly sorted, with its parameters in scope?
@@ -75,16 +75,6 @@ pub fn rightly_sorted(
     if !processes_right(cells, starts, sizes, funcs, acts, procs, n) {
         return false;
     }
-    term_right(
-        cells,
-        n.init,
-        Variables {
-            sorts: [0u16; MAX_SCOPE],
-        },
-        sizes,
-        funcs,
-        acts,
-        procs,
-        n,
-    )
+    let none = [0u16; MAX_SCOPE];
+    term_right(cells, n.init, none, sizes, funcs, acts, procs, n)
 }

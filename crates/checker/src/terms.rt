@@ -9,12 +9,6 @@ use elements::cell;
 use limits::BOOL;
 use nodes::{ACT_ROW, ATOM, CALL, COND, MAX_SCOPE, Node, Outline, PROC_ROW, SUM, node_at};
 
-// The sorts of the variables in scope, by their numbers.
-#[derive(Clone, Copy)]
-pub struct Variables {
-    pub sorts: [u16; MAX_SCOPE],
-}
-
 // An action with as many data as it takes, each of its sort; tau takes none.
 pub fn atom_right(
     cells: &[u16],
@@ -140,21 +134,21 @@ pub fn bind(cells: &[u16], d: Node, scope: &mut [u16])
     scope[x] = d.number as u16;
 }
 
-// Is a process term rightly sorted?
+// Is a process term rightly sorted? At the start the variables in scope have these sorts, by their numbers.
 pub fn term_right(
     cells: &[u16],
     at: usize,
-    start: Variables,
+    start: [u16; MAX_SCOPE],
     sizes: &[u8],
     funcs: &[u8],
     acts: &[u8],
     procs: &[u8],
     n: Outline,
 ) -> bool
-    requires { length start.sorts ≡ max_scope }
-    ensures { TermSays cells.now at start.sorts sizes.now funcs.now acts.now procs.now n result }
+    requires { length start ≡ max_scope }
+    ensures { TermSays cells.now at start sizes.now funcs.now acts.now procs.now n result }
 {
-    let mut scope = start.sorts;
+    let mut scope = start;
     let mut p = at;
     let mut need: usize = 1;
     while need > 0 {
