@@ -21,7 +21,7 @@ ARCHIVE = "wizbratel"
 # What the sources call that they do not define: of the language. None of them calls back.
 METHODS = set(
     "len is_empty min max saturating_add saturating_sub copy_from_slice fill iter iter_mut copied enumerate rev zip chunks_exact "
-    "swap_with_slice step_by chunks as_slice get first last is_some is_none is_ok is_err ok_or ok unwrap_or".split()
+    "swap_with_slice step_by chunks as_slice get first last is_some is_none is_ok is_err ok_or ok unwrap unwrap_or".split()
 )
 KIT = {"count_ones", "trailing_zeros", "from", "try_from", "MAX"}
 CONSTRUCTORS = {"Some", "Ok", "Err"}

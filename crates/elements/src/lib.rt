@@ -1,7 +1,6 @@
 #![tactic(auto)]
-// Elements of slices, 0 past the end; numbers made wider and narrower; the smaller and the larger of two.
-ghost use Rattle.std.specs.Prelude.{◌≡◌, ℕ, ◌+◌, ◌%◌, ◌≤◌, ◌<◌, min, max, get_or};
-ghost use Rattle.pcrl.specs.Tests as tests;
+// Elements of slices, 0 past the end; numbers made wider and narrower.
+ghost use Rattle.std.specs.Prelude.{◌≡◌, ℕ, ◌%◌, ◌<◌, get_or};
 
 // Numbers that a byte, and a cell of 16 bits, can hold.
 pub const BYTE_LIMIT: usize = 256;
@@ -95,13 +94,6 @@ pub fn wide<T: Number>(x: T) -> usize
     x.wide()
 }
 
-// A byte as a cell.
-pub fn cell_of(x: u8) -> u16
-    ensures { result ≡ x }
-{
-    x as u16
-}
-
 // The lowest eight bits.
 pub fn low(n: usize) -> u8
     ensures { result ≡ n % 256 }
@@ -113,37 +105,5 @@ pub fn low(n: usize) -> u8
 pub fn short(n: usize) -> u16
     ensures { n < 65536 → result ≡ n }
 {
-    if n < CELL_LIMIT { n as u16 } else { 0 }
-}
-
-// The smaller of two numbers.
-pub fn smaller(a: usize, b: usize) -> usize
-    ensures { result ≡ min a b }
-{
-    if a < b { a } else { b }
-}
-
-// A sum cut at `most`, for counts that are not told apart from there on. The compiler leaves out the first test where b is known to be small.
-pub fn cut_sum(most: usize, a: usize, b: usize) -> usize
-    requires { (a ≤ most) × (most < 65536) }
-    ensures { result ≡ min most (a + b) }
-{
-    if b >= most {
-        return most;
-    }
-    smaller(a + b, most)
-}
-
-// The larger of two numbers.
-pub fn larger(a: usize, b: usize) -> usize
-    ensures { result ≡ max a b }
-{
-    if a < b { b } else { a }
-}
-
-// In loops that the compiler shall make wide: both are known, nothing is left early.
-pub fn both(a: bool, b: bool) -> bool
-    ensures { result ≡ tests.and a b }
-{
-    if a { b } else { false }
+    u16::try_from(n).unwrap_or(0)
 }
