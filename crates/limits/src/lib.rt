@@ -1,5 +1,5 @@
 #![tactic(auto)]
-// The numbers of document 01 in code, each once: limits, in the order of pcrl's Limits, and questions.
+// The numbers of document 01 in code, each once, in the order of pcrl's Limits.
 
 // "At most 4,096 bytes"
 pub const MAX_BYTES: usize = 4096;
@@ -90,41 +90,3 @@ pub const MAX_TERM: usize = 46;
 
 // In the index of a table: a place for each function, and behind them the size of each sort.
 pub const FUNCTION_CELLS: usize = MAX_FUNCTIONS + MAX_SORTS;
-
-// Questions of a sheet, by what is wrong where they are answered with no.
-pub const TOO_LONG: u8 = 1;
-
-pub const NOT_TEXT: u8 = 2;
-
-pub const NO_TOKEN: u8 = 3;
-
-pub const TOO_OPEN: u8 = 4;
-
-pub const NO_SHEET: u8 = 5;
-
-pub const TOO_MANY: u8 = 6;
-
-pub const NO_NAME: u8 = 7;
-
-pub const NOT_SORTED: u8 = 8;
-
-pub const NOT_GUARDED: u8 = 9;
-
-pub const NOT_WITHIN: u8 = 10;
-
-pub const NO_ROOM: u8 = 11;
-
-// Of a table file.
-pub const NO_FILE: u8 = 12;
-
-pub const WRONG_BLOCK: u8 = 13;
-
-pub const NO_TABLE: u8 = 14;
-
-// Of a stack.
-pub const WRONG_STACK: u8 = 15;
-
-pub const TOO_DEEP: u8 = 16;
-
-// Of a printed text.
-pub const NO_TEXT: u8 = 17;
