@@ -80,6 +80,7 @@ module _ (s : List ℕ) (at : ℕ) (h : at < length s) where
       let (f, t) = of_mark (get_or s at 0) (drop (at + 1) s) (λ b. lone b punctuation) (one_of_test (neither (λ b. lone b punctuation)) alone_bytes tt (get_or s at 0) e) in
       reads_some s (first_token (get_or s at 0) (drop (at + 1) s)) (record { cell = get_or s at 0; len = 1 }) (sign (get_or s at 0 ∷ [])) 1
       (f ∙ lone_mark (get_or s at 0) (drop (at + 1) s) punctuation t)
+      (λ z. omega arith)
       (cell_mark s (get_or s at 0) (omega arith))
       refl
 
@@ -155,6 +156,7 @@ module _ (s : List ℕ) (at : ℕ) (h : at < length s) where
     reads_equals q =
         reads_some s (mark_of punctuation (drop at s)) (record { cell = 61; len = 1 }) (sign (61 ∷ [])) 1
         (one_byte ∙ ap (λ (b : ℕ). mark_of short_marks (b ∷ drop (at + 1) s)) q ∙ lone_mark 61 (drop (at + 1) s) short_marks tt)
+        (λ z. omega arith)
         (cell_mark s 61 (omega arith))
         refl
 
@@ -162,9 +164,11 @@ module _ (s : List ℕ) (at : ℕ) (h : at < length s) where
     reads_found : Found first_long_mark long_marks (get_or s at 0 ∷ get_or (drop (at + 1) s) 0 0 ∷ []) → Reads s (mark_of punctuation (drop at s)) (R.Some (record { cell = m; len = 2 }))
     unfolding long_marks
     reads_found q =
+        let c : m ≡ first_long_mark + q.place = same_Some m (first_long_mark + q.place) (f ∙ cell_is ∙ q.cell) in
         reads_some s (mark_of punctuation (drop at s)) (record { cell = m; len = 2 }) (sign (get_or s at 0 ∷ get_or (drop (at + 1) s) 0 0 ∷ [])) 2
         (at_place _ (pair_found (get_or s at 0) (drop (at + 1) s) q))
-        (ap (cell_token s) (same_Some m (first_long_mark + q.place) (f ∙ cell_is ∙ q.cell)) ∙ cell_long_mark s q.place (omega (arith, q.inside)) ∙ ap sign q.here)
+        (λ z. omega arith)
+        (ap (cell_token s) c ∙ cell_long_mark s q.place (omega (arith, q.inside)) ∙ ap sign q.here)
         refl
 
     pub reads_pair : Reads s (mark_of punctuation (drop at s)) (R.Some (record { cell = m; len = 2 }))

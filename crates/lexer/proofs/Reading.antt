@@ -1,6 +1,6 @@
 -- A name, a numeral and a mark at a place of the sheet: what the code found there is the definition's token (`Reads`).
 use mathlib.Core.Path.{◌≡◌, refl, sym, ap, ◌∙◌, subst, subst⁻¹}
-use mathlib.Core.Logic.{◌⊎◌, inl, inr, ⊎_elim}
+use mathlib.Core.Logic.{◌⊎◌, inl, inr, ⊎_elim, ◌≢◌}
 use mathlib.Core.Bool.{Bool, true, false}
 use mathlib.Core.List.{List, [], ◌∷◌}
 use mathlib.Core.Option.{Option, none, some}
@@ -28,9 +28,9 @@ pub reads_none : (s : List ℕ) (x : Option Lexeme) → x ≡ none → Reads s x
 unfolding Reads
 reads_none s x e = subst⁻¹ (λ (y : Option Lexeme). Reads s y R.None) e tt
 
-pub reads_some : (s : List ℕ) (x : Option Lexeme) (t : Taken) (k : Token) (n : ℕ) → x ≡ some (k, n) → cell_token s t.cell ≡ k → t.len ≡ n → Reads s x (R.Some t)
+pub reads_some : (s : List ℕ) (x : Option Lexeme) (t : Taken) (k : Token) (n : ℕ) → x ≡ some (k, n) → t.cell ≢ 0 → cell_token s t.cell ≡ k → t.len ≡ n → Reads s x (R.Some t)
 unfolding Reads
-reads_some s x t k n e c l = subst⁻¹ (λ (y : Option Lexeme). Reads s y (R.Some t)) e (c, l)
+reads_some s x t k n e z c l = subst⁻¹ (λ (y : Option Lexeme). Reads s y (R.Some t)) e (z, c, l)
 
 -- ---- names and words
 name_long : (w : List ℕ) → max_name < length w → name_of w ≡ none
@@ -84,6 +84,7 @@ module _ (s : List ℕ) (at n : ℕ) (e : n ≡ run name_byte (drop at s)) where
         let c : w ≡ first_word + q.place = same_Some w (first_word + q.place) (f ∙ cell_is ∙ q.cell) in
         reads_some s (name_of (front name_byte (drop at s))) (record { cell = w; len = n }) (sign (front name_byte (drop at s))) (length (front name_byte (drop at s)))
         (name_word (front name_byte (drop at s)) (omega (arith, width)) q.known)
+        (λ z. omega arith)
         (ap (cell_token s) c ∙ cell_word s q.place (omega (arith, q.inside)) ∙ ap sign q.here)
         (sym width)
 
@@ -94,6 +95,7 @@ module _ (s : List ℕ) (at n : ℕ) (e : n ≡ run name_byte (drop at s)) where
     reads_missing q =
         reads_some s (name_of (front name_byte (drop at s))) (record { cell = first_name + at; len = n }) (name (front name_byte (drop at s))) (length (front name_byte (drop at s)))
         (name_new (front name_byte (drop at s)) (omega (arith, width)) q.unknown)
+        (λ z. omega arith)
         (cell_name s at)
         (sym width)
 
@@ -182,6 +184,7 @@ module _ (s t : List ℕ) where
         go a b =
             reads_some s (numeral_of t) (record { cell = first_numeral + v; len = length t }) (numeral (value_of 0 t)) (length t)
             (numeral_is t q b)
+            (λ z. omega arith)
             (cell_numeral s v (omega arith) ∙ ap numeral a)
             refl
 

@@ -76,7 +76,7 @@ followed_none s (some l) k r = absurd r
 followed_some : (s : List ℕ) (x : Option Lexeme) (t : Taken) (k : ℕ → Option (List Token)) → Reads s x (R.Some t) → followed x k ≡ before (cell_token s t.cell) (k t.len)
 unfolding followed Reads
 followed_some s none t k r = absurd r
-followed_some s (some l) t k r = ap₂ (λ (a : Token) (n : ℕ). before a (k n)) (sym r.0) (sym r.1)
+followed_some s (some l) t k r = ap₂ (λ (a : Token) (n : ℕ). before a (k n)) (sym r.1) (sym r.2)
 
 module _ (s : List ℕ) (p : ℕ) (h : p < length s) (b : separator (get_or s p 0) ≡ false) (x : R.Option Taken) (r : Reads s (first_token (get_or s p 0) (drop (p + 1) s)) x) where
   here : from s p ≡ followed (first_token (get_or s p 0) (drop (suc p) s)) (λ n. tokens_behind (pred n) (drop (suc p) s))

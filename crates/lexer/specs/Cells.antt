@@ -1,6 +1,6 @@
 -- Tokens as cells, one number a token: a mark of one byte is its byte; -> <| |> == /\ \/ are 128 to 133; the words 160 to 167;
 -- a numeral is 256 + its value; a name is 1024 + the place of its first byte in the sheet.
-use Rattle.std.specs.Prelude.{◌≡◌, List, [], ◌∷◌, map, true, false, ℕ, ◌+◌, ◌-◌, ◌≤◌, ltb, length, take, drop, get_or}
+use Rattle.std.specs.Prelude.{◌≡◌, ◌≢◌, List, [], ◌∷◌, map, true, false, ℕ, ◌+◌, ◌-◌, ◌≤◌, ltb, length, take, drop, get_or}
 use Rattle.std.specs.Prelude as R
 use Rattle.std.proofs.Math.Option.{Option, none, some}
 use Rattle.pcrl.specs.Text.{bytes}
@@ -43,10 +43,10 @@ cell_token s c =
       | false ↦ elim (ltb c first_name) [ true ↦ numeral (c - first_numeral) | false ↦ name (front name_byte (drop (c - first_name) s)) ]
     ]
 
--- what the reader of a token answers, against the definition's token
+-- what the reader of a token answers, against the definition's token; no cell is 0, which is read past their end
 unfoldable pub Reads : List ℕ → Option Lexeme → R.Option Taken → Type 0
 Reads s none R.None = Unit {0}
-Reads s (some l) (R.Some t) = (cell_token s t.cell ≡ l.0) × (t.len ≡ l.1)
+Reads s (some l) (R.Some t) = (t.cell ≢ 0) × (cell_token s t.cell ≡ l.0) × (t.len ≡ l.1)
 Reads s none (R.Some t) = ⊥
 Reads s (some l) R.None = ⊥
 
