@@ -23,7 +23,14 @@ fn put_name(s: &[u8], c: u16, out: &mut [u8], w: usize) -> Option<usize>
 }
 
 // A sort: its size and its name. "Bool first"; the cells of the others' names stand before all others in `names`.
-fn put_sort(s: &[u8], sizes: &[u8], names: &[u16], d: usize, out: &mut [u8], w: usize) -> Option<usize>
+fn put_sort(
+    s: &[u8],
+    sizes: &[u8],
+    names: &[u16],
+    d: usize,
+    out: &mut [u8],
+    w: usize,
+) -> Option<usize>
     ensures { Puts (sort_bytes s.now sizes.now names.now d) w out.old result out.new }
 {
     let v = put(out, w, peek(sizes, d))?;
@@ -34,7 +41,14 @@ fn put_sort(s: &[u8], sizes: &[u8], names: &[u16], d: usize, out: &mut [u8], w: 
 }
 
 // Hex F2, the count of sorts, each sort.
-fn put_sorts(s: &[u8], sizes: &[u8], names: &[u16], n: usize, out: &mut [u8], w: usize) -> Option<usize>
+fn put_sorts(
+    s: &[u8],
+    sizes: &[u8],
+    names: &[u16],
+    n: usize,
+    out: &mut [u8],
+    w: usize,
+) -> Option<usize>
     ensures { Puts (sorts_bytes s.now sizes.now names.now n) w out.old result out.new }
 {
     let a = put(out, w, NAMES_CODE)?;
@@ -61,7 +75,13 @@ fn put_func(
     let a = put_row(funcs, p, out, w)?;
     let b = put(out, a, peek(funcs, p + GIVES))?;
     let from = cell(places, i);
-    copy(values, from, cell(places, i + 1).saturating_sub(from), out, b)
+    copy(
+        values,
+        from,
+        cell(places, i + 1).saturating_sub(from),
+        out,
+        b,
+    )
 }
 
 // The count of functions, each function.

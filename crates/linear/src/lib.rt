@@ -63,17 +63,9 @@ fn write_stream(
         0,
     )
     .ok_or(Refusal::NoRoom)?;
-    let p = put_param_lists(
-        &sheet.procs,
-        cells,
-        &sheet.starts,
-        n,
-        total,
-        rows,
-        out,
-        a,
-    )
-    .ok_or(Refusal::NoRoom)?;
+    let p = put_param_lists(&sheet.procs, cells, &sheet.starts, n, total, rows, out, a).ok_or(
+        Refusal::NoRoom,
+    )?;
     if p.count > MAX_EQUATIONS {
         return Err(Refusal::NotWithin);
     }

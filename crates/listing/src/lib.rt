@@ -64,7 +64,7 @@ fn part_source(rows: &[u32], k: usize, j: usize) -> Source
     Source {
         at: at as usize,
         scope: in_scope(n as usize),
-        marks: marks,
+        marks,
         next: in_scope(many(marks)),
         first: k + 1,
     }

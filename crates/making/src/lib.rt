@@ -104,7 +104,11 @@ fn make_in<const CELLS: usize, const VALUES: usize, const STREAM: usize>(
 
 // A long sheet read: the raw tree's array is left before that of the stream is needed.
 #[inline(never)]
-fn read_long(sheet: &[u8], values: &mut [u8; VALUES], cells: &mut [u16; CELLS]) -> Result<SheetRows, Refusal>
+fn read_long(
+    sheet: &[u8],
+    values: &mut [u8; VALUES],
+    cells: &mut [u16; CELLS],
+) -> Result<SheetRows, Refusal>
     ensures { Reads (sheet_read sheet.now) sheet.now result values.new cells.new }
 {
     let mut raw = [0u16; CELLS];
@@ -125,8 +129,8 @@ fn write_long(
     ensures written { out.new ≡ output_after (file_made sheet.now (length out.old)) out.old }
 {
     let mut stream = [0u8; MAX_STREAM];
-    let tried = write(sheet, rows, values, cells, &mut stream, out)?;
-    Ok(tried.unwrap())
+    // with an array for the longest stream it is known
+    write(sheet, rows, values, cells, &mut stream, out)?.ok_or(Refusal::NotWithin)
 }
 
 // Questions 1 to 11 over arrays for the longest sheet.

@@ -26,13 +26,7 @@ fn rise(left: &[u16], base: usize, s: PartWalk) -> PartWalk
         level -= 1;
         need = cell(left, level);
     }
-    PartWalk {
-        at: s.at,
-        level: level,
-        need: need,
-        count: s.count,
-        w: s.w,
-    }
+    PartWalk { level, need, ..s }
 }
 
 // The part at `at`, where n variables are in scope.
@@ -145,11 +139,11 @@ pub fn put_parts(
     ensures puts_parts { PutsParts cells.now sorts.old rows.old at base k w out.old result rows.new out.new }
 {
     let mut s = PartWalk {
-        at: at,
+        at,
         level: base,
         need: 1,
         count: k,
-        w: w,
+        w,
     };
     while s.need > 0 {
         if s.at >= cells.len() {

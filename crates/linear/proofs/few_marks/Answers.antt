@@ -13,7 +13,6 @@ loop-k-init c = (omega arith, λ j h. absurd (omega arith))
 pub overflow_mul-k : goal.overflow_mul-k
 overflow_mul-k c = omega (arith, c.requires)
 
-
 pub returns-then-many-gt-FRAME_WIDTH : goal.returns-then-many-gt-FRAME_WIDTH
 returns-then-many-gt-FRAME_WIDTH c = let a = c.args in let l = c.loop-k in few_not a.rows.now a.n l.k c.many.result (omega arith) (c.many.ensures ∙ ap (λ (x : ℕ). count (bits 32 x)) c.peek.ensures) (omega arith)
 

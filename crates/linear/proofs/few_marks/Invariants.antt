@@ -4,4 +4,3 @@ use Rattle.linear.proofs.few_marks.Given as goal
 
 abbrev pub invariant-loop-k : goal.invariant-loop-k
 invariant-loop-k l = (l.k ≤ l.n) × FewMarks l.rows l.k
-

@@ -42,5 +42,8 @@ returns c =
     let on = d.ensures.on.on in
     let n = t.ensures.count_le_count in
     let p = c.requires in
-    let other : d.result.kind ≡ sum_kind → max_scope ≤ a.s.level = elim c.if-d-eq-SUM.branch [ then-d-eq-SUM+else-n-lt-MAX_SCOPE w ↦ λ z. omega arith | else-d-eq-SUM w ↦ λ z. omega arith ] in record { at_lt_at = (omega arith, p.3, n.0, n.1);
-      rows_kept = t.ensures.noting.kept; steps = step_other a.cells.now a.left.now a.sorts.now a.rows.now a.out.now a.s c.own_part.new.rows c.own_part.new.out t.t d.result d.ensures.views p.0 p.1 t.ensures.noting other }
+    let other : d.result.kind ≡ sum_kind → max_scope ≤ a.s.level = elim c.if-d-eq-SUM.branch [ then-d-eq-SUM+else-n-lt-MAX_SCOPE w ↦ λ z. omega arith | else-d-eq-SUM w ↦ λ z. omega arith ] in record {
+      at_lt_at = (omega arith, p.3, n.0, n.1);
+      rows_kept = t.ensures.noting.kept;
+      steps = step_other a.cells.now a.left.now a.sorts.now a.rows.now a.out.now a.s c.own_part.new.rows c.own_part.new.out t.t d.result d.ensures.views p.0 p.1 t.ensures.noting other;
+    }

@@ -5,4 +5,3 @@ use Rattle.parts.proofs.sheet_parts.count_equations.Given as goal
 
 abbrev pub invariant-loop-k : goal.invariant-loop-k
 invariant-loop-k l = (l.k ≤ l.fn.n.procs) × (l.total ≤ count_cut) × CountLeft l.procs l.cells l.starts l.fn.n l.k l.total
-

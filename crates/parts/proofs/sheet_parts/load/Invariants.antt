@@ -6,4 +6,3 @@ use Rattle.parts.proofs.sheet_parts.load.Given as goal
 
 abbrev pub invariant-loop-i : goal.invariant-loop-i
 invariant-loop-i l = (l.i ≤ l.n) × (length l.sorts ≡ length l.initial.sorts) × LoadedTo l.procs l.p l.sorts l.i
-
