@@ -4,7 +4,7 @@ use mathlib.Core.List.{List, [], ◌∷◌, ◌++◌}
 use Rattle.std.specs.Prelude.{Option, Some, None}
 use Prim.Native.Nat.{ℕ, zero, suc, ◌+◌, ◌-◌, ◌*◌, ◌%◌, ◌<◌}
 use native.Mathlib.Omega.{arith}
-use lib.ListN.{length, take, drop, get_or, length-append}
+use lib.ListN.{length, take, drop, get_or}
 use Rattle.pcrl.specs.Text.{bytes}
 use Rattle.pcrl.specs.Bytes.{name_byte}
 use Rattle.pcrl.specs.Tokens.{run, front}
@@ -18,7 +18,7 @@ use Rattle.names.specs.NameCells.{name_at}
 use Rattle.emit.specs.Putting.{PutsTo, NoRoom, Puts}
 use Rattle.emit.specs.Bytes.{part, row_bytes, sort_name_at, sort_bytes, func_bytes, name_bytes, action_bytes, counted_bytes, sorts_bytes}
 use Rattle.pcrl.specs.Stream.{names_code}
-use Rattle.emit.proofs.Putting.{puts_then, no_room_as, no_room_first, no_room_then, counted_no_room}
+use Rattle.emit.proofs.Putting.{puts_then, no_room_as, no_room_first, no_room_then}
 use Rattle.emit.proofs.Copied.{part_taken}
 
 module _ (w : ℕ) (o : List ℕ) (r : Option ℕ) (q : List ℕ) where

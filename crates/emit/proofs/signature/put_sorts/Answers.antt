@@ -3,7 +3,7 @@ use Rattle.std.specs.Prelude.{Some, None}
 use mathlib.Core.Path.{◌∙◌}
 use mathlib.Core.List.{[]}
 use native.Mathlib.Omega.{arith}
-use Rattle.emit.specs.Bytes.{sort_bytes, sorts_bytes, counted_bytes}
+use Rattle.emit.specs.Bytes.{sort_bytes, counted_bytes}
 use Rattle.emit.proofs.Putting.{puts_none, concatenated_none, concatenated_more, counted_put, counted_no_room}
 use Rattle.emit.proofs.SignatureLaws.{sorts_none, counted_none, sorts_behind}
 use Rattle.emit.proofs.signature.put_sorts.Goals as goal
