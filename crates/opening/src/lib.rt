@@ -11,6 +11,7 @@ ghost use Rattle.evaluation.specs.Known.{KnownTerms};
 ghost use Rattle.assignments.specs.Places.{Sizes};
 ghost use Rattle.opening.specs.Opened.{sizes_of, Prepared};
 
+use assignments::in_rows::narrow;
 use assignments::{Conditions, PerSum};
 use elements::{peek, wide};
 use limits::{MAX_CONDITIONS, VARIABLES};
@@ -48,13 +49,6 @@ pub fn sizes(s: &[u8], funcs: &[u16], at: usize) -> PerSum
         size_at(s, funcs, at, 3),
     ];
     PerSum { at: v }
-}
-
-fn narrow(x: usize) -> u32
-    requires { x ≤ 65536 }
-    ensures { result ≡ x }
-{
-    x as u32
 }
 
 // The conditions whose count stands at a place, where p variables are parameters.
