@@ -1,5 +1,5 @@
 -- Words and marks: where a sign is found in a list of them, and the mark that bytes begin with.
-use mathlib.Core.Path.{◌≡◌, refl, sym, ap, ◌∙◌, subst}
+use mathlib.Core.Path.{◌≡◌, refl, sym, ap, ◌∙◌, subst, subst⁻¹}
 use mathlib.Core.Logic.{◌⊎◌, inl, inr}
 use mathlib.Core.Bool.{Bool, true, false}
 use mathlib.Core.List.{List, [], ◌∷◌, ◌++◌}
@@ -11,6 +11,7 @@ use lib.Dec.{T, eqb}
 use lib.ListN.{length, take, get_or}
 use borrow.Author.Tests.{eqb-true, eqb-false}
 use Rattle.std.specs.Prelude.{None, Some}
+use Rattle.std.proofs.lemmas.Option.{none-some}
 use Rattle.pcrl.specs.Text.{bytes}
 use Rattle.pcrl.specs.Tests.{and, or, negated, same?, among, Every}
 use Rattle.pcrl.specs.Tokens.{sign, words, mark_of}
@@ -118,6 +119,45 @@ module _ (w : List ℕ) (b : ℕ) (first : get_or w 0 0 ≡ b) where
 
   pub no_word_starting : Every (λ v. w ≡ v → ⊥) (starting b words) → None ≡ sign_cell first_word words w
   no_word_starting = no_sign_starting first_word words
+
+-- ---- one word alone
+pub is_word : (w v : List ℕ) (cell : ℕ) → w ≡ v → Some cell ≡ sign_cell cell (v ∷ []) w
+unfolding sign_cell
+is_word w v cell e = sym (where_yes (same? w v) e (Some cell) None)
+
+pub is_other : (w v : List ℕ) (cell : ℕ) → (w ≡ v → ⊥) → None ≡ sign_cell cell (v ∷ []) w
+unfolding sign_cell
+is_other w v cell n = sym (where_no (same? w v) n (Some cell) None)
+
+not_word : (w v : List ℕ) (cell : ℕ) → None ≡ sign_cell cell (v ∷ []) w → w ≡ v → ⊥
+not_word w v cell e h = none-some cell (e ∙ sym (is_word w v cell h))
+
+-- A text is looked for among the words that begin with its first byte b: v is the last of these, and has this cell.
+module _ (w : List ℕ) (b cell : ℕ) (v : List ℕ) (first : get_or w 0 0 ≡ b) (known : sign_cell first_word words v ≡ Some cell) where
+  pub one_word : starting b words ≡ v ∷ [] → sign_cell cell (v ∷ []) w ≡ sign_cell first_word words w
+  unfolding Every
+  one_word q = by (same? w v)
+    where
+      by : Dec (w ≡ v) → sign_cell cell (v ∷ []) w ≡ sign_cell first_word words w
+      by (yes h) = sym (is_word w v cell h) ∙ sym (ap (sign_cell first_word words) h ∙ known)
+      by (no n) = sym (is_other w v cell n) ∙ no_word_starting w b first (subst⁻¹ (Every (λ u. w ≡ u → ⊥)) q (n, tt))
+
+  -- behind another one, which it is not
+  pub next_word : (u : List ℕ) (c : ℕ) → starting b words ≡ u ∷ v ∷ [] → None ≡ sign_cell c (u ∷ []) w → sign_cell cell (v ∷ []) w ≡ sign_cell first_word words w
+  unfolding Every
+  next_word u c q e = by (same? w v)
+    where
+      by : Dec (w ≡ v) → sign_cell cell (v ∷ []) w ≡ sign_cell first_word words w
+      by (yes h) = sym (is_word w v cell h) ∙ sym (ap (sign_cell first_word words) h ∙ known)
+      by (no n) = sym (is_other w v cell n) ∙ no_word_starting w b first (subst⁻¹ (Every (λ u. w ≡ u → ⊥)) q (not_word w u c e, (n, tt)))
+
+  -- it is this one
+  pub found_word : {k : ℕ} → Some k ≡ sign_cell cell (v ∷ []) w → Some k ≡ sign_cell first_word words w
+  found_word {k} e = by (same? w v)
+    where
+      by : Dec (w ≡ v) → Some k ≡ sign_cell first_word words w
+      by (yes h) = e ∙ sym (is_word w v cell h) ∙ sym (ap (sign_cell first_word words) h ∙ known)
+      by (no n) = absurd (none-some k (is_other w v cell n ∙ sym e))
 
 -- ---- the mark that bytes begin with
 mark_miss : (m : List ℕ) (ms : List (List ℕ)) (s : List ℕ) → (m ≡ take (length m) s → ⊥) → mark_of (m ∷ ms) s ≡ mark_of ms s

@@ -22,6 +22,13 @@ const MIN_WORD: usize = 3;
 // more digits have a zero first, or spell more
 const MAX_DIGITS: usize = 3;
 
+// A cell, where a text is this word.
+fn spelled(t: &[u8], text: &[u8], cell: u16) -> Option<u16>
+    ensures { result ≡ sign_cell cell (text.now ∷ []) t.now }
+{
+    if t == text { Some(cell) } else { None }
+}
+
 // The cell of a word: by the first byte, which only `sort` and `sum` share.
 pub fn word(t: &[u8]) -> Option<u16>
     ensures { result ≡ sign_cell first_word T.words t.now }
@@ -30,43 +37,16 @@ pub fn word(t: &[u8]) -> Option<u16>
         return None;
     }
     match peek(t, 0) {
-        b's' => if t == b"sort".as_slice() {
-            Some(SORT)
-        } else if t == b"sum".as_slice() {
-            Some(SUM)
-        } else {
-            None
+        b's' => match spelled(t, b"sort", SORT) {
+            Some(cell) => Some(cell),
+            None => spelled(t, b"sum", SUM),
         },
-        b'f' => if t == b"func".as_slice() {
-            Some(FUNC)
-        } else {
-            None
-        },
-        b'a' => if t == b"act".as_slice() {
-            Some(ACT)
-        } else {
-            None
-        },
-        b'p' => if t == b"proc".as_slice() {
-            Some(PROC)
-        } else {
-            None
-        },
-        b'i' => if t == b"init".as_slice() {
-            Some(INIT)
-        } else {
-            None
-        },
-        b'd' => if t == b"delta".as_slice() {
-            Some(DELTA)
-        } else {
-            None
-        },
-        b't' => if t == b"tau".as_slice() {
-            Some(TAU)
-        } else {
-            None
-        },
+        b'f' => spelled(t, b"func", FUNC),
+        b'a' => spelled(t, b"act", ACT),
+        b'p' => spelled(t, b"proc", PROC),
+        b'i' => spelled(t, b"init", INIT),
+        b'd' => spelled(t, b"delta", DELTA),
+        b't' => spelled(t, b"tau", TAU),
         _ => None,
     }
 }
