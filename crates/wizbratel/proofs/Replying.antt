@@ -1,10 +1,11 @@
 -- What is answered on frame structs, by what is answered on bytes that hold the same frames; where no 64 frames are lent, on none.
 use mathlib.Core.Path.{◌≡◌, refl, sym, ◌∙◌, ap, subst}
-use mathlib.Core.List.{List}
-use Prim.Native.Nat.{ℕ, ◌/◌}
+use mathlib.Core.List.{List, ◌++◌, append-nil}
+use Prim.Native.Nat.{ℕ, ◌-◌, ◌*◌, ◌/◌}
 use native.Mathlib.Omega.{arith}
 use native.Mathlib.Decide.{ℕ_discrete}
-use lib.ListN.{length}
+use lib.ListN.{length, take, drop, length-take, drop_of_length-le}
+use lib.Seq.{take_all}
 use Rattle.pcrl.specs.Limits.{frame_width, stack_limit}
 use Rattle.pcrl.specs.Result.{Result, refused, accepted, question, after, refusal}
 use Rattle.pcrl.specs.Table.{Table}
@@ -12,7 +13,7 @@ use Rattle.pcrl.specs.Stack as pcrl
 use Rattle.pcrl.specs.Stack.{RightFrames, right_frames?}
 use Rattle.pcrl.specs.Answers.{table_checked, Reply, reply, start_stack, stack_read, started_in, started, asked_in, asked, asked_all_in, asked_all}
 use Rattle.laws.specs.Questions.{question_fails}
-use Rattle.stacks.specs.Lent.{frame_bytes, frames_in}
+use Rattle.stacks.specs.Lent.{frame_bytes, frames_in, stack_bytes}
 use Rattle.stacks.proofs.Views.{length_frames_in}
 use Rattle.stepping.specs.Promises.{Replied}
 use Rattle.frames.specs.declared.LentFrame.{LentFrame}
@@ -92,3 +93,43 @@ module _ {A : Type 0} (X : List pcrl.Frame → Reply A) (m : ℕ) (xs ys : List 
   all_replied h g e gs f r d' a =
       let now : over (taken m) ys xs ≡ ys = ap (λ (c : ℕ). over c ys xs) (taken_all m h) ∙ over_all stack_limit ys xs g (len ∙ h) in
       subst (λ (hs : List pcrl.Frame). Replied (X (lent_frames xs)) r hs d') (sym (ap lent_frames now ∙ f)) (subst (λ (fs : List pcrl.Frame). Replied (X fs) r gs d') e a)
+
+-- All of 64 frames or none are lent, in bytes, and come back in others.
+module _ {A : Type 0} (X : List pcrl.Frame → Reply A) (d : ℕ) (u : Unread X d) (xs ys ss : List LentFrame) (count : ℕ) (bytes new : List ℕ)
+    (e : count ≡ taken (length xs)) (kept : over count xs ss ≡ ss) (s64 : length ss ≡ stack_limit) (size : length bytes ≡ stack_bytes) (held : frames_in frame_width bytes ≡ lent_frames ss) where
+  abbrev lent : List ℕ
+  lent = take (count * frame_bytes frame_width - 0) bytes
+
+  all : length xs ≡ stack_limit → count ≡ stack_limit
+  all h = e ∙ taken_all (length xs) h
+
+  lent_all : length xs ≡ stack_limit → lent ≡ bytes
+  lent_all h = let c = all h in take_all (count * frame_bytes frame_width - 0) bytes (omega arith)
+
+  lent_none : ¬ (length xs ≡ stack_limit) → length lent / frame_bytes frame_width ≡ 0
+  lent_none h = let c : count ≡ 0 = e ∙ taken_none (length xs) h in let l = length-take (count * frame_bytes frame_width - 0) bytes in omega arith
+
+  lent_held : length xs ≡ stack_limit → frames_in frame_width lent ≡ lent_frames xs
+  lent_held h = ap (frames_in frame_width) (lent_all h) ∙ held ∙ ap lent_frames (sym kept ∙ ap (λ (m : ℕ). over m xs ss) (all h) ∙ over_all stack_limit xs ss h s64)
+
+  pub answer_same : (X (frames_in frame_width lent)).answer ≡ (X (lent_frames xs)).answer
+  answer_same = elim (ℕ_discrete (length xs) stack_limit) [
+    | yes h ↦ ap (λ (fs : List pcrl.Frame). (X fs).answer) (lent_held h)
+    | no h ↦ none_answer X (length xs) xs ys refl lent d u h (lent_none h)
+  ]
+
+  pub replied_back : length new ≡ length lent → lent_frames ys ≡ frames_in frame_width (new ++ drop (count * frame_bytes frame_width - 0) bytes) → (r d' : ℕ)
+      → Replied (X (frames_in frame_width lent)) r (frames_in frame_width new) d' → Replied (X (lent_frames xs)) r (lent_frames (over count ys xs)) d'
+  replied_back len back r d' a = subst (λ (m : ℕ). Replied (X (lent_frames xs)) r (lent_frames (over m ys xs)) d') (sym e) (elim (ℕ_discrete (length xs) stack_limit) [
+    | yes h ↦ all_back h
+    | no h ↦ none_replied X (length xs) xs ys refl lent d u h (lent_none h) r d' (frames_in frame_width new) a
+  ])
+    where
+      all_back : length xs ≡ stack_limit → Replied (X (lent_frames xs)) r (lent_frames (over (taken (length xs)) ys xs)) d'
+      all_back h =
+          let c = all h in
+          let rest : new ++ drop (count * frame_bytes frame_width - 0) bytes ≡ new = ap (λ (l : List ℕ). new ++ l) (drop_of_length-le bytes {i = count * frame_bytes frame_width - 0} (omega arith)) ∙ append-nil new in
+          let same : lent_frames ys ≡ frames_in frame_width new = back ∙ ap (frames_in frame_width) rest in
+          let n64 : length new / frame_bytes frame_width ≡ stack_limit = let l = ap length (lent_all h) in omega arith in
+          let y64 : length ys ≡ stack_limit = sym (frames_length ys) ∙ ap length same ∙ length_frames_in frame_width new ∙ n64 in
+          all_replied X (length xs) xs ys refl lent h y64 (lent_held h) (frames_in frame_width new) same r d' a

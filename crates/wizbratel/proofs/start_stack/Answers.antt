@@ -1,42 +1,14 @@
--- No 64 frames, or the start on the same frames in bytes.
+-- A start on the same frames in bytes; on none where no 64 frames are lent.
 use native.Mathlib.Omega.{arith}
-use mathlib.Core.Path.{◌≡◌, refl, sym, ap, ◌∙◌}
 use mathlib.Core.List.{List}
-use Prim.Native.Nat.{ℕ, ◌/◌}
-use lib.ListN.{length}
-use Rattle.pcrl.specs.Limits.{frame_width, stack_limit}
+use Prim.Native.Nat.{ℕ}
 use Rattle.pcrl.specs.Stack as pcrl
 use Rattle.pcrl.specs.Answers.{Reply, started}
-use Rattle.stacks.specs.Lent.{frames_in}
-use Rattle.stacks.proofs.Views.{length_frames_in}
-use Rattle.frames.specs.Lists.{over, lent_frames}
-use Rattle.frames.proofs.Over.{over_all, frames_length, taken_all, taken_none}
-use Rattle.wizbratel.proofs.Replying.{started_unread, none_replied, all_replied}
+use Rattle.wizbratel.proofs.Replying.{started_unread, replied_back}
 use Rattle.wizbratel.proofs.start_stack.Goals as goal
 
-pub returns-then-n-ne-LIMIT : goal.returns-then-n-ne-LIMIT
-returns-then-n-ne-LIMIT c =
-    let a = c.args in
-    let h : ¬ (a.n ≡ stack_limit) = λ e. omega (arith, c.if-n-ne-LIMIT) in
-    let X : List pcrl.Frame → Reply (Unit {0}) = (λ (fs : List pcrl.Frame). started a.file.now fs a.depth.now) in
-    let u = started_unread a.file.now a.depth.now in (
-      sym (taken_none a.n h),
-      λ xs len kept. none_replied X a.n xs a.s.frames len _ a.depth.now u h refl c.start-a.result.refused c.start-a.result.depth _ c.start-a.ensures,
-    )
-
 pub returns : goal.returns
-returns c =
+returns c = λ xs d e kept.
     let a = c.args in
-    let h : a.n ≡ stack_limit = omega (arith, c.if-n-ne-LIMIT) in
-    let X : List pcrl.Frame → Reply (Unit {0}) = (λ (fs : List pcrl.Frame). started a.file.now fs a.depth.now) in
-    let old = c.to_bytes.new.bytes in
-    let new = c.start-a-2.new.frames in
-    let ys = c.from_bytes-begun.result.frames in
-    let s64 : length a.s.frames ≡ stack_limit = omega arith in
-    let l : length ys ≡ stack_limit = sym (frames_length ys) ∙ ap length c.from_bytes-begun.ensures ∙ length_frames_in frame_width new ∙ (let z : length new / 5 ≡ stack_limit = omega (arith, c.start-a-2.auto.frames, c.to_bytes.auto.bytes) in z) in (
-      sym (taken_all a.n h),
-      λ xs len kept.
-          let same : a.s.frames ≡ xs = sym kept ∙ ap (λ (m : ℕ). over m xs a.s.frames) (taken_all a.n h) ∙ over_all stack_limit xs a.s.frames (len ∙ h) s64 in
-          let held : frames_in frame_width old ≡ lent_frames xs = c.to_bytes.ensures ∙ ap lent_frames same in
-          all_replied X a.n xs ys len old h l held (frames_in frame_width new) c.from_bytes-begun.ensures c.start-a-2.result.refused c.start-a-2.result.depth c.start-a-2.ensures,
-    )
+    replied_back (λ (fs : List pcrl.Frame). started a.file.now fs d) d (started_unread a.file.now d) xs c.from_bytes-begun.result.frames a.s.frames a.count c.to_bytes.new.bytes c.start-depth.new.frames e kept (omega arith) (omega (arith, c.to_bytes.auto.bytes)) c.to_bytes.ensures
+    c.start-depth.auto.frames c.from_bytes-begun.ensures _ _ (c.start-depth.ensures d)

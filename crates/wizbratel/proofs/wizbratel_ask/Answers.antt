@@ -1,27 +1,28 @@
 -- The frames are exchanged for a stack by value, and back.
+use mathlib.Core.Path.{◌≡◌, sym, ap, ◌∙◌}
 use native.Mathlib.Omega.{arith}
-use mathlib.Core.Path.{◌≡◌, refl, sym, ap, subst, ◌∙◌}
-use mathlib.Core.List.{List}
 use lib.ListN.{length}
-use Rattle.frames.specs.Lists.{over, taken}
-use Rattle.frames.specs.declared.LentFrame.{LentFrame}
-use Rattle.frames.proofs.Over.{taken_le}
-use Rattle.wizbratel.specs.Promises.{AskPromise}
-use Rattle.wizbratel.proofs.Prepares.{there_and_back}
+use Rattle.frames.specs.Lists.{over}
+use Rattle.wizbratel.proofs.Prepares.{few, there_and_back, same_reply}
 use Rattle.wizbratel.proofs.wizbratel_ask.Goals as goal
 
 pub exchange-old-requires : goal.exchange-old-requires
-exchange-old-requires c = let few = taken_le (length c.args.frames.now) in (omega arith, omega arith)
+exchange-old-requires c = few (length c.args.frames.now) c.prepare-p.result c.prepare-p.ensures
+
+pub ask_stack-told-requires : goal.ask_stack-told-requires
+ask_stack-told-requires c = (few (length c.args.frames.now) c.prepare-p.result c.prepare-p.ensures).1
 
 pub exchange-requires : goal.exchange-requires
-exchange-requires c = let few = taken_le (length c.args.frames.now) in (omega arith, omega arith)
+exchange-requires c = let f = few (length c.args.frames.now) c.prepare-p.result c.prepare-p.ensures in (omega (arith, f.0), f.1)
 
 pub returns : goal.returns
 returns c =
-    let a = c.args in
+    let xs = c.args.frames.now in
     let p = c.prepare-p in
     let old = c.exchange-old in
-    let r = c.ask_stack-r in
-    let (kept, same) = there_and_back a.frames.now p.result old.result r.result p.ensures old.ensures.0 r.ensures.0 in
-    let back : over (taken (length a.frames.now)) r.result.stack.frames a.frames.now ≡ c.exchange.new.fs = same ∙ ap (over r.result.count r.result.stack.frames) (sym old.ensures.1) ∙ sym c.exchange.ensures.1 in
-    subst (λ (zs : List LentFrame). AskPromise a.file.now a.frames.now a.depth.now a.k a.answer.now r.result.refused zs r.new.depth r.new.out) back (r.ensures.1 a.frames.now refl kept)
+    let x = c.ask_stack-told in
+    let ss = x.result.stack.frames in
+    let (kept, same) = there_and_back xs p.result old.result.frames ss p.ensures old.ensures.0 in
+    let back : c.exchange.new.fs ≡ over p.result.count ss xs = c.exchange.ensures.1 ∙ ap (over p.result.count ss) old.ensures.1 ∙ sym same in
+    let told = x.ensures xs p.ensures.0 kept in
+    (same_reply _ c.report.ensures.0 back c.report.ensures.1 told.0, told.1)

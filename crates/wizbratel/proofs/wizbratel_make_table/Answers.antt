@@ -1,30 +1,18 @@
 -- The answer and the file are the maker's; the count is written where nothing was refused.
-use native.Mathlib.Omega.{arith}
+use mathlib.Core.Path.{◌∙◌}
 use lib.ListN.{length}
 use Rattle.pcrl.specs.Answers.{file_made}
-use Rattle.making.proofs.Numbers.{file_number}
-use Rattle.making.proofs.MakingLaws.{told}
-use Rattle.wizbratel.proofs.Counted.{written_same, written_new, made_long}
+use Rattle.refusals.proofs.Laws.{answered_number}
+use Rattle.wizbratel.proofs.Counted.{count_left}
 use Rattle.wizbratel.proofs.wizbratel_make_table.Goals as goal
 
-pub returns-then-a-eq0 : goal.returns-then-a-eq0
-returns-then-a-eq0 c =
+pub returns : goal.returns
+returns c =
     let a = c.args in
-    let m = c.make_table-a in
+    let m = c.make_table-made in
     let x = file_made a.sheet.now (length a.out.now) in
     record {
-      answer = told x m.result m.ensures.answer;
+      answer = c.report.ensures.0 ∙ answered_number _ x m.result m.ensures.answer;
       output = m.ensures.written;
-      count = written_new x _ _ (told x m.result m.ensures.answer) (made_long x m.result m.ensures.answer) a.written.now (file_number a.sheet.now (length a.out.now) 0 (λ n l u z. omega arith)) (let i = c.if-a-eq0 in omega arith);
-    }
-
-pub returns-else-a-eq0 : goal.returns-else-a-eq0
-returns-else-a-eq0 c =
-    let a = c.args in
-    let m = c.make_table-a in
-    let x = file_made a.sheet.now (length a.out.now) in
-    record {
-      answer = told x m.result m.ensures.answer;
-      output = m.ensures.written;
-      count = written_same x _ _ (told x m.result m.ensures.answer) (made_long x m.result m.ensures.answer) a.written.now (λ z. let i = c.if-a-eq0 in omega arith);
+      count = c.report.ensures.1 ∙ count_left x m.result a.written.now m.ensures.answer;
     }
