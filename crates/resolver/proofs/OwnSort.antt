@@ -2,6 +2,7 @@
 use mathlib.Core.Path.{◌≡◌, refl, sym, ap, ◌∙◌, subst}
 use mathlib.Core.Bool.{Bool, true, false}
 use mathlib.Core.List.{List}
+use Rattle.std.specs.Prelude.{Option as Given, Some, None}
 use mathlib.Core.Option.{Option, none, some}
 use Prim.Native.Nat.{ℕ, suc, ◌+◌, ◌-◌, ◌*◌, ◌/◌, ◌%◌, ◌≤◌, ◌<◌}
 use native.Mathlib.Decide.{dec_lt}
@@ -22,7 +23,8 @@ use Rattle.nodes.specs.Scoped.{max_scope}
 use Rattle.nodes.specs.Layout.{cell_limit, byte_limit, enc_data}
 use Rattle.names.specs.declared.Kinds.{Kinds}
 use Rattle.resolver.specs.Formers.{Closed, negation_holds}
-use Rattle.resolver.specs.Sorting.{first_sort, first_result, scope_cells, scope_sorts, scope_results, KnownSorts, cell_sort, one_more}
+use Rattle.resolver.specs.Sorting.{first_sort, first_result, scope_cells, scope_sorts, scope_results, KnownSorts, cell_sort}
+use Rattle.names.specs.NameCells.{found}
 use Rattle.resolver.specs.Resolving.{EqualCell}
 
 -- every operator gives Bool
@@ -157,47 +159,33 @@ module _ (scope : List ℕ) (c k i : ℕ) (ek : k ≡ c % 4) (ei : i ≡ c / 4) 
   at_cell : cell_sort scope c ≡ by_kind scope k i
   at_cell = sort_by scope c k i (sym ek) (sym ei)
 
-  pub value_sort : k ≡ 0 → 0 ≡ one_more (cell_sort scope c)
-  value_sort z = sym (ap one_more (at_cell ∙ ap (λ (x : ℕ). by_kind scope x i) z))
+  pub value_sort : k ≡ 0 → None ≡ found (cell_sort scope c)
+  value_sort z = sym (ap found (at_cell ∙ ap (λ (x : ℕ). by_kind scope x i) z))
 
-  pub variable_sort : k ≡ 1 → (d : ℕ) → d ≡ get_or scope (first_sort + i) 0 → d + 1 ≡ one_more (cell_sort scope c)
-  variable_sort z d e = let y : d + 1 ≡ suc (get_or scope (first_sort + i) 0) = omega arith in y ∙ sym (ap one_more (at_cell ∙ ap (λ (x : ℕ). by_kind scope x i) z))
+  pub variable_sort : k ≡ 1 → (d : ℕ) → d ≡ get_or scope (first_sort + i) 0 → Some d ≡ found (cell_sort scope c)
+  variable_sort z d e = ap Some e ∙ sym (ap found (at_cell ∙ ap (λ (x : ℕ). by_kind scope x i) z))
 
   module _ (no_value : k ≡ 0 → ⊥) (no_variable : k ≡ 1 → ⊥) where
     function_cell : cell_sort scope c ≡ result_of scope i (ltb i max_functions)
     function_cell = at_cell ∙ ap (λ (b : Bool). elim b as (λ (x : Bool). Option ℕ) [ true ↦ none | false ↦ elim (eqb k 1) as (λ (x : Bool). Option ℕ) [ true ↦ some (get_or scope (first_sort + i) 0) | false ↦ result_of scope i (ltb i max_functions) ] ]) (ne_eqb k 0 no_value)
         ∙ ap (λ (b : Bool). elim b as (λ (x : Bool). Option ℕ) [ true ↦ some (get_or scope (first_sort + i) 0) | false ↦ result_of scope i (ltb i max_functions) ]) (ne_eqb k 1 no_variable)
 
-    pub written_sort : i < max_functions → (d : ℕ) → d ≡ get_or scope (first_result + i) 0 → d + 1 ≡ one_more (cell_sort scope c)
-    written_sort h d e = let y : d + 1 ≡ suc (get_or scope (first_result + i) 0) = omega arith in y ∙ sym (ap one_more (function_cell ∙ ap (result_of scope i) (lt-ltb i max_functions h)))
+    pub written_sort : i < max_functions → (d : ℕ) → d ≡ get_or scope (first_result + i) 0 → Some d ≡ found (cell_sort scope c)
+    written_sort h d e = ap Some e ∙ sym (ap found (function_cell ∙ ap (result_of scope i) (lt-ltb i max_functions h)))
 
-    pub operator_sort : max_functions ≤ i → 1 ≡ one_more (cell_sort scope c)
-    operator_sort h = sym (ap one_more (function_cell ∙ ap (result_of scope i) (le-ltb i max_functions h)))
+    pub operator_sort : max_functions ≤ i → ◌≡◌ {A = Given ℕ} (Some 0) (found (cell_sort scope c))
+    operator_sort h = sym (ap found (function_cell ∙ ap (result_of scope i) (le-ltb i max_functions h)))
 
-module _ (scope : List ℕ) (c d a : ℕ) (ea : a ≡ one_more (cell_sort scope c)) where
-  pub equal_first : 0 < a → (r : ℕ) → (4 * (first_equal + a - 1) + 2 < cell_limit → r ≡ 4 * (first_equal + a - 1) + 2) → EqualCell scope c d r
+module _ (scope : List ℕ) (c d : ℕ) where
+  pub equal_first : (a : ℕ) → cell_sort scope c ≡ some a → (r : ℕ) → (4 * (first_equal + a) + 2 < cell_limit → r ≡ 4 * (first_equal + a) + 2) → EqualCell scope c d r
   unfolding equal_at
-  equal_first h r f N S = by (cell_sort scope c) ea
-    where
-      by : (o : Option ℕ) → a ≡ one_more o → 4 * equal_at N S o (cell_sort scope d) + 2 < cell_limit → r ≡ 4 * equal_at N S o (cell_sort scope d) + 2
-      by none e l = absurd (omega arith)
-      by (some D) e l = let z = f (omega arith) in omega arith
+  equal_first a e r f N S = rw e f
 
-  module _ (None_first : a ≡ 0) (b : ℕ) (eb : b ≡ one_more (cell_sort scope d)) where
-    pub equal_second : 0 < b → (r : ℕ) → (4 * (first_equal + b - 1) + 2 < cell_limit → r ≡ 4 * (first_equal + b - 1) + 2) → EqualCell scope c d r
+  module _ (no_first : cell_sort scope c ≡ none) where
+    pub equal_second : (b : ℕ) → cell_sort scope d ≡ some b → (r : ℕ) → (4 * (first_equal + b) + 2 < cell_limit → r ≡ 4 * (first_equal + b) + 2) → EqualCell scope c d r
     unfolding equal_at
-    equal_second h r f N S = by (cell_sort scope c) (cell_sort scope d) ea eb
-      where
-        by : (o p : Option ℕ) → a ≡ one_more o → b ≡ one_more p → 4 * equal_at N S o p + 2 < cell_limit → r ≡ 4 * equal_at N S o p + 2
-        by (some D) p e g l = absurd (omega arith)
-        by none none e g l = absurd (omega arith)
-        by none (some D) e g l = let z = f (omega arith) in omega arith
+    equal_second b e r f N S = rw (no_first, e) f
 
-    pub equal_neither : b ≡ 0 → EqualCell scope c d 134
+    pub equal_neither : cell_sort scope d ≡ none → EqualCell scope c d 134
     unfolding equal_at
-    equal_neither h N S = by (cell_sort scope c) (cell_sort scope d) ea eb
-      where
-        by : (o p : Option ℕ) → a ≡ one_more o → b ≡ one_more p → 4 * equal_at N S o p + 2 < cell_limit → 134 ≡ 4 * equal_at N S o p + 2
-        by (some D) p e g l = absurd (omega arith)
-        by none (some D) e g l = absurd (omega arith)
-        by none none e g l = refl
+    equal_neither e N S = rw (no_first, e) (λ l. refl)

@@ -50,8 +50,3 @@ cell_sort scope c =
         | false ↦ elim (ltb (c / 4) max_functions) [ true ↦ some (get_or scope (first_result + c / 4) 0) | false ↦ some 0 ]
       ]
     ]
-
--- 0 for none, else one more
-abbrev pub one_more : Option ℕ → ℕ
-one_more none = 0
-one_more (some D) = suc D

@@ -50,7 +50,7 @@ pub fn span(from: usize, to: usize) -> u16
     short(to - from)
 }
 
-// How many tokens stand behind a tag (crate parser, Cells).
+// How many tokens stand behind a tag (crate parser, Cells). Tags stay numbers: they stand in cells of lent arrays, as memory is fixed.
 pub fn tokens(k: u16) -> u8
     ensures { (result ≡ tokens_of k) × (result < 3) }
 {

@@ -58,7 +58,8 @@ pub fn data_term(
     Some(Step { at: p, w: v })
 }
 
-// Comparisons joined by `/\`, which groups to the left.
+// Comparisons joined by `/\`, which groups to the left. As data_term but for its operands: a reader of them cannot be handed over
+// (no function pointers).
 #[cycle(atom_comparison_conjunction_data_list_data_term_negation)]
 fn conjunction(
     s: &[u8],
