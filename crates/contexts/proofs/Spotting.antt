@@ -1,10 +1,10 @@
 -- Laws of contexts: what is kept, and heads that have not the limits.
 use mathlib.Core.Path.{◌≡◌, refl, sym, ap, ◌∙◌, subst}
-use mathlib.Core.List.{List, [], ◌∷◌, ◌++◌, map, append_assoc}
+use mathlib.Core.List.{List, [], ◌∷◌, map}
 use Prim.Native.Nat.{ℕ, ◌+◌, ◌-◌, ◌*◌, ◌≤◌}
 use native.Mathlib.Omega.{arith}
-use lib.ListN.{length, drop, take, set, length-set, length-drop}
-use lib.Seq.{drop-drop, paste, take-paste}
+use lib.ListN.{length, drop}
+use lib.Seq.{drop-drop}
 use Rattle.pcrl.specs.Tests.{Every}
 use Rattle.pcrl.specs.Sheet.{Data, Proc, delta, atom, alt, cond, sum, seq, call, Act, Sheet}
 use Rattle.pcrl.specs.Table.{Summand}
@@ -15,7 +15,7 @@ use Rattle.nodes.specs.Nodes.{kind_of}
 use Rattle.nodes.specs.Views.{Opened, Views}
 use Rattle.nodes.proofs.Nodes.{one_item, items_end}
 use Rattle.putting.specs.Slots.{slot_width}
-use Rattle.putting.proofs.Bytes.{cell_more, kept_front}
+use Rattle.putting.proofs.Bytes.{kept_front}
 use Rattle.putting.proofs.Several.{slot_kept}
 use Rattle.contexts.specs.declared.Spot.{Spot}
 use Rattle.contexts.specs.declared.Side.{Side}
@@ -175,10 +175,3 @@ module _ (H : Sheet) (F : ℕ) (cells : List ℕ) (s : Spot) (A : Arrays) (hs : 
 
   pub stuck : length cells ≤ s.at → Spotted H F cells s A hs → ⊥
   stuck l sp = items_end cells s.at l ((sp.1.b, sp.0) ∷ []) sp.1.rest (omega arith) (sp.1.place ∙ one_item sp.1.b sp.0 sp.1.rest)
-
--- a piece written
-pub piece_right : (o s o' : List ℕ) (b from l w : ℕ) → from + l ≤ length s → w + 1 + l ≤ length o → o' ≡ paste (set o w b) (w + 1) (drop from s) l
-    → take (w + 1 + l) o' ≡ take w o ++ (b ∷ take l (drop from s))
-piece_right o s o' b from l w h k e =
-    ap (take (w + 1 + l)) e ∙ take-paste (set o w b) (w + 1) (drop from s) l (omega (arith, length-set o w b)) (omega (arith, length-drop from s))
-    ∙ ap (λ (x : List ℕ). x ++ take l (drop from s)) (cell_more o w b (omega arith)) ∙ append_assoc (take w o) (b ∷ []) (take l (drop from s))

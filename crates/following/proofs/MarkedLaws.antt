@@ -1,14 +1,14 @@
 -- The terms in the marked slots, one after another: the next one is found by the zeros below the lowest mark.
 use mathlib.Core.Path.{◌≡◌, refl, sym, ap, ap₂, ◌∙◌, subst}
 use mathlib.Core.List.{List, [], ◌∷◌, ◌++◌, append_assoc, append-nil}
-use Rattle.std.specs.Prelude.{Option, Some, None}
-use Prim.Native.Nat.{ℕ, zero, suc, ◌+◌, ◌-◌, ◌*◌, ◌/◌, ◌%◌, ◌^◌, ◌<◌, ◌≤◌}
+use Rattle.std.specs.Prelude.{Some, None}
+use Prim.Native.Nat.{ℕ, zero, suc, ◌+◌, ◌-◌, ◌/◌, ◌%◌, ◌^◌, ◌<◌, ◌≤◌}
 use native.Mathlib.Nat.{pow-suc, pow-succ', div-div-eq-div-mul, div-le_self, div-one}
 use native.Mathlib.Omega.{arith}
 use lib.ListN.{length, drop, take, get_or, length-drop}
-use lib.Seq.{get_or-drop, drop-drop, paste, take-paste}
+use lib.Seq.{get_or-drop, drop-drop}
 use lib.Count.{count_trailing_zeros, under}
-use Rattle.pcrl.specs.Limits.{max_nodes, frame_width}
+use Rattle.pcrl.specs.Limits.{frame_width}
 use Rattle.pcrl.specs.Tests.{Every}
 use Rattle.pcrl.specs.Reader.{all}
 use Rattle.pcrl.specs.Sheet.{Data, val}
@@ -17,25 +17,9 @@ use Rattle.pcrl.specs.Stream.{encode_data}
 use Rattle.pcrl.specs.Right.{Small}
 use Rattle.pcrl.specs.Heads.{look}
 use Rattle.nodes.specs.Bits.{odd}
-use Rattle.laws.specs.TermLength.{max_term}
-use Rattle.putting.specs.Slots.{slot_width, Slots}
+use Rattle.putting.specs.Slots.{Slots}
 use Rattle.marking.specs.Marks.{bits}
 use Rattle.following.specs.Follows.{OnePut, MarkedPut}
-
--- THE TERM OF A SLOT
-
-module _ (slots : List ℕ) (i w : ℕ) (o : List ℕ) where
-  pub one_long : max_nodes < get_or slots (slot_width * i) 0 → (o' : List ℕ) → OnePut slots i w o None o'
-  one_long h o' d s small = let z = s.long h in omega arith
-
-  pub one_wide : get_or slots (slot_width * i) 0 ≤ max_nodes → max_term < get_or slots (slot_width * i + 1) 0 → (r : Option ℕ) (o' : List ℕ) → OnePut slots i w o r o'
-  one_wide h k r o' d s = let y = s.whole h in absurd (omega (arith, y.0, y.1, s.narrow))
-
-  pub one_put : get_or slots (slot_width * i) 0 ≤ max_nodes → (l : ℕ) → l ≡ get_or slots (slot_width * i + 1) 0 → slot_width * i + 2 + l ≤ length slots → w ≤ length o
-      → OnePut slots i w o (Some (w + l)) (paste o w (drop (slot_width * i + 2) slots) l)
-  one_put h l e room inside d s =
-      let y = s.whole h in
-      (omega (arith, y.0), take-paste o w (drop (slot_width * i + 2) slots) l inside (omega (arith, length-drop (slot_width * i + 2) slots)) ∙ ap (λ (x : List ℕ). take w o ++ x) (ap (λ (k : ℕ). take k (drop (slot_width * i + 2) slots)) e ∙ y.2))
 
 -- THE NEXT MARK
 

@@ -33,7 +33,8 @@ fn parted(kind: usize) -> bool
     kind == nodes::SEQ || choice(kind)
 }
 
-// The count of the first part of a choice or a sequence.
+// The count of the first part of a choice or a sequence. Of another node zeros, which nobody reads: each reader knows the kind, and
+// would have to open an Option again.
 fn first_part(cells: &[u16], counts: &[u16], base: usize, d: Node) -> Counted
     requires { base < cell_limit }
     ensures heads_le_most_heads { (result.heads ≤ most_heads) × (result.own ≤ most_heads) × (Parted d.kind → d.next ≤ result.next) }
