@@ -150,13 +150,6 @@ impl Cursor {
     }
 }
 
-// Are two texts the same, byte for byte?
-pub fn same(a: &[u8], b: &[u8]) -> bool
-    ensures { Says result (a.now ≡ b.now) }
-{
-    a == b
-}
-
 // 2: "hex 20 to 7E or hex 0A"
 fn printable(b: u8) -> bool
     ensures { result ≡ B.printable b }
