@@ -1,6 +1,6 @@
 -- What is printed for a table file: that it is refused, or the lines of its table's walk.
 use mathlib.Core.Path.{◌≡◌, sym, ap}
-use mathlib.Core.List.{List, ◌++◌}
+use mathlib.Core.List.{◌++◌}
 use Prim.Native.Nat.{ℕ}
 use Rattle.pcrl.specs.Limits.{frame_width}
 use Rattle.pcrl.specs.Text.{bytes, decimal}

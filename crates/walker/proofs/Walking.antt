@@ -1,7 +1,7 @@
 -- The lines of a walk: those printed, and those from the frames and depth that are left.
 use mathlib.Core.Path.{◌≡◌, refl, sym, ◌∙◌, ap, ap₂, subst, subst₂}
 use mathlib.Core.List.{List, [], ◌∷◌, ◌++◌, append_assoc}
-use Prim.Native.Nat.{ℕ, zero, suc, ◌+◌, ◌-◌, ◌<◌, ◌≤◌}
+use Prim.Native.Nat.{ℕ, suc, ◌+◌, ◌-◌, ◌<◌, ◌≤◌}
 use native.Mathlib.Omega.{arith}
 use native.Mathlib.Numerals.{add-one}
 use lib.ListN.{length}
@@ -17,23 +17,11 @@ use Rattle.pcrl.specs.Walk.{walk_steps, walk_lines, answer_lines, step_line, clo
 use Rattle.theory.specs.Lending.{Holds, passes_15, holds_right, holds_stack, frames_right, stack_of_frames}
 use Rattle.theory.specs.Asked.{answer_is, still_holds}
 use Rattle.theory.specs.StepRight.{step_right, start_stack_right}
-use Rattle.asking.specs.declared.Told.{Told}
-use Rattle.asking.specs.Replies.{answer_kind, answer_by, answer_told, label_told, AskIs}
-use Rattle.asking.proofs.Stepping.{plain_told}
+use Rattle.asking.specs.declared.Step.{Step}
+use Rattle.asking.specs.declared.Told.TheVariants.{Ended, Nothing, Stepped, TooDeep}
+use Rattle.asking.specs.Replies.{answer_told, label_told, AskIs}
 use Rattle.texts.specs.Wrote.{Wrote}
 use Rattle.texts.proofs.Writing.{wrote_nothing, wrote_more, wrote_as}
-
--- what a struct tells, by its number and kind
-step_by : (n k : ℕ) (l : Label) (d : ℕ) → n ≡ 0 → 1 < k → answer_by n k l d ≡ Answer.stepped l d
-unfolding answer_by answer_kind
-step_by n zero l d e h = absurd (omega arith)
-step_by n (suc zero) l d e h = absurd (omega arith)
-step_by n (suc (suc k)) l d e h = rw e
-
-refused_by : (n k : ℕ) (l : Label) (d : ℕ) → 0 < n → answer_by n k l d ≡ Answer.refused n
-unfolding answer_by
-refused_by zero k l d h = absurd (omega arith)
-refused_by (suc n) k l d h = refl
 
 -- what is printed for an answer
 module _ (i : ℕ) (next : Stack → List ℕ) (a : Asked) where
@@ -104,32 +92,29 @@ module _ (T : Table) (right : RightTable T) (out₀ : List ℕ) where
     unfolding walk_lines
     turn h = let e : walk_steps - taken ≡ suc (walk_steps - (taken + 1)) = omega arith in ap (λ (n : ℕ). walk_lines T n (taken + 1) s) e
 
-    module _ (h : taken < walk_steps) (r : Told) (fs' : List Frame) (a : AskIs T fs d 0 r fs') where
-      told : answer.answer ≡ answer_told T.sig r
-      told = sym a.answer
-
-      pub ends_refused : 0 < r.refused → (out' : List ℕ) (p : ℕ) → Wrote out at (text_line (bytes "stuck")) out' p → Wrote out₀ 0 (walk_lines T walk_steps 1 (start_stack frame_width T)) out' p
+    module _ (h : taken < walk_steps) (fs' : List Frame) where
+      pub ends_refused : AskIs T fs d 0 TooDeep fs' → (out' : List ℕ) (p : ℕ) → Wrote out at (text_line (bytes "stuck")) out' p → Wrote out₀ 0 (walk_lines T walk_steps 1 (start_stack frame_width T)) out' p
       unfolding answer_told
-      ends_refused n out' p w = closes _ out' p (turn h ∙ for_refused (taken + 1) next answer r.refused (told ∙ refused_by r.refused r.kind _ _ n)) w
+      ends_refused a out' p w = closes _ out' p (turn h ∙ for_refused (taken + 1) next answer 16 (sym a.answer)) w
 
-      pub ends_ended : r.refused ≡ 0 → r.kind ≡ 0 → (out' : List ℕ) (p : ℕ) → Wrote out at (text_line (bytes "ended")) out' p → Wrote out₀ 0 (walk_lines T walk_steps 1 (start_stack frame_width T)) out' p
-      unfolding answer_by answer_kind
-      ends_ended e k out' p w = closes _ out' p (turn h ∙ for_ended (taken + 1) next answer (told ∙ plain_told T.sig r 0 0 e k)) w
-
-      pub ends_stuck : r.refused ≡ 0 → r.kind ≡ 1 → (out' : List ℕ) (p : ℕ) → Wrote out at (text_line (bytes "stuck")) out' p → Wrote out₀ 0 (walk_lines T walk_steps 1 (start_stack frame_width T)) out' p
-      unfolding answer_by answer_kind
-      ends_stuck e k out' p w = closes _ out' p (turn h ∙ for_nothing (taken + 1) next answer (told ∙ plain_told T.sig r 0 1 e k)) w
-
-      pub walking_on : r.refused ≡ 0 → 1 < r.kind → (out' : List ℕ) (p : ℕ) → Wrote out at (step_line (taken + 1) (label_told T.sig r) r.depth) out' p → Walking T out₀ fs' r.depth (taken + 1) out' p
+      pub ends_ended : AskIs T fs d 0 Ended fs' → (out' : List ℕ) (p : ℕ) → Wrote out at (text_line (bytes "ended")) out' p → Wrote out₀ 0 (walk_lines T walk_steps 1 (start_stack frame_width T)) out' p
       unfolding answer_told
-      walking_on e k out' p w =
+      ends_ended a out' p w = closes _ out' p (turn h ∙ for_ended (taken + 1) next answer (sym a.answer)) w
+
+      pub ends_stuck : AskIs T fs d 0 Nothing fs' → (out' : List ℕ) (p : ℕ) → Wrote out at (text_line (bytes "stuck")) out' p → Wrote out₀ 0 (walk_lines T walk_steps 1 (start_stack frame_width T)) out' p
+      unfolding answer_told
+      ends_stuck a out' p w = closes _ out' p (turn h ∙ for_nothing (taken + 1) next answer (sym a.answer)) w
+
+      pub walking_on : (r : Step) → AskIs T fs d 0 (Stepped r) fs' → (out' : List ℕ) (p : ℕ) → Wrote out at (step_line (taken + 1) (label_told T.sig r) r.depth) out' p → Walking T out₀ fs' r.depth (taken + 1) out' p
+      unfolding answer_told
+      walking_on r a out' p w =
           let l = label_told T.sig r in
           let piece = step_line (taken + 1) l r.depth in
           let after : Holds frame_width stack_limit T (frames_of frame_width stack_limit answer.stack) (length answer.stack) answer.stack =
           still_holds frame_width stack_limit T (step_right T right frame_width) holds (answer_is frame_width stack_limit T 0 s) in
           let after' : Holds frame_width stack_limit T fs' r.depth answer.stack = subst₂ (λ (x : List Frame) (n : ℕ). Holds frame_width stack_limit T x n answer.stack) (sym a.frames) (sym a.depth) after in
           let there : stack_of fs' r.depth ≡ answer.stack = holds_stack frame_width stack_limit T after' in
-          let now : walk_lines T (walk_steps - taken) (taken + 1) s ≡ piece ++ next answer.stack = turn h ∙ for_step (taken + 1) next answer l r.depth (told ∙ step_by r.refused r.kind l r.depth e k) in
+          let now : walk_lines T (walk_steps - taken) (taken + 1) s ≡ piece ++ next answer.stack = turn h ∙ for_step (taken + 1) next answer l r.depth (sym a.answer) in
           record {
             right = holds_right frame_width stack_limit T after';
             done = g.done ++ piece;
