@@ -20,7 +20,6 @@ use Rattle.nodes.specs.Layout.{cell_limit}
 use Rattle.nodes.specs.Held.{proc_width}
 use Rattle.nodes.specs.Scoped.{max_scope, Scoped}
 use Rattle.nodes.specs.Views.{Skips}
-use Rattle.emit.specs.Putting.{NoRoom}
 use Rattle.emit.proofs.Putting.{puts_none, puts_then, puts_as, no_room_as, no_room_then}
 use Rattle.parts.specs.declared.PartWalk.{PartWalk}
 use Rattle.parts.specs.Rows.{row_width, params_bytes, RowsKept}

@@ -1,5 +1,5 @@
 use mathlib.Core.Path.{◌≡◌}
-use Prim.Native.Nat.{◌-◌, ◌≤◌}
+use Prim.Native.Nat.{◌≤◌}
 use lib.ListN.{length}
 use Rattle.parts.proofs.SheetParts.{LoadedTo}
 use Rattle.parts.proofs.sheet_parts.load.Given as goal
