@@ -5,7 +5,6 @@ ghost use Rattle.theory.specs.Distinct.{Unlike};
 ghost use Rattle.lettering.specs.Named.{names_at};
 
 use elements::cell;
-use lexer::bytes::same;
 use terms::list_at;
 
 // Is a name none of n names?
@@ -13,7 +12,7 @@ fn other(name: &[u8], s: &[u8], places: &[u16], n: usize) -> bool
     ensures { Says result (Every (Unlike name.now) (names_at s.now places.now n)) }
 {
     for i in 0..n {
-        if same(name, list_at(s, cell(places, i))) {
+        if name == list_at(s, cell(places, i)) {
             return false;
         }
     }
