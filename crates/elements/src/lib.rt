@@ -1,6 +1,6 @@
 #![tactic(auto)]
 // Elements of slices, 0 past the end; numbers made wider and narrower.
-ghost use Rattle.std.specs.Prelude.{◌≡◌, ℕ, ◌%◌, ◌<◌, get_or};
+ghost use Rattle.std.specs.Prelude.{◌≡◌, refl, ℕ, ◌%◌, ◌<◌, get_or};
 
 // Numbers that a byte, and a cell of 16 bits, can hold.
 pub const BYTE_LIMIT: usize = 256;
@@ -9,20 +9,22 @@ pub const CELL_LIMIT: usize = 65536;
 
 // A number as slices hold it, of 8, 16 or 32 bits.
 pub trait Number: Copy {
-    // What it counts, and a bound that is no number of these.
+    // What it counts; a bound above all of them; what stands past a slice's end.
     ghost value: { Self → ℕ };
 
     ghost bound: { ℕ };
 
     ghost none: { Self };
 
-    // The number 0.
+    // What stands past the end, which counts 0.
     fn zero() -> Self
         ensures { result ≡ none };
 
     // Made wider, to count with or as a place.
     fn wide(self) -> usize
         ensures { (result ≡ value self) × (result < bound) };
+
+    ghost none_counts_zero: { value none ≡ 0 };
 }
 
 impl Number for u8 {
@@ -39,6 +41,8 @@ impl Number for u8 {
     fn wide(self) -> usize {
         usize::from(self)
     }
+
+    ghost none_counts_zero = { refl };
 }
 
 impl Number for u16 {
@@ -55,6 +59,8 @@ impl Number for u16 {
     fn wide(self) -> usize {
         usize::from(self)
     }
+
+    ghost none_counts_zero = { refl };
 }
 
 impl Number for u32 {
@@ -71,6 +77,8 @@ impl Number for u32 {
     fn wide(self) -> usize {
         self as usize
     }
+
+    ghost none_counts_zero = { refl };
 }
 
 // An element of a slice, 0 past its end.
