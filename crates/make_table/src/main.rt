@@ -10,7 +10,7 @@ fn main(rt: HostRuntime) -> io::Result<()> {
     // as long as the longest file
     let mut file = [0u8; 65536];
     match making::make_table(&sheet[..n], &mut file) {
-        Ok(length) => streams::write_front(&rt, &file, length),
+        Ok(length) => streams::write_front(&mut io::writer(&rt), &file, length),
         Err(r) => {
             let question = u8::from(r);
             eprintln!(rt; "refused {question}")

@@ -9,7 +9,7 @@ fn main(rt: HostRuntime) -> io::Result<()> {
     let n = streams::read_front(&mut rt.reader(), &mut file)?;
     let mut text = [0u8; 4096];
     match printer::delivery::print_table(&file[..n], &mut text) {
-        Ok(m) => streams::write_front(&rt, &text, m),
+        Ok(m) => streams::write_front(&mut io::writer(&rt), &text, m),
         Err(refusal) => {
             let r = u8::from(refusal);
             eprintln!(rt; "refused {r}")

@@ -1,9 +1,10 @@
 #![tactic(auto)]
 // What the programs read and write: the front of a stream, as much as there is room for, and the front of a buffer.
-ghost use Rattle.std.specs.Prelude.{◌≤◌, length, IfOk};
+ghost use Rattle.std.specs.Prelude.{◌≤◌, length, take, IfOk, OnOk};
+ghost use Rattle.std.specs.Io.KnownBytes.{Appends};
 
 use std::io;
-use std::io::Read;
+use std::io::{Read, Write};
 
 // Reads until the buffer is full or the stream ends: how many bytes stand at its front.
 pub fn read_front<R: Read>(reader: &mut R, buf: &mut [u8]) -> io::Result<usize>
@@ -20,10 +21,10 @@ pub fn read_front<R: Read>(reader: &mut R, buf: &mut [u8]) -> io::Result<usize>
     Ok(done)
 }
 
-// Writes the first n bytes to standard output; of a shorter buffer nothing.
-pub fn write_front(rt: &HostRuntime, buf: &[u8], n: usize) -> io::Result<()> {
-    match buf.get(..n) {
-        Some(front) => rt.write_all(front),
-        None => Ok(()),
-    }
+// Writes the first n bytes of a buffer, or all of a shorter one.
+pub fn write_front<W: Write>(writer: &mut W, buf: &[u8], n: usize) -> io::Result<()>
+    ensures { OnOk result (Appends (W.contents writer.old) (W.contents writer.new) (take n buf.now)) }
+{
+    let end = n.min(buf.len());
+    writer.write_all(&buf[..end])
 }

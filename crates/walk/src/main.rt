@@ -8,5 +8,5 @@ fn main(rt: HostRuntime) -> io::Result<()> {
     let n = streams::read_front(&mut rt.reader(), &mut sheet)?;
     let t = walker::walk_text(&sheet[..n]);
     let text = t.bytes;
-    streams::write_front(&rt, &text, t.length)
+    streams::write_front(&mut io::writer(&rt), &text, t.length)
 }
