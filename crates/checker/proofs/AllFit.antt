@@ -74,7 +74,7 @@ module _ (cells scope sizes funcs : List ℕ) (n : Outline) (x : Datum) where
     no_function operator w (var i) ds rest sc o = absurd (omega (arith, o.tag_is))
     no_function operator w (app f es) ds rest sc o = λ k.
         let c = w.known.func_count in
-        operator w.sig w.known.sizes_are.sort_count (omega arith) (subst (IsFunc w.sig) (sym o.number_is) k.0)
+        (operator w.sig w.known.sizes_are.sort_count (omega arith)).is_none (subst (IsFunc w.sig) (sym o.number_is) k.0)
 
     pub operator_uneven : (r : Operator) → OperatorSays x.number n.sorts (Some r) → (x.kids ≡ r.count → ⊥) → ArgumentsFitAt cells scope sizes funcs n x false
     unfolding ArgumentsFit data_tag data_number data_kids

@@ -86,7 +86,7 @@ module _ (cells scope sizes funcs : List ℕ) (n : Outline) (at sort : ℕ) wher
         fits_none operator w (var i) ds rest sc e = absurd (no_variable (vw (var i) ds rest e).tag_is)
         fits_none operator w (app f es) ds rest sc e = λ k.
             let c = w.known.func_count in
-            operator w.sig w.known.sizes_are.sort_count (omega arith) (subst (IsFunc w.sig) (sym (vw (app f es) ds rest e).number_is) k.0)
+            (operator w.sig w.known.sizes_are.sort_count (omega arith)).is_none (subst (IsFunc w.sig) (sym (vw (app f es) ds rest e).number_is) k.0)
 
         pub fits_operator : (r : Operator) → OperatorSays x.number n.sorts (Some r) → FitsAt cells scope sizes funcs n at sort (eqb sort Bool_sort)
         unfolding Fits data_tag data_number

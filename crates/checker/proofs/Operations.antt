@@ -1,16 +1,15 @@
 -- What the number of a function is: of a written one, of an operator that is there, of none. By the cases of the definition.
 use mathlib.Core.Path.{◌≡◌, refl, sym, ap, subst, ◌∙◌}
+use mathlib.Core.List.{[]}
 use Rattle.std.specs.Prelude.{Some, None}
 use Prim.Native.Nat.{ℕ, ◌+◌, ◌-◌, ◌<◌, ◌≤◌}
 use native.Mathlib.Omega.{arith}
-use lib.Dec.{ltb}
 use lib.ListN.{length, get_or, replicate, get_or-eq_default}
 use Rattle.pcrl.specs.Sheet.{Func, Sig, no_func, Operation, not_number, and_number, or_number, first_equal, operator, operation, func, function, function_at}
 use Rattle.pcrl.specs.Sorts.{IsOperation, IsFunc, Bool_sort}
-use Rattle.laws.specs.Says.{Says, says_lt}
 use Rattle.laws.specs.Operations.{Seen, as_written, as_not, as_and, as_or, as_equal, as_unsorted, as_none, seen, written_number, equal_number}
 use Rattle.checker.specs.declared.operators.Operator.{Operator}
-use Rattle.checker.specs.Sorts.{Operates, OperatorSays}
+use Rattle.checker.specs.Sorts.{Operates, NoOperator, OperatorSays}
 
 -- a written function is there
 pub written_there : (S : Sig) (f : ℕ) → f < not_number → f < length S.funcs → IsFunc S f
@@ -26,6 +25,16 @@ module _ (S : Sig) (f : ℕ) (r : Operator) where
     takes_are = subst (λ (p : Operation). (function S p).takes ≡ replicate r.count r.sort) (sym e) b;
     gives_Bool = subst (λ (p : Operation). (function S p).gives ≡ Bool_sort) (sym e) c;
   }
+
+-- the same where it is none
+operates_not : (S : Sig) (f n D : ℕ) (o : Operation) → operation f ≡ o → (IsOperation S o → ⊥) → (function S o).takes ≡ replicate n D → (function S o).gives ≡ Bool_sort
+    → (IsFunc S f → ⊥) × ((function_at S f).takes ≡ replicate n D) × ((function_at S f).gives ≡ Bool_sort)
+unfolding function_at
+operates_not S f n D o e a b c = (
+  λ there. a (subst (λ (p : Operation). IsOperation S p) e there),
+  subst (λ (p : Operation). (function S p).takes ≡ replicate n D) (sym e) b,
+  subst (λ (p : Operation). (function S p).gives ≡ Bool_sort) (sym e) c,
+)
 
 module _ (S : Sig) (f : ℕ) where
   pub not_operates : f ≡ not_number → Operates S f (record { count = 1; sort = Bool_sort })
@@ -49,21 +58,29 @@ module _ (f m : ℕ) where
 
   -- `==` at a sort that is not there, and a number behind the written functions'
   pub equal_none : first_equal ≤ f → m ≤ f - first_equal → OperatorSays f m None
-  unfolding IsOperation
+  unfolding IsOperation function
   equal_none h i S k l =
       let e : f ≡ first_equal + (f - first_equal) = omega arith in
       let o : operation f ≡ Operation.equal (f - first_equal) = ap operation e ∙ equal_number (f - first_equal) in
-      λ there. let y : f - first_equal < length S.sorts = subst (λ (p : Operation). IsOperation S p) o there in omega arith
+      let t = operates_not S f 2 (f - first_equal) (Operation.equal (f - first_equal)) o (λ y. omega arith) refl refl in
+      record { is_none = t.0; takes_none = λ z. absurd (omega arith); takes_two = λ z. t.1; gives_Bool = t.2 }
 
   pub operator_none : f < first_equal → (f ≡ not_number → ⊥) → (f ≡ and_number → ⊥) → (f ≡ or_number → ⊥) → OperatorSays f m None
-  unfolding IsOperation
+  unfolding IsOperation function func
   operator_none h a b c S k l = go (operation f) (seen f) refl
     where
-      go : (o : Operation) → Seen f o → operation f ≡ o → IsFunc S f → ⊥
-      go (Operation.written g) (as_written i) e there = let y : f < length S.funcs = subst (λ (p : Operation). IsOperation S p) e there in omega arith
-      go Operation.not (as_not i) e there = a i
-      go Operation.and (as_and i) e there = b i
-      go Operation.or (as_or i) e there = c i
-      go (Operation.equal D) (as_equal E i) e there = omega arith
-      go Operation.unsorted (as_unsorted i) e there = subst (λ (p : Operation). IsOperation S p) e there
-      go Operation.unsorted (as_none i j) e there = subst (λ (p : Operation). IsOperation S p) e there
+      none : (o : Operation) → operation f ≡ o → (IsOperation S o → ⊥) → (function S o).takes ≡ [] → (function S o).gives ≡ Bool_sort → NoOperator S f
+      none o e x y z =
+          let t = operates_not S f 0 Bool_sort o e x y z in
+          record { is_none = t.0; takes_none = λ z. t.1; takes_two = λ z. absurd (omega arith); gives_Bool = t.2 }
+
+      go : (o : Operation) → Seen f o → operation f ≡ o → NoOperator S f
+      go (Operation.written g) (as_written i) e =
+          let d : get_or S.funcs f no_func ≡ no_func = get_or-eq_default S.funcs no_func l in
+          none _ e (λ z. omega arith) (ap (λ (x : Func). x.takes) d) (ap (λ (x : Func). x.gives) d)
+      go Operation.not (as_not i) e = absurd (a i)
+      go Operation.and (as_and i) e = absurd (b i)
+      go Operation.or (as_or i) e = absurd (c i)
+      go (Operation.equal D) (as_equal E i) e = absurd (omega arith)
+      go Operation.unsorted (as_unsorted i) e = none Operation.unsorted e (λ z. z) refl refl
+      go Operation.unsorted (as_none i j) e = none Operation.unsorted e (λ z. z) refl refl

@@ -1,9 +1,9 @@
 -- What the code of question 8 says, function by function: for every term whose cells stand at a place.
-use Rattle.std.specs.Prelude.{◌≡◌, List, ◌∷◌, ◌++◌, Bool, ℕ, Option, MatchOption, ◌+◌, ◌<◌, ◌≤◌, length, drop, set, replicate}
+use Rattle.std.specs.Prelude.{◌≡◌, List, [], ◌∷◌, ◌++◌, Bool, ℕ, Option, MatchOption, ◌+◌, ◌-◌, ◌<◌, ◌≤◌, length, drop, set, replicate}
 use Rattle.std.proofs.Math.ListN.{get_elem?}
 use Rattle.pcrl.specs.Limits.{frame_width, max_arity}
 use Rattle.pcrl.specs.Tests.{Each, Every}
-use Rattle.pcrl.specs.Sheet.{Data, Act, Proc, delta, atom, alt, cond, sum, seq, call, Func, Sig, Process, Sheet, function_at, takes_of, params}
+use Rattle.pcrl.specs.Sheet.{Data, Act, Proc, delta, atom, alt, cond, sum, seq, call, Func, Sig, Process, Sheet, first_equal, function_at, takes_of, params}
 use Rattle.pcrl.specs.Sorts.{Scope, Bool_sort, IsFunc, HasSort, Arguments, IsAct, Sorted, volume, Complete, RightlySorted}
 use Rattle.laws.specs.Says.{Says}
 use Rattle.nodes.specs.declared.Outline.{Outline}
@@ -27,9 +27,16 @@ pub record Operates (S : Sig) (f : ℕ) (r : Operator) : Type 0 where
   pub takes_are : (function_at S f).takes ≡ replicate r.count r.sort
   pub gives_Bool : (function_at S f).gives ≡ Bool_sort
 
+-- function f where it is none: it is not there, takes nothing, or two of the sort that `==` would compare, and gives Bool
+pub record NoOperator (S : Sig) (f : ℕ) : Type 0 where
+  pub is_none : IsFunc S f → ⊥
+  pub takes_none : f < first_equal → (function_at S f).takes ≡ []
+  pub takes_two : first_equal ≤ f → (function_at S f).takes ≡ replicate 2 (f - first_equal)
+  pub gives_Bool : (function_at S f).gives ≡ Bool_sort
+
 -- a number that is no written function's, where there are m sorts: an operator's, or none's
 abbrev pub OperatorSays : ℕ → ℕ → Option Operator → Type 0
-OperatorSays f m r = (S : Sig) → m ≡ length S.sorts → length S.funcs ≤ f → MatchOption r (IsFunc S f → ⊥) (Operates S f)
+OperatorSays f m r = (S : Sig) → m ≡ length S.sorts → length S.funcs ≤ f → MatchOption r (NoOperator S f) (Operates S f)
 
 -- a node that takes r Bools, if any, has as many arguments
 abbrev pub TakesBools : Datum → ℕ → Type 0

@@ -1,4 +1,4 @@
-use Prim.Native.Nat.{◌-◌, ◌≤◌}
+use Prim.Native.Nat.{◌≤◌}
 use Rattle.checker.specs.Circles.{SetOf, numbers_below}
 use Rattle.checker.proofs.circles.all_processes.Given as goal
 

@@ -1,4 +1,4 @@
-use Prim.Native.Nat.{◌-◌, ◌≤◌}
+use Prim.Native.Nat.{◌≤◌}
 use Rattle.checker.proofs.Rounds.{RoundSoFar}
 use Rattle.checker.proofs.circles.next_round.Given as goal
 

@@ -1,4 +1,4 @@
-use Prim.Native.Nat.{◌-◌, ◌≤◌}
+use Prim.Native.Nat.{◌≤◌}
 use Rattle.checker.proofs.Rounds.{PassedSoFar}
 use Rattle.checker.proofs.circles.passed_after.Given as goal
 

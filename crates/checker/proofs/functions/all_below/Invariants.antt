@@ -1,4 +1,3 @@
-use Prim.Native.Nat.{◌-◌}
 use Rattle.checker.proofs.FunctionValues.{BelowLeft}
 use Rattle.checker.proofs.functions.all_below.Given as goal
 

@@ -1,4 +1,4 @@
-use Prim.Native.Nat.{◌-◌, ◌≤◌}
+use Prim.Native.Nat.{◌≤◌}
 use Rattle.checker.proofs.FunctionValues.{CompleteSoFar}
 use Rattle.checker.proofs.functions.functions_complete.Given as goal
 

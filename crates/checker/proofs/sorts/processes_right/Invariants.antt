@@ -1,4 +1,4 @@
-use Prim.Native.Nat.{◌-◌, ◌≤◌}
+use Prim.Native.Nat.{◌≤◌}
 use Rattle.checker.proofs.Sheets.{RightSoFar}
 use Rattle.checker.proofs.sorts.processes_right.Given as goal
 
