@@ -25,7 +25,7 @@ pub const MINE: usize = (FRAME_WIDTH + MAX_VARIABLES) * SLOT;
 
 // Where the walk stands: at which node, how many calls may be followed; how many slots there are, the numbers of the next variable
 // and of the first new equation; how many sum variables, conditions and calls stand around it, where the conditions end and the
-// calls begin.
+// calls begin. A step down answers None where no head further down has the limits.
 #[derive(Clone, Copy)]
 pub struct Spot {
     pub at: usize,
@@ -63,7 +63,7 @@ fn wanted(second: bool) -> u8
     if second { 0 } else { 1 }
 }
 
-// Under a sum: its variable gets a slot. Of this and the other steps down, None: no head there has the limits.
+// Under a sum: its variable gets a slot.
 fn down_sum(d: Node, s: Spot, slots: &mut [u8], vars: &mut [u8]) -> Option<Spot>
     requires { (slot_width * (s.n + max_variables) ≤ length slots.old + slot_width * s.nv) × (max_variables ≤ length vars.old) × (s.m ≤ variable_limit + s.nv) }
     ensures stays { IfSome result (Stays s) }

@@ -32,7 +32,7 @@ abbrev pub memory_room : ℕ
 memory_room = 576
 
 -- the lengths of the arrays that a walk works in
-pub record Sized (vars conds after calls later remembered : List ℕ) : Type 0 where
+pub record Lengths (vars conds after calls later remembered : List ℕ) : Type 0 where
   pub vars_long : length vars ≡ max_variables
   pub conds_long : length conds ≡ conds_room
   pub after_long : length after ≡ calls_room

@@ -14,7 +14,7 @@ pub mod numbering; // the numbers of the first new equations
 pub mod params; // the slots of an equation's parameters
 pub mod remembered; // what is found from a place on
 pub mod waiting; // what is walked later
-pub mod walk; // one walk over the term and the right sides that it calls at the head
+mod walk; // one walk over the term and the right sides that it calls at the head: write_heads states its promise
 
 use contexts::{CONDITIONS, Spot};
 use elements::BYTE_LIMIT;
@@ -25,7 +25,7 @@ use remembered::REMEMBERED;
 use walk::{LATERS, Sheet, Work, walk};
 
 // All heads of a term written as summands, one behind another; behind the slots of the variables in scope there is room for those that a
-// summand adds. Not every one has the limits, or there is no room for them: an Err says which.
+// summand adds. Err: not every one has the limits, or there is no room for them; NoRoom where every one has them.
 pub fn write_heads(
     cells: &[u16],
     starts: &[u16],

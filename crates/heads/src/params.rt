@@ -5,7 +5,7 @@ ghost use Rattle.pcrl.specs.Parts.{as_params};
 ghost use Rattle.pcrl.specs.Stream.{encode_data};
 ghost use Rattle.nodes.specs.Bits.{odd};
 ghost use Rattle.marking.specs.Marks.{bits};
-ghost use Rattle.putting.specs.Slots.{slot_width, Slots};
+ghost use Rattle.putting.specs.Slots.{Slots};
 ghost use Rattle.heads.specs.Writing.{slots_room, param_of};
 
 use limits::{MAX_VARIABLES, VARIABLE_CODE};

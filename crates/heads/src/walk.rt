@@ -4,7 +4,7 @@ ghost use Rattle.std.specs.Prelude.{◌≡◌, ◌⊎◌, ◌*◌, ◌≤◌, le
 ghost use Rattle.contexts.specs.Spots.{arrays, Bound};
 ghost use Rattle.heads.specs.Stack.{later_cells, Steady};
 ghost use Rattle.heads.specs.Memory.{Remembers};
-ghost use Rattle.heads.specs.Progress.{Looked, Leaf, Parting, Inner, Bounded, start, WrittenBy, aside_turn, place, IfInto, Sized, Chosen, Resumed, Nearer, Turned};
+ghost use Rattle.heads.specs.Progress.{Looked, Leaf, Parting, Inner, Bounded, start, WrittenBy, aside_turn, place, IfInto, Lengths, Chosen, Resumed, Nearer, Turned};
 
 use crate::alternatives::{Ahead, choice, look, second_side};
 use crate::remembered::REMEMBERED;
@@ -36,27 +36,27 @@ enum Next {
 
 // A sheet in its cells: where the right sides start, how many heads they have, and the numbers of their first new equations.
 #[derive(Clone, Copy)]
-pub struct Sheet<'a> {
-    pub cells: &'a [u16],
-    pub starts: &'a [u16],
-    pub counts: &'a [u16],
-    pub firsts: &'a [u8],
+pub(crate) struct Sheet<'a> {
+    pub(crate) cells: &'a [u16],
+    pub(crate) starts: &'a [u16],
+    pub(crate) counts: &'a [u16],
+    pub(crate) firsts: &'a [u8],
 }
 
 // Cells for the second sides that wait: each has a head of its own.
-pub const LATERS: usize = MAX_SUMMANDS * LATER;
+pub(crate) const LATERS: usize = MAX_SUMMANDS * LATER;
 
 // What a walk works in: the variables, conditions and calls around it, the calls of one part, the second sides that wait, and what is
 // remembered.
 #[derive(Drop)]
-pub struct Work {
-    pub vars: [u8; MAX_VARIABLES],
-    pub conds: [u8; CONDITIONS],
-    pub after: [u8; CALLS],
-    pub calls: [u8; CALLS],
-    pub later: [u16; LATERS],
-    pub remembered: [u16; REMEMBERED],
-    ghost sized: { Sized vars conds after calls later remembered },
+pub(crate) struct Work {
+    pub(crate) vars: [u8; MAX_VARIABLES],
+    pub(crate) conds: [u8; CONDITIONS],
+    pub(crate) after: [u8; CALLS],
+    pub(crate) calls: [u8; CALLS],
+    pub(crate) later: [u16; LATERS],
+    pub(crate) remembered: [u16; REMEMBERED],
+    ghost lengths: { Lengths vars conds after calls later remembered },
 }
 
 // Neither a leaf (an action or a call) nor a choice: the walk goes one step down.
@@ -231,7 +231,7 @@ fn next_turn(
 
 // The heads of the term at s0 in its context, one after another: the place behind them.
 #[cycle(leaf_next_turn_walk)]
-pub fn walk(
+pub(crate) fn walk(
     sheet: Sheet<'_>,
     s0: Spot,
     heads0: usize,

@@ -78,10 +78,10 @@ into_both (Err e) P Q p q = tt
 
 pub leaf-emit-requires : goal.leaf-emit-requires
 leaf-emit-requires t c =
-    let sized = c.args.work.now.sized in
+    let lengths = c.args.work.now.lengths in
     record {
       bound = (c.requires.bound.0, c.if-g-eq-ATOM.true, c.requires.looked.0.views);
-      rooms = (all-of sized.vars_long, all-of sized.conds_long, terms (all-of sized.after_long), no-more sized.calls_long, c.requires.bound.1);
+      rooms = (all-of lengths.vars_long, all-of lengths.conds_long, terms (all-of lengths.after_long), no-more lengths.calls_long, c.requires.bound.1);
     }
 
 pub leaf-returns-then-g-eq-ATOM : goal.leaf-returns-then-g-eq-ATOM
@@ -132,7 +132,7 @@ pub next_turn-chosen-requires : goal.next_turn-chosen-requires
 next_turn-chosen-requires t c =
     let a = c.args in
     let y = c.requires.steady.0 in
-    ((length a.work.now.calls, length a.slots.now, no-more a.work.now.sized.calls_long, y.bound), y.high)
+    ((length a.work.now.calls, length a.slots.now, no-more a.work.now.lengths.calls_long, y.bound), y.high)
 
 pub next_turn-returns-then-choice : goal.next_turn-returns-then-choice
 next_turn-returns-then-choice t c =
@@ -148,7 +148,7 @@ next_turn-returns-then-choice t c =
     let z = ch.1 a.sheet.cells.now a.sheet.counts.now c.requires.looked.0 (c.choice.ensures.0 c.if-choice.true) in
     record {
       w_le_w = (IfOk-weaker c.chosen.result _ _ (λ n e. (up_to {a = a.w} itself e, under fits e)) ch.0.0, kept_front (later_cells * a.q0) (later_cells * a.q) l c.chosen.new.later (front y.low) ch.0.1);
-      stays_steady = into_both c.chosen.result _ _ (z.1 lk ls a.g.s.fuel a.q0 (no-more a.work.now.sized.calls_long) y) z.0;
+      stays_steady = into_both c.chosen.result _ _ (z.1 lk ls a.g.s.fuel a.q0 (no-more a.work.now.lengths.calls_long) y) z.0;
       turned = λ S eq on. z.2 a.sheet.starts.now a.sheet.firsts.now B o S on;
       remembers = c.requires.looked.2;
     }
@@ -249,7 +249,7 @@ walk-step-requires t c =
     let ys = steady_to lk ls a.s0.fuel a.q0 here.s here.q here.work.later y g.s (past.stays lk ls y.bound) past.fuel_same in
     record {
       place = (lo.inside, lo.on, lo.views, ys.bound);
-      rooms = (all-of here.work.sized.vars_long, all-of here.work.sized.after_long, c.second_side.ensures.1, rest_at a.sheet.cells.now a.sheet.counts.now g c.second_side.result lo c.second_side.ensures);
+      rooms = (all-of here.work.lengths.vars_long, all-of here.work.lengths.after_long, c.second_side.ensures.1, rest_at a.sheet.cells.now a.sheet.counts.now g c.second_side.result lo c.second_side.ensures);
     }
 
 pub walk-loop-s-smaller-then-inner : goal.walk-loop-s-smaller-then-inner
@@ -367,7 +367,7 @@ walk-down_side-requires t c =
     let nt = rw c.in-Into.is at c.in_ok-turn.ensures in
     let k = c.in-Into.k in
     let b = nt.stays_steady.0.bound in
-    (b.lc_few, all-of c.next_turn.new.work.sized.conds_long, slots-in k.t.n k.t.nv (length here.slots) b.n_room b.nv_few)
+    (b.lc_few, all-of c.next_turn.new.work.lengths.conds_long, slots-in k.t.n k.t.nv (length here.slots) b.n_room b.nv_few)
 
 pub walk-loop-s-smaller : goal.walk-loop-s-smaller
 walk-loop-s-smaller t c =
