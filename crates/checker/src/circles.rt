@@ -48,7 +48,7 @@ pub fn heads_of(cells: &[u16], at: usize) -> Heads
     let mut set: u32 = 0;
     while need > 0 {
         if p >= cells.len() {
-            return Heads { set: set, next: p };
+            return Heads { set, next: p };
         }
         let d = node_at(cells, p);
         if d.kind == SEQ {
@@ -63,7 +63,7 @@ pub fn heads_of(cells: &[u16], at: usize) -> Heads
         need = need - 1 + d.kids;
         p = d.next;
     }
-    Heads { set: set, next: p }
+    Heads { set, next: p }
 }
 
 // The processes at the head of each of the first n right sides.
@@ -116,7 +116,7 @@ fn passed_after(sets: &[u32], procs: usize) -> u32
     ensures { PassedAfter sets.now procs result }
 {
     let mut passed: u32 = 0;
-    for i in 0..procs {
+    for _ in 0..procs {
         passed = next_round(sets, procs, passed);
     }
     passed

@@ -23,10 +23,7 @@ pub fn operator_of(number: usize, sorts: usize) -> Option<Operator>
         if sort >= sorts {
             return None;
         }
-        return Some(Operator {
-            count: 2,
-            sort: sort,
-        });
+        return Some(Operator { count: 2, sort });
     }
     if number == NOT {
         return Some(Operator {
@@ -43,7 +40,7 @@ pub fn operator_of(number: usize, sorts: usize) -> Option<Operator>
     None
 }
 
-// How many Bools a node takes: none but `!`, `/\` and `\/` with all their arguments takes any.
+// How many Bools a node takes, if it is `!`, `/\` or `\/` with all its arguments.
 pub fn bools(d: Datum) -> Option<usize>
     ensures upper_bound { IfSome result (λ r. (0 < r) × (r ≤ 2)) }
     ensures takes_bools { IfSome result (TakesBools d) }
