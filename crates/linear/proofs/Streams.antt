@@ -1,52 +1,45 @@
 -- A table's stream put together, and question 10 answered both ways.
-use mathlib.Core.Path.{◌≡◌, refl, sym, ap, ap₂, subst, ◌∙◌}
-use mathlib.Core.List.{List, [], ◌∷◌, ◌++◌, append_assoc, map}
-use mathlib.Core.Bool.{Bool, true, false}
-use Prim.Native.Nat.{ℕ, zero, suc, ◌+◌, ◌-◌, ◌*◌, ◌≤◌, ◌<◌, min}
+use mathlib.Core.Path.{◌≡◌, refl, sym, ap, subst, ◌∙◌}
+use mathlib.Core.List.{List, [], ◌++◌, map}
+use Prim.Native.Nat.{ℕ, ◌+◌, ◌-◌, ◌*◌, ◌≤◌, ◌<◌, min}
 use native.Mathlib.Decide.{dec_le}
 use native.Mathlib.Omega.{arith}
-use lib.ListN.{length, take, get_or, length-append, length-map}
-use Rattle.pcrl.specs.Limits.{max_name, max_equations, max_stream, max_summands, frame_width}
-use Rattle.pcrl.specs.Tests.{Between, Every}
-use Rattle.pcrl.specs.Reader.{all}
-use Rattle.pcrl.specs.Sheet.{Action, Sig, Sheet, Process, no_process}
+use lib.ListN.{length, get_or, length-append}
+use Rattle.pcrl.specs.Limits.{max_name, max_equations, max_stream, frame_width}
+use Rattle.pcrl.specs.Tests.{Every}
+use Rattle.pcrl.specs.Sheet.{Action, Sig, Sheet, Process}
 use Rattle.pcrl.specs.Values.{eval}
-use Rattle.pcrl.specs.Lists.{tabulate}
-use Rattle.pcrl.specs.Parts.{NewPart, all_new_parts, count, marked, marks, in_proc}
+use Rattle.pcrl.specs.Parts.{NewPart, all_new_parts, count, marks, in_proc}
 use Rattle.laws.specs.Lists.{length_tabulate}
-use Rattle.pcrl.specs.Table.{Equation, with_names, Table, equation, no_equation, params_of, summands_of, summand_count}
+use Rattle.pcrl.specs.Table.{Equation, with_names, equation, no_equation, params_of}
 use Rattle.pcrl.specs.Heads.{table_of}
-use Rattle.pcrl.specs.Stream.{encode_sig, encode_list, encode_numbers, encode_summand, encode_equations, encode_start, encode}
+use Rattle.pcrl.specs.Stream.{encode_sig, encode_list, encode_numbers, encode_equations, encode_start, encode}
 use Rattle.pcrl.specs.Right.{SummandWithin, EquationWithin, Within, RightName, RightAction, RightSig, RightSizes}
-use Rattle.laws.specs.Every.{every_weaken, every_both, every_at, at_every, map_every, every_map, every_append, every_left, every_right}
+use Rattle.laws.specs.Every.{every_weaken, every_both, every_at, at_every, map_every, every_map, every_append, every_right}
 use Rattle.theory.specs.Standing.{Standing, RightProcess}
 use Rattle.theory.specs.Equations.{equation_count}
 use Rattle.theory.proofs.SortedTable.{SortedEquation, equation_sorted}
 use Rattle.laws.specs.Each.{each_length}
 use Rattle.contexts.specs.Spots.{SummandFits}
 use Rattle.nodes.specs.declared.Outline.{Outline}
-use Rattle.nodes.specs.Layout.{cell_limit, byte_limit}
-use Rattle.nodes.specs.Held.{Arrays, Held}
+use Rattle.nodes.specs.Held.{Arrays}
 use Rattle.nodes.specs.Scoped.{max_scope}
 use Rattle.marking.specs.Marks.{bits}
 use Rattle.std.specs.Prelude.{Option, Result, Ok, Err, Some, None}
 use Rattle.std.proofs.Common.{ok_or}
 use Rattle.emit.specs.Putting.{PutsTo, NoRoom, Puts}
-use Rattle.emit.specs.Bytes.{ShortNames, NamesAt, PutsSig}
-use Rattle.emit.proofs.Putting.{puts_then, puts_as, no_room_first, no_room_then}
+use Rattle.emit.specs.Bytes.{ShortNames, PutsSig}
+use Rattle.emit.proofs.Putting.{puts_then, no_room_then}
 use Rattle.initial.specs.Evaluating.{Known, PutsStart}
 use Rattle.parts.specs.declared.Noted.{Noted}
 use Rattle.parts.specs.Rows.{row_width, no_part, part_params, RowsOf}
-use Rattle.parts.specs.Walking.{Few}
-use Rattle.parts.specs.Sheets.{count_cut, Placed, CountsParts, all_params, ParamsPut, PutsParamsTo, NoParams}
+use Rattle.parts.specs.Sheets.{count_cut, Placed, CountsParts, all_params, ParamsPut, PutsParams}
 use Rattle.parts.proofs.MarkedLaws.{marked_length}
 use Rattle.parts.proofs.TableParams.{params_are}
-use Rattle.sheets.specs.declared.SheetRows.{SheetRows}
-use Rattle.sheets.specs.Resolving.{arrays}
 use Rattle.refusals.specs.declared.Refusal.{Refusal}
 use Rattle.refusals.specs.declared.Refusal.TheVariants as the
-use Rattle.listing.specs.Summands.{SummandsWithin, SummandsFit, summands_bytes, Listed, PutsSummands}
-use Rattle.linear.specs.Within.{FewMarks, TableWritten, FewIn, ReadyIn, WritesStream}
+use Rattle.listing.specs.Summands.{SummandsWithin, SummandsFit, summands_bytes, PutsSummands}
+use Rattle.linear.specs.Within.{FewMarks, FewIn, ReadyIn, WritesStream}
 
 -- the names of a right signature's actions are short
 short : (sizes : List ℕ) (a : Action) → RightAction sizes a → length a.name ≤ max_name
@@ -189,15 +182,7 @@ module _ (s : List ℕ) (A : Arrays) (names : List ℕ) (n : Outline) (o : List 
 
   module _ (few : t ≤ max_equations) (rows : List ℕ) (room : row_width * max_equations ≤ length rows) (a : ℕ) (p : List ℕ)
       (sig : PutsSig s A.sizes A.funcs A.values A.places A.acts names (n.sorts - 1 + n.funcs) n 0 o (Some a) p) where
-    -- nor for the parameters
-    pub out_params : (q : List ℕ) → NoParams A.procs A.cells A.starts n t rows a p q → WritesStream s A names n o (Err the.NoRoom) q
-    out_params q params H r w =
-        let placed = ready_placed H s A names n r in
-        let none = params H placed (count_within H t (counts H placed) few).0 few room in
-        let both = (no_room_then (sig_put (Some a) p sig H r) none).over in
-        (refl, omega (arith, summands_shorter H, length-append (encode_sig with_names H.sig) (encode_list encode_numbers (params_of (es H)))))
-
-    module _ (x : Noted) (rows' q : List ℕ) (params : PutsParamsTo A.procs A.cells A.starts n t rows a p x rows' q) where
+    module _ (x : Noted) (rows' q : List ℕ) (params : PutsParams A.procs A.cells A.starts n t rows a p x rows' q) where
       put_params : (H : Sheet) → ReadyIn H s A names n → ParamsPut A.cells a p H x rows' q
       put_params H r = let placed = ready_placed H s A names n r in params H placed (count_within H t (counts H placed) few).0 few room
 
@@ -209,36 +194,48 @@ module _ (s : List ℕ) (A : Arrays) (names : List ℕ) (n : Outline) (o : List 
       pub out_count : (e : Refusal) → max_equations < x.count → WritesStream s A names n o (Err e) q
       out_count e h H r w = let placed = ready_placed H s A names n r in let l = (count_within H t (counts H placed) few).0 in absurd (omega (arith, (put_params H r).count_is))
 
-      pub out_summands : (e : Refusal) (q' : List ℕ) → PutsSummands A.procs A.cells A.starts n rows' x.count x.w q (Err e) q' → WritesStream s A names n o (Err e) q'
-      out_summands e q' sums H r w =
-          let y = put_params H r in
-          let g = sig_put (Some a) p sig H r in
-          let z = sums H r.standing (ready_placed H s A names n r) y.count_is y.rows_of (within_summands H r.standing w) in
-          (z.0, no_room H o a p x.w q g.same y.puts.same (puts_then g y.puts) z.1)
+      -- no room for the parameters
+      pub out_params : x.w ≡ None → WritesStream s A names n o (Err the.NoRoom) q
+      out_params e H r w =
+          let none : NoRoom (encode_list encode_numbers (params_of (es H))) a p q = subst (λ (u : Option ℕ). Puts (encode_list encode_numbers (params_of (es H))) a p u q) e (put_params H r).puts in
+          let both = (no_room_then (sig_put (Some a) p sig H r) none).over in
+          (refl, omega (arith, summands_shorter H, length-append (encode_sig with_names H.sig) (encode_list encode_numbers (params_of (es H)))))
 
-      -- the start is put behind the summands, and the stream is whole; or there is no room for it
-      module _ (d : ℕ) (q' : List ℕ) (sums : PutsSummands A.procs A.cells A.starts n rows' x.count x.w q (Ok d) q') where
-        listed : (H : Sheet) → ReadyIn H s A names n → SummandsWithin (es H) × PutsTo (summands_bytes (es H)) x.w q d q'
-        listed H r = let y = put_params H r in sums H r.standing (ready_placed H s A names n r) y.count_is y.rows_of
+      module _ (b : ℕ) (eb : x.w ≡ Some b) where
+        room_put : (H : Sheet) → ReadyIn H s A names n → PutsTo (encode_list encode_numbers (params_of (es H))) a p b q
+        room_put H r = subst (λ (u : Option ℕ). Puts (encode_list encode_numbers (params_of (es H))) a p u q) eb (put_params H r).puts
 
-        start_put : (u : Option ℕ) (o' : List ℕ) → PutsStart A.sizes A.funcs A.values A.places A.cells n.init d q' u o' → (H : Sheet) → ReadyIn H s A names n → Puts (encode_start (H.start.0, map (eval H.sig []) H.start.1)) d q' u o'
-        start_put u o' start H r = start H (ready_known H s A names n r) (omega (arith, r.standing.few_processes)) r.standing.start r.held.processes.init_at
-
-        pub in_table : (u : Option ℕ) (o' : List ℕ) → length o ≤ max_stream → FewMarks rows' x.count → PutsStart A.sizes A.funcs A.values A.places A.cells n.init d q' u o' → WritesStream s A names n o (ok_or u the.NoRoom) o'
-        in_table None o' most marks start H r = λ w.
+        pub out_summands : (e : Refusal) (q' : List ℕ) → PutsSummands A.procs A.cells A.starts n rows' x.count b q (Err e) q' → WritesStream s A names n o (Err e) q'
+        out_summands e q' sums H r w =
             let y = put_params H r in
-            let none = stream_short H 0 o a p x.w q d q' o' (sig_put (Some a) p sig H r) y.puts (listed H r).1 (start_put None o' start H r) in
-            (refl, omega (arith, none.over))
-        in_table (Some e) o' most marks start H r =
-            let y = put_params H r in
-            let placed = ready_placed H s A names n r in
-            let l = listed H r in
-            let puts = stream_put H 0 o a p x.w q d q' e o' (sig_put (Some a) p sig H r) y.puts l.1 (start_put (Some e) o' start H r) in
-            let inside = puts.inside (omega arith) in
-            let fits : 0 + length (encode (table_of H)) ≤ length o = elim (dec_le (0 + length (encode (table_of H))) (length o)) [ yes k ↦ k | no k ↦ absurd (omega (arith, puts.over (omega arith))) ] in
-            let done = puts.fits fits in
-            let size = done.0 in
-            (marks_within H A.cells rows' y.rows_of r.standing (count_within H t (counts H placed) few).1 (subst (FewMarks rows') y.count_is marks) l.0 (omega arith), omega arith, done.1, inside)
+            let z = room_put H r in
+            let g = sig_put (Some a) p sig H r in
+            let all = sums H r.standing (ready_placed H s A names n r) y.count_is y.rows_of (within_summands H r.standing w) in
+            (all.0, no_room H o a p b q g.same z.same (puts_then g z) all.1)
+
+        -- the start is put behind the summands, and the stream is whole; or there is no room for it
+        module _ (d : ℕ) (q' : List ℕ) (sums : PutsSummands A.procs A.cells A.starts n rows' x.count b q (Ok d) q') where
+          listed : (H : Sheet) → ReadyIn H s A names n → SummandsWithin (es H) × PutsTo (summands_bytes (es H)) b q d q'
+          listed H r = let y = put_params H r in sums H r.standing (ready_placed H s A names n r) y.count_is y.rows_of
+
+          start_put : (u : Option ℕ) (o' : List ℕ) → PutsStart A.sizes A.funcs A.values A.places A.cells n.init d q' u o' → (H : Sheet) → ReadyIn H s A names n → Puts (encode_start (H.start.0, map (eval H.sig []) H.start.1)) d q' u o'
+          start_put u o' start H r = start H (ready_known H s A names n r) (omega (arith, r.standing.few_processes)) r.standing.start r.held.processes.init_at
+
+          pub in_table : (u : Option ℕ) (o' : List ℕ) → length o ≤ max_stream → FewMarks rows' x.count → PutsStart A.sizes A.funcs A.values A.places A.cells n.init d q' u o' → WritesStream s A names n o (ok_or u the.NoRoom) o'
+          in_table None o' most marks start H r = λ w.
+              let y = put_params H r in
+              let none = stream_short H 0 o a p b q d q' o' (sig_put (Some a) p sig H r) (room_put H r) (listed H r).1 (start_put None o' start H r) in
+              (refl, omega (arith, none.over))
+          in_table (Some e) o' most marks start H r =
+              let y = put_params H r in
+              let placed = ready_placed H s A names n r in
+              let l = listed H r in
+              let puts = stream_put H 0 o a p b q d q' e o' (sig_put (Some a) p sig H r) (room_put H r) l.1 (start_put (Some e) o' start H r) in
+              let inside = puts.inside (omega arith) in
+              let fits : 0 + length (encode (table_of H)) ≤ length o = elim (dec_le (0 + length (encode (table_of H))) (length o)) [ yes k ↦ k | no k ↦ absurd (omega (arith, puts.over (omega arith))) ] in
+              let done = puts.fits fits in
+              let size = done.0 in
+              (marks_within H A.cells rows' y.rows_of r.standing (count_within H t (counts H placed) few).1 (subst (FewMarks rows') y.count_is marks) l.0 (omega arith), omega arith, done.1, inside)
 
 -- more than a sheet has that passes question 6
 pub out_few : (s : List ℕ) (A : Arrays) (names : List ℕ) (n : Outline) (o o' : List ℕ) (e : Refusal) → (FewIn n → ⊥) → WritesStream s A names n o (Err e) o'

@@ -63,25 +63,15 @@ fn write_stream(
         0,
     )
     .ok_or(Refusal::NoRoom)?;
-    let p = put_param_lists(&sheet.procs, cells, &sheet.starts, n, total, rows, out, a).ok_or(
-        Refusal::NoRoom,
-    )?;
+    let p = put_param_lists(&sheet.procs, cells, &sheet.starts, n, total, rows, out, a);
     if p.count > MAX_EQUATIONS {
         return Err(Refusal::NotWithin);
     }
     if !few_marks(rows, p.count) {
         return Err(Refusal::NotWithin);
     }
-    let d = put_summands(
-        &sheet.procs,
-        cells,
-        &sheet.starts,
-        n,
-        rows,
-        p.count,
-        out,
-        p.w,
-    )?;
+    let w = p.w.ok_or(Refusal::NoRoom)?;
+    let d = put_summands(&sheet.procs, cells, &sheet.starts, n, rows, p.count, out, w)?;
     put_start(
         &sheet.sizes,
         &sheet.funcs,

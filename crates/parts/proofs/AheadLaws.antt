@@ -11,6 +11,7 @@ use Rattle.pcrl.specs.Sheet.{Proc, delta, atom, alt, cond, sum, seq, call, Sheet
 use Rattle.pcrl.specs.Parts.{NewPart, new_parts}
 use Rattle.nodes.specs.Layout.{Item, enc, encs}
 use Rattle.nodes.proofs.Nodes.{one_item, items_end}
+use Rattle.std.specs.Prelude.{Option}
 use Rattle.parts.specs.declared.PartWalk.{PartWalk}
 use Rattle.parts.specs.Walking.{Fit, parts_of, Below, FitBelow, parts_below, Ahead, Rises}
 
@@ -37,7 +38,7 @@ items_many [] = omega arith
 items_many ((b, q) ∷ xs) = omega (arith, some_cells b q, items_many xs, length-append (enc b q) (encs xs))
 
 module _ (cells left sorts : List ℕ) (H : Sheet) (m base : ℕ) (rest : List ℕ) where
-  pub ahead_start : (at count w : ℕ) (p : Proc) → drop at cells ≡ enc false p ++ rest → Fit H m base p
+  pub ahead_start : (at count : ℕ) (w : Option ℕ) (p : Proc) → drop at cells ≡ enc false p ++ rest → Fit H m base p
       → Ahead cells left sorts H m base rest (record { at = at; level = base; need = 1; count = count; w = w }) (new_parts false (take base sorts) p)
   unfolding Below FitBelow parts_below parts_of all Every
   ahead_start at count w p e f = record {

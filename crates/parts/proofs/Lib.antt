@@ -1,4 +1,5 @@
 pub mod RowLaws
+pub mod BehindLaws
 pub mod MarkedLaws
 pub mod AheadLaws
 pub mod NotedLaws

@@ -14,8 +14,8 @@ use Rattle.nodes.specs.Scoped.{max_scope, Scoped}
 use Rattle.nodes.proofs.Bits.{zero_bit}
 use Rattle.marking.specs.Marks.{bits, HighBits, Above, Marked}
 use Rattle.std.specs.Prelude.{Option}
-use Rattle.emit.specs.Putting.{Puts}
-use Rattle.emit.proofs.SignatureLaws.{puts_same}
+use Rattle.parts.specs.Behind.{PutsFrom}
+use Rattle.parts.proofs.BehindLaws.{from_as}
 use Rattle.parts.specs.Rows.{RowPut, part_params, params_bytes}
 use Rattle.parts.specs.Walking.{Notes}
 
@@ -60,8 +60,8 @@ high_marked (suc k) (suc n) r xs l h = go (odd (r % 2)) xs (λ ys. high_marked k
     go false (x ∷ xs) f = f xs
 
 -- THE PART IS NOTED
-pub note_put : (cells sorts rows o : List ℕ) (at n k w r : ℕ) (rows' o' : List ℕ) (w' : Option ℕ) → n ≤ max_scope → length sorts ≡ max_scope → Marked cells at n r → HighBits n 0 r → RowPut rows k at n r rows'
-    → Puts (encode_numbers (marked (bits max_scope r) sorts)) w o w' o' → Notes cells sorts rows o at n k w rows' o' w'
+pub note_put : (cells sorts rows o : List ℕ) (at n k : ℕ) (w : Option ℕ) (r : ℕ) (rows' o' : List ℕ) (w' : Option ℕ) → n ≤ max_scope → length sorts ≡ max_scope → Marked cells at n r → HighBits n 0 r → RowPut rows k at n r rows'
+    → PutsFrom (encode_numbers (marked (bits max_scope r) sorts)) w o w' o' → Notes cells sorts rows o at n k w rows' o' w'
 unfolding params_bytes part_params
 note_put cells sorts rows o at n k w r rows' o' w' few size is high row put m p rest e scoped near =
     let scope : length (take n sorts) ≡ n = length-take-le n sorts (omega arith) in
@@ -76,5 +76,5 @@ note_put cells sorts rows o at n k w r rows' o' w' few size is high row put m p 
             marks_are = ap₂ bits scope bits_put ∙ same ∙ marks_are;
             count_is = ap (λ (j : ℕ). count (bits max_scope j)) bits_put ∙ whole.1 ∙ ap count (same ∙ marks_are);
           },
-      puts_same w o w' o' (ap encode_numbers (whole.0 ∙ ap (λ (bs : List Bool). marked bs (take n sorts)) (same ∙ marks_are))) put,
+      from_as w o w' o' (ap encode_numbers (whole.0 ∙ ap (λ (bs : List Bool). marked bs (take n sorts)) (same ∙ marks_are))) put,
     )

@@ -20,11 +20,12 @@ use Rattle.nodes.specs.Layout.{cell_limit}
 use Rattle.nodes.specs.Held.{proc_width}
 use Rattle.nodes.specs.Scoped.{max_scope, Scoped}
 use Rattle.nodes.specs.Views.{Skips}
-use Rattle.emit.proofs.Putting.{puts_none, puts_then, puts_as, no_room_as, no_room_then}
+use Rattle.std.specs.Prelude.{Option}
+use Rattle.parts.proofs.BehindLaws.{from_none, from_then, from_as}
 use Rattle.parts.specs.declared.PartWalk.{PartWalk}
 use Rattle.parts.specs.Rows.{row_width, params_bytes, RowsKept}
-use Rattle.parts.specs.Walking.{Fit, PartsPut, PutsPartsTo, NoParts}
-use Rattle.parts.specs.Sheets.{count_cut, Loads, Placed, CountsParts, AllPut, PutsAllTo, NoneAll}
+use Rattle.parts.specs.Walking.{Fit, PartsPut, PutsParts}
+use Rattle.parts.specs.Sheets.{count_cut, Loads, Placed, CountsParts, AllPut, PutsAll}
 use Rattle.parts.proofs.WalkLaws.{rows_append}
 
 -- ---- how many
@@ -108,14 +109,14 @@ pub load_far : (procs : List ℕ) (p : ℕ) (sorts : List ℕ) (n : ℕ) → n �
 load_far procs p sorts n e h Ds at few = absurd (omega (arith, at.many))
 
 -- ---- all right sides
-module _ (procs cells starts : List ℕ) (n : Outline) (rows : List ℕ) (w : ℕ) (o : List ℕ) where
-  abbrev pub AllLeft : ℕ → ℕ → ℕ → List ℕ → List ℕ → Type 0
+module _ (procs cells starts : List ℕ) (n : Outline) (rows : List ℕ) (w : Option ℕ) (o : List ℕ) where
+  abbrev pub AllLeft : ℕ → ℕ → Option ℕ → List ℕ → List ℕ → Type 0
   AllLeft k count v rows₁ o₁ =
       (H : Sheet) → Placed H procs cells starts n → row_width * length (all_new_parts H.procs) ≤ length rows → AllPut cells w o (all_new_parts (take k H.procs)) (record { count = count; w = v }) rows₁ o₁
 
   pub all_start : AllLeft 0 0 w rows o
   unfolding all_new_parts all
-  all_start H p room = record { count_is = refl; rows_of = record { each = λ j h. absurd (omega arith) }; puts = puts_none w o }
+  all_start H p room = record { count_is = refl; rows_of = record { each = λ j h. absurd (omega arith) }; puts = from_none w o }
 
   -- so many as were passed are no more than all
   parts_few : (ps : List Process) (k : ℕ) → length (all_new_parts (take k ps)) ≤ length (all_new_parts ps)
@@ -125,11 +126,11 @@ module _ (procs cells starts : List ℕ) (n : Outline) (rows : List ℕ) (w : �
   parts_few (p ∷ ps) zero = omega arith
   parts_few (p ∷ ps) (suc k) = simp length-append (omega (arith, parts_few ps k))
 
-  pub all_far : (k count v : ℕ) (rows₁ o₁ : List ℕ) → length rows < cell_limit → cell_limit ≤ count → AllLeft k count v rows₁ o₁ → PutsAllTo procs cells starts n rows w o (record { count = count; w = v }) rows₁ o₁
+  pub all_far : (k count : ℕ) (v : Option ℕ) (rows₁ o₁ : List ℕ) → length rows < cell_limit → cell_limit ≤ count → AllLeft k count v rows₁ o₁ → PutsAll procs cells starts n rows w o (record { count = count; w = v }) rows₁ o₁
   all_far k count v rows₁ o₁ few far left H p room = absurd (omega (arith, (left H p room).count_is, parts_few H.procs k))
 
-  pub all_more : (k count v : ℕ) (rows₁ o₁ : List ℕ) (sorts : List ℕ) (base at : ℕ) (s : PartWalk) (rows₂ o₂ : List ℕ) → k < n.procs → length rows₁ ≡ length rows → Loads procs (proc_width * k) sorts base → at ≡ get_or starts k 0
-      → RowsKept rows₁ count rows₂ → PutsPartsTo cells sorts rows₁ at base count v o₁ s rows₂ o₂ → AllLeft k count v rows₁ o₁ → AllLeft (k + 1) s.count s.w rows₂ o₂
+  pub all_more : (k count : ℕ) (v : Option ℕ) (rows₁ o₁ : List ℕ) (sorts : List ℕ) (base at : ℕ) (s : PartWalk) (rows₂ o₂ : List ℕ) → k < n.procs → length rows₁ ≡ length rows → Loads procs (proc_width * k) sorts base → at ≡ get_or starts k 0
+      → RowsKept rows₁ count rows₂ → PutsParts cells sorts rows₁ at base count v o₁ s rows₂ o₂ → AllLeft k count v rows₁ o₁ → AllLeft (k + 1) s.count s.w rows₂ o₂
   all_more k count v rows₁ o₁ sorts base at s rows₂ o₂ h size load ea kept put left H p room =
       let before = left H p room in
       let c = p.held.proc_count in
@@ -155,39 +156,10 @@ module _ (procs cells starts : List ℕ) (n : Outline) (rows : List ℕ) (w : �
       (record {
         count_is = omega arith;
         rows_of = rows_append cells rows₁ rows₂ 0 count xs ys bz kept before.rows_of (mine.rows_of (omega arith));
-        puts = puts_as w o s.w o₂ (sym (all_append params_bytes xs ys)) (puts_then before.puts mine.puts);
+        puts = from_as w o s.w o₂ (sym (all_append params_bytes xs ys)) (from_then (all params_bytes xs) (all params_bytes ys) o o₁ o₂ w v s.w before.puts mine.puts);
       })
 
-  -- the bytes of so many are no more than those of all
-  bytes_few : (ps : List Process) (k : ℕ) → length (all params_bytes (all_new_parts (take k ps))) ≤ length (all params_bytes (all_new_parts ps))
-  unfolding all_new_parts all
-  bytes_few [] zero = omega arith
-  bytes_few [] (suc k) = omega arith
-  bytes_few (p ∷ ps) zero = omega arith
-  bytes_few (p ∷ ps) (suc k) =
-      let x = new_parts false p.params p.right in
-      omega (arith, ap length (all_append params_bytes x (all_new_parts (take k ps))), ap length (all_append params_bytes x (all_new_parts ps)), length-append (all params_bytes x) (all params_bytes (all_new_parts (take k ps))), length-append (all params_bytes x) (all params_bytes (all_new_parts ps)), bytes_few ps k)
-
-  -- no room for the parts of a right side
-  pub all_no_room : (k count v : ℕ) (rows₁ o₁ : List ℕ) (sorts : List ℕ) (base at : ℕ) (o₂ : List ℕ) → k < n.procs → Loads procs (proc_width * k) sorts base → at ≡ get_or starts k 0
-      → NoParts cells sorts at base v o₁ o₂ → AllLeft k count v rows₁ o₁ → NoneAll procs cells starts n rows w o o₂
-  all_no_room k count v rows₁ o₁ sorts base at o₂ h load ea put left H p room =
-      let before = left H p room in
-      let c = p.held.proc_count in
-      let proc = p.held.proc_at k h in
-      let q = get_or H.procs k no_process in
-      let right = every_at (RightProcess H) H.procs no_process k p.right (omega arith) in
-      let (rest, stand) = proc.right in
-      let loaded = load q.params proc.params proc.few in
-      let fit : Fit H n.procs base q.right = record { scoped = subst (λ (j : ℕ). Scoped n.procs j q.right) (sym loaded.0) proc.scoped; scope = _; sorted = right.sorted } in
-      let none = put H n.procs q.right rest p.few (ap (λ (j : ℕ). drop j cells) ea ∙ stand) fit in
-      let same : new_parts false (take base sorts) q.right ≡ parts_in H.procs k = ap (λ (Γ : List ℕ). new_parts false Γ q.right) loaded.1 in
-      let xs = all_new_parts (take k H.procs) in
-      let whole = parts_more H.procs k (omega arith) in
-      no_room_as (omega (arith, bytes_few H.procs (k + 1), ap (λ (l : List NewPart). length (all params_bytes l)) whole, ap length (all_append params_bytes xs (parts_in H.procs k)), ap (λ (l : List NewPart). length (all params_bytes (xs ++ l))) same, ap length (all_append params_bytes xs (new_parts false (take base sorts) q.right))))
-      (no_room_then before.puts none)
-
-  pub all_done : (k count v : ℕ) (rows₁ o₁ : List ℕ) → n.procs ≤ k → AllLeft k count v rows₁ o₁ → PutsAllTo procs cells starts n rows w o (record { count = count; w = v }) rows₁ o₁
+  pub all_done : (k count : ℕ) (v : Option ℕ) (rows₁ o₁ : List ℕ) → n.procs ≤ k → AllLeft k count v rows₁ o₁ → PutsAll procs cells starts n rows w o (record { count = count; w = v }) rows₁ o₁
   all_done k count v rows₁ o₁ h left H p room =
       let c = p.held.proc_count in
       subst (λ (l : List NewPart). AllPut cells w o l (record { count = count; w = v }) rows₁ o₁) (parts_whole H.procs k (omega arith)) (left H p room)

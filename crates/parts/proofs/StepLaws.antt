@@ -19,12 +19,12 @@ use Rattle.nodes.specs.Layout.{cell_limit, byte_limit, sum_kind, one_if, Item, e
 use Rattle.nodes.specs.Nodes.{kind_of, node_own, node_number, node_kids, own_small}
 use Rattle.nodes.specs.Scoped.{max_scope, Scoped}
 use Rattle.nodes.specs.Views.{Opened, Views}
-use Rattle.emit.specs.Putting.{PutsTo, NoRoom}
-use Rattle.emit.proofs.Putting.{puts_as, no_room_as}
+use Rattle.parts.specs.Behind.{PutsFrom}
+use Rattle.parts.proofs.BehindLaws.{from_as}
 use Rattle.parts.specs.declared.PartWalk.{PartWalk}
 use Rattle.parts.specs.declared.Noted.{Noted}
 use Rattle.parts.specs.Rows.{row_width, no_part, params_bytes, RowOf, RowsOf}
-use Rattle.parts.specs.Walking.{Fit, parts_of, Below, FitBelow, parts_below, Onward, StepsTo, NoStep, part_at, NotedPart, NotNoted, Enters}
+use Rattle.parts.specs.Walking.{Fit, parts_of, Below, FitBelow, parts_below, Onward, Steps, part_at, Noting, Enters}
 
 -- a part, or none
 unfoldable own_list : ℕ → NewPart → List NewPart
@@ -155,12 +155,12 @@ sum_small m n (sum x D p) e s = s.1.0
 sum_small m n (seq p q) e s = absurd (omega arith)
 sum_small m n (call k ds) e s = absurd (omega arith)
 
-module _ (cells sorts rows o : List ℕ) (s : PartWalk) (rows' o' : List ℕ) (r : Noted) (own : ℕ) (noting : NotedPart cells sorts rows o own s rows' o' r) where
+module _ (cells sorts rows o : List ℕ) (s : PartWalk) (rows' o' : List ℕ) (r : Noted) (own : ℕ) (noting : Noting cells sorts rows o own s rows' o' r) where
   -- what a node's own part left
   pub record OwnPart (xs : List NewPart) : Type 0 where
     pub count_is : r.count ≡ s.count + length xs
     pub rows_of : row_width * (s.count + length xs) ≤ length rows → RowsOf cells rows' s.count xs
-    pub puts : PutsTo (all params_bytes xs) s.w o r.w o'
+    pub puts : PutsFrom (all params_bytes xs) s.w o r.w o'
 
   own_noted : (m : ℕ) (b : Bool) (p : Proc) (rest : List ℕ) → drop s.at cells ≡ enc b p ++ rest → own ≡ node_own b p → Scoped m s.level p → s.at < cell_limit
       → OwnPart (own_list (node_own b p) (part_at sorts s.level p))
@@ -181,7 +181,7 @@ module _ (cells sorts rows o : List ℕ) (s : PartWalk) (rows' o' : List ℕ) (r
           record {
             count_is = noting.count_is one;
             rows_of = λ room. record { each = each (n.0 room) };
-            puts = puts_as s.w o r.w o' (sym (append-nil (params_bytes x))) n.1;
+            puts = from_as s.w o r.w o' (sym (append-nil (params_bytes x))) n.1;
           }
         where
           each : RowOf cells rows' s.count x → (j : ℕ) → j < 1 → RowOf cells rows' (s.count + j) (get_or (x ∷ []) j no_part)
@@ -189,52 +189,11 @@ module _ (cells sorts rows o : List ℕ) (s : PartWalk) (rows' o' : List ℕ) (r
           each h (suc j) l = absurd (omega arith)
       go (suc (suc k)) z = absurd (omega (arith, own_small b p))
 
--- a part that gets an equation is the first of its term's parts
-own_first : (b : Bool) (Γ : List ℕ) (p : Proc) → node_own b p ≡ 1 → (xs : List NewPart) × (new_parts b Γ p ≡ record { scope = Γ; term = p } ∷ xs)
-unfolding new_parts if_after node_own one_if
-own_first true Γ delta e = (_, refl)
-own_first true Γ (atom a ds) e = (_, refl)
-own_first true Γ (alt p q) e = (_, refl)
-own_first true Γ (cond c p q) e = (_, refl)
-own_first true Γ (sum x D p) e = (_, refl)
-own_first b Γ (seq p q) e = absurd (omega arith)
-own_first b Γ (call k ds) e = absurd (omega arith)
-own_first false Γ delta e = absurd (omega arith)
-own_first false Γ (atom a ds) e = absurd (omega arith)
-own_first false Γ (alt p q) e = absurd (omega arith)
-own_first false Γ (cond c p q) e = absurd (omega arith)
-own_first false Γ (sum x D p) e = absurd (omega arith)
-
-first_bytes : (sorts : List ℕ) (n : ℕ) (b : Bool) (p : Proc) (xs : List Item) (lower : List NewPart) → node_own b p ≡ 1 → length (params_bytes (part_at sorts n p)) ≤ length (all params_bytes (parts_of sorts n ((b, p) ∷ xs) ++ lower))
-unfolding parts_of all
-first_bytes sorts n b p xs lower e =
-    let (ys, is) = own_first b (take n sorts) p e in
-    let whole : (new_parts b (take n sorts) p ++ all (λ (x : Item). new_parts x.0 (take n sorts) x.1) xs) ++ lower ≡ part_at sorts n p ∷ ((ys ++ all (λ (x : Item). new_parts x.0 (take n sorts) x.1) xs) ++ lower) =
-    ap (λ (l : List NewPart). (l ++ all (λ (x : Item). new_parts x.0 (take n sorts) x.1) xs) ++ lower) is in
-    omega (arith, ap (λ (l : List NewPart). length (all params_bytes l)) whole, length-append (params_bytes (part_at sorts n p)) (all params_bytes ((ys ++ all (λ (x : Item). new_parts x.0 (take n sorts) x.1) xs) ++ lower)))
-
--- NO ROOM for a node's own part
-pub step_no_room : (cells left sorts rows o : List ℕ) (s : PartWalk) (rows' o' : List ℕ) (d : Node) → Views cells s.at d → s.at < length cells → 0 < s.need → NotNoted cells sorts rows o d.own s rows' o' → NoStep cells left sorts o s o'
-step_no_room cells left sorts rows o s rows' o' d views inside some noting H m base rest parts few a = go a.here a.many a.stand a.fit a.come
-  where
-    R : List ℕ
-    R = all encs a.below ++ rest
-
-    go : (xs : List Item) → s.need ≡ length xs → drop s.at cells ≡ encs xs ++ R → Every (λ (x : Item). Fit H m s.level x.1) xs → parts ≡ parts_of sorts s.level xs ++ parts_below sorts s.level a.below → NoRoom (all params_bytes parts) s.w o o'
-    go [] many st f e = absurd (omega arith)
-    go ((b, q) ∷ xs) many st f e =
-        let o'' = views b q xs R st in
-        let fits = every_first H m s.level b q xs f in
-        let own : node_own b q ≡ 1 = sym o''.own_is ∙ noting.own_is in
-        let at : drop s.at cells ≡ enc true q ++ (encs xs ++ R) = subst (λ (t : Bool). drop s.at cells ≡ enc t q ++ (encs xs ++ R)) (own_after b q own) (st ∙ first_item b q xs R) in
-        let none = (noting.notes m q (encs xs ++ R) at fits.0.scoped (omega (arith, few.cells_few))).1 in
-        no_room_as (omega (arith, ap (λ (l : List NewPart). length (all params_bytes l)) e, first_bytes sorts s.level b q xs (parts_below sorts s.level a.below) own)) none
-
 module _ (cells left sorts rows o : List ℕ) (s : PartWalk) (rows' o' : List ℕ) (r : Noted) (d : Node) (views : Views cells s.at d) (inside : s.at < length cells) (some : 0 < s.need)
-    (noting : NotedPart cells sorts rows o d.own s rows' o' r) where
+    (noting : Noting cells sorts rows o d.own s rows' o' r) where
   -- A NODE THAT IS NO SUM
   pub step_other : (d.kind ≡ sum_kind → max_scope ≤ s.level)
-      → StepsTo cells left sorts rows o s left sorts rows' o' (record { at = d.next; level = s.level; need = s.need - 1 + d.kids; count = r.count; w = r.w })
+      → Steps cells left sorts rows o s left sorts rows' o' (record { at = d.next; level = s.level; need = s.need - 1 + d.kids; count = r.count; w = r.w })
   step_other other H m base rest parts few a = go a.here a.many a.stand a.fit a.come
     where
       R : List ℕ
@@ -275,7 +234,7 @@ module _ (cells left sorts rows o : List ℕ) (s : PartWalk) (rows' o' : List �
 
   -- A SUM
   pub step_sum : (left' sorts' : List ℕ) → d.kind ≡ sum_kind → s.level < length left → s.level < length sorts → s.need ≤ length cells → Enters left sorts s.level s.need d.number left' sorts'
-      → StepsTo cells left sorts rows o s left' sorts' rows' o' (record { at = d.next; level = s.level + 1; need = 1; count = r.count; w = r.w })
+      → Steps cells left sorts rows o s left' sorts' rows' o' (record { at = d.next; level = s.level + 1; need = 1; count = r.count; w = r.w })
   unfolding kind_of
   step_sum left' sorts' is room_left room_sorts most enters H m base rest parts few a = go a.here a.many a.stand a.fit a.come
     where

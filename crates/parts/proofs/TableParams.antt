@@ -1,6 +1,6 @@
 -- The equations of a sheet's table: the written processes, and behind them the parts; and the lists of their parameters.
 use mathlib.Core.Path.{◌≡◌, refl, sym, ap, ap₂, ◌∙◌}
-use mathlib.Core.List.{List, [], ◌∷◌, ◌++◌, map}
+use mathlib.Core.List.{List, [], ◌∷◌, ◌++◌, map, append_assoc}
 use Prim.Native.Nat.{ℕ, zero, suc, ◌+◌, ◌*◌, ◌%◌, ◌<◌}
 use native.Mathlib.Nat.{mod-eq_of_lt}
 use native.Mathlib.Omega.{arith}
@@ -19,15 +19,16 @@ use Rattle.codec.specs.Cut.{concatenated_alike}
 use Rattle.nodes.specs.declared.Outline.{Outline}
 use Rattle.nodes.specs.Layout.{byte_limit}
 use Rattle.nodes.specs.Held.{proc_width}
-use Rattle.std.specs.Prelude.{Option, Some, None, ◌≤◌}
-use Rattle.emit.specs.Putting.{PutsTo, NoRoom}
+use Rattle.std.specs.Prelude.{Option, Some, ◌≤◌}
+use Rattle.emit.specs.Putting.{Puts}
 use Rattle.pcrl.specs.Limits.{max_equations}
 use Rattle.emit.specs.Bytes.{row_bytes}
-use Rattle.emit.proofs.Putting.{puts_then, puts_as, no_room_as, no_room_first, no_room_then}
+use Rattle.parts.proofs.BehindLaws.{from_as, from_then}
 use Rattle.emit.proofs.Signed.{concatenated_all, row_is}
 use Rattle.parts.specs.declared.Noted.{Noted}
 use Rattle.parts.specs.Rows.{no_part, part_params, params_bytes}
-use Rattle.parts.specs.Sheets.{Placed, PutsAll, all_params, PutsParams, NoParams}
+use Rattle.parts.specs.Behind.{PutsFrom}
+use Rattle.parts.specs.Sheets.{Placed, PutsAll, front_bytes, all_params, PutsParams}
 
 -- ---- lists by their places
 module _ {A : Type 0} where
@@ -101,9 +102,6 @@ unfolding all
 all_map w g [] = refl
 all_map w g (a ∷ l) = ap (λ (m : List ℕ). w (g a) ++ m) (all_map w g l)
 
-no_room_of : {e d : List ℕ} {w : ℕ} {o p : List ℕ} → e ≡ d → NoRoom e w o p → NoRoom d w o p
-no_room_of z h = no_room_as (omega (arith, ap length z)) h
-
 -- what is put: the count, the rows of the written processes, the parameters of the parts
 lists_are : (procs cells starts : List ℕ) (n : Outline) (total b : ℕ) (H : Sheet) → Placed H procs cells starts n → total ≡ length H.procs + length (all_new_parts H.procs) → total ≤ max_equations → b ≡ total % byte_limit
     → (b ∷ []) ++ (concatenated n.procs (λ k. row_bytes procs (proc_width * k)) ++ all params_bytes (all_new_parts H.procs)) ≡ encode_list encode_numbers (params_of (table_of H).equations)
@@ -123,19 +121,11 @@ lists_are procs cells starts n total b H placed et few eb =
     ap₂ (λ (y : ℕ) (l : List ℕ). (y ∷ []) ++ l) byte (ap₂ (λ (l m : List ℕ). l ++ m) rows_are parts_are ∙ sym (all_append encode_numbers (map (λ (y : Process). y.params) H.procs) (map part_params parts)))
     ∙ ap (encode_list encode_numbers) (sym (params_are H))
 
-module _ (procs cells starts : List ℕ) (n : Outline) (total b : ℕ) (rows : List ℕ) (w : ℕ) (o : List ℕ) (v : ℕ) (p : List ℕ) (eb : b ≡ total % byte_limit) where
-  pub params_put : (x : ℕ) (q : List ℕ) (r : Option Noted) (rows' o' : List ℕ) → PutsTo (b ∷ []) w o v p → PutsTo (concatenated n.procs (λ k. row_bytes procs (proc_width * k))) v p x q → PutsAll procs cells starts n rows x q r rows' o'
-      → PutsParams procs cells starts n total rows w o r rows' o'
-  params_put x q r rows' o' f g h = go r h
-    where
-      go : (r : Option Noted) → PutsAll procs cells starts n rows x q r rows' o' → PutsParams procs cells starts n total rows w o r rows' o'
-      go None h = λ H placed et few room. no_room_of (lists_are procs cells starts n total b H placed et few eb) (no_room_then f (no_room_then g (h H placed (omega arith))))
-      go (Some y) h = λ H placed et few room.
-          let rest = h H placed (omega arith) in
-          record { count_is = rest.count_is; rows_of = rest.rows_of; puts = puts_as w o y.w o' (lists_are procs cells starts n total b H placed et few eb) (puts_then f (puts_then g rest.puts)) }
-
-  pub params_count : NoRoom (b ∷ []) w o p → NoParams procs cells starts n total rows w o p
-  params_count h H placed et few room = no_room_of (lists_are procs cells starts n total b H placed et few eb) (no_room_first _ h)
-
-  pub params_rows : (q : List ℕ) → PutsTo (b ∷ []) w o v p → NoRoom (concatenated n.procs (λ k. row_bytes procs (proc_width * k))) v p q → NoParams procs cells starts n total rows w o q
-  params_rows q f h H placed et few room = no_room_of (lists_are procs cells starts n total b H placed et few eb) (no_room_then f (no_room_first _ h))
+pub params_put : (procs cells starts : List ℕ) (n : Outline) (total : ℕ) (rows : List ℕ) (w : ℕ) (o : List ℕ) (x : Option ℕ) (q : List ℕ) (r : Noted) (rows' o' : List ℕ)
+    → Puts (front_bytes procs n.procs total) w o x q → PutsAll procs cells starts n rows x q r rows' o' → PutsParams procs cells starts n total rows w o r rows' o'
+params_put procs cells starts n total rows w o x q r rows' o' f h H placed et few room =
+    let rest = h H placed (omega arith) in
+    let rows_at = concatenated n.procs (λ k. row_bytes procs (proc_width * k)) in
+    let first : PutsFrom (front_bytes procs n.procs total) (Some w) o x q = f in
+    let whole = append_assoc (total % byte_limit ∷ []) rows_at (all params_bytes (all_new_parts H.procs)) ∙ lists_are procs cells starts n total (total % byte_limit) H placed et few refl in
+    record { count_is = rest.count_is; rows_of = rest.rows_of; puts = from_as (Some w) o r.w o' whole (from_then (front_bytes procs n.procs total) (all params_bytes (all_new_parts H.procs)) o q o' (Some w) x r.w first rest.puts) }

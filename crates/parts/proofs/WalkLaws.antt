@@ -14,11 +14,12 @@ use Rattle.laws.specs.Written.{all_append}
 use Rattle.nodes.specs.Layout.{enc}
 use Rattle.nodes.specs.Scoped.{max_scope}
 use Rattle.marking.specs.Marks.{bits}
-use Rattle.emit.specs.Putting.{PutsTo, NoRoom}
-use Rattle.emit.proofs.Putting.{puts_none, puts_then, puts_as, no_room_as, no_room_then}
+use Rattle.std.specs.Prelude.{Option}
+use Rattle.parts.specs.Behind.{PutsFrom}
+use Rattle.parts.proofs.BehindLaws.{from_none, from_then, from_as}
 use Rattle.parts.specs.declared.PartWalk.{PartWalk}
 use Rattle.parts.specs.Rows.{row_width, no_part, params_bytes, RowOf, RowsKept, RowsOf}
-use Rattle.parts.specs.Walking.{Fit, Ahead, Few, Onward, StepsTo, NoStep, Rises, PartsPut, PutsPartsTo, NoParts}
+use Rattle.parts.specs.Walking.{Fit, Ahead, Few, Onward, Steps, Rises, PartsPut, PutsParts}
 use Rattle.parts.proofs.AheadLaws.{ahead_start, ahead_end, ahead_many, ahead_done}
 
 -- a row that stays
@@ -63,12 +64,12 @@ walks_none cells base left sorts rows o s H m rest parts few a = record {
   ahead = a;
   count_is = omega arith;
   rows_of = λ room. record { each = λ j h. absurd (omega arith) };
-  puts = puts_none s.w o;
+  puts = from_none s.w o;
 }
 
 module _ (cells : List ℕ) (base : ℕ) (left sorts rows o : List ℕ) (s : PartWalk) (left₁ sorts₁ rows₁ o₁ : List ℕ) (s₁ : PartWalk) (w : Walks cells base left sorts rows o s left₁ sorts₁ rows₁ o₁ s₁) where
   -- a step more, and up to a level where something is left
-  pub walks_more : (left₂ sorts₂ rows₂ o₂ : List ℕ) (s₂ s₃ : PartWalk) → length rows₁ ≡ length rows → StepsTo cells left₁ sorts₁ rows₁ o₁ s₁ left₂ sorts₂ rows₂ o₂ s₂ → RowsKept rows₁ s₁.count rows₂ → Rises left₂ base s₂ s₃
+  pub walks_more : (left₂ sorts₂ rows₂ o₂ : List ℕ) (s₂ s₃ : PartWalk) → length rows₁ ≡ length rows → Steps cells left₁ sorts₁ rows₁ o₁ s₁ left₂ sorts₂ rows₂ o₂ s₂ → RowsKept rows₁ s₁.count rows₂ → Rises left₂ base s₂ s₃
       → s₃.count ≡ s₂.count → s₃.w ≡ s₂.w → Walks cells base left sorts rows o s left₂ sorts₂ rows₂ o₂ s₃
   walks_more left₂ sorts₂ rows₂ o₂ s₂ s₃ size step kept rise ec ew H m rest parts few a =
       let f = w H m rest parts few a in
@@ -84,35 +85,24 @@ module _ (cells : List ℕ) (base : ℕ) (left sorts rows o : List ℕ) (s : Par
         count_is = omega arith;
         rows_of = λ room. rows_append cells rows₁ rows₂ s.count s₁.count f.own g.own fc kept (f.rows_of (omega arith)) (g.rows_of (omega arith));
         puts =
-            subst (λ (v : ℕ). PutsTo (all params_bytes (f.own ++ g.own)) s.w o v o₂) (sym ew)
-            (puts_as s.w o s₂.w o₂ (sym (all_append params_bytes f.own g.own)) (puts_then f.puts g.puts));
+            subst (λ (v : Option ℕ). PutsFrom (all params_bytes (f.own ++ g.own)) s.w o v o₂) (sym ew)
+            (from_as s.w o s₂.w o₂ (sym (all_append params_bytes f.own g.own)) (from_then (all params_bytes f.own) (all params_bytes g.own) o o₁ o₂ s.w s₁.w s₂.w f.puts g.puts));
       }
 
-  -- no room for the next step's
-  walks_no_room : (o₂ : List ℕ) → NoStep cells left₁ sorts₁ o₁ s₁ o₂ → (H : Sheet) (m : ℕ) (rest : List ℕ) (parts : List NewPart) → Few H cells → Ahead cells left sorts H m base rest s parts → NoRoom (all params_bytes parts) s.w o o₂
-  walks_no_room o₂ step H m rest parts few a =
-      let f = w H m rest parts few a in
-      let none = step H m base rest f.come few f.ahead in
-      no_room_as (omega (arith, ap (λ (l : List NewPart). length (all params_bytes l)) f.whole, ap length (all_append params_bytes f.own f.come))) (no_room_then f.puts none)
-
 -- THE PARTS OF A RIGHT SIDE
-module _ (cells : List ℕ) (at base k w : ℕ) (left sorts rows o left₁ sorts₁ rows₁ o₁ : List ℕ) (s₁ : PartWalk)
+module _ (cells : List ℕ) (at base k : ℕ) (w : Option ℕ) (left sorts rows o left₁ sorts₁ rows₁ o₁ : List ℕ) (s₁ : PartWalk)
     (walks : Walks cells base left sorts rows o (record { at = at; level = base; need = 1; count = k; w = w }) left₁ sorts₁ rows₁ o₁ s₁) where
   gone : (H : Sheet) (m : ℕ) (p : Proc) (rest : List ℕ) → Few H cells → drop at cells ≡ enc false p ++ rest → Fit H m base p
       → Onward cells left sorts rows o (record { at = at; level = base; need = 1; count = k; w = w }) H m base rest (new_parts false (take base sorts) p) left₁ sorts₁ rows₁ o₁ s₁
   gone H m p rest few e f = walks H m rest (new_parts false (take base sorts) p) few (ahead_start cells left sorts H m base rest at k w p e f)
 
-  pub walk_end : 0 < s₁.need → length cells ≤ s₁.at → PutsPartsTo cells sorts rows at base k w o s₁ rows₁ o₁
+  pub walk_end : 0 < s₁.need → length cells ≤ s₁.at → PutsParts cells sorts rows at base k w o s₁ rows₁ o₁
   walk_end n h H m p rest few e f = let g = gone H m p rest few e f in absurd (ahead_end cells left₁ sorts₁ H m base rest s₁ g.come g.ahead h n)
 
-  pub walk_many : length cells < s₁.need → PutsPartsTo cells sorts rows at base k w o s₁ rows₁ o₁
+  pub walk_many : length cells < s₁.need → PutsParts cells sorts rows at base k w o s₁ rows₁ o₁
   walk_many h H m p rest few e f = let g = gone H m p rest few e f in absurd (ahead_many cells left₁ sorts₁ H m base rest s₁ g.come g.ahead h)
 
-  pub walk_no_room : (o₂ : List ℕ) → NoStep cells left₁ sorts₁ o₁ s₁ o₂ → NoParts cells sorts at base w o o₂
-  walk_no_room o₂ step H m p rest few e f =
-      walks_no_room cells base left sorts rows o (record { at = at; level = base; need = 1; count = k; w = w }) left₁ sorts₁ rows₁ o₁ s₁ walks o₂ step H m rest (new_parts false (take base sorts) p) few (ahead_start cells left sorts H m base rest at k w p e f)
-
-  pub walk_done : s₁.need ≡ 0 → s₁.level ≤ base → PutsPartsTo cells sorts rows at base k w o s₁ rows₁ o₁
+  pub walk_done : s₁.need ≡ 0 → s₁.level ≤ base → PutsParts cells sorts rows at base k w o s₁ rows₁ o₁
   walk_done z l H m p rest few e f =
       let g = gone H m p rest few e f in
       let parts = new_parts false (take base sorts) p in

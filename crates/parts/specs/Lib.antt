@@ -1,3 +1,4 @@
 pub mod Rows
+pub mod Behind
 pub mod Walking
 pub mod Sheets

@@ -1,5 +1,5 @@
 -- A walk over a right side, node by node. Sums open a level: what is left of the levels below stands in an array.
-use Rattle.std.specs.Prelude.{◌≡◌, List, Option, Some, None, MatchOption, [], ◌∷◌, ◌++◌, true, false, ℕ, ◌+◌, ◌-◌, ◌*◌, ◌%◌, ◌≤◌, ◌<◌, length, take, drop, get_or, set}
+use Rattle.std.specs.Prelude.{◌≡◌, List, Option, [], ◌∷◌, ◌++◌, true, false, ℕ, ◌+◌, ◌-◌, ◌*◌, ◌%◌, ◌≤◌, ◌<◌, length, take, drop, get_or, set}
 use Rattle.pcrl.specs.Tests.{Every}
 use Rattle.pcrl.specs.Reader.{all}
 use Rattle.pcrl.specs.Sheet.{Proc, Sheet}
@@ -7,9 +7,9 @@ use Rattle.pcrl.specs.Sorts.{Scope, Sorted}
 use Rattle.pcrl.specs.Parts.{NewPart, new_parts}
 use Rattle.nodes.specs.Layout.{cell_limit, byte_limit, Item, enc, encs}
 use Rattle.nodes.specs.Scoped.{Scoped}
-use Rattle.emit.specs.Putting.{PutsTo, NoRoom, Puts}
 use Rattle.parts.specs.declared.PartWalk.{PartWalk}
 use Rattle.parts.specs.declared.Noted.{Noted}
+use Rattle.parts.specs.Behind.{PutsFrom}
 use Rattle.parts.specs.Rows.{row_width, params_bytes, RowOf, RowsKept, RowsOf}
 
 -- a term of a sheet that is rightly sorted, where n variables are in scope
@@ -59,18 +59,11 @@ pub record Onward (cells left sorts rows o : List ℕ) (s : PartWalk) (H : Sheet
   pub ahead : Ahead cells left' sorts' H m base rest s' come
   pub count_is : s'.count ≡ s.count + length own
   pub rows_of : row_width * (s.count + length own) ≤ length rows → RowsOf cells rows' s.count own
-  pub puts : PutsTo (all params_bytes own) s.w o s'.w o'
+  pub puts : PutsFrom (all params_bytes own) s.w o s'.w o'
 
-abbrev pub StepsTo : (cells left sorts rows o : List ℕ) → PartWalk → (left' sorts' rows' o' : List ℕ) → PartWalk → Type 0
-StepsTo cells left sorts rows o s left' sorts' rows' o' s' =
+abbrev pub Steps : (cells left sorts rows o : List ℕ) → PartWalk → (left' sorts' rows' o' : List ℕ) → PartWalk → Type 0
+Steps cells left sorts rows o s left' sorts' rows' o' s' =
     (H : Sheet) (m base : ℕ) (rest : List ℕ) (parts : List NewPart) → Few H cells → Ahead cells left sorts H m base rest s parts → Onward cells left sorts rows o s H m base rest parts left' sorts' rows' o' s'
-
--- no room for the parts that are to come
-abbrev pub NoStep : (cells left sorts o : List ℕ) → PartWalk → (o' : List ℕ) → Type 0
-NoStep cells left sorts o s o' = (H : Sheet) (m base : ℕ) (rest : List ℕ) (parts : List NewPart) → Few H cells → Ahead cells left sorts H m base rest s parts → NoRoom (all params_bytes parts) s.w o o'
-
-abbrev pub Steps : (cells left sorts rows o : List ℕ) → PartWalk → (left' sorts' rows' o' : List ℕ) → Option PartWalk → Type 0
-Steps cells left sorts rows o s left' sorts' rows' o' r = MatchOption r (NoStep cells left sorts o s o') (λ s'. StepsTo cells left sorts rows o s left' sorts' rows' o' s')
 
 -- up to a level where something is left
 abbrev pub Rises : (left : List ℕ) → ℕ → PartWalk → PartWalk → Type 0
@@ -78,23 +71,15 @@ Rises left base s s' =
     (cells sorts : List ℕ) (H : Sheet) (m : ℕ) (rest : List ℕ) (parts : List NewPart) → Ahead cells left sorts H m base rest s parts → Ahead cells left sorts H m base rest s' parts
 
 -- the parts of the right side at `at`: their rows from k on, and the bytes of their parameters behind w
-pub record PartsPut (cells rows : List ℕ) (k w : ℕ) (o : List ℕ) (parts : List NewPart) (k' w' : ℕ) (rows' o' : List ℕ) : Type 0 where
+pub record PartsPut (cells rows : List ℕ) (k : ℕ) (w : Option ℕ) (o : List ℕ) (parts : List NewPart) (k' : ℕ) (w' : Option ℕ) (rows' o' : List ℕ) : Type 0 where
   pub count_is : k' ≡ k + length parts
   pub rows_of : row_width * (k + length parts) ≤ length rows → RowsOf cells rows' k parts
-  pub puts : PutsTo (all params_bytes parts) w o w' o'
+  pub puts : PutsFrom (all params_bytes parts) w o w' o'
 
-abbrev pub PutsPartsTo : (cells sorts rows : List ℕ) → (at base k w : ℕ) (o : List ℕ) → PartWalk → (rows' o' : List ℕ) → Type 0
-PutsPartsTo cells sorts rows at base k w o s rows' o' =
+abbrev pub PutsParts : (cells sorts rows : List ℕ) → (at base k : ℕ) → Option ℕ → (o : List ℕ) → PartWalk → (rows' o' : List ℕ) → Type 0
+PutsParts cells sorts rows at base k w o s rows' o' =
     (H : Sheet) (m : ℕ) (p : Proc) (rest : List ℕ) → Few H cells → drop at cells ≡ enc false p ++ rest → Fit H m base p
     → PartsPut cells rows k w o (new_parts false (take base sorts) p) s.count s.w rows' o'
-
--- there was no room for their bytes
-abbrev pub NoParts : (cells sorts : List ℕ) → (at base w : ℕ) (o o' : List ℕ) → Type 0
-NoParts cells sorts at base w o o' =
-    (H : Sheet) (m : ℕ) (p : Proc) (rest : List ℕ) → Few H cells → drop at cells ≡ enc false p ++ rest → Fit H m base p → NoRoom (all params_bytes (new_parts false (take base sorts) p)) w o o'
-
-abbrev pub PutsParts : (cells sorts rows : List ℕ) → (at base k w : ℕ) (o : List ℕ) → Option PartWalk → (rows' o' : List ℕ) → Type 0
-PutsParts cells sorts rows at base k w o r rows' o' = MatchOption r (NoParts cells sorts at base w o o') (λ s. PutsPartsTo cells sorts rows at base k w o s rows' o')
 
 -- ---- the parts of a step
 -- the part that a term is, where the first n of these sorts are in scope
@@ -102,27 +87,18 @@ abbrev pub part_at : List ℕ → ℕ → Proc → NewPart
 part_at sorts n p = record { scope = take n sorts; term = p }
 
 -- a part's row and the bytes of its parameters, for every term that stands at a place after a first part
-abbrev pub Notes : (cells sorts rows o : List ℕ) → (at n k w : ℕ) (rows' o' : List ℕ) → Option ℕ → Type 0
+abbrev pub Notes : (cells sorts rows o : List ℕ) → (at n k : ℕ) → Option ℕ → (rows' o' : List ℕ) → Option ℕ → Type 0
 Notes cells sorts rows o at n k w rows' o' w' =
     (m : ℕ) (p : Proc) (rest : List ℕ) → drop at cells ≡ enc true p ++ rest → Scoped m n p → at < cell_limit
-    → (row_width * (k + 1) ≤ length rows → RowOf cells rows' k (part_at sorts n p)) × Puts (params_bytes (part_at sorts n p)) w o w' o'
+    → (row_width * (k + 1) ≤ length rows → RowOf cells rows' k (part_at sorts n p)) × PutsFrom (params_bytes (part_at sorts n p)) w o w' o'
 
 -- a node that gets a new equation is noted, another is not
-pub record NotedPart (cells sorts rows o : List ℕ) (own : ℕ) (s : PartWalk) (rows' o' : List ℕ) (r : Noted) : Type 0 where
+pub record Noting (cells sorts rows o : List ℕ) (own : ℕ) (s : PartWalk) (rows' o' : List ℕ) (r : Noted) : Type 0 where
   pub kept : RowsKept rows s.count rows'
   pub count_is : own ≡ 1 → r.count ≡ s.count + 1
-  pub notes : own ≡ 1 → Notes cells sorts rows o s.at s.level s.count s.w rows' o' (Some r.w)
+  pub notes : own ≡ 1 → Notes cells sorts rows o s.at s.level s.count s.w rows' o' r.w
   pub count_same : (own ≡ 1 → ⊥) → r.count ≡ s.count
-  pub nothing : (own ≡ 1 → ⊥) → PutsTo [] s.w o r.w o'
-
--- there was no room for what is noted of it
-pub record NotNoted (cells sorts rows o : List ℕ) (own : ℕ) (s : PartWalk) (rows' o' : List ℕ) : Type 0 where
-  pub kept : RowsKept rows s.count rows'
-  pub own_is : own ≡ 1
-  pub notes : Notes cells sorts rows o s.at s.level s.count s.w rows' o' None
-
-abbrev pub Noting : (cells sorts rows o : List ℕ) → ℕ → PartWalk → (rows' o' : List ℕ) → Option Noted → Type 0
-Noting cells sorts rows o own s rows' o' r = MatchOption r (NotNoted cells sorts rows o own s rows' o') (λ n. NotedPart cells sorts rows o own s rows' o' n)
+  pub nothing : (own ≡ 1 → ⊥) → PutsFrom [] s.w o r.w o'
 
 -- a sum opens a level
 pub record Enters (left sorts : List ℕ) (n need D : ℕ) (left' sorts' : List ℕ) : Type 0 where

@@ -1,5 +1,5 @@
 // The parts of a right side, in the order of their first characters: the marked nodes, in the order of the cells.
-ghost use Rattle.std.specs.Prelude.{◌≡◌, ◌+◌, ◌≤◌, ◌<◌, length, IfSome};
+ghost use Rattle.std.specs.Prelude.{◌≡◌, ◌+◌, ◌≤◌, ◌<◌, length};
 ghost use Rattle.nodes.specs.Layout.{cell_limit};
 ghost use Rattle.nodes.specs.Scoped.{max_scope};
 ghost use Rattle.parts.specs.Rows.{RowsKept};
@@ -38,7 +38,7 @@ fn note(
     rows: &mut [u32],
     k: usize,
     out: &mut [u8],
-    w: usize,
+    w: Option<usize>,
 ) -> Option<usize>
     requires { (n ≤ max_scope) × (length sorts.now ≡ max_scope) }
     ensures rows_kept { RowsKept rows.old k rows.new }
@@ -46,7 +46,10 @@ fn note(
 {
     let m = marks(cells, at, n);
     put_part_row(rows, k, at, n, m);
-    put_params(m, sorts, out, w)
+    match w {
+        Some(v) => put_params(m, sorts, out, v),
+        None => None,
+    }
 }
 
 // The node's part, if it gets a new equation.
@@ -57,22 +60,22 @@ fn own_part(
     sorts: &[u8],
     rows: &mut [u32],
     out: &mut [u8],
-) -> Option<Noted>
+) -> Noted
     requires { (s.level ≤ max_scope) × (s.count < cell_limit + length cells.now) × (length sorts.now ≡ max_scope) }
-    ensures count_le_count { IfSome result (λ r. (s.count ≤ r.count) × (r.count ≤ s.count + 1)) }
+    ensures count_le_count { (s.count ≤ result.count) × (result.count ≤ s.count + 1) }
     ensures noting { Noting cells.now sorts.now rows.old out.old own s rows.new out.new result }
 {
     if own == 1 {
-        let w = note(cells, s.at, s.level, sorts, rows, s.count, out, s.w)?;
-        return Some(Noted {
+        let w = note(cells, s.at, s.level, sorts, rows, s.count, out, s.w);
+        return Noted {
             count: s.count + 1,
             w,
-        });
+        };
     }
-    Some(Noted {
+    Noted {
         count: s.count,
         w: s.w,
-    })
+    }
 }
 
 // A sum: what is left at this level is kept, and its variable's sort.
@@ -92,34 +95,34 @@ fn pass(
     rows: &mut [u32],
     out: &mut [u8],
     s: PartWalk,
-) -> Option<PartWalk>
+) -> PartWalk
     requires { (s.at < length cells.now) × (0 < s.need) × (s.need ≤ length cells.now) × (s.level ≤ max_scope) × (s.count < cell_limit + length cells.now) × (length left.old ≡ max_scope) × (length sorts.old ≡ max_scope) }
-    ensures at_lt_at { IfSome result (λ r. (s.at < r.at) × (r.level ≤ max_scope) × (s.count ≤ r.count) × (r.count ≤ s.count + 1)) }
+    ensures at_lt_at { (s.at < result.at) × (result.level ≤ max_scope) × (s.count ≤ result.count) × (result.count ≤ s.count + 1) }
     ensures rows_kept { RowsKept rows.old s.count rows.new }
     ensures steps { Steps cells.now left.old sorts.old rows.old out.old s left.new sorts.new rows.new out.new result }
 {
     let d = node_at(cells, s.at);
-    let t = own_part(cells, d.own, s, sorts, rows, out)?;
+    let t = own_part(cells, d.own, s, sorts, rows, out);
     if d.kind == SUM {
         let n = s.level;
         if n < MAX_SCOPE {
             enter(left, sorts, n, s.need, d.number);
-            return Some(PartWalk {
+            return PartWalk {
                 at: d.next,
                 level: n + 1,
                 need: 1,
                 count: t.count,
                 w: t.w,
-            });
+            };
         }
     }
-    Some(PartWalk {
+    PartWalk {
         at: d.next,
         level: s.level,
         need: s.need - 1 + d.kids,
         count: t.count,
         w: t.w,
-    })
+    }
 }
 
 // The parts of the right side at `at`, where the first `base` of these sorts are in scope: rows from k on, parameters behind w.
@@ -132,8 +135,8 @@ pub fn put_parts(
     rows: &mut [u32],
     k: usize,
     out: &mut [u8],
-    w: usize,
-) -> Option<PartWalk>
+    w: Option<usize>,
+) -> PartWalk
     requires { (base ≤ max_scope) × (k < cell_limit) × (length left.old ≡ max_scope) × (length sorts.old ≡ max_scope) }
     ensures rows_kept { RowsKept rows.old k rows.new }
     ensures puts_parts { PutsParts cells.now sorts.old rows.old at base k w out.old result rows.new out.new }
@@ -147,14 +150,14 @@ pub fn put_parts(
     };
     while s.need > 0 {
         if s.at >= cells.len() {
-            return Some(s);
+            return s;
         }
         // more terms than cells: no term
         if s.need > cells.len() {
-            return Some(s);
+            return s;
         }
-        let t = pass(cells, left, sorts, rows, out, s)?;
+        let t = pass(cells, left, sorts, rows, out, s);
         s = rise(left, base, t);
     }
-    Some(s)
+    s
 }

@@ -7,7 +7,7 @@ ghost use Rattle.nodes.specs.Held.{proc_width};
 ghost use Rattle.nodes.specs.Scoped.{max_scope};
 ghost use Rattle.emit.specs.Putting.{Puts};
 ghost use Rattle.emit.specs.Bytes.{row_bytes};
-ghost use Rattle.parts.specs.Sheets.{Loads, CountsParts, PutsAll, PutsParams};
+ghost use Rattle.parts.specs.Sheets.{Loads, CountsParts, PutsAll, front_bytes, PutsParams};
 
 use crate::Noted;
 use crate::right_side::put_parts;
@@ -59,6 +59,15 @@ pub fn put_written(procs: &[u8], n: usize, out: &mut [u8], w: usize) -> Option<u
     Some(v)
 }
 
+// The count of equations, and the rows of the written processes.
+fn put_front(procs: &[u8], n: usize, total: usize, out: &mut [u8], w: usize) -> Option<usize>
+    requires { n ≤ max_processes }
+    ensures { Puts (front_bytes procs.now n total) w out.old result out.new }
+{
+    let v = put(out, w, low(total))?;
+    put_written(procs, n, out, v)
+}
+
 // The parts of all right sides.
 pub fn put_all_parts(
     procs: &[u8],
@@ -67,8 +76,8 @@ pub fn put_all_parts(
     n: Outline,
     rows: &mut [u32],
     out: &mut [u8],
-    w: usize,
-) -> Option<Noted>
+    w: Option<usize>,
+) -> Noted
     requires { (n.procs ≤ max_processes) × (length rows.old < cell_limit) }
     ensures { PutsAll procs.now cells.now starts.now n rows.old w out.old result rows.new out.new }
 {
@@ -79,7 +88,7 @@ pub fn put_all_parts(
     for k in 0..n.procs {
         // more parts than rows
         if count >= CELL_LIMIT {
-            return Some(Noted { count, w: v });
+            return Noted { count, w: v };
         }
         let base = load(procs, PROC_ROW * k, &mut sorts);
         let s = put_parts(
@@ -92,11 +101,11 @@ pub fn put_all_parts(
             count,
             out,
             v,
-        )?;
+        );
         count = s.count;
         v = s.w;
     }
-    Some(Noted { count, w: v })
+    Noted { count, w: v }
 }
 
 // "count of equations, each parameter count, sorts"
@@ -109,11 +118,10 @@ pub fn put_param_lists(
     rows: &mut [u32],
     out: &mut [u8],
     w: usize,
-) -> Option<Noted>
+) -> Noted
     requires { (n.procs ≤ max_processes) × (length rows.old < cell_limit) }
     ensures { PutsParams procs.now cells.now starts.now n total rows.old w out.old result rows.new out.new }
 {
-    let v = put(out, w, low(total))?;
-    let x = put_written(procs, n.procs, out, v)?;
+    let x = put_front(procs, n.procs, total, out, w);
     put_all_parts(procs, cells, starts, n, rows, out, x)
 }

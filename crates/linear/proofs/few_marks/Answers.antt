@@ -1,6 +1,6 @@
 -- None of the first k rows has too many marks.
 use mathlib.Core.Path.{◌∙◌, ap}
-use Prim.Native.Nat.{ℕ, ◌-◌}
+use Prim.Native.Nat.{ℕ}
 use native.Mathlib.Omega.{arith}
 use Rattle.pcrl.specs.Parts.{count}
 use Rattle.marking.specs.Marks.{bits}

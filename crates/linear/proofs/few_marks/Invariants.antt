@@ -1,4 +1,4 @@
-use Prim.Native.Nat.{◌-◌, ◌≤◌}
+use Prim.Native.Nat.{◌≤◌}
 use Rattle.linear.specs.Within.{FewMarks}
 use Rattle.linear.proofs.few_marks.Given as goal
 

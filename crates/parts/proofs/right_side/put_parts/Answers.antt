@@ -2,7 +2,7 @@
 use mathlib.Core.Path.{refl, ◌∙◌}
 use native.Mathlib.Omega.{arith}
 use Rattle.parts.proofs.RowLaws.{kept_none, kept_then}
-use Rattle.parts.proofs.WalkLaws.{walks_none, walks_more, walk_end, walk_many, walk_no_room, walk_done}
+use Rattle.parts.proofs.WalkLaws.{walks_none, walks_more, walk_end, walk_many, walk_done}
 use Rattle.parts.proofs.right_side.put_parts.Goals as goal
 
 pub loop-s-init : goal.loop-s-init
@@ -46,39 +46,29 @@ returns-then-s-cells-2 c =
     let l = c.loop-s in
     record { rows_kept = l.invariant.1; puts_parts = walk_many a.cells.now a.at a.base a.k a.w a.left.now a.sorts.now a.rows.now a.out.now l.left l.sorts l.rows l.out l.s l.invariant.2 (omega arith) }
 
-pub pass-requires : goal.pass-requires
-pass-requires c =
+pub pass-t-requires : goal.pass-t-requires
+pass-t-requires c =
     let l = c.loop-s in
     let i = l.invariant.0 in
     let p = c.requires in
     (omega arith, omega arith, omega arith, i.4, omega arith, i.0 ∙ p.2, i.1 ∙ p.3)
 
-pub returns-in_err-t : goal.returns-in_err-t
-returns-in_err-t c =
-    let a = c.args in
-    let l = c.loop-s in
-    rw c.from_residual.ensures
-    (record {
-      rows_kept = kept_then a.rows.now l.rows c.pass.new.rows a.k l.s.count l.invariant.0.5 l.invariant.1 c.in_err-t.ensures.rows_kept;
-      puts_parts = walk_no_room a.cells.now a.at a.base a.k a.w a.left.now a.sorts.now a.rows.now a.out.now l.left l.sorts l.rows l.out l.s l.invariant.2 c.pass.new.out c.in_err-t.ensures.steps;
-    })
-
 pub loop-s-smaller : goal.loop-s-smaller
-loop-s-smaller c = let e = c.in_ok-t.ensures.at_lt_at in let r = c.rise-s.ensures.at_value in omega arith
+loop-s-smaller c = let e = c.pass-t.ensures.at_lt_at in let r = c.rise-s.ensures.at_value in omega arith
 
 pub loop-s-preserved : goal.loop-s-preserved
 loop-s-preserved c =
     let a = c.args in
     let l = c.loop-s in
     let i = l.invariant.0 in
-    let t = c.in_ok-t in
+    let t = c.pass-t in
     let u = c.rise-s in
     let e = t.ensures.at_lt_at in
     let r = u.ensures.at_value in (
-      (c.pass.auto.left ∙ i.0, c.pass.auto.sorts ∙ i.1, c.pass.auto.rows ∙ i.2, c.pass.auto.out ∙ i.3, omega arith, omega arith, omega arith, r.4),
-      kept_then a.rows.now l.rows c.pass.new.rows a.k l.s.count i.5 l.invariant.1 t.ensures.rows_kept,
+      (t.auto.left ∙ i.0, t.auto.sorts ∙ i.1, t.auto.rows ∙ i.2, t.auto.out ∙ i.3, omega arith, omega arith, omega arith, r.4),
+      kept_then a.rows.now l.rows t.new.rows a.k l.s.count i.5 l.invariant.1 t.ensures.rows_kept,
       walks_more a.cells.now a.base a.left.now a.sorts.now a.rows.now a.out.now (record { at = a.at; level = a.base; need = 1; count = a.k; w = a.w }) l.left l.sorts l.rows l.out l.s l.invariant.2
-          c.pass.new.left c.pass.new.sorts c.pass.new.rows c.pass.new.out t.t u.result i.2 t.ensures.steps t.ensures.rows_kept u.ensures.rises r.2 r.3,
+          t.new.left t.new.sorts t.new.rows t.new.out t.result u.result i.2 t.ensures.steps t.ensures.rows_kept u.ensures.rises r.2 r.3,
     )
 
 pub shape_of-left : goal.shape_of-left

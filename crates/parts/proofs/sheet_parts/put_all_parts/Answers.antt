@@ -1,7 +1,7 @@
 -- The parts of the first k right sides have their rows and their bytes.
 use mathlib.Core.Path.{refl, sym, ◌∙◌}
 use native.Mathlib.Omega.{arith}
-use Rattle.parts.proofs.SheetParts.{all_start, all_far, all_more, all_no_room, all_done}
+use Rattle.parts.proofs.SheetParts.{all_start, all_far, all_more, all_done}
 use Rattle.parts.proofs.sheet_parts.put_all_parts.Goals as goal
 
 pub loop-k-init : goal.loop-k-init
@@ -31,24 +31,18 @@ slice_bounds-put_parts-end c = sym c.loop-k.invariant.0.1
 pub slice_bounds-put_parts-end-in-loop-k : goal.slice_bounds-put_parts-end-in-loop-k
 slice_bounds-put_parts-end-in-loop-k c = sym (c.load-base.auto.sorts ∙ c.loop-k.invariant.0.2)
 
-pub put_parts-requires : goal.put_parts-requires
-put_parts-requires c = (c.load-base.ensures.upper_bound, omega arith, c.loop-k.invariant.0.1, c.load-base.auto.sorts ∙ c.loop-k.invariant.0.2)
-
-pub returns-in_err-s : goal.returns-in_err-s
-returns-in_err-s c =
-    let a = c.args in
-    let l = c.loop-k in
-    rw c.from_residual.ensures (all_no_room a.procs.now a.cells.now a.starts.now a.n a.rows.now a.w a.out.now l.k l.count l.v l.rows l.out c.load-base.new.sorts c.load-base.result c.cell.result c.put_parts.new.out (omega arith) c.load-base.ensures.loads c.cell.ensures.0 c.in_err-s.ensures.puts_parts l.invariant.1)
+pub put_parts-s-requires : goal.put_parts-s-requires
+put_parts-s-requires c = (c.load-base.ensures.upper_bound, omega arith, c.loop-k.invariant.0.1, c.load-base.auto.sorts ∙ c.loop-k.invariant.0.2)
 
 pub loop-k-preserved : goal.loop-k-preserved
 loop-k-preserved c =
     let a = c.args in
     let l = c.loop-k in
-    let t = c.put_parts in let s = c.in_ok-s in
+    let t = c.put_parts-s in
     let i1 = c.loop-k-test in (
       (omega arith, t.auto.left ∙ l.invariant.0.1, t.auto.sorts ∙ c.load-base.auto.sorts ∙ l.invariant.0.2, t.auto.rows ∙ l.invariant.0.3, t.auto.out ∙ l.invariant.0.4),
-      all_more a.procs.now a.cells.now a.starts.now a.n a.rows.now a.w a.out.now l.k l.count l.v l.rows l.out c.load-base.new.sorts c.load-base.result c.cell.result s.s t.new.rows t.new.out
-          (omega arith) l.invariant.0.3 c.load-base.ensures.loads c.cell.ensures.0 s.ensures.rows_kept s.ensures.puts_parts l.invariant.1,
+      all_more a.procs.now a.cells.now a.starts.now a.n a.rows.now a.w a.out.now l.k l.count l.v l.rows l.out c.load-base.new.sorts c.load-base.result c.cell.result t.result t.new.rows t.new.out
+          (omega arith) l.invariant.0.3 c.load-base.ensures.loads c.cell.ensures.0 t.ensures.rows_kept t.ensures.puts_parts l.invariant.1,
     )
 
 pub shape_of-rows : goal.shape_of-rows
