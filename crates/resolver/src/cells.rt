@@ -24,7 +24,7 @@ pub fn put_joins(out: &mut [u16], w: usize, c: u16, many: usize) -> usize
     ensures { Writes (joins c many) w out.old result out.new }
 {
     let mut v = w;
-    for i in 0..many {
+    for _ in 0..many {
         let a = put(out, v, c);
         v = put(out, a, 2);
     }

@@ -50,7 +50,7 @@ pub fn data_term(
     let more = wide(k - FIRST_ORS);
     let mut p = at + 1;
     let mut v = put_joins(out, w, OR_CELL, more);
-    for i in 0..more + 1 {
+    for _ in 0..more + 1 {
         let a = conjunction(s, raw, declared, scope, n, p, out, v)?;
         p = a.at;
         v = a.w;
@@ -82,7 +82,7 @@ fn conjunction(
     let more = wide(k - FIRST_ANDS);
     let mut p = at + 1;
     let mut v = put_joins(out, w, AND_CELL, more);
-    for i in 0..more + 1 {
+    for _ in 0..more + 1 {
         let a = comparison(s, raw, declared, scope, n, p, out, v)?;
         p = a.at;
         v = a.w;

@@ -28,7 +28,7 @@ pub fn right_side(
     ensures kept { ScopeKept n scope.old scope.new }
     ensures resolves { ResolvesRight s.now raw.now (names_in declared.now) (kinds_in declared.now) scope.old n at w out.old result out.new }
 {
-    let from = Step { at: at, w: w };
+    let from = Step { at, w };
     term(s, raw, declared, scope, n, from, false, out)
 }
 

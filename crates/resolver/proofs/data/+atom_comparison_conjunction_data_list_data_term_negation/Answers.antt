@@ -247,8 +247,8 @@ conjunction-overflow_add-p t c =
     let l = get_or_positive args.raw.now args.at (let k = c.peek-k.ensures in omega arith) in
     omega arith
 
-pub conjunction-loop-i-init : goal.conjunction-loop-i-init
-conjunction-loop-i-init t c =
+pub conjunction-loop-init : goal.conjunction-loop-init
+conjunction-loop-init t c =
     let args = c.args in
     ((omega arith, omega arith, refl), operands_start enc_comparison comparison_cells args.s.now args.raw.now (names_in args.declared.now) (kinds_in args.declared.now) args.scope.now args.n (args.at + 1) (c.wide-more.result + 1) c.put_joins-v.result c.put_joins-v.new.out)
 
@@ -256,31 +256,31 @@ pub conjunction-comparison-requires : goal.conjunction-comparison-requires
 conjunction-comparison-requires t c =
     let args = c.args in
     let q = c.requires.0 in
-    let i = c.loop-i.invariant.0 in
+    let i = c.loop.invariant.0 in
     let l = get_or_positive args.raw.now args.at (let k = c.peek-k.ensures in omega arith) in
     (omega arith, (omega arith, c.requires.1))
 
-pub conjunction-loop-i-preserved : goal.conjunction-loop-i-preserved
-conjunction-loop-i-preserved t c =
+pub conjunction-loop-preserved : goal.conjunction-loop-preserved
+conjunction-loop-preserved t c =
     let args = c.args in
     let l = get_or_positive args.raw.now args.at (let k = c.peek-k.ensures in let z = c.if-k-lt-FIRST_ANDS.false in omega arith) in
-    let h = c.loop-i-test.true in
-    let here = c.loop-i in
+    let h = c.loop-test.true in
+    let here = c.loop in
     let called = c.comparison in
     let a = c.in_ok-a.ensures.ahead in
     let i = here.invariant.0 in
-    ((omega arith, omega arith, called.auto.out ∙ here.invariant.0.2), operands_step enc_comparison comparison_cells args.s.now args.raw.now (names_in args.declared.now) (kinds_in args.declared.now) args.scope.now args.n (args.at + 1) (c.wide-more.result + 1) c.put_joins-v.result c.put_joins-v.new.out here.p here.v here.i here.out here.invariant.1 (omega arith) c.in_ok-a.a called.new.out c.in_ok-a.ensures.resolves)
+    ((omega arith, omega arith, called.auto.out ∙ here.invariant.0.2), operands_step enc_comparison comparison_cells args.s.now args.raw.now (names_in args.declared.now) (kinds_in args.declared.now) args.scope.now args.n (args.at + 1) (c.wide-more.result + 1) c.put_joins-v.result c.put_joins-v.new.out here.p here.v here.counter here.out here.invariant.1 (omega arith) c.in_ok-a.a called.new.out c.in_ok-a.ensures.resolves)
 
 pub conjunction-shape_of-out : goal.conjunction-shape_of-out
-conjunction-shape_of-out t c = c.loop-i.invariant.0.2 ∙ c.put_joins-v.auto.out
+conjunction-shape_of-out t c = c.loop.invariant.0.2 ∙ c.put_joins-v.auto.out
 
 pub conjunction-returns : goal.conjunction-returns
 conjunction-returns t c =
     let args = c.args in
     let l = get_or_positive args.raw.now args.at (let k = c.peek-k.ensures in omega arith) in
-    let here = c.loop-i in
+    let here = c.loop in
     let i = here.invariant.0 in
-    record { ahead = omega arith; resolves = conjunction_took args.s.now args.raw.now (names_in args.declared.now) (kinds_in args.declared.now) args.scope.now args.n args.at args.w c.put_joins-v.result args.out.now c.put_joins-v.new.out c.wide-more.result here.p here.v here.i here.out (let k = c.peek-k.ensures in let m = c.wide-more.ensures.0 in omega arith) c.put_joins-v.ensures here.invariant.1 (omega arith) }
+    record { ahead = omega arith; resolves = conjunction_took args.s.now args.raw.now (names_in args.declared.now) (kinds_in args.declared.now) args.scope.now args.n args.at args.w c.put_joins-v.result args.out.now c.put_joins-v.new.out c.wide-more.result here.p here.v here.counter here.out (let k = c.peek-k.ensures in let m = c.wide-more.ensures.0 in omega arith) c.put_joins-v.ensures here.invariant.1 (omega arith) }
 
 pub data_list-loop-out-init : goal.data_list-loop-out-init
 data_list-loop-out-init t c =
@@ -373,8 +373,8 @@ data_term-overflow_add-p t c =
     let l = get_or_positive args.raw.now args.at (let k = c.peek-k.ensures in omega arith) in
     omega arith
 
-pub data_term-loop-i-init : goal.data_term-loop-i-init
-data_term-loop-i-init t c =
+pub data_term-loop-init : goal.data_term-loop-init
+data_term-loop-init t c =
     let args = c.args in
     ((omega arith, omega arith, refl), operands_start enc_conjunction conjunction_cells args.s.now args.raw.now (names_in args.declared.now) (kinds_in args.declared.now) args.scope.now args.n (args.at + 1) (c.wide-more.result + 1) c.put_joins-v.result c.put_joins-v.new.out)
 
@@ -382,31 +382,31 @@ pub data_term-conjunction-requires : goal.data_term-conjunction-requires
 data_term-conjunction-requires t c =
     let args = c.args in
     let q = c.requires.0 in
-    let i = c.loop-i.invariant.0 in
+    let i = c.loop.invariant.0 in
     let l = get_or_positive args.raw.now args.at (let k = c.peek-k.ensures in omega arith) in
     (omega arith, (omega arith, c.requires.1))
 
-pub data_term-loop-i-preserved : goal.data_term-loop-i-preserved
-data_term-loop-i-preserved t c =
+pub data_term-loop-preserved : goal.data_term-loop-preserved
+data_term-loop-preserved t c =
     let args = c.args in
     let l = get_or_positive args.raw.now args.at (let k = c.peek-k.ensures in let z = c.if-k-lt-FIRST_ORS.false in omega arith) in
-    let h = c.loop-i-test.true in
-    let here = c.loop-i in
+    let h = c.loop-test.true in
+    let here = c.loop in
     let called = c.conjunction in
     let a = c.in_ok-a.ensures.ahead in
     let i = here.invariant.0 in
-    ((omega arith, omega arith, called.auto.out ∙ here.invariant.0.2), operands_step enc_conjunction conjunction_cells args.s.now args.raw.now (names_in args.declared.now) (kinds_in args.declared.now) args.scope.now args.n (args.at + 1) (c.wide-more.result + 1) c.put_joins-v.result c.put_joins-v.new.out here.p here.v here.i here.out here.invariant.1 (omega arith) c.in_ok-a.a called.new.out c.in_ok-a.ensures.resolves)
+    ((omega arith, omega arith, called.auto.out ∙ here.invariant.0.2), operands_step enc_conjunction conjunction_cells args.s.now args.raw.now (names_in args.declared.now) (kinds_in args.declared.now) args.scope.now args.n (args.at + 1) (c.wide-more.result + 1) c.put_joins-v.result c.put_joins-v.new.out here.p here.v here.counter here.out here.invariant.1 (omega arith) c.in_ok-a.a called.new.out c.in_ok-a.ensures.resolves)
 
 pub data_term-shape_of-out : goal.data_term-shape_of-out
-data_term-shape_of-out t c = c.loop-i.invariant.0.2 ∙ c.put_joins-v.auto.out
+data_term-shape_of-out t c = c.loop.invariant.0.2 ∙ c.put_joins-v.auto.out
 
 pub data_term-returns : goal.data_term-returns
 data_term-returns t c =
     let args = c.args in
     let l = get_or_positive args.raw.now args.at (let k = c.peek-k.ensures in omega arith) in
-    let here = c.loop-i in
+    let here = c.loop in
     let i = here.invariant.0 in
-    record { ahead = omega arith; resolves = data_took args.s.now args.raw.now (names_in args.declared.now) (kinds_in args.declared.now) args.scope.now args.n args.at args.w c.put_joins-v.result args.out.now c.put_joins-v.new.out c.wide-more.result here.p here.v here.i here.out (let k = c.peek-k.ensures in let m = c.wide-more.ensures.0 in omega arith) c.put_joins-v.ensures here.invariant.1 (omega arith) }
+    record { ahead = omega arith; resolves = data_took args.s.now args.raw.now (names_in args.declared.now) (kinds_in args.declared.now) args.scope.now args.n args.at args.w c.put_joins-v.result args.out.now c.put_joins-v.new.out c.wide-more.result here.p here.v here.counter here.out (let k = c.peek-k.ensures in let m = c.wide-more.ensures.0 in omega arith) c.put_joins-v.ensures here.invariant.1 (omega arith) }
 
 pub negation-loop-out-init : goal.negation-loop-out-init
 negation-loop-out-init t c =
@@ -485,24 +485,24 @@ atom-returns-in_err-l t c =
     })
 
 pub conjunction-shape_of-out-in_err-a : goal.conjunction-shape_of-out-in_err-a
-conjunction-shape_of-out-in_err-a t c = c.comparison.auto.out ∙ c.loop-i.invariant.0.2 ∙ c.put_joins-v.auto.out
+conjunction-shape_of-out-in_err-a t c = c.comparison.auto.out ∙ c.loop.invariant.0.2 ∙ c.put_joins-v.auto.out
 
 pub conjunction-returns-in_err-a : goal.conjunction-returns-in_err-a
 conjunction-returns-in_err-a t c =
     let args = c.args in
-    let here = c.loop-i in
+    let here = c.loop in
     let i = here.invariant.0 in
-    rw c.from_residual.ensures (record { ahead = tt; resolves = conjunct_lost args.s.now args.raw.now (names_in args.declared.now) (kinds_in args.declared.now) args.scope.now args.n args.at args.w c.put_joins-v.result args.out.now c.put_joins-v.new.out c.wide-more.result here.p here.v here.i here.out (let k = c.peek-k.ensures in let m = c.wide-more.ensures.0 in omega arith) here.invariant.1 (omega arith) c.comparison.new.out c.in_err-a.ensures.resolves })
+    rw c.from_residual.ensures (record { ahead = tt; resolves = conjunct_lost args.s.now args.raw.now (names_in args.declared.now) (kinds_in args.declared.now) args.scope.now args.n args.at args.w c.put_joins-v.result args.out.now c.put_joins-v.new.out c.wide-more.result here.p here.v here.counter here.out (let k = c.peek-k.ensures in let m = c.wide-more.ensures.0 in omega arith) here.invariant.1 (omega arith) c.comparison.new.out c.in_err-a.ensures.resolves })
 
 pub data_term-shape_of-out-in_err-a : goal.data_term-shape_of-out-in_err-a
-data_term-shape_of-out-in_err-a t c = c.conjunction.auto.out ∙ c.loop-i.invariant.0.2 ∙ c.put_joins-v.auto.out
+data_term-shape_of-out-in_err-a t c = c.conjunction.auto.out ∙ c.loop.invariant.0.2 ∙ c.put_joins-v.auto.out
 
 pub data_term-returns-in_err-a : goal.data_term-returns-in_err-a
 data_term-returns-in_err-a t c =
     let args = c.args in
-    let here = c.loop-i in
+    let here = c.loop in
     let i = here.invariant.0 in
-    rw c.from_residual.ensures (record { ahead = tt; resolves = disjunct_lost args.s.now args.raw.now (names_in args.declared.now) (kinds_in args.declared.now) args.scope.now args.n args.at args.w c.put_joins-v.result args.out.now c.put_joins-v.new.out c.wide-more.result here.p here.v here.i here.out (let k = c.peek-k.ensures in let m = c.wide-more.ensures.0 in omega arith) here.invariant.1 (omega arith) c.conjunction.new.out c.in_err-a.ensures.resolves })
+    rw c.from_residual.ensures (record { ahead = tt; resolves = disjunct_lost args.s.now args.raw.now (names_in args.declared.now) (kinds_in args.declared.now) args.scope.now args.n args.at args.w c.put_joins-v.result args.out.now c.put_joins-v.new.out c.wide-more.result here.p here.v here.counter here.out (let k = c.peek-k.ensures in let m = c.wide-more.ensures.0 in omega arith) here.invariant.1 (omega arith) c.conjunction.new.out c.in_err-a.ensures.resolves })
 
 pub data_list-shape_of-out-in_err-a : goal.data_list-shape_of-out-in_err-a
 data_list-shape_of-out-in_err-a t c = c.data_term.auto.out ∙ c.loop-out.invariant.0.1

@@ -26,8 +26,8 @@ decreases-data_term l = 2 * (length l.raw.now - l.at) + 1
 abbrev pub decreases-negation : goal.decreases-negation
 decreases-negation l = 2 * (length l.raw.now - l.at) + 1
 
-abbrev pub invariant-conjunction-loop-i : goal.invariant-conjunction-loop-i
-invariant-conjunction-loop-i l = ((l.at + 1 ≤ l.p) × (l.i ≤ l.more + 1) × (length l.out ≡ length l.initial.out)) × OperandsLeft enc_comparison comparison_cells l.s l.raw (names_in l.declared) (kinds_in l.declared) l.scope l.n (l.at + 1) (l.more + 1) l.initial.v l.initial.out l.p l.v l.i l.out
+abbrev pub invariant-conjunction-loop : goal.invariant-conjunction-loop
+invariant-conjunction-loop l = ((l.at + 1 ≤ l.p) × (l.counter ≤ l.more + 1) × (length l.out ≡ length l.initial.out)) × OperandsLeft enc_comparison comparison_cells l.s l.raw (names_in l.declared) (kinds_in l.declared) l.scope l.n (l.at + 1) (l.more + 1) l.initial.v l.initial.out l.p l.v l.counter l.out
 
 abbrev pub invariant-data_list-loop-out : goal.invariant-data_list-loop-out
 invariant-data_list-loop-out l = ((l.count + l.at ≤ l.p) × (length l.out ≡ length l.initial.out)) × DatasLeft l.s l.raw (names_in l.declared) (kinds_in l.declared) l.scope l.n l.at l.w l.initial.out l.p l.v l.count l.out
@@ -35,8 +35,8 @@ invariant-data_list-loop-out l = ((l.count + l.at ≤ l.p) × (length l.out ≡ 
 abbrev pub decreases-data_list-loop-out : goal.decreases-data_list-loop-out
 decreases-data_list-loop-out l = length l.raw - l.p
 
-abbrev pub invariant-data_term-loop-i : goal.invariant-data_term-loop-i
-invariant-data_term-loop-i l = ((l.at + 1 ≤ l.p) × (l.i ≤ l.more + 1) × (length l.out ≡ length l.initial.out)) × OperandsLeft enc_conjunction conjunction_cells l.s l.raw (names_in l.declared) (kinds_in l.declared) l.scope l.n (l.at + 1) (l.more + 1) l.initial.v l.initial.out l.p l.v l.i l.out
+abbrev pub invariant-data_term-loop : goal.invariant-data_term-loop
+invariant-data_term-loop l = ((l.at + 1 ≤ l.p) × (l.counter ≤ l.more + 1) × (length l.out ≡ length l.initial.out)) × OperandsLeft enc_conjunction conjunction_cells l.s l.raw (names_in l.declared) (kinds_in l.declared) l.scope l.n (l.at + 1) (l.more + 1) l.initial.v l.initial.out l.p l.v l.counter l.out
 
 abbrev pub invariant-negation-loop-out : goal.invariant-negation-loop-out
 invariant-negation-loop-out l = ((l.at ≤ l.p) × (length l.out ≡ length l.initial.out)) × NotsLeft l.s l.raw (names_in l.declared) (kinds_in l.declared) l.scope l.n l.at l.w l.initial.out l.p l.v l.out
