@@ -60,7 +60,7 @@ fn print_in(file: &[u8], stream: &mut [u8], out: &mut [u8]) -> Result<usize, Ref
 {
     let f = stepping::load(file, stream)?;
     let mut text = [0u8; TEXT];
-    let Some(m) = put_sheet(&stream[..f.count], f.index, &mut text) else {
+    let Ok(m) = put_sheet(&stream[..f.count], f.index, &mut text) else {
         return Err(Refusal::NoText);
     };
     deliver(&text[..m], f.index.equations, out)

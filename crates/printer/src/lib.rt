@@ -1,6 +1,6 @@
 #![tactic(auto)]
 // A table as the text of a sheet: its stream is gone through once, and each part is written as it is met.
-ghost use Rattle.std.specs.Prelude.{◌≡◌, ◌≤◌, T, IfSome, MatchOption, length};
+ghost use Rattle.std.specs.Prelude.{◌≡◌, ◌≤◌, T, MatchResult, length};
 ghost use Rattle.pcrl.specs.Limits.{max_stream};
 ghost use Rattle.pcrl.specs.Tests.{distinct};
 ghost use Rattle.pcrl.specs.Table.{Table};
@@ -49,15 +49,16 @@ fn sorts_free(s: &[u8], index: Index, l: &[u8]) -> bool
     unlike::none_there(s, &index.acts, index.actions, l, &CELLS, index.sort_count)
 }
 
-// The whole text, as far as there is room, and where it ends; nothing where a sort has the name of an action.
-pub fn put_sheet(s: &[u8], index: Index, out: &mut [u8]) -> Option<usize>
+// The whole text, as far as there is room, and where it ends: as an error where a sort has the name of an action.
+pub fn put_sheet(s: &[u8], index: Index, out: &mut [u8]) -> Result<usize, usize>
     requires { length s.now ≤ max_stream }
-    ensures at_in_bounds { IfSome result (λ n. n ≤ length out.old) × (length out.new ≡ length out.old) }
-    ensures wrote { (U : Table) → RightTable U → Indexed U s.now index → MatchOption result (¬ (T (distinct (taken U.sig))) × (out.new ≡ out.old)) (λ n. T (distinct (taken U.sig)) × Wrote out.old 0 (table_text U) out.new n) }
+    ensures at_in_bounds { MatchResult result (λ n. n ≤ length out.old) (λ n. n ≤ length out.old) × (length out.new ≡ length out.old) }
+    ensures wrote { (U : Table) → RightTable U → Indexed U s.now index → MatchResult result (λ n. T (distinct (taken U.sig)) × Wrote out.old 0 (table_text U) out.new n) (λ n. (¬ (T (distinct (taken U.sig)))) × Wrote out.old 0 (table_text U) out.new n) }
 {
     let l = lettering::letters_of(s, index);
+    let end = put_text(s, index, &l, out);
     if !sorts_free(s, index, &l) {
-        return None;
+        return Err(end);
     }
-    Some(put_text(s, index, &l, out))
+    Ok(end)
 }

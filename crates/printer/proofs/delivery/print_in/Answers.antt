@@ -37,6 +37,6 @@ returns c =
     let a = c.args in
     let f = c.in_ok-f.f in
     let (U, checked, (right, x)) = load_accepted _ c.load.new.stream f c.in_ok-f.ensures in
-    let put = c.in-Some.ensures.wrote U right x in
+    let put = c.in-Ok.ensures.wrote U right x in
     let d = delivered_as a.file.now a.out.now U _ _ checked (c.deliver.ensures U right put.1.text x.equations_are put.0) in
     record { answer = d.0; written = d.1 }
