@@ -142,7 +142,7 @@ class Items:
             exported = self.attributes()
             if self.at == len(self.tokens):
                 break
-            public = self.peek() == "pub" and self.next()
+            public = self.visible()
             word = self.next()
             if word == "extern" and public and self.next('"C"'):
                 word = self.next()
@@ -154,6 +154,13 @@ class Items:
                 self.read_fn(exported)
             else:
                 item()
+
+    def visible(self):
+        """Whether `pub` stands here, with where it is seen."""
+        public = self.peek() == "pub" and self.next()
+        if public and self.peek() == "(":
+            self.group("(", ")")
+        return public
 
     def attributes(self):
         exported = False
@@ -267,8 +274,7 @@ class Items:
         self.next("{")
         while self.peek() != "}":
             self.attributes()
-            if self.peek() == "pub":
-                self.next()
+            self.visible()
             word = self.next()
             if word == "fn":
                 self.read_fn(False, owner, types)
