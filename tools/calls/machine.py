@@ -37,9 +37,10 @@ class Archive:
     """The functions and the relocations of a static library."""
 
     def __init__(self, path):
-        self.starts, self.names, self.relocations = {}, {}, {}
+        self.starts, self.names, self.relocations, self.constants = {}, {}, {}, set()
         self.read_code(objdump("-d", "--no-show-raw-insn", path))
         self.read_relocations(objdump("-r", path))
+        self.read_constants(objdump("-t", path))
 
     def read_code(self, lines):
         member = section = code = None
@@ -63,6 +64,17 @@ class Archive:
             elif instruction:
                 operation = re.sub("^(call|ret|jmp|push|pop)q$", r"\1", instruction.group(2))
                 code.lines[int(instruction.group(1), 16)] = (operation, instruction.group(3).strip())
+
+    def read_constants(self, lines):
+        """Names of data in sections of constants, which hold no addresses: one with a relocation is none."""
+        member = None
+        for line in lines:
+            file = re.match(r"(\S+):\s+file format ", line)
+            entry = re.match(r"[0-9a-f]{16} .{7} (\.rodata\.cst\d+)\t[0-9a-f]{16} (\S+)$", line)
+            if file:
+                member = file.group(1)
+            elif entry and (member, entry.group(1)) not in self.relocations:
+                self.constants.add((member, entry.group(2)))
 
     def read_relocations(self, lines):
         member = section = None
@@ -212,7 +224,7 @@ class Frame:
             named = None if operation == "call" or operation.startswith("j") else self.relocation(at)
             if named and named[0].startswith(".rodata"):
                 bases.add(named)
-            elif named and not named[0].startswith(".LCPI"):
+            elif named and not named[0].startswith(".LCPI") and (self.code.member, named[0]) not in self.archive.constants:
                 self.fault(jump, "an indirect jump beside the data `%s`" % named[0])
         return bases
 
