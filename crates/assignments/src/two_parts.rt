@@ -101,18 +101,16 @@ pub fn find_parted(
     requires { (space.now.p ≤ frame_width) × (((i : ℕ) → space.now.p ≤ i → get_or space.now.params.at i 0 ≡ 0) × ((c.now.count ≤ max_conditions) × (Sizes space.now.z.at × ((round ≤ 65536) × ((0 < round) × ((0 < g) × ((g ≤ 65536) × ((0 < t.grain) × (t.grain ≤ 65536))))))))) }
     ensures { (blocks : List ℕ) (reach low : ℕ) → g ≡ product (drop (reach - space.now.p) space.now.z.at) → round ≡ product (drop (low - space.now.p) space.now.z.at) → ((i : ℕ) → i < c.now.count → Ready space.now.s.now space.now.p space.now.z.at c.now.froms c.now.ends blocks reach low i) → Apart space.now.s.now space.now.p space.now.z.at c.now.froms c.now.ends blocks c.now.count t → Finds (places (λ j. met space.now.s.now space.now.funcs.now c.now.froms c.now.ends c.now.count (env space.now.p space.now.params.at (digits_of space.now.z.at j))) (product space.now.z.at) 0) k result }
 {
-    let mut early = *c;
-    let blocks = t.early;
-    early.blocks = blocks;
-    let mut late = *c;
-    let blocks = t.late;
-    late.blocks = blocks;
+    // one copy of the conditions, with the blocks of the part that is searched
+    let mut part = *c;
+    let late = t.late;
+    part.blocks = late;
     let d = t.grain;
     let b = grain(space.z, t.low, space.p);
     let w = b as u64;
     let total = block_size(space.z, 0) as u64;
     // More is asked for than there is, so what is left says how many are met.
-    let left = match find_in(space, &late, g, b, w) {
+    let left = match find_in(space, &part, g, b, w) {
         Ok(_) => return Err(k),
         Err(left) => left,
     };
@@ -121,9 +119,12 @@ pub fn find_parted(
         return Err(k);
     }
     let q = (k / m).min(total) * w;
-    match find_rounds(space, &early, d, round, q) {
+    let early = t.early;
+    part.blocks = early;
+    match find_rounds(space, &part, d, round, q) {
         Ok(first) => {
-            let at = find_in(space, &late, g, b, k % m)?;
+            part.blocks = late;
+            let at = find_in(space, &part, g, b, k % m)?;
             Ok(first + at)
         }
         Err(rest) => Err(k - (q - rest) / w * m),

@@ -21,6 +21,9 @@ use Rattle.checker.proofs.EveryFits.{one_sort_each, each_one_sort}
 
 -- ---- one node
 module _ (d : Datum) where
+  pub takes_none : TakesBools d 0
+  takes_none h = absurd (omega arith)
+
   pub takes_one : d.tag ≡ function_tag → d.number ≡ not_number → d.kids ≡ 1 → TakesBools d 1
   takes_one t e k h = (t, k, λ S. not_operates S d.number e)
 

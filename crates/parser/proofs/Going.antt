@@ -13,5 +13,8 @@ pub record Goes (s toks : List ℕ) {A : Type 0} (enc : A → List Symbol) (read
       → (f : ℕ) → least at < f → Reaches s toks enc w o end w' o' (reader f (rest s toks at))
 
 module _ {s toks : List ℕ} {A : Type 0} {enc : A → List Symbol} {reader : ℕ → Reader Token A} {least : ℕ → ℕ} {at w : ℕ} {o : List ℕ} where
+  pub goes_start : Goes s toks enc reader least at w o at w o
+  goes_start = record { on = λ h. h }
+
   pub goes_then : {from v : ℕ} {o₁ : List ℕ} → Goes s toks enc reader least at w o from v o₁ → {from₂ v₂ : ℕ} {o₂ : List ℕ} → Goes s toks enc reader least from v o₁ from₂ v₂ o₂ → Goes s toks enc reader least at w o from₂ v₂ o₂
   goes_then h k = record { on = λ x. h.on (k.on x) }

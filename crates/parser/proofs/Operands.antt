@@ -33,6 +33,9 @@ module _ {s toks : List ℕ} {A : Type 0} {enc : A → List Symbol} {more : A �
   more_by {w} {o} {end} {w'} {o'} {P = P} e h = subst (λ k. Counts s toks enc more w o end w' o' k P) e h
 
   module _ {reader : ℕ → Reader Token A} {least : ℕ → ℕ} {at w : ℕ} {o : List ℕ} where
+    pub joins_start : Joins s toks enc more reader least at w o at w o 0
+    joins_start = record { on = λ {end} {w'} {o'} {m} h f l. let e : m ≡ m + 0 = omega arith in more_by e (h f l) }
+
     pub joins_then : {from v : ℕ} {o₁ : List ℕ} {n : ℕ} → Joins s toks enc more reader least at w o from v o₁ n → {from₂ v₂ : ℕ} {o₂ : List ℕ} → Joins s toks enc more reader least from v o₁ from₂ v₂ o₂ 1
         → Joins s toks enc more reader least at w o from₂ v₂ o₂ (n + 1)
     joins_then {n = n} h k = record { on = λ {end} {w'} {o'} {m} x f l. let e : m + 1 + n ≡ m + (n + 1) = omega arith in more_by e (h.on (k.on x) f l) }

@@ -17,11 +17,18 @@ use Rattle.lexer.specs.Cells.{cell_token}
 use Rattle.parser.specs.Cells.{Symbol}
 use Rattle.parser.specs.Reading.{rest, left, Writes}
 use Rattle.parser.proofs.Signs.{Sign}
-use Rattle.parser.proofs.Reaching.{After, Meets, next, wrong, Reaches, lost, took}
+use Rattle.parser.proofs.Reaching.{After, NotBefore, Meets, next, wrong, Reaches, lost, took}
 
 -- what is past the end stays there
 pub still_lost : {n at next : ℕ} → After n at next → n < at → n < next
 still_lost a l = omega arith
+
+-- one step and the next
+pub ahead_then : (n at : ℕ) {next end : ℕ} → After n at next → After n next end → After n at end
+ahead_then n at a b = omega arith
+
+pub ahead_on : (n at : ℕ) {next end : ℕ} → After n at next → NotBefore n next end → After n at end
+ahead_on n at a b = omega arith
 
 pub left_below : (toks : List ℕ) (at : ℕ) {f : ℕ} → length toks < f → left toks at < f
 left_below toks at l = omega arith

@@ -76,6 +76,9 @@ pub record RunGoes (s toks : List ℕ) {A : Type 0} (enc : A → List Symbol) (w
       → (f : ℕ) → left toks at < f → Runs s toks enc w o n p r o' p' (lines word line f (rest s toks at))
 
 module _ {s toks : List ℕ} {A : Type 0} {enc : A → List Symbol} {word : String} {line : Reader Token A} {at w n : ℕ} {o p : List ℕ} where
+  pub run_start : at ≤ length toks → RunGoes s toks enc word line at w n o p at w n o p
+  run_start i = record { on = λ a h. h i }
+
   pub run_then : {from v m : ℕ} {o₁ p₁ : List ℕ} → RunGoes s toks enc word line at w n o p from v m o₁ p₁ → {from₂ v₂ m₂ : ℕ} {o₂ p₂ : List ℕ} → from ≤ from₂
       → RunGoes s toks enc word line from v m o₁ p₁ from₂ v₂ m₂ o₂ p₂ → RunGoes s toks enc word line at w n o p from₂ v₂ m₂ o₂ p₂
   run_then h b k = record { on = λ a x. h.on (omega arith) (λ i. k.on a x) }

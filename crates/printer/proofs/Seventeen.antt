@@ -5,7 +5,7 @@ use mathlib.Core.Option.{Option}
 use Prim.Native.Nat.{ℕ, ◌+◌, ◌≤◌, ◌<◌, min}
 use native.Mathlib.Omega.{arith}
 use lib.Dec.{T}
-use lib.ListN.{length, take, drop, length-take}
+use lib.ListN.{length, take, drop, length-take, take-append-drop}
 use lib.Seq.{take_all}
 use Rattle.pcrl.specs.Limits.{max_bytes, max_processes}
 use Rattle.pcrl.specs.Result.{Result, refused, accepted, question, question_of, after, passed}
@@ -27,6 +27,7 @@ use Rattle.std.proofs.lemmas.Slice.{put_mid-paste}
 use Rattle.refusals.specs.declared.Refusal.{Refusal}
 use Rattle.refusals.specs.Numbers.{number_of}
 use Rattle.refusals.specs.Answered.{Answered}
+use Rattle.texts.specs.Wrote.{Wrote}
 use Rattle.printer.specs.Printing.{text_room, TokensApart, Prints}
 
 -- both that the answer and the output are those of a result
@@ -40,6 +41,12 @@ delivered_refused x out e h = rw h (refl, refl)
 pub delivered_text : (x : Result (List ℕ)) (text out out' : List ℕ) (n : ℕ) → x ≡ accepted text → n ≡ length text → out' ≡ text ++ drop (length text) out → Delivered x out (Ok n) out'
 unfolding Answered output_after
 delivered_text x text out out' n h e g = rw h (e, g)
+
+-- a piece that was written over the front
+pub wrote_front : (out p out' : List ℕ) (r : ℕ) → Wrote out 0 p out' r → length p ≤ length out → out' ≡ p ++ drop (length p) out
+wrote_front out p out' r w h =
+    let place : r ≡ length p = let z = w.place in omega arith in
+    sym (take-append-drop r out') ∙ (let front : take r out' ≡ p = w.text ∙ take_all (length out) p h in ap (λ (l : List ℕ). l ++ drop r out') front) ∙ ap (λ (l : List ℕ). p ++ l) (w.rest ∙ ap (λ (k : ℕ). drop k out) place)
 
 -- a text that was copied over the front
 pub copied_front : (out p ys : List ℕ) (k : ℕ) → k ≡ length p → length p ≤ length out → ys ≡ p → put_mid 0 k out ys ≡ p ++ drop (length p) out

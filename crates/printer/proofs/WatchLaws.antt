@@ -135,6 +135,9 @@ module _ (f : ℕ → Token) (cells : List ℕ) where
   abbrev pub Watches : ℕ → State → Type 0
   Watches i x = watched (state_of x) (map f (drop i cells)) ≡ watched nothing (map f cells)
 
+  pub watches_first : Watches 0 Nothing
+  watches_first = refl
+
   pub watches_next : (i : ℕ) (x y : State) → i < length cells → state_of y ≡ W.next (state_of x) (kind (f (get_or cells i 0))) → Watches i x → Watches (i + 1) y
   unfolding watched
   watches_next i x y h e a =

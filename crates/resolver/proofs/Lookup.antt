@@ -40,14 +40,14 @@ scope_many s scope n h = length-map (take n scope) (name_at s) ∙ length-take-l
 
 -- a number below the count is the name's, and the count itself says that the name is not there
 module _ (x : Name) (l : List Name) (r m : ℕ) (many : length l ≤ m) (found : r ≡ or_count m (number_of x l)) where
-  known : r < m → number_of x l ≡ some r
+  pub known : r < m → number_of x l ≡ some r
   known h = by (number_of x l) found
     where
       by : (o : Option ℕ) → r ≡ or_count m o → o ≡ some r
       by none e = absurd (omega arith)
       by (some i) e = ap some (sym e)
 
-  unknown : m ≤ r → number_of x l ≡ none
+  pub unknown : m ≤ r → number_of x l ≡ none
   unknown h = by (number_of x l) refl found
     where
       by : (o : Option ℕ) → number_of x l ≡ o → r ≡ or_count m o → o ≡ none

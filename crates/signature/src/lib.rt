@@ -24,10 +24,10 @@ const ARITY: u8 = limits::MAX_ARITY as u8;
 
 // Where functions and actions end, and how many there are.
 #[derive(Clone, Copy)]
-struct Signed {
-    at: usize,
-    funcs: usize,
-    acts: usize,
+pub struct Signed {
+    pub at: usize,
+    pub funcs: usize,
+    pub acts: usize,
 }
 
 // "count and sizes of sorts, Bool's 2 first"
@@ -89,10 +89,10 @@ fn bool_at(s: &[u8], at: usize) -> bool
 
 // Where the sorts end, how many there are, and whether their names stand there.
 #[derive(Clone, Copy)]
-struct SortList {
-    at: usize,
-    count: usize,
-    named: bool,
+pub struct SortList {
+    pub at: usize,
+    pub count: usize,
+    pub named: bool,
 }
 
 // The sorts with their names, behind hex F2: their sizes, and where each stands.
