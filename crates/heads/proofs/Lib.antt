@@ -10,3 +10,4 @@ pub mod Choosing
 pub mod Resuming
 pub mod Calling
 pub mod Numbers
+mod Lent

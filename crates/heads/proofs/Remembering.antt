@@ -22,8 +22,7 @@ use Rattle.contexts.specs.Steps.{RestAt}
 use Rattle.heads.specs.declared.alternatives.Ahead.{Ahead}
 use Rattle.heads.specs.declared.remembered.Arrival.{Arrival}
 use Rattle.heads.specs.Progress.{Parted, Looked, SecondSide, side_spot, Past}
-use Rattle.heads.specs.Progress.{memory_room}
-use Rattle.heads.specs.Memory.{entry_cells, entries, Finds, entry_at, found, EntryRight, Remembers, EntryPut, FoundFor}
+use Rattle.heads.specs.Memory.{entry_cells, entries, Finds, entry_at, found, EntryRight, Remembers, EntryPut, FoundFor, memory_room}
 use Rattle.heads.proofs.Walking.{passed}
 
 -- AN ENTRY IS PUT

@@ -7,14 +7,17 @@ use Rattle.counting.specs.Limits.{row_width, row}
 use Rattle.counting.specs.Counting.{Counts}
 use Rattle.contexts.specs.declared.Spot.{Spot}
 use Rattle.heads.specs.declared.remembered.Arrival.{Arrival}
-use Rattle.heads.specs.Progress.{memory_room, side_spot, Past}
+use Rattle.heads.specs.Progress.{side_spot, Past}
 
--- the cells of an entry, and how many entries there are
+-- the cells of an entry, how many entries there are, and the cells of all
 abbrev pub entry_cells : ℕ
 entry_cells = 9
 
 abbrev pub entries : ℕ
 entries = 64
+
+abbrev pub memory_room : ℕ
+memory_room = 576
 
 -- from so many cells on it is not told apart how many were looked at
 abbrev pub work_limit : ℕ

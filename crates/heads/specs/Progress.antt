@@ -1,6 +1,6 @@
 -- What the pieces of the walk over heads say.
 use Rattle.std.specs.Prelude.{◌≡◌, List, ◌++◌, ◌⊎◌, Bool, true, false, Result, Ok, Err, IfOk, OnOk, ℕ, ◌+◌, ◌*◌, ◌≤◌, ◌<◌, length, take}
-use Rattle.pcrl.specs.Limits.{max_variables, max_summands}
+use Rattle.pcrl.specs.Limits.{max_variables}
 use Rattle.pcrl.specs.Tests.{Every}
 use Rattle.pcrl.specs.Reader.{all}
 use Rattle.pcrl.specs.Sheet.{Sheet}
@@ -24,21 +24,12 @@ use Rattle.heads.specs.declared.walk.Next.{Next}
 use Rattle.heads.specs.declared.walk.Next.TheVariants.{Over, Into}
 use Rattle.heads.specs.Stack.{later_cells, Steady, Queue}
 
--- cells for the second sides that wait, and for what is remembered
-abbrev pub laters_room : ℕ
-laters_room = max_summands * later_cells
-
-abbrev pub memory_room : ℕ
-memory_room = 576
-
--- the lengths of the arrays that a walk works in
-pub record Lengths (vars conds after calls later remembered : List ℕ) : Type 0 where
-  pub vars_long : length vars ≡ max_variables
-  pub conds_long : length conds ≡ conds_room
-  pub after_long : length after ≡ calls_room
-  pub calls_long : length calls ≡ calls_room
-  pub later_long : length later ≡ laters_room
-  pub remembered_long : length remembered ≡ memory_room
+-- rooms of the arrays of a walk: sum variables, conditions, calls after a first part, calls
+pub record Rooms (lv lc la lk : ℕ) : Type 0 where
+  pub vars_room : max_variables ≤ lv
+  pub conds_fit : conds_room ≤ lc
+  pub after_fit : calls_room ≤ la
+  pub calls_fit : lk ≤ calls_room
 
 -- is it one of two kinds?
 abbrev pub Either : ℕ → ℕ → ℕ → Bool → Type 0

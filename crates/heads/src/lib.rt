@@ -14,15 +14,21 @@ pub mod numbering; // the numbers of the first new equations
 pub mod params; // the slots of an equation's parameters
 pub mod remembered; // what is found from a place on
 pub mod waiting; // what is walked later
-mod walk; // one walk over the term and the right sides that it calls at the head: write_heads states its promise
+pub mod walk; // one walk over the term and the right sides that it calls at the head
+pub mod work; // what a walk works in
 
 use contexts::{CONDITIONS, Spot};
 use elements::BYTE_LIMIT;
 use following::CALLS;
-use limits::MAX_VARIABLES;
+use limits::{MAX_SUMMANDS, MAX_VARIABLES};
 use refusals::Refusal;
 use remembered::REMEMBERED;
-use walk::{LATERS, Sheet, Work, walk};
+use waiting::LATER;
+use walk::{Sheet, walk};
+use work::Work;
+
+// Cells for the heads of an equation: each second side that waits has one of them.
+const LATERS: usize = MAX_SUMMANDS * LATER;
 
 // All heads of a term written as summands, one behind another; behind the slots of the variables in scope there is room for those that a
 // summand adds. Err: not every one has the limits, or there is no room for them; NoRoom where every one has them.
@@ -45,13 +51,19 @@ pub fn write_heads(
     ensures w_le_w { IfOk result (λ v. (w ≤ v) × (v ≤ length out.old)) }
     ensures heads_written { HeadsWritten cells.now starts.now counts.now firsts.now fuel at c slots.old n m heads w out.old result out.new }
 {
+    let mut vars = [0u8; MAX_VARIABLES];
+    let mut conds = [0u8; CONDITIONS];
+    let mut after = [0u8; CALLS];
+    let mut calls = [0u8; CALLS];
+    let mut later = [0u16; LATERS];
+    let mut remembered = [0u16; REMEMBERED];
     let mut work = Work {
-        vars: [0u8; MAX_VARIABLES],
-        conds: [0u8; CONDITIONS],
-        after: [0u8; CALLS],
-        calls: [0u8; CALLS],
-        later: [0u16; LATERS],
-        remembered: [0u16; REMEMBERED],
+        vars: &mut vars,
+        conds: &mut conds,
+        after: &mut after,
+        calls: &mut calls,
+        later: &mut later,
+        remembered: &mut remembered,
     };
     let s = Spot {
         at,

@@ -1,7 +1,6 @@
 // What is found from a place on, remembered in some cells.
 ghost use Rattle.std.specs.Prelude.{◌≡◌, true, ◌<◌, length, IfSome};
-ghost use Rattle.heads.specs.Progress.{memory_room};
-ghost use Rattle.heads.specs.Memory.{entry_cells, entries, Finds, found, entry_at, Remembers, EntryPut, Fitting, FoundFor};
+ghost use Rattle.heads.specs.Memory.{entry_cells, entries, memory_room, Finds, found, entry_at, Remembers, EntryPut, Fitting, FoundFor};
 
 use counting::Counted;
 use elements::{CELL_LIMIT, cell, short};
@@ -19,7 +18,7 @@ pub struct Arrival {
 // The cells of an entry, and how many entries there are.
 const ENTRY: usize = 9;
 
-const ENTRIES: usize = 64;
+pub const ENTRIES: usize = 64;
 
 pub const REMEMBERED: usize = ENTRIES * ENTRY;
 

@@ -4,14 +4,13 @@ ghost use Rattle.std.specs.Prelude.{◌≡◌, ◌⊎◌, ◌*◌, ◌≤◌, le
 ghost use Rattle.contexts.specs.Spots.{arrays, Bound};
 ghost use Rattle.heads.specs.Stack.{later_cells, Steady};
 ghost use Rattle.heads.specs.Memory.{Remembers};
-ghost use Rattle.heads.specs.Progress.{Looked, Leaf, Parting, Inner, Bounded, start, WrittenBy, aside_turn, place, IfInto, Lengths, Chosen, Resumed, Nearer, Turned};
+ghost use Rattle.heads.specs.Lent.{SameArrays};
+ghost use Rattle.heads.specs.Progress.{Looked, Leaf, Parting, Inner, Bounded, start, WrittenBy, aside_turn, place, IfInto, Chosen, Resumed, Nearer, Turned};
 
 use crate::alternatives::{Ahead, choice, look, second_side};
-use crate::remembered::REMEMBERED;
 use crate::waiting::{LATER, later_at, put_later};
-use contexts::{CONDITIONS, Side, Spot};
-use following::CALLS;
-use limits::{MAX_SUMMANDS, MAX_VARIABLES};
+use crate::work::Work;
+use contexts::{Side, Spot};
 use nodes::Node;
 use refusals::Refusal;
 
@@ -36,27 +35,11 @@ enum Next {
 
 // A sheet in its cells: where the right sides start, how many heads they have, and the numbers of their first new equations.
 #[derive(Clone, Copy)]
-pub(crate) struct Sheet<'a> {
-    pub(crate) cells: &'a [u16],
-    pub(crate) starts: &'a [u16],
-    pub(crate) counts: &'a [u16],
-    pub(crate) firsts: &'a [u8],
-}
-
-// Cells for the second sides that wait: each has a head of its own.
-pub(crate) const LATERS: usize = MAX_SUMMANDS * LATER;
-
-// What a walk works in: the variables, conditions and calls around it, the calls of one part, the second sides that wait, and what is
-// remembered.
-#[derive(Drop)]
-pub(crate) struct Work {
-    pub(crate) vars: [u8; MAX_VARIABLES],
-    pub(crate) conds: [u8; CONDITIONS],
-    pub(crate) after: [u8; CALLS],
-    pub(crate) calls: [u8; CALLS],
-    pub(crate) later: [u16; LATERS],
-    pub(crate) remembered: [u16; REMEMBERED],
-    ghost lengths: { Lengths vars conds after calls later remembered },
+pub struct Sheet<'a> {
+    pub cells: &'a [u16],
+    pub starts: &'a [u16],
+    pub counts: &'a [u16],
+    pub firsts: &'a [u8],
 }
 
 // Neither a leaf (an action or a call) nor a choice: the walk goes one step down.
@@ -161,27 +144,31 @@ fn leaf(
     g: Ahead,
     heads: usize,
     slots: &[u8],
-    work: &mut Work,
+    work: &mut Work<'_>,
     q: usize,
     out: &mut [u8],
     w: usize,
 ) -> Result<usize, Refusal>
-    requires bound { Bound (length work.old.calls) (length slots.now) g.s × (w ≤ length out.old) × (later_cells * q ≤ length work.old.later) }
-    requires looked { Looked sheet.cells.now sheet.counts.now g × Leaf g.d.kind × Remembers sheet.cells.now sheet.counts.now work.old.remembered }
-    ensures w_le_w { IfOk result (λ v. (w ≤ v) × (v ≤ length out.old)) × (take (later_cells * q) work.new.later ≡ take (later_cells * q) work.old.later) }
-    ensures written_by { WrittenBy sheet.entry.cells.now sheet.entry.starts.now sheet.entry.counts.now sheet.entry.firsts.now (start g.s (arrays slots.now work.old.vars work.old.conds work.old.calls) w out.old heads q (length work.old.later)) result (arrays slots.now work.new.vars work.new.conds work.new.calls) out.new }
-    ensures remembers { Remembers sheet.entry.cells.now sheet.entry.counts.now work.new.remembered }
+    requires bound { Bound (length work.old.calls.now) (length slots.now) g.s × (w ≤ length out.old) × (later_cells * q ≤ length work.old.later.now) }
+    requires looked { Looked sheet.cells.now sheet.counts.now g × Leaf g.d.kind × Remembers sheet.cells.now sheet.counts.now work.old.remembered.now }
+    ensures w_le_w { IfOk result (λ v. (w ≤ v) × (v ≤ length out.old)) × (take (later_cells * q) work.new.later.now ≡ take (later_cells * q) work.old.later.now) }
+    ensures same_arrays { SameArrays work.old work.new }
+    ensures written_by { WrittenBy sheet.entry.cells.now sheet.entry.starts.now sheet.entry.counts.now sheet.entry.firsts.now (start g.s (arrays slots.now work.old.vars.now work.old.conds.now work.old.calls.now) w out.old heads q (length work.old.later.now)) result (arrays slots.now work.new.vars.now work.new.conds.now work.new.calls.now) out.new }
+    ensures remembers { Remembers sheet.entry.cells.now sheet.entry.counts.now work.new.remembered.now }
 {
     if g.d.kind == nodes::ATOM {
+        let vars = &mut *work.vars;
+        let conds = &mut *work.conds;
+        let calls = &mut *work.calls;
         return contexts::emit(
             sheet.cells,
             g.d,
             g.s,
             slots,
-            &work.vars,
-            &work.conds,
-            &mut work.after,
-            &work.calls,
+            vars,
+            conds,
+            work.after,
+            calls,
             out,
             w,
         );
@@ -209,42 +196,45 @@ fn next_turn(
     heads: usize,
     left: usize,
     slots: &[u8],
-    work: &mut Work,
+    work: &mut Work<'_>,
     q0: usize,
     q: usize,
     out: &mut [u8],
     w: usize,
 ) -> Result<Next, Refusal>
-    requires steady { Steady (length work.old.calls) (length slots.now) g.s.fuel q0 g.s q work.old.later × (w ≤ length out.old) }
-    requires looked { Looked sheet.cells.now sheet.counts.now g × (Leaf g.d.kind ⊎ Parting g.d.kind) × Remembers sheet.cells.now sheet.counts.now work.old.remembered }
-    ensures w_le_w { IfOk result (λ n. (w ≤ place n) × (place n ≤ length out.old)) × (take (later_cells * q0) work.new.later ≡ take (later_cells * q0) work.old.later) }
-    ensures stays_steady { IfInto result (λ k. Steady (length work.old.calls) (length slots.now) g.s.fuel q0 k.t k.q work.new.later × Nearer g.s left k) }
-    ensures turned { Turned sheet.entry.cells.now sheet.entry.starts.now sheet.entry.counts.now sheet.entry.firsts.now q0 g.s heads left q w (arrays slots.now work.old.vars work.old.conds work.old.calls) work.old.later out.old result (arrays slots.now work.new.vars work.new.conds work.new.calls) work.new.later out.new }
-    ensures remembers { Remembers sheet.entry.cells.now sheet.entry.counts.now work.new.remembered }
+    requires steady { Steady (length work.old.calls.now) (length slots.now) g.s.fuel q0 g.s q work.old.later.now × (w ≤ length out.old) }
+    requires looked { Looked sheet.cells.now sheet.counts.now g × (Leaf g.d.kind ⊎ Parting g.d.kind) × Remembers sheet.cells.now sheet.counts.now work.old.remembered.now }
+    ensures w_le_w { IfOk result (λ n. (w ≤ place n) × (place n ≤ length out.old)) × (take (later_cells * q0) work.new.later.now ≡ take (later_cells * q0) work.old.later.now) }
+    ensures same_arrays { SameArrays work.old work.new }
+    ensures stays_steady { IfInto result (λ k. Steady (length work.old.calls.now) (length slots.now) g.s.fuel q0 k.t k.q work.new.later.now × Nearer g.s left k) }
+    ensures turned { Turned sheet.entry.cells.now sheet.entry.starts.now sheet.entry.counts.now sheet.entry.firsts.now q0 g.s heads left q w (arrays slots.now work.old.vars.now work.old.conds.now work.old.calls.now) work.old.later.now out.old result (arrays slots.now work.new.vars.now work.new.conds.now work.new.calls.now) work.new.later.now out.new }
+    ensures remembers { Remembers sheet.entry.cells.now sheet.entry.counts.now work.new.remembered.now }
 {
     if choice(g.d.kind) {
-        return chosen(g, heads, left, &mut work.later, q, w);
+        return chosen(g, heads, left, work.later, q, w);
     }
     let v = leaf(sheet, g, heads, slots, work, q, out, w)?;
-    resumed(sheet.cells, &work.later, g, heads, left, q0, q, v)
+    let later = &mut *work.later;
+    resumed(sheet.cells, later, g, heads, left, q0, q, v)
 }
 
 // The heads of the term at s0 in its context, one after another: the place behind them.
 #[cycle(leaf_next_turn_walk)]
-pub(crate) fn walk(
+pub fn walk(
     sheet: Sheet<'_>,
     s0: Spot,
     heads0: usize,
     slots: &mut [u8],
-    work: &mut Work,
+    work: &mut Work<'_>,
     q0: usize,
     out: &mut [u8],
     w: usize,
 ) -> Result<usize, Refusal>
-    requires { Bound (length work.old.calls) (length slots.old) s0 × (w ≤ length out.old) × (later_cells * q0 ≤ length work.old.later) × Remembers sheet.cells.now sheet.counts.now work.old.remembered }
-    ensures w_le_w { IfOk result (λ v. (w ≤ v) × (v ≤ length out.old)) × (take (later_cells * q0) work.new.later ≡ take (later_cells * q0) work.old.later) }
-    ensures written_by { WrittenBy sheet.entry.cells.now sheet.entry.starts.now sheet.entry.counts.now sheet.entry.firsts.now (start s0 (arrays slots.old work.old.vars work.old.conds work.old.calls) w out.old heads0 q0 (length work.old.later)) result (arrays slots.new work.new.vars work.new.conds work.new.calls) out.new }
-    ensures remembers { Remembers sheet.entry.cells.now sheet.entry.counts.now work.new.remembered }
+    requires { Bound (length work.old.calls.now) (length slots.old) s0 × (w ≤ length out.old) × (later_cells * q0 ≤ length work.old.later.now) × Remembers sheet.cells.now sheet.counts.now work.old.remembered.now }
+    ensures w_le_w { IfOk result (λ v. (w ≤ v) × (v ≤ length out.old)) × (take (later_cells * q0) work.new.later.now ≡ take (later_cells * q0) work.old.later.now) }
+    ensures same_arrays { SameArrays work.old work.new }
+    ensures written_by { WrittenBy sheet.entry.cells.now sheet.entry.starts.now sheet.entry.counts.now sheet.entry.firsts.now (start s0 (arrays slots.old work.old.vars.now work.old.conds.now work.old.calls.now) w out.old heads0 q0 (length work.old.later.now)) result (arrays slots.new work.new.vars.now work.new.conds.now work.new.calls.now) out.new }
+    ensures remembers { Remembers sheet.entry.cells.now sheet.entry.counts.now work.new.remembered.now }
 {
     let mut s = s0;
     let mut heads = heads0;
@@ -252,7 +242,7 @@ pub(crate) fn walk(
     let mut q = q0;
     let mut v = w;
     while s.at < sheet.cells.len() {
-        let g = look(sheet.cells, sheet.counts, s, heads, &mut work.remembered);
+        let g = look(sheet.cells, sheet.counts, s, heads, work.remembered);
         if inner(g.d.kind) {
             let Some(t) = contexts::step(
                 sheet.cells,
@@ -260,9 +250,9 @@ pub(crate) fn walk(
                 g.s,
                 second_side(g),
                 slots,
-                &mut work.vars,
-                &mut work.after,
-                &mut work.calls,
+                work.vars,
+                work.after,
+                work.calls,
             ) else {
                 return Err(Refusal::NotWithin);
             };
@@ -273,7 +263,7 @@ pub(crate) fn walk(
                 Next::Over(end) => return Ok(end),
                 Next::Into(k) => k,
             };
-            let Some(side) = contexts::down_side(sheet.cells, k.d, k.t, k.e, slots, &mut work.conds)
+            let Some(side) = contexts::down_side(sheet.cells, k.d, k.t, k.e, slots, work.conds)
             else {
                 return Err(Refusal::NotWithin);
             };

@@ -33,5 +33,5 @@ returns c =
     let bounds = the-walk.ensures.w_le_w in record {
       w_le_w = bounds.0;
       heads_written = heads_out a.cells.now a.starts.now a.counts.now a.firsts.now a.fuel a.at a.c a.slots.now a.n a.m a.heads a.w a.out.now a.slots.now (replicate 4 0) (replicate conds_room 0) (replicate calls_room 0) calls_room (length {A = ℕ} (replicate 1785 0)) refl
-          refl the-walk.result (arrays the-walk.new.slots the-walk.new.work.vars the-walk.new.work.conds the-walk.new.work.calls) the-walk.new.out the-walk.ensures.written_by roomy;
+          refl the-walk.result (arrays the-walk.new.slots the-walk.new.work.vars.now the-walk.new.work.conds.now the-walk.new.work.calls.now) the-walk.new.out the-walk.ensures.written_by roomy;
     }

@@ -1,4 +1,5 @@
 -- The walk meets its contract: each round carries on, and what is left falls; each call may follow one call less.
+use borrow.Author.Rules.{rules}
 use native.Mathlib.Omega.{arith}
 use Prim.Native.Nat.{◌+◌, ◌*◌, ◌≤◌, ℕ, ◌<◌}
 use mathlib.Core.Path.{◌≡◌, refl, sym, ◌∙◌, subst}
@@ -24,6 +25,7 @@ use Rattle.heads.proofs.Walking.{goes_start, goes_stuck, goes_past, goes_step, g
 use Rattle.heads.proofs.Standing.{weigh_less, nearer}
 use Rattle.heads.proofs.Remembering.{rest_at}
 use Rattle.heads.proofs.Resuming.{resume_fails}
+use Rattle.heads.proofs.Lent.{same_start, same_then}
 use Rattle.heads.proofs.Calling.{leaf_kind, is_call, call_fails, call_out}
 use Rattle.heads.proofs.walk.+leaf_next_turn_walk.Goals as goal
 
@@ -46,12 +48,6 @@ on-from {a} {b} {c} h g = omega arith
 
 itself : {a : ℕ} → a ≤ a
 itself {a} = omega arith
-
-all-of : {a b : ℕ} → a ≡ b → b ≤ a
-all-of {a} {b} e = omega arith
-
-no-more : {a b : ℕ} → a ≡ b → a ≤ b
-no-more {a} {b} e = omega arith
 
 terms : {n : ℕ} → calls_room ≤ n → terms_room ≤ n
 terms {n} h = omega arith
@@ -78,10 +74,10 @@ into_both (Err e) P Q p q = tt
 
 pub leaf-emit-requires : goal.leaf-emit-requires
 leaf-emit-requires t c =
-    let lengths = c.args.work.now.lengths in
+    let rooms = c.args.work.now.rooms in
     record {
       bound = (c.requires.bound.0, c.if-g-eq-ATOM.true, c.requires.looked.0.views);
-      rooms = (all-of lengths.vars_long, all-of lengths.conds_long, terms (all-of lengths.after_long), no-more lengths.calls_long, c.requires.bound.1);
+      rooms = (rooms.vars_room, rooms.conds_fit, terms rooms.after_fit, rooms.calls_fit, c.requires.bound.1);
     }
 
 pub leaf-returns-then-g-eq-ATOM : goal.leaf-returns-then-g-eq-ATOM
@@ -90,6 +86,7 @@ leaf-returns-then-g-eq-ATOM t c =
     let em = c.emit.ensures in
     record {
       w_le_w = (em.w_le_w, refl);
+      same_arrays = search rules;
       written_by = λ H F hs rd sp ro. em.emits a.sheet.starts.now a.sheet.counts.now a.sheet.firsts.now H F hs rd sp;
       remembers = c.requires.looked.2;
     }
@@ -106,7 +103,8 @@ leaf-returns-in_default t c =
     let is = is_call a.g.d.kind c.requires.looked.1 c.if-g-eq-ATOM.false in
     record {
       w_le_w = (tt, refl);
-      written_by = call_fails a.sheet.cells.now a.sheet.starts.now a.sheet.counts.now a.sheet.firsts.now a.g.s a.g.d c.requires.looked.0.views is a.slots.now a.work.now.vars a.work.now.conds a.work.now.calls c.down_call.new.mine a.w a.out.now a.heads a.q (length a.work.now.later) c.in_default.ensures.call_down NotWithin;
+      written_by = call_fails a.sheet.cells.now a.sheet.starts.now a.sheet.counts.now a.sheet.firsts.now a.g.s a.g.d c.requires.looked.0.views is a.slots.now a.work.now.vars.now a.work.now.conds.now a.work.now.calls.now c.down_call.new.mine a.w a.out.now a.heads a.q (length a.work.now.later.now) c.in_default.ensures.call_down NotWithin;
+      same_arrays = same_start;
       remembers = c.requires.looked.2;
     }
 
@@ -115,7 +113,7 @@ leaf-walk-requires t c =
     let a = c.args in
     let y = c.in-Some.ensures.fuel_value in
     let em : length c.down_call.new.mine ≡ call_room = c.down_call.auto.mine in
-    (call-falls a.g.s.fuel c.in-Some.r.fuel c.decreases y.0, (subst (λ (x : ℕ). Bound (length a.work.now.calls) x c.in-Some.r) (sym em) (y.1 (length a.work.now.calls) (length a.slots.now) c.requires.bound.0), c.requires.bound.1, c.requires.bound.2, c.requires.looked.2))
+    (call-falls a.g.s.fuel c.in-Some.r.fuel c.decreases y.0, (subst (λ (x : ℕ). Bound (length a.work.now.calls.now) x c.in-Some.r) (sym em) (y.1 (length a.work.now.calls.now) (length a.slots.now) c.requires.bound.0), c.requires.bound.1, c.requires.bound.2, c.requires.looked.2))
 
 pub leaf-returns : goal.leaf-returns
 leaf-returns t c =
@@ -124,7 +122,8 @@ leaf-returns t c =
     let wk = c.walk.ensures in
     record {
       w_le_w = wk.w_le_w;
-      written_by = call_out a.sheet.cells.now a.sheet.starts.now a.sheet.counts.now a.sheet.firsts.now a.g.s a.g.d c.requires.looked.0.views is a.slots.now a.work.now.vars a.work.now.conds a.work.now.calls c.down_call.new.mine a.w a.out.now a.heads a.q (length a.work.now.later) c.in-Some.r c.in-Some.ensures.call_down c.walk.result c.walk.new.slots c.walk.new.work.vars c.walk.new.work.conds c.walk.new.work.calls c.walk.new.out wk.written_by;
+      written_by = call_out a.sheet.cells.now a.sheet.starts.now a.sheet.counts.now a.sheet.firsts.now a.g.s a.g.d c.requires.looked.0.views is a.slots.now a.work.now.vars.now a.work.now.conds.now a.work.now.calls.now c.down_call.new.mine a.w a.out.now a.heads a.q (length a.work.now.later.now) c.in-Some.r c.in-Some.ensures.call_down c.walk.result c.walk.new.slots c.walk.new.work.vars.now c.walk.new.work.conds.now c.walk.new.work.calls.now c.walk.new.out wk.written_by;
+      same_arrays = wk.same_arrays;
       remembers = wk.remembers;
     }
 
@@ -132,24 +131,25 @@ pub next_turn-chosen-requires : goal.next_turn-chosen-requires
 next_turn-chosen-requires t c =
     let a = c.args in
     let y = c.requires.steady.0 in
-    ((length a.work.now.calls, length a.slots.now, no-more a.work.now.lengths.calls_long, y.bound), y.high)
+    ((length a.work.now.calls.now, length a.slots.now, a.work.now.rooms.calls_fit, y.bound), y.high)
 
 pub next_turn-returns-then-choice : goal.next_turn-returns-then-choice
 next_turn-returns-then-choice t c =
     let a = c.args in
     let y = c.requires.steady.0 in
     let fits = c.requires.steady.1 in
-    let lk = length a.work.now.calls in
+    let lk = length a.work.now.calls.now in
     let ls = length a.slots.now in
-    let l = a.work.now.later in
+    let l = a.work.now.later.now in
     let o = a.out.now in
-    let B = arrays a.slots.now a.work.now.vars a.work.now.conds a.work.now.calls in
+    let B = arrays a.slots.now a.work.now.vars.now a.work.now.conds.now a.work.now.calls.now in
     let ch = c.chosen.ensures in
     let z = ch.1 a.sheet.cells.now a.sheet.counts.now c.requires.looked.0 (c.choice.ensures.0 c.if-choice.true) in
     record {
       w_le_w = (IfOk-weaker c.chosen.result _ _ (λ n e. (up_to {a = a.w} itself e, under fits e)) ch.0.0, kept_front (later_cells * a.q0) (later_cells * a.q) l c.chosen.new.later (front y.low) ch.0.1);
-      stays_steady = into_both c.chosen.result _ _ (z.1 lk ls a.g.s.fuel a.q0 (no-more a.work.now.lengths.calls_long) y) z.0;
+      stays_steady = into_both c.chosen.result _ _ (z.1 lk ls a.g.s.fuel a.q0 (a.work.now.rooms.calls_fit) y) z.0;
       turned = λ S eq on. z.2 a.sheet.starts.now a.sheet.firsts.now B o S on;
+      same_arrays = search rules;
       remembers = c.requires.looked.2;
     }
 
@@ -166,19 +166,20 @@ pub next_turn-returns-in_err-v : goal.next_turn-returns-in_err-v
 next_turn-returns-in_err-v t c =
     let a = c.args in
     let y = c.requires.steady.0 in
-    let l = a.work.now.later in
+    let l = a.work.now.later.now in
     let o = a.out.now in
-    let B = arrays a.slots.now a.work.now.vars a.work.now.conds a.work.now.calls in
+    let B = arrays a.slots.now a.work.now.vars.now a.work.now.conds.now a.work.now.calls.now in
     let lf = c.in_err-v.ensures in
-    let l' = c.leaf.new.work.later in
+    let l' = c.leaf.new.work.later.now in
     let o' = c.leaf.new.out in
-    let el : length l' ≡ length l = (omega arith) in
-    let C = arrays a.slots.now c.leaf.new.work.vars c.leaf.new.work.conds c.leaf.new.work.calls in
+    let el : length l' ≡ length l = lf.same_arrays.later_long in
+    let C = arrays a.slots.now c.leaf.new.work.vars.now c.leaf.new.work.conds.now c.leaf.new.work.calls.now in
     let p = err_from_is_err_and c.from_residual.result c.from_residual.ensures.1 in
     rw (p.1, p.2) record {
       w_le_w = (tt, kept_front (later_cells * a.q0) (later_cells * a.q) l l' (front y.low) lf.w_le_w.1);
       stays_steady = tt;
       turned = λ S eq on. resume_fails a.sheet.cells.now a.sheet.starts.now a.sheet.counts.now a.sheet.firsts.now S a.g.s a.heads a.left a.q a.w B C l' o o' (length l) el (goes_later a.sheet.cells.now a.sheet.starts.now a.sheet.counts.now a.sheet.firsts.now S a.g.s a.heads a.left a.q a.w B l o on l' y.high el lf.w_le_w.1) _ lf.written_by;
+      same_arrays = lf.same_arrays;
       remembers = lf.remembers;
     }
 
@@ -186,19 +187,19 @@ pub next_turn-returns : goal.next_turn-returns
 next_turn-returns t c =
     let a = c.args in
     let y = c.requires.steady.0 in
-    let lk = length a.work.now.calls in
+    let lk = length a.work.now.calls.now in
     let ls = length a.slots.now in
-    let l = a.work.now.later in
+    let l = a.work.now.later.now in
     let o = a.out.now in
-    let B = arrays a.slots.now a.work.now.vars a.work.now.conds a.work.now.calls in
+    let B = arrays a.slots.now a.work.now.vars.now a.work.now.conds.now a.work.now.calls.now in
     let v = c.in_ok-v.v in
     let lf = c.in_ok-v.ensures in
     let rs = c.resumed.ensures in
-    let l' = c.leaf.new.work.later in
+    let l' = c.leaf.new.work.later.now in
     let o' = c.leaf.new.out in
-    let el : length l' ≡ length l = (omega arith) in
+    let el : length l' ≡ length l = lf.same_arrays.later_long in
     let eo : length o' ≡ length o = c.leaf.auto.out in
-    let C = arrays a.slots.now c.leaf.new.work.vars c.leaf.new.work.conds c.leaf.new.work.calls in
+    let C = arrays a.slots.now c.leaf.new.work.vars.now c.leaf.new.work.conds.now c.leaf.new.work.calls.now in
     record {
       w_le_w = (IfOk-weaker c.resumed.result _ _ (λ n e. (up_to lf.w_le_w.0.0 e, under lf.w_le_w.0.1 e)) rs.w_value, kept_front (later_cells * a.q0) (later_cells * a.q) l l' (front y.low) lf.w_le_w.1);
       stays_steady = rs.resumed.0 lk ls a.g.s.fuel (steady_later lk ls a.g.s.fuel a.q0 a.g.s a.q l y l' el lf.w_le_w.1);
@@ -211,19 +212,21 @@ next_turn-returns t c =
         inside = up_to lf.w_le_w.0.1 eo;
         same = eo;
       });
+      same_arrays = same_then lf.same_arrays (search rules);
       remembers = lf.remembers;
     }
 
 pub walk-loop-s-init : goal.walk-loop-s-init
 walk-loop-s-init t c =
     let a = c.args in
-    let B₀ = arrays a.slots.now a.work.now.vars a.work.now.conds a.work.now.calls in
+    let B₀ = arrays a.slots.now a.work.now.vars.now a.work.now.conds.now a.work.now.calls.now in
     let pre = c.requires in (
       (refl, refl),
       (itself, pre.1, refl),
-      steady_start (length a.work.now.calls) (length a.slots.now) a.s0.fuel a.q0 a.s0 a.q0 a.work.now.later pre.0 refl pre.2,
-      goes_start a.sheet.cells.now a.sheet.starts.now a.sheet.counts.now a.sheet.firsts.now a.s0 B₀ a.w a.out.now a.heads0 a.q0 a.work.now.later pre.1,
+      steady_start (length a.work.now.calls.now) (length a.slots.now) a.s0.fuel a.q0 a.s0 a.q0 a.work.now.later.now pre.0 refl pre.2,
+      goes_start a.sheet.cells.now a.sheet.starts.now a.sheet.counts.now a.sheet.firsts.now a.s0 B₀ a.w a.out.now a.heads0 a.q0 a.work.now.later.now pre.1,
       pre.3,
+      same_start,
     )
 
 pub walk-look-g-requires : goal.walk-look-g-requires
@@ -244,12 +247,12 @@ walk-step-requires t c =
     let g = c.look-g.result in
     let lo = c.look-g.ensures.looked in
     let past = c.look-g.ensures.past in
-    let lk = length here.work.calls in
+    let lk = length here.work.calls.now in
     let ls = length here.slots in
-    let ys = steady_to lk ls a.s0.fuel a.q0 here.s here.q here.work.later y g.s (past.stays lk ls y.bound) past.fuel_same in
+    let ys = steady_to lk ls a.s0.fuel a.q0 here.s here.q here.work.later.now y g.s (past.stays lk ls y.bound) past.fuel_same in
     record {
       place = (lo.inside, lo.on, lo.views, ys.bound);
-      rooms = (all-of here.work.lengths.vars_long, all-of here.work.lengths.after_long, c.second_side.ensures.1, rest_at a.sheet.cells.now a.sheet.counts.now g c.second_side.result lo c.second_side.ensures);
+      rooms = (here.work.rooms.vars_room, here.work.rooms.after_fit, c.second_side.ensures.1, rest_at a.sheet.cells.now a.sheet.counts.now g c.second_side.result lo c.second_side.ensures);
     }
 
 pub walk-loop-s-smaller-then-inner : goal.walk-loop-s-smaller-then-inner
@@ -264,17 +267,17 @@ walk-loop-s-smaller-then-inner t c =
 pub walk-loop-s-preserved-then-inner : goal.walk-loop-s-preserved-then-inner
 walk-loop-s-preserved-then-inner t c =
     let a = c.args in
-    let B₀ = arrays a.slots.now a.work.now.vars a.work.now.conds a.work.now.calls in
-    let S = start a.s0 B₀ a.w a.out.now a.heads0 a.q0 (length a.work.now.later) in
+    let B₀ = arrays a.slots.now a.work.now.vars.now a.work.now.conds.now a.work.now.calls.now in
+    let S = start a.s0 B₀ a.w a.out.now a.heads0 a.q0 (length a.work.now.later.now) in
     let here = c.loop-s in
     let i = here.invariant in
-    let B = arrays here.slots here.work.vars here.work.conds here.work.calls in
+    let B = arrays here.slots here.work.vars.now here.work.conds.now here.work.calls.now in
     let y = i.2 in
     let g = c.look-g.result in
     let past = c.look-g.ensures.past in
-    let lk = length here.work.calls in
+    let lk = length here.work.calls.now in
     let ls = length here.slots in
-    let ys = steady_to lk ls a.s0.fuel a.q0 here.s here.q here.work.later y g.s (past.stays lk ls y.bound) past.fuel_same in
+    let ys = steady_to lk ls a.s0.fuel a.q0 here.s here.q here.work.later.now y g.s (past.stays lk ls y.bound) past.fuel_same in
     let s' = c.in-Some.t in
     let sp = c.in-Some.ensures in
     let new = c.step.new in
@@ -283,9 +286,10 @@ walk-loop-s-preserved-then-inner t c =
     let ec : length new.calls ≡ lk = c.step.auto.calls in (
       (es ∙ i.0.0, i.0.1),
       (i.1.0, i.1.1, i.1.2),
-      steady_lengths lk (length new.calls) ls (length new.slots) a.s0.fuel a.q0 s' here.q here.work.later (sym ec) (sym es) (steady_to lk ls a.s0.fuel a.q0 g.s here.q here.work.later ys s' sp.bound sp.fuel_value.0),
-      goes_step a.sheet.cells.now a.sheet.starts.now a.sheet.counts.now a.sheet.firsts.now S g.s here.heads here.left here.q here.v B here.work.later here.out (goes_past a.sheet.cells.now a.sheet.starts.now a.sheet.counts.now a.sheet.firsts.now S here.s here.heads here.left here.q here.v B here.work.later here.out i.3 g.s past) s' (arrays new.slots new.vars here.work.conds new.calls) (sp.step_down here.work.conds a.sheet.starts.now a.sheet.counts.now a.sheet.firsts.now n.0 n.1 n.2 n.3) sp.fuel_value.0,
+      steady_lengths lk (length new.calls) ls (length new.slots) a.s0.fuel a.q0 s' here.q here.work.later.now (sym ec) (sym es) (steady_to lk ls a.s0.fuel a.q0 g.s here.q here.work.later.now ys s' sp.bound sp.fuel_value.0),
+      goes_step a.sheet.cells.now a.sheet.starts.now a.sheet.counts.now a.sheet.firsts.now S g.s here.heads here.left here.q here.v B here.work.later.now here.out (goes_past a.sheet.cells.now a.sheet.starts.now a.sheet.counts.now a.sheet.firsts.now S here.s here.heads here.left here.q here.v B here.work.later.now here.out i.3 g.s past) s' (arrays new.slots new.vars here.work.conds.now new.calls) (sp.step_down here.work.conds.now a.sheet.starts.now a.sheet.counts.now a.sheet.firsts.now n.0 n.1 n.2 n.3) sp.fuel_value.0,
       c.look-g.ensures.remembers,
+      same_then i.5 (search rules),
     )
 
 pub walk-next_turn-requires : goal.walk-next_turn-requires
@@ -297,12 +301,12 @@ walk-next_turn-requires t c =
     let g = c.look-g.result in
     let lo = c.look-g.ensures.looked in
     let past = c.look-g.ensures.past in
-    let lk = length here.work.calls in
+    let lk = length here.work.calls.now in
     let ls = length here.slots in
-    let ys = steady_to lk ls a.s0.fuel a.q0 here.s here.q here.work.later y g.s (past.stays lk ls y.bound) past.fuel_same in (
+    let ys = steady_to lk ls a.s0.fuel a.q0 here.s here.q here.work.later.now y g.s (past.stays lk ls y.bound) past.fuel_same in (
       turn-falls {f = a.s0.fuel} c.decreases ys.fuel_is,
       (
-        (steady_own lk ls a.s0.fuel a.q0 g.s here.q here.work.later ys, up_to i.1.1 i.0.1),
+        (steady_own lk ls a.s0.fuel a.q0 g.s here.q here.work.later.now ys, up_to i.1.1 i.0.1),
         (lo, c.inner.ensures.1 c.if-inner.false, c.look-g.ensures.remembers),
       ),
     )
@@ -310,53 +314,56 @@ walk-next_turn-requires t c =
 pub walk-returns-in_default : goal.walk-returns-in_default
 walk-returns-in_default t c =
     let a = c.args in
-    let B₀ = arrays a.slots.now a.work.now.vars a.work.now.conds a.work.now.calls in
-    let S = start a.s0 B₀ a.w a.out.now a.heads0 a.q0 (length a.work.now.later) in
+    let B₀ = arrays a.slots.now a.work.now.vars.now a.work.now.conds.now a.work.now.calls.now in
+    let S = start a.s0 B₀ a.w a.out.now a.heads0 a.q0 (length a.work.now.later.now) in
     let here = c.loop-s in
     let i = here.invariant in
-    let B = arrays here.slots here.work.vars here.work.conds here.work.calls in
+    let B = arrays here.slots here.work.vars.now here.work.conds.now here.work.calls.now in
     let g = c.look-g.result in
     let past = c.look-g.ensures.past in
     let new = c.step.new in
     let n = c.inner.ensures.0 c.if-inner.true in
     record {
       w_le_w = (tt, i.1.2);
-      written_by = goes_nowhere a.sheet.cells.now a.sheet.starts.now a.sheet.counts.now a.sheet.firsts.now S g.s here.heads here.left here.q here.v B here.work.later here.out (goes_past a.sheet.cells.now a.sheet.starts.now a.sheet.counts.now a.sheet.firsts.now S here.s here.heads here.left here.q here.v B here.work.later here.out i.3 g.s past) (arrays new.slots new.vars here.work.conds new.calls) (c.in_default.ensures.step_down here.work.conds a.sheet.starts.now a.sheet.counts.now a.sheet.firsts.now n.0 n.1 n.2 n.3) NotWithin;
+      written_by = goes_nowhere a.sheet.cells.now a.sheet.starts.now a.sheet.counts.now a.sheet.firsts.now S g.s here.heads here.left here.q here.v B here.work.later.now here.out (goes_past a.sheet.cells.now a.sheet.starts.now a.sheet.counts.now a.sheet.firsts.now S here.s here.heads here.left here.q here.v B here.work.later.now here.out i.3 g.s past) (arrays new.slots new.vars here.work.conds.now new.calls) (c.in_default.ensures.step_down here.work.conds.now a.sheet.starts.now a.sheet.counts.now a.sheet.firsts.now n.0 n.1 n.2 n.3) NotWithin;
+      same_arrays = same_then i.5 (search rules);
       remembers = c.look-g.ensures.remembers;
     }
 
 pub walk-returns-in_err-turn : goal.walk-returns-in_err-turn
 walk-returns-in_err-turn t c =
     let a = c.args in
-    let B₀ = arrays a.slots.now a.work.now.vars a.work.now.conds a.work.now.calls in
-    let S = start a.s0 B₀ a.w a.out.now a.heads0 a.q0 (length a.work.now.later) in
+    let B₀ = arrays a.slots.now a.work.now.vars.now a.work.now.conds.now a.work.now.calls.now in
+    let S = start a.s0 B₀ a.w a.out.now a.heads0 a.q0 (length a.work.now.later.now) in
     let here = c.loop-s in
     let i = here.invariant in
-    let B = arrays here.slots here.work.vars here.work.conds here.work.calls in
+    let B = arrays here.slots here.work.vars.now here.work.conds.now here.work.calls.now in
     let g = c.look-g.result in
     let past = c.look-g.ensures.past in
     let nt = c.in_err-turn.ensures in
     let p = err_from_is_err_and c.from_residual.result c.from_residual.ensures.1 in
     rw (p.1, p.2) record {
       w_le_w = (tt, nt.w_le_w.1 ∙ i.1.2);
-      written_by = nt.turned S refl (goes_past a.sheet.cells.now a.sheet.starts.now a.sheet.counts.now a.sheet.firsts.now S here.s here.heads here.left here.q here.v B here.work.later here.out i.3 g.s past);
+      written_by = nt.turned S refl (goes_past a.sheet.cells.now a.sheet.starts.now a.sheet.counts.now a.sheet.firsts.now S here.s here.heads here.left here.q here.v B here.work.later.now here.out i.3 g.s past);
+      same_arrays = same_then i.5 (same_then (search rules) nt.same_arrays);
       remembers = nt.remembers;
     }
 
 pub walk-returns-in-Over : goal.walk-returns-in-Over
 walk-returns-in-Over t c =
     let a = c.args in
-    let B₀ = arrays a.slots.now a.work.now.vars a.work.now.conds a.work.now.calls in
-    let S = start a.s0 B₀ a.w a.out.now a.heads0 a.q0 (length a.work.now.later) in
+    let B₀ = arrays a.slots.now a.work.now.vars.now a.work.now.conds.now a.work.now.calls.now in
+    let S = start a.s0 B₀ a.w a.out.now a.heads0 a.q0 (length a.work.now.later.now) in
     let here = c.loop-s in
     let i = here.invariant in
-    let B = arrays here.slots here.work.vars here.work.conds here.work.calls in
+    let B = arrays here.slots here.work.vars.now here.work.conds.now here.work.calls.now in
     let g = c.look-g.result in
     let past = c.look-g.ensures.past in
     let nt = rw c.in-Over.is at c.in_ok-turn.ensures in
     record {
       w_le_w = ((then i.1.0 nt.w_le_w.0.0, over nt.w_le_w.0.1 i.0.1), nt.w_le_w.1 ∙ i.1.2);
-      written_by = nt.turned S refl (goes_past a.sheet.cells.now a.sheet.starts.now a.sheet.counts.now a.sheet.firsts.now S here.s here.heads here.left here.q here.v B here.work.later here.out i.3 g.s past);
+      written_by = nt.turned S refl (goes_past a.sheet.cells.now a.sheet.starts.now a.sheet.counts.now a.sheet.firsts.now S here.s here.heads here.left here.q here.v B here.work.later.now here.out i.3 g.s past);
+      same_arrays = same_then i.5 (same_then (search rules) nt.same_arrays);
       remembers = nt.remembers;
     }
 
@@ -367,7 +374,7 @@ walk-down_side-requires t c =
     let nt = rw c.in-Into.is at c.in_ok-turn.ensures in
     let k = c.in-Into.k in
     let b = nt.stays_steady.0.bound in
-    (b.lc_few, all-of c.next_turn.new.work.lengths.conds_long, slots-in k.t.n k.t.nv (length here.slots) b.n_room b.nv_few)
+    (b.lc_few, c.next_turn.new.work.rooms.conds_fit, slots-in k.t.n k.t.nv (length here.slots) b.n_room b.nv_few)
 
 pub walk-loop-s-smaller : goal.walk-loop-s-smaller
 walk-loop-s-smaller t c =
@@ -385,17 +392,17 @@ walk-loop-s-smaller t c =
 pub walk-loop-s-preserved : goal.walk-loop-s-preserved
 walk-loop-s-preserved t c =
     let a = c.args in
-    let B₀ = arrays a.slots.now a.work.now.vars a.work.now.conds a.work.now.calls in
-    let S = start a.s0 B₀ a.w a.out.now a.heads0 a.q0 (length a.work.now.later) in
+    let B₀ = arrays a.slots.now a.work.now.vars.now a.work.now.conds.now a.work.now.calls.now in
+    let S = start a.s0 B₀ a.w a.out.now a.heads0 a.q0 (length a.work.now.later.now) in
     let here = c.loop-s in
     let i = here.invariant in
-    let B = arrays here.slots here.work.vars here.work.conds here.work.calls in
+    let B = arrays here.slots here.work.vars.now here.work.conds.now here.work.calls.now in
     let y = i.2 in
     let g = c.look-g.result in
     let past = c.look-g.ensures.past in
-    let lk = length here.work.calls in
+    let lk = length here.work.calls.now in
     let ls = length here.slots in
-    let ys = steady_to lk ls a.s0.fuel a.q0 here.s here.q here.work.later y g.s (past.stays lk ls y.bound) past.fuel_same in
+    let ys = steady_to lk ls a.s0.fuel a.q0 here.s here.q here.work.later.now y g.s (past.stays lk ls y.bound) past.fuel_same in
     let k = c.in-Into.k in
     let nt = rw c.in-Into.is at c.in_ok-turn.ensures in
     let new = c.next_turn.new in
@@ -403,22 +410,23 @@ walk-loop-s-preserved t c =
     let s' = c.in-Some-down_side.side in
     let sd = c.in-Some-down_side.ensures in
     let z = nt.stays_steady in
-    let ec : length new.work.calls ≡ lk = omega arith in (
+    let ec : length new.work.calls.now ≡ lk = nt.same_arrays.calls_long in (
       (i.0.0, kept.out ∙ i.0.1),
       (then i.1.0 nt.w_le_w.0.0, over nt.w_le_w.0.1 i.0.1, nt.w_le_w.1 ∙ i.1.2),
-      steady_back (length new.work.calls) ls a.s0.fuel g.s.fuel a.q0 s' k.q new.work.later ys.fuel_is (steady_lengths lk (length new.work.calls) ls ls g.s.fuel a.q0 s' k.q new.work.later (sym ec) refl (steady_to lk ls g.s.fuel a.q0 k.t k.q new.work.later z.0 s' (sd.stays z.1.0 lk ls z.0.bound) sd.fuel_value.0)),
-      toward_down a.sheet.cells.now a.sheet.starts.now a.sheet.counts.now a.sheet.firsts.now S k here.slots new.work.vars new.work.conds new.work.calls new.work.later new.out (nt.turned S refl (goes_past a.sheet.cells.now a.sheet.starts.now a.sheet.counts.now a.sheet.firsts.now S here.s here.heads here.left here.q here.v B here.work.later here.out i.3 g.s past)) c.down_side.new.conds s' sd.side_down sd.fuel_value.0,
+      steady_back (length new.work.calls.now) ls a.s0.fuel g.s.fuel a.q0 s' k.q new.work.later.now ys.fuel_is (steady_lengths lk (length new.work.calls.now) ls ls g.s.fuel a.q0 s' k.q new.work.later.now (sym ec) refl (steady_to lk ls g.s.fuel a.q0 k.t k.q new.work.later.now z.0 s' (sd.stays z.1.0 lk ls z.0.bound) sd.fuel_value.0)),
+      toward_down a.sheet.cells.now a.sheet.starts.now a.sheet.counts.now a.sheet.firsts.now S k here.slots new.work.vars.now new.work.conds.now new.work.calls.now new.work.later.now new.out (nt.turned S refl (goes_past a.sheet.cells.now a.sheet.starts.now a.sheet.counts.now a.sheet.firsts.now S here.s here.heads here.left here.q here.v B here.work.later.now here.out i.3 g.s past)) c.down_side.new.conds s' sd.side_down sd.fuel_value.0,
       nt.remembers,
+      same_then i.5 (same_then (same_then (search rules) nt.same_arrays) (search rules)),
     )
 
 pub walk-returns-in_default-down_side : goal.walk-returns-in_default-down_side
 walk-returns-in_default-down_side t c =
     let a = c.args in
-    let B₀ = arrays a.slots.now a.work.now.vars a.work.now.conds a.work.now.calls in
-    let S = start a.s0 B₀ a.w a.out.now a.heads0 a.q0 (length a.work.now.later) in
+    let B₀ = arrays a.slots.now a.work.now.vars.now a.work.now.conds.now a.work.now.calls.now in
+    let S = start a.s0 B₀ a.w a.out.now a.heads0 a.q0 (length a.work.now.later.now) in
     let here = c.loop-s in
     let i = here.invariant in
-    let B = arrays here.slots here.work.vars here.work.conds here.work.calls in
+    let B = arrays here.slots here.work.vars.now here.work.conds.now here.work.calls.now in
     let g = c.look-g.result in
     let past = c.look-g.ensures.past in
     let k = c.in-Into.k in
@@ -426,19 +434,21 @@ walk-returns-in_default-down_side t c =
     let new = c.next_turn.new in
     record {
       w_le_w = (tt, nt.w_le_w.1 ∙ i.1.2);
-      written_by = toward_nowhere a.sheet.cells.now a.sheet.starts.now a.sheet.counts.now a.sheet.firsts.now S k here.slots new.work.vars new.work.conds new.work.calls new.work.later new.out (nt.turned S refl (goes_past a.sheet.cells.now a.sheet.starts.now a.sheet.counts.now a.sheet.firsts.now S here.s here.heads here.left here.q here.v B here.work.later here.out i.3 g.s past)) c.down_side.new.conds c.in_default-down_side.ensures.side_down NotWithin;
+      written_by = toward_nowhere a.sheet.cells.now a.sheet.starts.now a.sheet.counts.now a.sheet.firsts.now S k here.slots new.work.vars.now new.work.conds.now new.work.calls.now new.work.later.now new.out (nt.turned S refl (goes_past a.sheet.cells.now a.sheet.starts.now a.sheet.counts.now a.sheet.firsts.now S here.s here.heads here.left here.q here.v B here.work.later.now here.out i.3 g.s past)) c.down_side.new.conds c.in_default-down_side.ensures.side_down NotWithin;
+      same_arrays = same_then i.5 (same_then (same_then (search rules) nt.same_arrays) (search rules));
       remembers = nt.remembers;
     }
 
 pub walk-returns : goal.walk-returns
 walk-returns t c =
     let a = c.args in
-    let S = start a.s0 (arrays a.slots.now a.work.now.vars a.work.now.conds a.work.now.calls) a.w a.out.now a.heads0 a.q0 (length a.work.now.later) in
+    let S = start a.s0 (arrays a.slots.now a.work.now.vars.now a.work.now.conds.now a.work.now.calls.now) a.w a.out.now a.heads0 a.q0 (length a.work.now.later.now) in
     let here = c.loop-s in
     let i = here.invariant in
-    let B = arrays here.slots here.work.vars here.work.conds here.work.calls in
+    let B = arrays here.slots here.work.vars.now here.work.conds.now here.work.calls.now in
     record {
       w_le_w = (tt, i.1.2);
-      written_by = goes_stuck a.sheet.cells.now a.sheet.starts.now a.sheet.counts.now a.sheet.firsts.now S here.s here.heads here.left here.q here.v B here.work.later here.out i.3 c.loop-s-test.false (Err NotWithin) B here.out;
+      written_by = goes_stuck a.sheet.cells.now a.sheet.starts.now a.sheet.counts.now a.sheet.firsts.now S here.s here.heads here.left here.q here.v B here.work.later.now here.out i.3 c.loop-s-test.false (Err NotWithin) B here.out;
+      same_arrays = i.5;
       remembers = i.4;
     }
