@@ -44,6 +44,16 @@ pub fn fill(s: &mut [u8])
     s.fill(0);
 }
 
+// Bytes over as many. By a loop: the language's copy would need memmove, which the archive for C does without.
+fn copy(s: &mut [u8], t: &[u8])
+    requires { length s.old ≡ length t.now }
+    ensures { s.new ≡ t.now }
+{
+    for i in 0..t.len() {
+        s[i] = t[i];
+    }
+}
+
 // "number (from 0) and block count, two bytes each, low first"
 fn head(h: &mut [u8], number: usize, count: usize)
     requires { length h.old ≡ 4 }
@@ -71,7 +81,7 @@ fn write_block(block: &mut [u8], number: usize, count: usize, stream: &[u8])
 {
     head(&mut block[0..STREAM_START], number, count);
     let at = STREAM_START + stream.len();
-    block[STREAM_START..at].copy_from_slice(stream);
+    copy(&mut block[STREAM_START..at], stream);
     fill(&mut block[at..STREAM_END]);
     let x = crc::crc16(&block[0..STREAM_END]);
     tail(&mut block[STREAM_END..BLOCK], x);
@@ -144,7 +154,7 @@ fn read_blocks(file: &[u8], out: &mut [u8]) -> bool
         }
         let to = i * BLOCK_STREAM;
         let till = to + BLOCK_STREAM;
-        out[to..till].copy_from_slice(&block[STREAM_START..STREAM_END]);
+        copy(&mut out[to..till], &block[STREAM_START..STREAM_END]);
     }
     true
 }

@@ -48,7 +48,7 @@ fn deliver(text: &[u8], n: usize, out: &mut [u8]) -> Result<usize, Refusal>
     if out.len() < m {
         return Err(Refusal::NoRoom);
     }
-    out[..m].copy_from_slice(text);
+    texts::put_bytes(out, 0, text);
     Ok(m)
 }
 

@@ -4,9 +4,16 @@ use mathlib.Core.List.{List, [], ◌∷◌, ◌++◌, append_assoc}
 use Prim.Native.Nat.{ℕ, ◌+◌, ◌<◌, ◌≤◌}
 use native.Mathlib.Numerals.{add-one}
 use native.Mathlib.Omega.{arith}
-use lib.ListN.{length, drop, take, set}
-use lib.Seq.{take-suc-set, take-take, take-append-le, length-take-le, paste}
+use lib.ListN.{length, drop, take, get_or, set, length-drop}
+use lib.Seq.{take-suc-set, take-take, take-append-le, length-take-le, paste, paste-suc, get_or-drop}
 use Rattle.putting.specs.Slots.{Adds}
+
+pub copy_more : (s d : List ℕ) (from w j : ℕ) → from + j < length s → w + j < length d
+    → set (paste d w (drop from s) j) (w + j) (get_or s (from + j) 0) ≡ paste d w (drop from s) (j + 1)
+copy_more s d from w j h k =
+    let l : j < length (drop from s) = omega (arith, length-drop from s) in
+    ap (λ (x : ℕ). set (paste d w (drop from s) j) (w + j) x) (sym (get_or-drop from s j 0))
+    ∙ paste-suc d w (drop from s) j 0 k l ∙ ap (λ (i : ℕ). paste d w (drop from s) i) (sym (add-one j))
 
 pub cell_more : (o : List ℕ) (v b : ℕ) → v < length o → take (v + 1) (set o v b) ≡ take v o ++ (b ∷ [])
 cell_more o v b h = ap (λ (i : ℕ). take i (set o v b)) (add-one v) ∙ take-suc-set o v b h

@@ -40,7 +40,10 @@ pub fn copy(s: &[u8], from: usize, l: usize, out: &mut [u8], w: usize)
     requires { (from + l ≤ length s.now) × (w + l ≤ length out.old) }
     ensures { out.new ≡ paste out.old w (drop from s.now) l }
 {
-    out[w..w + l].copy_from_slice(&s[from..from + l]);
+    // byte by byte: the language's copy would need memmove, which the archive for C does without
+    for j in 0..l {
+        out[w + j] = s[from + j];
+    }
 }
 
 // What one node comes to: a variable to the term in its slot.

@@ -29,9 +29,12 @@ pub fn put_bytes(out: &mut [u8], at: usize, s: &[u8]) -> usize
     requires { at ≤ length out.old }
     ensures { Wrote out.old at s.now out.new result }
 {
-    let end = at + s.len().min(out.len() - at);
-    out[at..end].copy_from_slice(&s[..end - at]);
-    end
+    // byte by byte: the language's copy would need memmove, which the archive for C does without
+    let mut p = at;
+    for i in 0..s.len() {
+        p = put_byte(out, p, s[i]);
+    }
+    p
 }
 
 // A byte n times.

@@ -22,15 +22,15 @@ returns-then-not-right_block c =
     let p = c.requires in
     read_wrong a.file.now a.out.now l.out l.i p.0 p.1 (omega arith) l.invariant c.right_block.result c.right_block.ensures l.out c.if-not-right_block.true
 
-pub slice_bounds-copy_from_slice-end-in-loop-i : goal.slice_bounds-copy_from_slice-end-in-loop-i
-slice_bounds-copy_from_slice-end-in-loop-i c =
+pub slice_bounds-copy-end-in-loop-i : goal.slice_bounds-copy-end-in-loop-i
+slice_bounds-copy-end-in-loop-i c =
     let l = c.loop-i in
     let a = c.args in
     let p = c.requires in
     omega (arith, length_it a.file.now a.out.now l.out l.i p.0 p.1 (omega arith) l.invariant)
 
-pub copy_from_slice-requires : goal.copy_from_slice-requires
-copy_from_slice-requires c =
+pub copy-requires : goal.copy-requires
+copy-requires c =
     let l = c.loop-i in
     let a = c.args in
     let p = c.requires in
@@ -41,7 +41,7 @@ loop-i-preserved c =
     let l = c.loop-i in
     let a = c.args in
     let p = c.requires in
-    read_more a.file.now a.out.now l.out l.i p.0 p.1 (omega arith) l.invariant c.right_block.result c.right_block.ensures c.copy_from_slice.new.self c.if-not-right_block.false c.copy_from_slice.ensures.after
+    read_more a.file.now a.out.now l.out l.i p.0 p.1 (omega arith) l.invariant c.right_block.result c.right_block.ensures c.copy.new.s c.if-not-right_block.false c.copy.ensures
 
 pub returns : goal.returns
 returns c = read_all c.args.file.now c.args.out.now c.loop-i.out c.loop-i.i (omega arith) c.loop-i.invariant

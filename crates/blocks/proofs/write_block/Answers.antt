@@ -5,5 +5,5 @@ use Rattle.blocks.proofs.write_block.Goals as goal
 pub returns : goal.returns
 returns c =
     let a = c.args in
-    block_written a.block.now a.stream.now c.head.new.h c.copy_from_slice.new.self c.fill.new.s c.tail.new.t a.number a.count _
-    c.requires.0 c.requires.1 c.head.ensures c.copy_from_slice.ensures.after c.fill.ensures c.crc16-x.ensures c.tail.ensures
+    block_written a.block.now a.stream.now c.head.new.h c.copy.new.s c.fill.new.s c.tail.new.t a.number a.count _
+    c.requires.0 c.requires.1 c.head.ensures c.copy.ensures c.fill.ensures c.crc16-x.ensures c.tail.ensures

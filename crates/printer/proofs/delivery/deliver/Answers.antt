@@ -5,7 +5,7 @@ use lib.ListN.{length}
 use Rattle.pcrl.specs.Result.{accepted}
 use Rattle.laws.specs.Says.{said_yes, said_no}
 use Rattle.refusals.specs.declared.Refusal.TheVariants.{NoRoom, NoText}
-use Rattle.printer.proofs.Seventeen.{delivered_refused, delivered_text, copied_front, no_room, some_room, whole, too_long, too_many, not_apart, fit}
+use Rattle.printer.proofs.Seventeen.{delivered_refused, delivered_text, wrote_front, no_room, some_room, whole, too_long, too_many, not_apart, fit}
 use Rattle.printer.proofs.delivery.deliver.Goals as goal
 
 pub returns-then-m-gt-MAX_BYTES : goal.returns-then-m-gt-MAX_BYTES
@@ -28,4 +28,4 @@ returns c = λ U right front m free. let a = c.args in
     let same = whole U right 0 a.text.now front (omega arith) in
     let fits = fit U right 0 a.text.now front (omega arith) (said_yes c.tokens_apart.result c.tokens_apart.ensures c.if-not-tokens_apart.false) (omega arith) free in
     let n = ap length same in
-    delivered_text _ a.text.now a.out.now _ _ (some_room U right _ fits (omega arith) ∙ ap accepted (sym same)) refl (copied_front a.out.now a.text.now _ _ (omega arith) (omega arith) c.copy_from_slice.ensures.after)
+    delivered_text _ a.text.now a.out.now _ _ (some_room U right _ fits (omega arith) ∙ ap accepted (sym same)) refl (wrote_front a.out.now a.text.now _ _ c.put_bytes.ensures (omega arith))
