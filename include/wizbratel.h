@@ -188,7 +188,7 @@ uint8_t wizbratel_start(const uint8_t *file, size_t length, wizbratel_frame *fra
  *          before k are counted: 0.04 to 0.2 us for usual tables. The dearest table found, 230 summands with four
  *          sums of 16 values and eight long conditions, each on all of them, takes 1 s if k is too large. So
  *          look at a table of unknown origin in a thread that may wait.
- * Stack    9 KB for a file of 512 bytes; at most 75 KB. */
+ * Stack    9 KB for a file of 512 bytes; at most 74 KB. */
 uint8_t wizbratel_ask(const uint8_t *file, size_t length, wizbratel_frame *frames, size_t count, size_t *depth, uint64_t k,
                       wizbratel_answer *answer);
 
@@ -202,7 +202,7 @@ uint8_t wizbratel_ask(const uint8_t *file, size_t length, wizbratel_frame *frame
  *          answers, and what is behind the last answer is untouched. With no questions, or no room, the
  *          stack is only checked.
  * Time     As check_table once, then 0.04 to 0.2 us a question for usual tables; at the worst as ask.
- * Stack    9 KB for a file of 512 bytes; at most 75 KB. */
+ * Stack    9 KB for a file of 512 bytes; at most 74 KB. */
 uint8_t wizbratel_ask_all(const uint8_t *file, size_t length, wizbratel_frame *frames, size_t count, size_t *depth,
                           const uint64_t *questions, size_t question_count, wizbratel_answer *answers, size_t bytes);
 

@@ -159,7 +159,7 @@ fn a_file_of_one_block() {
     );
     let stated = HEADER
         .split("Stack    ")
-        .filter_map(|rest| rest.split_once(" KB for a file of 512 bytes; at most 75 KB"));
+        .filter_map(|rest| rest.split_once(" KB for a file of 512 bytes; at most 74 KB"));
     let stated: Vec<usize> = stated
         .map(|(bytes, _)| 1000 * bytes.parse::<usize>().expect("KB"))
         .collect();
